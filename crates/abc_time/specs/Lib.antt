@@ -1,0 +1,2 @@
+pub mod Grains
+pub mod Ratio

@@ -1,13 +1,9 @@
-// A library with one function.
+//! Lengths and moments of a tune, exactly: whole numbers of grains, the ticks of a MIDI file that
+//! moments fall on, and the length that a unit and its factors make.
 #![tactic(auto)]
 
-ghost use Rattle.std.specs.Prelude.{◌≡◌};
-ghost use Rattle.abc_time.specs.Echo.{echo_of};
+mod grains;
+mod ratio;
 
-// The `ensures` clause is the contract: what `echo` returns is `echo_of` of its argument, a definition
-// in `specs/Echo.antt`, which a caller's clause can cite too.
-pub fn echo(x: usize) -> usize
-    ensures { result ≡ echo_of x }
-{
-    x
-}
+pub use grains::{Grains, LAST_TICK, LATEST_END, LONGEST_LENGTH, TICK, WHOLE_NOTE, tick_of};
+pub use ratio::Ratio;
