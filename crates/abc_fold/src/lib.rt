@@ -1,13 +1,7 @@
-// A library with one function.
+//! The work that an edit costs, counted: lines scanned, steps folded, tunes built. The promise that
+//! a small edit takes few steps is said in these counters.
 #![tactic(auto)]
 
-ghost use Rattle.std.specs.Prelude.{◌≡◌};
-ghost use Rattle.abc_fold.specs.Echo.{echo_of};
+mod work;
 
-// The `ensures` clause is the contract: what `echo` returns is `echo_of` of its argument, a definition
-// in `specs/Echo.antt`, which a caller's clause can cite too.
-pub fn echo(x: usize) -> usize
-    ensures { result ≡ echo_of x }
-{
-    x
-}
+pub use work::Work;

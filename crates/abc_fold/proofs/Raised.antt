@@ -1,0 +1,25 @@
+use Rattle.std.proofs.Common.{◌≡◌, ℕ, ◌+◌, ◌^◌, ◌<◌, ◌≤◌, arith}
+use Rattle.abc_fold.specs.Work.{raised}
+
+-- Raising a counter by 0 changes nothing, whatever it is at.
+pub raised-zero : (count : ℕ) → raised count 0 ≡ count
+unfolding raised
+raised-zero count = omega arith
+
+-- Raising it by j and then by k is raising it by j + k.
+pub raised-raised : (count j k : ℕ) → raised (raised count j) k ≡ raised count (j + k)
+unfolding raised
+raised-raised count j k = omega arith
+
+-- Below the greatest u64 raising is adding.
+pub raised-small : (count k : ℕ) → count + k < 2 ^ 64 → raised count k ≡ count + k
+unfolding raised
+raised-small count k small = omega arith
+
+-- A counter never falls.
+pub le-raised : (count k : ℕ) → count ≤ raised count k
+unfolding raised
+le-raised count k = omega arith
+
+-- What a proof needs to add up the steps of several calls.
+pub ruleset raising = (raised-zero, raised-raised)
