@@ -1,13 +1,9 @@
-// A library with one function.
+//! Standard MIDI Files 1.0 as bytes: variable-length quantities, events in their order, tracks as
+//! chunks, and the file of a score.
 #![tactic(auto)]
 
-ghost use Rattle.std.specs.Prelude.{◌≡◌};
-ghost use Rattle.smf_bytes.specs.Echo.{echo_of};
+mod number;
+mod sequence;
 
-// The `ensures` clause is the contract: what `echo` returns is `echo_of` of its argument, a definition
-// in `specs/Echo.antt`, which a caller's clause can cite too.
-pub fn echo(x: usize) -> usize
-    ensures { result ≡ echo_of x }
-{
-    x
-}
+pub use number::{number_texts, put_number, read_number, NumberFault};
+pub use sequence::Sequence;
