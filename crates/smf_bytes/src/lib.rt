@@ -2,8 +2,12 @@
 //! chunks, and the file of a score.
 #![tactic(auto)]
 
+mod event;
 mod number;
+mod order;
 mod sequence;
 
-pub use number::{number_texts, put_number, read_number, NumberFault};
+pub use event::Event;
+pub use number::{NumberFault, number_texts, put_number, read_number};
+pub use order::{one_order, order_events};
 pub use sequence::Sequence;

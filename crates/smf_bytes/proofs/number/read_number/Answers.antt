@@ -1,5 +1,4 @@
-use Rattle.std.proofs.Common.{ℕ, Ok, Err, arith, sym, subst, ◌∙◌}
-use Rattle.smf_bytes.specs.declared.number.NumberFault.TheVariants.{Padded, TooLong, Truncated}
+use Rattle.std.proofs.Common.{arith, subst, ◌∙◌}
 use Rattle.smf_bytes.proofs.NumberTexts.{Means, meant, complete, padded, too_long, truncated}
 use Rattle.smf_bytes.proofs.number.read_number.Goals as goal
 

@@ -1,0 +1,19 @@
+//! Events of a track.
+ghost use Rattle.std.specs.Prelude.{◌≡◌};
+
+use crate::sequence::Sequence;
+
+/// An event of a track. Events compare as they stand in a track: by tick, then class, then key, then
+/// bytes.
+#[derive(Debug, PartialEq, Eq, PartialOrd, Ord, Drop)]
+pub struct Event {
+    /// The tick at which it comes, from the start of the track.
+    pub tick: u32,
+    /// Its place among the events of one tick: 1 a title or a note off, 2 a tempo or a note on,
+    /// 3 a meter, 4 a key, 5 the end of the track.
+    pub class: u8,
+    /// The key of a note, else 0.
+    pub key: u8,
+    /// What the track holds of it after its delta time.
+    pub bytes: Sequence<u8>,
+}
