@@ -1,2 +1,5 @@
+pub mod Gcd
 pub mod Grains
+pub mod Length
+pub mod Product
 pub mod Ratio

@@ -2,8 +2,13 @@
 //! moments fall on, and the length that a unit and its factors make.
 #![tactic(auto)]
 
+mod cancel;
+mod gcd;
 mod grains;
+mod lengths;
+mod product;
 mod ratio;
 
 pub use grains::{Grains, LAST_TICK, LATEST_END, LONGEST_LENGTH, TICK, WHOLE_NOTE, tick_of};
+pub use lengths::{LengthFault, length};
 pub use ratio::Ratio;

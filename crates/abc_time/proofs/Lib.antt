@@ -1,0 +1,7 @@
+pub mod Cancelling
+pub mod Denominators
+pub mod Divisors
+pub mod LengthLaws
+pub mod Numerators
+pub mod Products
+pub mod Quotients

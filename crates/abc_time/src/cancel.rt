@@ -1,0 +1,23 @@
+ghost use Rattle.std.specs.Prelude.{◌≡◌, ◌*◌, ◌≤◌, All};
+ghost use Rattle.std.specs.Int.{◌∣◌};
+ghost use Rattle.abc_time.specs.Product.{product_of};
+
+use crate::gcd::gcd;
+
+/// Divides the numerators and the divisor by what they have in common, one numerator after
+/// another, and returns what is left of the divisor: 1 exactly where it divides their product.
+pub fn cancel(numerators: &mut [u64], divisor: u64) -> u64
+    requires numerators { All (λ n. 1 ≤ n) numerators.old }
+    requires divisor { 1 ≤ divisor }
+    ensures balance { product_of numerators.new * divisor ≡ product_of numerators.old * result }
+    ensures whole { divisor ∣ product_of numerators.old → result ≡ 1 }
+    ensures positive { All (λ n. 1 ≤ n) numerators.new }
+{
+    let mut rest = divisor;
+    for numerator in numerators.iter_mut() {
+        let common = gcd(*numerator, rest);
+        *numerator /= common;
+        rest /= common;
+    }
+    rest
+}
