@@ -1,0 +1,6 @@
+pub mod Text
+pub mod LineClass
+pub mod Length
+pub mod Note
+pub mod Token
+pub mod Cutting

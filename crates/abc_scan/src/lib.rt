@@ -1,13 +1,15 @@
-// A library with one function.
+//! The lines of an ABC text: which class each is of, and the tokens that a music line is cut into.
 #![tactic(auto)]
 
-ghost use Rattle.std.specs.Prelude.{◌≡◌};
-ghost use Rattle.abc_scan.specs.Echo.{echo_of};
+mod class;
+mod cutting;
+mod length;
+mod note;
+mod text;
+mod token;
 
-// The `ensures` clause is the contract: what `echo` returns is `echo_of` of its argument, a definition
-// in `specs/Echo.antt`, which a caller's clause can cite too.
-pub fn echo(x: usize) -> usize
-    ensures { result ≡ echo_of x }
-{
-    x
-}
+pub use class::{LineClass, class_of};
+pub use cutting::scan;
+pub use length::WrittenLength;
+pub use note::{Accidental, Letter, Note};
+pub use token::{Token, TokenKind};

@@ -1,0 +1,4 @@
+pub mod ClassLaws
+pub mod Fronts
+pub mod Decimal
+pub mod Cuttings

@@ -1,0 +1,128 @@
+-- Notes and rests. ABC 2.1 sections 4.1 to 4.3 and 4.5.
+use Rattle.std.specs.Prelude.{◌≡◌, ℕ, ℤ, pos, ◌-ℤ◌, ◌+◌, Bool, false, ◌||◌, ◌⊎◌, Option, Some, None, List, [], ◌∷◌, ◌++◌, length, take, drop, if◌then◌else◌, ◌==◌, nat_lt, count_by}
+use Rattle.std.specs.List.{prefix_len, AllPass}
+use Rattle.std.specs.Option.{option_map}
+use Rattle.abc_scan.specs.declared.length.WrittenLength.{WrittenLength}
+use Rattle.abc_scan.specs.declared.note.Accidental.{Accidental}
+use Rattle.abc_scan.specs.declared.note.Accidental.TheVariants.{DoubleFlat, Flat, Natural, Sharp, DoubleSharp}
+use Rattle.abc_scan.specs.declared.note.Letter.{Letter}
+use Rattle.abc_scan.specs.declared.note.Letter.TheVariants.{C, D, E, F, G, A, B}
+use Rattle.abc_scan.specs.declared.note.Note.{Note}
+use Rattle.abc_scan.specs.Length.{IsLength, length_at, length_size}
+
+-- How an accidental is written: `__`, `_`, `=`, `^`, `^^`. ABC 2.1 section 4.2.
+abbrev pub accidental_text : Option Accidental → List ℕ
+accidental_text None = []
+accidental_text (Some DoubleFlat) = 95 ∷ 95 ∷ []
+accidental_text (Some Flat) = 95 ∷ []
+accidental_text (Some Natural) = 61 ∷ []
+accidental_text (Some Sharp) = 94 ∷ []
+accidental_text (Some DoubleSharp) = 94 ∷ 94 ∷ []
+
+-- The capital letter, and the small one. ABC 2.1 section 4.1.
+abbrev pub capital : Letter → ℕ
+capital C = 67
+capital D = 68
+capital E = 69
+capital F = 70
+capital G = 71
+capital A = 65
+capital B = 66
+
+abbrev pub small : Letter → ℕ
+small C = 99
+small D = 100
+small E = 101
+small F = 102
+small G = 103
+small A = 97
+small B = 98
+
+-- `'` and `,`, which raise and lower a note by an octave. ABC 2.1 section 4.1.
+abbrev pub is_octave_mark : ℕ → Bool
+is_octave_mark b = (b == 39) || (b == 44)
+
+-- Octaves above the one of the capital letters: 1 for a small letter, and the marks.
+abbrev pub letter_octave : ℕ → ℕ
+letter_octave letter = if nat_lt letter 97 then 0 else 1
+
+abbrev pub octave : ℕ → List ℕ → ℤ
+octave letter marks =
+    pos (letter_octave letter + count_by (λ b. b == 39) marks) -ℤ pos (count_by (λ b. b == 44) marks)
+
+-- A note: an accidental or none, a letter, octave marks, and a length.
+pub record IsNote (text : List ℕ) (note : Note) : Type 0 where
+  pub letter : ℕ
+  pub marks : List ℕ
+  pub written : List ℕ
+  pub spelling : text ≡ accidental_text note.accidental ++ (letter ∷ (marks ++ written))
+  pub letter_is : (letter ≡ capital note.letter) ⊎ (letter ≡ small note.letter)
+  pub octave_marks : AllPass is_octave_mark marks
+  pub octave_is : note.octave ≡ octave letter marks
+  pub length_is : IsLength written note.length
+
+-- A rest: `z` or `x`, and a length. ABC 2.1 section 4.5.
+pub record IsRest (text : List ℕ) (value : WrittenLength) : Type 0 where
+  pub letter : ℕ
+  pub written : List ℕ
+  pub spelling : text ≡ letter ∷ written
+  pub letter_is : (letter ≡ 122) ⊎ (letter ≡ 120)
+  pub length_is : IsLength written value
+
+-- The accidental at the front of a text.
+abbrev pub begins_with : ℕ → List ℕ → Bool
+begins_with byte [] = false
+begins_with byte (b ∷ bs) = b == byte
+
+unfoldable pub accidental_at : List ℕ → Option Accidental
+accidental_at [] = None
+accidental_at (b ∷ bs) =
+    if b == 94 then (if begins_with 94 bs then Some DoubleSharp else Some Sharp)
+    else (if b == 95 then (if begins_with 95 bs then Some DoubleFlat else Some Flat)
+    else (if b == 61 then Some Natural else None))
+
+abbrev pub accidental_size : Option Accidental → ℕ
+accidental_size a = length (accidental_text a)
+
+-- The letter that a byte is.
+unfoldable pub letter_of : ℕ → Option Letter
+letter_of b =
+    if (b == 67) || (b == 99) then Some C
+    else (if (b == 68) || (b == 100) then Some D
+    else (if (b == 69) || (b == 101) then Some E
+    else (if (b == 70) || (b == 102) then Some F
+    else (if (b == 71) || (b == 103) then Some G
+    else (if (b == 65) || (b == 97) then Some A
+    else (if (b == 66) || (b == 98) then Some B
+    else None))))))
+
+-- The longest note at the front of a text, and how many bytes it takes: behind its accidental, and
+-- behind its letter.
+abbrev pub marks_size : List ℕ → ℕ
+marks_size text = prefix_len is_octave_mark text
+
+abbrev pub note_of : Option Accidental → ℕ → List ℕ → Letter → Note × ℕ
+note_of accidental byte rest letter = (
+  record {
+    accidental = accidental;
+    letter = letter;
+    octave = octave byte (take (marks_size rest) rest);
+    length = length_at (drop (marks_size rest) rest);
+  },
+  accidental_size accidental + 1 + marks_size rest + length_size (drop (marks_size rest) rest),
+)
+
+abbrev pub note_behind : Option Accidental → List ℕ → Option (Note × ℕ)
+note_behind accidental [] = None
+note_behind accidental (b ∷ rest) = option_map (note_of accidental b rest) (letter_of b)
+
+unfoldable pub note_at : List ℕ → Option (Note × ℕ)
+note_at text = note_behind (accidental_at text) (drop (accidental_size (accidental_at text)) text)
+
+-- The longest rest at the front of a text, and how many bytes it takes.
+abbrev pub is_rest_letter : ℕ → Bool
+is_rest_letter b = (b == 122) || (b == 120)
+
+unfoldable pub rest_at : List ℕ → Option (WrittenLength × ℕ)
+rest_at [] = None
+rest_at (b ∷ rest) = if is_rest_letter b then Some (length_at rest, 1 + length_size rest) else None

@@ -1,0 +1,25 @@
+-- What a music line is made of.
+use Rattle.std.specs.Prelude.{ℕ, Option, Some, None, List, [], ◌∷◌, if◌then◌else◌, unwrap_or}
+use Rattle.std.specs.Option.{option_map}
+use Rattle.abc_scan.specs.declared.token.TokenKind.{TokenKind}
+use Rattle.abc_scan.specs.declared.token.TokenKind.TheVariants as kinds
+use Rattle.abc_scan.specs.LineClass.{is_blank}
+use Rattle.abc_scan.specs.Note.{note_at, rest_at}
+
+abbrev pub or_else : Option (TokenKind × ℕ) → Option (TokenKind × ℕ) → Option (TokenKind × ℕ)
+or_else (Some token) other = Some token
+or_else None other = other
+
+abbrev pub blank_at : List ℕ → Option (TokenKind × ℕ)
+blank_at [] = None
+blank_at (b ∷ bs) = if is_blank b then Some (kinds.Blank, 1) else None
+
+-- The token at the front of a text, and how many bytes it takes.
+abbrev pub reading_at : List ℕ → Option (TokenKind × ℕ)
+reading_at text =
+    or_else (option_map (λ note. (kinds.Note note.0, note.1)) (note_at text))
+    (or_else (option_map (λ rest. (kinds.Rest rest.0, rest.1)) (rest_at text)) (blank_at text))
+
+-- What comes first in a text, and how many bytes it takes: a token, else one byte that begins none.
+abbrev pub next : List ℕ → TokenKind × ℕ
+next text = unwrap_or (reading_at text) (kinds.Other, 1)

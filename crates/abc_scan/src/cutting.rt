@@ -1,0 +1,62 @@
+//! The tokens of a line.
+
+ghost use Rattle.std.specs.Prelude.{◌≡◌, ◌+◌, IfOk};
+ghost use Rattle.abc_fold.specs.Work.{raised};
+ghost use Rattle.abc_scan.specs.Cutting.{cutting_of, field_token, tokens_in, tokens_of};
+
+use crate::class::{LineClass, class_of};
+use crate::text::content;
+use crate::token::{Token, TokenKind, next};
+use abc_fold::Work;
+use std::alloc::{AllocError, Global};
+
+/// A text cut from left to right.
+fn cut(alloc: Global, text: &[u8]) -> Result<Vec<Token>, AllocError>
+    ensures { IfOk result (λ tokens. tokens.items ≡ cutting_of text.now) }
+{
+    let mut tokens = Vec::new(alloc);
+    let mut at = 0;
+    while at < text.len() {
+        let (kind, size) = next(&text[at..]);
+        tokens.push(Token {
+            kind,
+            from: at,
+            to: at + size,
+        })?;
+        at += size;
+    }
+    Ok(tokens)
+}
+
+/// One token for the whole text of a field.
+fn field_token(alloc: Global, text: &[u8]) -> Result<Vec<Token>, AllocError>
+    ensures { IfOk result (λ tokens. tokens.items ≡ field_token text.now) }
+{
+    let mut tokens = Vec::new(alloc);
+    tokens.push(Token {
+        kind: TokenKind::Field,
+        from: 0,
+        to: text.len(),
+    })?;
+    Ok(tokens)
+}
+
+fn tokens_in(alloc: Global, class: LineClass, text: &[u8]) -> Result<Vec<Token>, AllocError>
+    ensures { IfOk result (λ tokens. tokens.items ≡ tokens_in class text.now) }
+{
+    match class {
+        LineClass::Blank | LineClass::Comment => Ok(Vec::new(alloc)),
+        LineClass::Field(_) => field_token(alloc, text),
+        LineClass::Music => cut(alloc, text),
+    }
+}
+
+/// The tokens of a line, without its carriage return and comment. Counts one line scanned, also
+/// where there is no memory for the tokens.
+pub fn scan(alloc: Global, line: &[u8], work: &mut Work) -> Result<Vec<Token>, AllocError>
+    ensures tokens { IfOk result (λ tokens. tokens.items ≡ tokens_of line.now) }
+    ensures counted { work.new ≡ record work.old { scanned = raised work.old.scanned 1 } }
+{
+    work.count_scanned();
+    tokens_in(alloc, class_of(line), content(line))
+}

@@ -1,0 +1,105 @@
+//! Lengths as they are written behind notes and rests.
+
+ghost use Rattle.std.specs.Prelude.{◌≡◌, ◌≤◌, ◌==◌, if◌then◌else◌, length, take};
+ghost use Rattle.std.specs.List.{prefix_len, AllPass};
+ghost use Rattle.abc_scan.specs.Length.{is_digit, is_slash, decimal, number_or, written_length, length_at, length_size};
+
+/// The value of a length text: what it multiplies the unit note length by (ABC 2.1 section 4.3).
+#[derive(Clone, Copy, Debug, PartialEq, Eq)]
+pub enum WrittenLength {
+    /// `num / den`, each from 1 to 999,999,999.
+    Factor { num: u32, den: u32 },
+    /// A number that is 0 or has more than nine digits, or more than 29 slashes.
+    Refused,
+}
+
+fn is_digit(byte: u8) -> bool
+    ensures { result ≡ is_digit byte }
+{
+    byte.is_ascii_digit()
+}
+
+/// How many digits a text begins with.
+fn digits(text: &[u8]) -> usize
+    ensures value { result ≡ prefix_len is_digit text.now }
+    ensures inside { result ≤ length text.now }
+    ensures digits { AllPass is_digit (take result text.now) }
+{
+    text.iter().take_while(|byte| is_digit(**byte)).count()
+}
+
+/// How many slashes a text begins with.
+fn slashes(text: &[u8]) -> usize
+    ensures value { result ≡ prefix_len is_slash text.now }
+    ensures inside { result ≤ length text.now }
+{
+    text.iter().take_while(|byte| **byte == b'/').count()
+}
+
+/// How many digits stand behind the slashes: only one slash can have some.
+fn digits_behind(slashes: usize, text: &[u8]) -> usize
+    ensures value { result ≡ (if slashes == 1 then prefix_len is_digit text.now else 0) }
+    ensures inside { result ≤ length text.now }
+    ensures digits { AllPass is_digit (take result text.now) }
+{
+    if slashes == 1 { digits(text) } else { 0 }
+}
+
+/// The number that digits write.
+fn decimal(digits: &[u8]) -> u32
+    requires digits { AllPass is_digit digits.now }
+    requires short { length digits.now ≤ 9 }
+    ensures { result ≡ decimal digits.now }
+{
+    let mut number = 0;
+    for digit in digits {
+        number = number * 10 + u32::from(*digit - b'0');
+    }
+    number
+}
+
+/// The number that digits write, if it is accepted, or another where there are none.
+fn number_or(digits: &[u8], other: u32) -> Option<u32>
+    requires { AllPass is_digit digits.now }
+    ensures { result ≡ number_or digits.now other }
+{
+    match digits {
+        [] => Some(other),
+        [_, ..] => {
+            if digits.len() > 9 {
+                return None;
+            }
+            let number = decimal(digits);
+            if number == 0 { None } else { Some(number) }
+        }
+    }
+}
+
+fn written_length(over: &[u8], slashes: usize, under: &[u8]) -> WrittenLength
+    requires over { AllPass is_digit over.now }
+    requires under { AllPass is_digit under.now }
+    ensures { result ≡ written_length over.now slashes under.now }
+{
+    if slashes > 29 {
+        return WrittenLength::Refused;
+    }
+    match (number_or(over, 1), number_or(under, 1 << slashes)) {
+        (Some(num), Some(den)) => WrittenLength::Factor { num, den },
+        _ => WrittenLength::Refused,
+    }
+}
+
+/// The length at the front of a text, and how many bytes it takes.
+#[tactic(auto, unfolding(crate::specs::Length::length_at, crate::specs::Length::length_size))]
+pub(crate) fn length_at(text: &[u8]) -> (WrittenLength, usize)
+    ensures value { result.0 ≡ length_at text.now }
+    ensures size { result.1 ≡ length_size text.now }
+    ensures inside { result.1 ≤ length text.now }
+{
+    let over = digits(text);
+    let slashes = slashes(&text[over..]);
+    let behind = &text[over + slashes..];
+    let under = digits_behind(slashes, behind);
+    let value = written_length(&text[..over], slashes, &behind[..under]);
+    (value, over + slashes + under)
+}

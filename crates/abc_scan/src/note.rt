@@ -1,0 +1,152 @@
+//! Notes and rests.
+
+ghost use Rattle.std.specs.Prelude.{◌≡◌, ◌≤◌, ◌<◌, ◌+◌, ◌^◌, length, IfSome, count_by, ◌==◌};
+ghost use Rattle.std.specs.List.{prefix_len};
+ghost use Rattle.std.specs.Option.{option_map};
+ghost use Rattle.abc_scan.specs.Note.{accidental_at, accidental_size, letter_of, is_octave_mark, octave, letter_octave, note_at, rest_at};
+
+use crate::length::{WrittenLength, length_at};
+
+/// A sign in front of a note (ABC 2.1 section 4.2).
+#[derive(Clone, Copy, Debug, PartialEq, Eq)]
+pub enum Accidental {
+    DoubleFlat,
+    Flat,
+    Natural,
+    Sharp,
+    DoubleSharp,
+}
+
+/// The letter of a note, without its octave.
+#[derive(Clone, Copy, Debug, PartialEq, Eq)]
+pub enum Letter {
+    C,
+    D,
+    E,
+    F,
+    G,
+    A,
+    B,
+}
+
+/// A note as it is written (ABC 2.1 sections 4.1 to 4.3).
+#[derive(Clone, Copy, Debug, PartialEq, Eq)]
+pub struct Note {
+    /// None where none is written.
+    pub accidental: Option<Accidental>,
+    pub letter: Letter,
+    /// Octaves above that of the capital letters: one for a small letter and for each `'`, less one
+    /// for each `,`.
+    pub octave: i64,
+    pub length: WrittenLength,
+}
+
+#[tactic(auto, unfolding(crate::specs::Note::accidental_at))]
+/// The accidental at the front of a text, and how many bytes it takes.
+fn accidental_at(text: &[u8]) -> (Option<Accidental>, usize)
+    ensures value { result.0 ≡ accidental_at text.now }
+    ensures size { result.1 ≡ accidental_size result.0 }
+    ensures inside { result.1 ≤ length text.now }
+{
+    match text {
+        [b'^', b'^', ..] => (Some(Accidental::DoubleSharp), 2),
+        [b'^', ..] => (Some(Accidental::Sharp), 1),
+        [b'_', b'_', ..] => (Some(Accidental::DoubleFlat), 2),
+        [b'_', ..] => (Some(Accidental::Flat), 1),
+        [b'=', ..] => (Some(Accidental::Natural), 1),
+        _ => (None, 0),
+    }
+}
+
+#[tactic(auto, unfolding(crate::specs::Note::letter_of))]
+fn letter_of(byte: u8) -> Option<Letter>
+    ensures { result ≡ letter_of byte }
+{
+    match byte {
+        b'C' | b'c' => Some(Letter::C),
+        b'D' | b'd' => Some(Letter::D),
+        b'E' | b'e' => Some(Letter::E),
+        b'F' | b'f' => Some(Letter::F),
+        b'G' | b'g' => Some(Letter::G),
+        b'A' | b'a' => Some(Letter::A),
+        b'B' | b'b' => Some(Letter::B),
+        _ => None,
+    }
+}
+
+/// How many octave marks a text begins with.
+fn octave_marks(text: &[u8]) -> usize
+    ensures { result ≡ prefix_len is_octave_mark text.now }
+{
+    text.iter()
+        .take_while(|byte| **byte == b'\'' || **byte == b',')
+        .count()
+}
+
+/// The octave of a letter without marks.
+fn letter_octave(letter: u8) -> usize
+    ensures value { result ≡ letter_octave letter }
+    ensures small { result ≤ 1 }
+{
+    if letter < b'a' { 0 } else { 1 }
+}
+
+/// How often a mark stands among the marks of a note.
+fn occurrences(marks: &[u8], mark: u8) -> usize
+    ensures value { result ≡ count_by (λ b. b == mark) marks.now }
+    ensures inside { result ≤ length marks.now }
+{
+    marks.iter().filter(|byte| **byte == mark).count()
+}
+
+/// The octave of a letter with these marks behind it.
+fn octave(letter: u8, marks: &[u8]) -> i64
+    requires { length marks.now + 1 < 2 ^ 63 }
+    ensures { result ≡ octave letter marks.now }
+{
+    let raised = letter_octave(letter) + occurrences(marks, b'\'');
+    let lowered = occurrences(marks, b',');
+    raised as i64 - lowered as i64
+}
+
+/// The note at the front of a text, and how many bytes it takes.
+#[tactic(auto, unfolding(crate::specs::Note::note_at))]
+pub(crate) fn note_at(text: &[u8]) -> Option<(Note, usize)>
+    ensures value { result ≡ note_at text.now }
+    ensures some { IfSome result (λ r. 0 < r.1) }
+    ensures inside { IfSome result (λ r. r.1 ≤ length text.now) }
+{
+    let (accidental, sign) = accidental_at(text);
+    match &text[sign..] {
+        [] => None,
+        [byte, rest @ ..] => {
+            let letter = letter_of(*byte)?;
+            let marks = octave_marks(rest);
+            let octave = octave(*byte, &rest[..marks]);
+            let (length, size) = length_at(&rest[marks..]);
+            let note = Note {
+                accidental,
+                letter,
+                octave,
+                length,
+            };
+            Some((note, sign + 1 + marks + size))
+        }
+    }
+}
+
+/// The length of the rest at the front of a text, and how many bytes the rest takes.
+#[tactic(auto, unfolding(crate::specs::Note::rest_at))]
+pub(crate) fn rest_at(text: &[u8]) -> Option<(WrittenLength, usize)>
+    ensures value { result ≡ rest_at text.now }
+    ensures some { IfSome result (λ r. 0 < r.1) }
+    ensures inside { IfSome result (λ r. r.1 ≤ length text.now) }
+{
+    match text {
+        [b'z' | b'x', behind @ ..] => {
+            let (length, size) = length_at(behind);
+            Some((length, 1 + size))
+        }
+        _ => None,
+    }
+}

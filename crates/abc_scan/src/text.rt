@@ -1,0 +1,35 @@
+//! The part of a line that is read.
+
+ghost use Rattle.std.specs.Prelude.{◌≡◌};
+ghost use Rattle.abc_scan.specs.Text.{without_return, without_comment, content};
+
+/// The line without the carriage return at its end, of which one is dropped.
+pub(crate) fn without_return(line: &[u8]) -> &[u8]
+    ensures { result.now ≡ without_return line.now }
+{
+    if line.ends_with(b"\r") {
+        &line[..line.len() - 1]
+    } else {
+        line
+    }
+}
+
+fn without_comment(text: &[u8]) -> &[u8]
+    ensures { result.now ≡ without_comment text.now }
+{
+    let mut before = b' ';
+    for (at, byte) in text.iter().enumerate() {
+        if *byte == b'%' && before != b'\\' {
+            return &text[..at];
+        }
+        before = *byte;
+    }
+    text
+}
+
+/// The line without its carriage return and its comment.
+pub(crate) fn content(line: &[u8]) -> &[u8]
+    ensures { result.now ≡ content line.now }
+{
+    without_comment(without_return(line))
+}
