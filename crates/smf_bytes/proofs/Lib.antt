@@ -1,2 +1,5 @@
+pub mod Files
+pub mod Lengths
 pub mod NumberTexts
 pub mod Ordered
+pub mod Timed

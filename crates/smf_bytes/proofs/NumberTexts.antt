@@ -45,12 +45,12 @@ read_4 a b c d rest e f g h = grind (arith, nat_tests)
 pub reading-text : (n : ℕ) (rest : List ℕ) → n < 2 ^ 28 → reading (number_text n ++ rest) ≡ Ok (n, length (number_text n))
 reading-text n rest h =
     elim (cases_eq (n / 128) 0) [
-      inl one ↦ rw (text_of_1 n one, read_1 (n % 128) rest (omega arith)) (ap (λ k. Ok (k, 1)) (omega arith))
-    | inr more ↦ elim (cases_eq (n / 128 / 128) 0) [
-        inl two ↦ rw (text_of_2 n more two, read_2 (128 + n / 128 % 128) (n % 128) rest (omega arith) (omega arith)) (ap (λ k. Ok (k, 2)) (omega arith))
-      | inr more' ↦ elim (cases_eq (n / 128 / 128 / 128) 0) [
-          inl three ↦ rw (text_of_3 n more' three, read_3 (128 + n / 128 / 128 % 128) (128 + n / 128 % 128) (n % 128) rest (omega arith) (omega arith) (omega arith)) (ap (λ k. Ok (k, 3)) (omega arith))
-        | inr four ↦ rw (text_of_4 n four, read_4 (128 + n / 128 / 128 / 128 % 128) (128 + n / 128 / 128 % 128) (128 + n / 128 % 128) (n % 128) rest (omega arith) (omega arith) (omega arith) (omega arith)) (ap (λ k. Ok (k, 4)) (omega arith))
+      | inl one ↦ rw (text_of_1 n one, read_1 (n % 128) rest (omega arith)) (ap (λ k. Ok (k, 1)) (omega arith))
+      | inr more ↦ elim (cases_eq (n / 128 / 128) 0) [
+        | inl two ↦ rw (text_of_2 n more two, read_2 (128 + n / 128 % 128) (n % 128) rest (omega arith) (omega arith)) (ap (λ k. Ok (k, 2)) (omega arith))
+        | inr more' ↦ elim (cases_eq (n / 128 / 128 / 128) 0) [
+          | inl three ↦ rw (text_of_3 n more' three, read_3 (128 + n / 128 / 128 % 128) (128 + n / 128 % 128) (n % 128) rest (omega arith) (omega arith) (omega arith)) (ap (λ k. Ok (k, 3)) (omega arith))
+          | inr four ↦ rw (text_of_4 n four, read_4 (128 + n / 128 / 128 / 128 % 128) (128 + n / 128 / 128 % 128) (128 + n / 128 % 128) (n % 128) rest (omega arith) (omega arith) (omega arith) (omega arith)) (ap (λ k. Ok (k, 4)) (omega arith))
         ]
       ]
     ]
@@ -153,41 +153,41 @@ high_3 a b c e f g =
 sound_4 : (a b c : ℕ) (rest : List ℕ) → ((i : ℕ) → get_or (a ∷ b ∷ c ∷ rest) i 0 < 256) → 128 < a → 128 ≤ b → 128 ≤ c → Means (a ∷ b ∷ c ∷ rest) (reading (a ∷ b ∷ c ∷ rest))
 sound_4 a b c [] h e f g =
     means_by (a ∷ b ∷ c ∷ []) (Err Truncated) (cut_3 a b c e f g)
-        (record { not_padded = unpadded a (b ∷ c ∷ []) e; short = omega arith; top_bits = high_3 a b c (omega arith) f g })
+    (record { not_padded = unpadded a (b ∷ c ∷ []) e; short = omega arith; top_bits = high_3 a b c (omega arith) f g })
 sound_4 a b c (d ∷ rest) h e f g =
     elim (cases_lt d 128) [
-      inl low ↦ means_by (a ∷ b ∷ c ∷ d ∷ rest) (Ok (((a % 128 * 128 + b % 128) * 128 + c % 128) * 128 + d, 4)) (read_4 a b c d rest e f g low)
+      | inl low ↦ means_by (a ∷ b ∷ c ∷ d ∷ rest) (Ok (((a % 128 * 128 + b % 128) * 128 + c % 128) * 128 + d, 4)) (read_4 a b c d rest e f g low)
           (number_4 a b c d rest e (h 0) f (h 1) g (h 2) low)
-    | inr high ↦ means_by (a ∷ b ∷ c ∷ d ∷ rest) (Err TooLong) (long_4 a b c d rest e f g high)
+      | inr high ↦ means_by (a ∷ b ∷ c ∷ d ∷ rest) (Err TooLong) (long_4 a b c d rest e f g high)
           (record { not_padded = unpadded a (b ∷ c ∷ d ∷ rest) e; four = omega arith; top_bits = All-cons (λ byte. 128 ≤ byte) a (b ∷ c ∷ d ∷ []) (omega arith) (high_3 b c d f g high) })
     ]
 
 sound_3 : (a b : ℕ) (rest : List ℕ) → ((i : ℕ) → get_or (a ∷ b ∷ rest) i 0 < 256) → 128 < a → 128 ≤ b → Means (a ∷ b ∷ rest) (reading (a ∷ b ∷ rest))
 sound_3 a b [] h e f =
     means_by (a ∷ b ∷ []) (Err Truncated) (cut_2 a b e f)
-        (record { not_padded = unpadded a (b ∷ []) e; short = omega arith; top_bits = All-cons (λ byte. 128 ≤ byte) a (b ∷ []) (omega arith) (All-cons (λ byte. 128 ≤ byte) b [] f (All-nil (λ byte. 128 ≤ byte))) })
+    (record { not_padded = unpadded a (b ∷ []) e; short = omega arith; top_bits = All-cons (λ byte. 128 ≤ byte) a (b ∷ []) (omega arith) (All-cons (λ byte. 128 ≤ byte) b [] f (All-nil (λ byte. 128 ≤ byte))) })
 sound_3 a b (c ∷ rest) h e f =
     elim (cases_lt c 128) [
-      inl low ↦ means_by (a ∷ b ∷ c ∷ rest) (Ok ((a % 128 * 128 + b % 128) * 128 + c, 3)) (read_3 a b c rest e f low)
+      | inl low ↦ means_by (a ∷ b ∷ c ∷ rest) (Ok ((a % 128 * 128 + b % 128) * 128 + c, 3)) (read_3 a b c rest e f low)
           (number_3 a b c rest e (h 0) f (h 1) low)
-    | inr high ↦ sound_4 a b c rest h e f high
+      | inr high ↦ sound_4 a b c rest h e f high
     ]
 
 sound_2 : (a : ℕ) (rest : List ℕ) → ((i : ℕ) → get_or (a ∷ rest) i 0 < 256) → 128 < a → Means (a ∷ rest) (reading (a ∷ rest))
 sound_2 a [] h e =
     means_by (a ∷ []) (Err Truncated) (cut_1 a e)
-        (record { not_padded = unpadded a [] e; short = omega arith; top_bits = All-cons (λ byte. 128 ≤ byte) a [] (omega arith) (All-nil (λ byte. 128 ≤ byte)) })
+    (record { not_padded = unpadded a [] e; short = omega arith; top_bits = All-cons (λ byte. 128 ≤ byte) a [] (omega arith) (All-nil (λ byte. 128 ≤ byte)) })
 sound_2 a (b ∷ rest) h e =
     elim (cases_lt b 128) [
-      inl low ↦ means_by (a ∷ b ∷ rest) (Ok (a % 128 * 128 + b, 2)) (read_2 a b rest e low) (number_2 a b rest e (h 0) low)
-    | inr high ↦ sound_3 a b rest h e high
+      | inl low ↦ means_by (a ∷ b ∷ rest) (Ok (a % 128 * 128 + b, 2)) (read_2 a b rest e low) (number_2 a b rest e (h 0) low)
+      | inr high ↦ sound_3 a b rest h e high
     ]
 
 sound_1 : (a : ℕ) (rest : List ℕ) → ((i : ℕ) → get_or (a ∷ rest) i 0 < 256) → (a ≡ 128 → ⊥) → Means (a ∷ rest) (reading (a ∷ rest))
 sound_1 a rest h ne =
     elim (cases_lt a 128) [
-      inl low ↦ means_by (a ∷ rest) (Ok (a, 1)) (read_1 a rest low) (number_1 a rest low)
-    | inr high ↦ sound_2 a rest h (omega arith)
+      | inl low ↦ means_by (a ∷ rest) (Ok (a, 1)) (read_1 a rest low) (number_1 a rest low)
+      | inr high ↦ sound_2 a rest h (omega arith)
     ]
 
 -- What reading answers is so, for bytes.
@@ -197,8 +197,8 @@ sound [] h =
     means_by [] (Err Truncated) refl (record { not_padded = λ e. cc; short = omega arith; top_bits = All-nil (λ byte. 128 ≤ byte) })
 sound (a ∷ rest) h =
     elim (cases_eq a 128) [
-      inl e ↦ means_by (a ∷ rest) (Err Padded) (is_padded a rest e) (ap Some e)
-    | inr ne ↦ sound_1 a rest h ne
+      | inl e ↦ means_by (a ∷ rest) (Err Padded) (is_padded a rest e) (ap Some e)
+      | inr ne ↦ sound_1 a rest h ne
     ]
 
 -- The answers that the text, or a fault of the bytes, settles.

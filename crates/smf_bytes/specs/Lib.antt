@@ -1,2 +1,6 @@
+pub mod Event
+pub mod File
+pub mod Limits
 pub mod Number
 pub mod Order
+pub mod Track

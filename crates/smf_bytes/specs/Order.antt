@@ -10,7 +10,7 @@ use Rattle.smf_bytes.specs.declared.event.Event.{Event}
 abbrev pub event_cmp : Event → Event → Ordering
 event_cmp a b =
     ordering_then (nat_cmp a.tick b.tick)
-        (ordering_then (nat_cmp a.class b.class) (ordering_then (nat_cmp a.key b.key) (slice_cmp nat_cmp a.bytes b.bytes)))
+    (ordering_then (nat_cmp a.class b.class) (ordering_then (nat_cmp a.key b.key) (slice_cmp nat_cmp a.bytes b.bytes)))
 
 -- An event goes before the first that is not less.
 abbrev pub insert_event : Event → List Event → List Event

@@ -1,7 +1,10 @@
 //! Events of a track.
-ghost use Rattle.std.specs.Prelude.{◌≡◌};
+ghost use Rattle.std.specs.Prelude.{◌≡◌, ◌≤◌, ◌^◌, ◌<◌, length, IfOk};
+ghost use Rattle.smf_bytes.specs.Event.{meta_event};
 
+use crate::number::put_number;
 use crate::sequence::Sequence;
+use std::alloc::{AllocError, Global};
 
 /// An event of a track. Events compare as they stand in a track: by tick, then class, then key, then
 /// bytes.
@@ -16,4 +19,16 @@ pub struct Event {
     pub key: u8,
     /// What the track holds of it after its delta time.
     pub bytes: Sequence<u8>,
+}
+
+/// The bytes of a meta event of this type.
+pub(crate) fn meta(alloc: Global, kind: u8, content: &[u8]) -> Result<Sequence<u8>, AllocError>
+    requires { length content.now < 2 ^ 28 }
+    ensures { IfOk result (λ bytes. bytes ≡ meta_event kind content.now) }
+{
+    let mut bytes = Vec::new(alloc);
+    bytes.extend_from_slice(&[0xFF, kind])?;
+    put_number(&mut bytes, content.len() as u32)?;
+    bytes.extend_from_slice(content)?;
+    Ok(Sequence::from(bytes))
 }

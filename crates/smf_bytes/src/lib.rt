@@ -2,12 +2,20 @@
 //! chunks, and the file of a score.
 #![tactic(auto)]
 
+mod chunk;
+mod conductor;
 mod event;
+mod file;
 mod number;
 mod order;
+mod score;
 mod sequence;
+mod track;
+mod voice;
 
 pub use event::Event;
+pub use file::file_of;
 pub use number::{NumberFault, number_texts, put_number, read_number};
 pub use order::{one_order, order_events};
+pub use score::{Change, ChangeKind, Score, Sounding};
 pub use sequence::Sequence;

@@ -1,5 +1,5 @@
 //! A list that contracts see as nothing but its elements.
-ghost use Rattle.std.specs.Prelude.{◌≡◌, ◌==◌, [], ◌∷◌, ◌++◌, length, OnOk, OnErr};
+ghost use Rattle.std.specs.Prelude.{◌≡◌, ◌==◌, [], ◌∷◌, ◌++◌, length, IfOk, OnOk, OnErr};
 ghost use Rattle.std.specs.Cmp.{on_per, on_equiv, on_po, on_total};
 ghost use Rattle.std.specs.Cmp.Lexicographic.{pointwise, slice_cmp, slice_partial_cmp, lists_per, lists_equiv, lists_po, lists_total, lists_agrees, lists_ties};
 
@@ -35,8 +35,21 @@ impl<T> Sequence<T> {
         }
     }
 
+    /// A copy of these elements.
+    pub fn from_slice(alloc: Global, elements: &[T]) -> Result<Self, AllocError>
+    where
+        T: Copy,
+        ensures { IfOk result (λ sequence. sequence ≡ elements.now) }
+    {
+        Ok(Sequence {
+            elements: Vec::from_slice(alloc, elements)?,
+        })
+    }
+
+    /// Puts one more element at the end.
     pub fn push(&mut self, element: T) -> Result<(), AllocError>
-        where T: Drop
+    where
+        T: Drop,
         ensures ok { OnOk result (self.new ≡ self.old ++ element ∷ []) }
         ensures err { OnErr result (self.new ≡ self.old) }
     {
@@ -56,12 +69,14 @@ impl<T> Sequence<T> {
         self.elements.is_empty()
     }
 
+    /// The elements in order.
     pub fn as_slice(&self) -> &[T]
         ensures { result.now ≡ self.now }
     {
         self.elements.as_slice()
     }
 
+    /// The elements as a vector.
     pub fn into_vec(self) -> Vec<T>
         ensures { result.items ≡ self }
     {

@@ -1,0 +1,32 @@
+use Rattle.std.proofs.Common.{◌≡◌, ◌<◌, ◌^◌, ℕ, List, length, subst, sym, ap, ◌∙◌}
+use Rattle.abc_time.specs.Grains.{tick_at}
+use Rattle.smf_bytes.specs.declared.event.Event.{Event}
+use Rattle.smf_bytes.specs.Track.{track_body, conductor_events}
+use Rattle.smf_bytes.proofs.Files.{opened}
+use Rattle.smf_bytes.proofs.Lengths.{EndBy, conductor_length, conductor_ticks}
+use Rattle.smf_bytes.proofs.file.file_of.Goals as goal
+
+pub put_track-requires-clause-before_end : goal.put_track-requires-clause-before_end
+put_track-requires-clause-before_end c =
+    let score = c.args.score.now in
+    let events : c.in_ok-changes.changes.items ≡ conductor_events score.title score.conductor =
+    c.in_ok-changes.ensures ∙ ap (λ t. conductor_events t c.as_slice-2.result.now) c.as_slice.ensures ∙ ap (conductor_events score.title) c.as_slice-2.ensures in
+    subst (λ (t : ℕ). EndBy t c.in_ok-changes.changes.items) (sym c.tick_of-end.ensures.exact)
+    (subst (EndBy (tick_at score.end.0)) (sym events) (conductor_ticks score.end score.title score.conductor c.requires.changes))
+
+pub put_track-requires-clause-length : goal.put_track-requires-clause-length
+put_track-requires-clause-length c =
+    let score = c.args.score.now in
+    let events : c.in_ok-changes.changes.items ≡ conductor_events score.title score.conductor =
+    c.in_ok-changes.ensures ∙ ap (λ t. conductor_events t c.as_slice-2.result.now) c.as_slice.ensures ∙ ap (conductor_events score.title) c.as_slice-2.ensures in
+    let tick = c.tick_of-end.result in
+    let Short = λ (body : List Event). length (track_body tick body) < 2 ^ 32 in
+    subst Short (sym events) (conductor_length tick score.title score.conductor c.requires.title c.requires.change_count)
+
+pub loop-place-init : goal.loop-place-init
+loop-place-init c =
+    let score = c.args.score.now in
+    let events : c.in_ok-changes.changes.items ≡ conductor_events score.title score.conductor =
+    c.in_ok-changes.ensures ∙ ap (λ t. conductor_events t c.as_slice-2.result.now) c.as_slice.ensures ∙ ap (conductor_events score.title) c.as_slice-2.ensures in
+    opened score c.new-file.result.items _ _ c.len.result c.tick_of-end.result c.in_ok-changes.changes.items
+    c.new-file.ensures.items c.len.ensures c.in_ok-put_header.ensures c.tick_of-end.ensures.exact events c.in_ok-put_track.ensures

@@ -1,0 +1,26 @@
+-- The file of a score (SMF 1.0).
+use Rattle.std.specs.Prelude.{ℕ, ◌+◌, List, [], ◌∷◌, ◌++◌, length, codes}
+use Rattle.byteorder.specs.Endian.{big_bytes}
+use Rattle.abc_time.specs.Grains.{tick_at}
+use Rattle.smf_bytes.specs.declared.score.Score.{Score}
+use Rattle.smf_bytes.specs.declared.score.Sounding.{Sounding}
+use Rattle.smf_bytes.specs.Track.{chunk, track, conductor_events, voice_events, channel_of}
+
+-- The header, a chunk of the type MThd: format 1, the count of tracks, 480 ticks to a quarter note
+-- (SMF 1.0; that each file is of format 1, with that division, is our own).
+unfoldable pub header : ℕ → List ℕ
+header tracks = chunk (codes "MThd") (big_bytes 2 1 ++ big_bytes 2 tracks ++ big_bytes 2 480)
+
+-- A track for each voice, from the voice of this place on.
+abbrev pub voice_tracks : ℕ → ℕ → List (List Sounding) → List ℕ
+voice_tracks end place [] = []
+voice_tracks end place (notes ∷ voices) =
+    track end (voice_events (channel_of place) notes) ++ voice_tracks end (place + 1) voices
+
+-- A file is its chunks one after another: the header, the conductor's track, the voices' tracks. All
+-- tracks end with the tune.
+unfoldable pub file_bytes : Score → List ℕ
+file_bytes score =
+    header (length score.voices + 1)
+    ++ track (tick_at score.end.0) (conductor_events score.title score.conductor)
+    ++ voice_tracks (tick_at score.end.0) 0 score.voices

@@ -1,0 +1,38 @@
+-- Tracks as chunks (SMF 1.0).
+use Rattle.std.specs.Prelude.{ℕ, ◌+◌, ◌-◌, nat_lt, if◌then◌else◌, List, [], ◌∷◌, ◌++◌, length, flat_map, map, codes}
+use Rattle.byteorder.specs.Endian.{big_bytes}
+use Rattle.smf_bytes.specs.declared.event.Event.{Event}
+use Rattle.smf_bytes.specs.declared.score.Change.{Change}
+use Rattle.smf_bytes.specs.declared.score.Sounding.{Sounding}
+use Rattle.smf_bytes.specs.Number.{number_text}
+use Rattle.smf_bytes.specs.Order.{in_order}
+use Rattle.smf_bytes.specs.Event.{title_events, change_event, note_events, end_event}
+
+-- A chunk: four bytes that say its type, its length in 32 bits, its bytes (SMF 1.0).
+abbrev pub chunk : List ℕ → List ℕ → List ℕ
+chunk type body = type ++ big_bytes 4 (length body) ++ body
+
+-- Each event after its delta time, the ticks since the one before it as a quantity (SMF 1.0).
+abbrev pub timed : ℕ → List Event → List ℕ
+timed before [] = []
+timed before (event ∷ events) = number_text (event.tick - before) ++ event.bytes ++ timed event.tick events
+
+-- The events in their order, and at last the end of the track.
+unfoldable pub track_body : ℕ → List Event → List ℕ
+track_body end events = timed 0 (in_order events ++ end_event end ∷ [])
+
+-- A track is a chunk of the type MTrk (SMF 1.0).
+unfoldable pub track : ℕ → List Event → List ℕ
+track end events = chunk (codes "MTrk") (track_body end events)
+
+-- The events of the first track: the title, and the changes of tempo, meter and key.
+abbrev pub conductor_events : List ℕ → List Change → List Event
+conductor_events title changes = title_events title ++ map change_event changes
+
+-- The events of a voice, on a channel.
+abbrev pub voice_events : ℕ → List Sounding → List Event
+voice_events channel notes = flat_map (note_events channel) notes
+
+-- Voices take the channels in turn from 0, without the tenth, which is for percussion (General MIDI).
+abbrev pub channel_of : ℕ → ℕ
+channel_of voice = if nat_lt voice 9 then voice else voice + 1

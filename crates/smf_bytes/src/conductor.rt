@@ -1,0 +1,92 @@
+//! The events of the first track: the title, and the changes of tempo, meter and key.
+ghost use Rattle.std.specs.Prelude.{◌≡◌, ◌≤◌, ◌^◌, ◌<◌, ◌++◌, ◌∷◌, [], length, All, IfOk, OnOk};
+ghost use Rattle.abc_time.specs.Grains.{grains_of_the_latest_end};
+ghost use Rattle.smf_bytes.specs.Event.{title_events, class_of, change_bytes, change_event};
+ghost use Rattle.smf_bytes.specs.Limits.{IsWritable, IsChangeWithin};
+ghost use Rattle.smf_bytes.specs.Track.{conductor_events};
+
+use crate::event::{Event, meta};
+use crate::score::{Change, ChangeKind};
+use crate::sequence::Sequence;
+use abc_time::{Grains, tick_of};
+use byteorder::{BigEndian, ByteOrder};
+use std::alloc::{AllocError, Global};
+
+/// The events of the first track, of a tune that ends at `end`.
+pub(crate) fn conductor(
+    alloc: Global,
+    end: Grains,
+    title: &[u8],
+    changes: &[Change],
+) -> Result<Vec<Event>, AllocError>
+    requires end { end.0 ≤ grains_of_the_latest_end }
+    requires title { length title.now ≤ 65535 }
+    requires changes { All (IsChangeWithin end) changes.now }
+    ensures { IfOk result (λ events. events.items ≡ conductor_events title.now changes.now) }
+{
+    let mut events = Vec::new(alloc);
+    if !title.is_empty() {
+        events.push(title_event(alloc, title)?)?;
+    }
+    for change in changes {
+        events.push(changed(alloc, end, change)?)?;
+    }
+    Ok(events)
+}
+
+fn title_event(alloc: Global, title: &[u8]) -> Result<Event, AllocError>
+    requires some { 0 < length title.now }
+    requires short { length title.now ≤ 65535 }
+    ensures { IfOk result (λ event. event ∷ [] ≡ title_events title.now) }
+{
+    Ok(Event {
+        tick: 0,
+        class: 1,
+        key: 0,
+        bytes: meta(alloc, 0x03, title)?,
+    })
+}
+
+fn changed(alloc: Global, end: Grains, change: &Change) -> Result<Event, AllocError>
+    requires end { end.0 ≤ grains_of_the_latest_end }
+    requires within { IsChangeWithin end change.now }
+    ensures { IfOk result (λ event. event ≡ change_event change.now) }
+{
+    Ok(Event {
+        tick: tick_of(change.at),
+        class: class(change.what),
+        key: 0,
+        bytes: bytes_of(alloc, change.what)?,
+    })
+}
+
+fn class(what: ChangeKind) -> u8
+    ensures { result ≡ class_of what }
+{
+    match what {
+        ChangeKind::Tempo(_) => 2,
+        ChangeKind::Meter { .. } => 3,
+        ChangeKind::Key { .. } => 4,
+    }
+}
+
+fn bytes_of(alloc: Global, what: ChangeKind) -> Result<Sequence<u8>, AllocError>
+    requires { IsWritable what }
+    ensures { IfOk result (λ bytes. bytes ≡ change_bytes what) }
+{
+    match what {
+        ChangeKind::Tempo(micros) => {
+            let mut content = [0; 3];
+            BigEndian::write_u24(&mut content, micros);
+            meta(alloc, 0x51, &content)
+        }
+        ChangeKind::Meter { num, den } => {
+            meta(alloc, 0x58, &[num, den.trailing_zeros() as u8, 24, 8])
+        }
+        ChangeKind::Key { sharps, minor } => meta(
+            alloc,
+            0x59,
+            &[sharps.cast_unsigned(), minor as u8],
+        ),
+    }
+}

@@ -1,0 +1,68 @@
+//! The file of a score.
+ghost use Rattle.std.specs.Prelude.{◌≡◌, ◌≤◌, ◌<◌, ◌^◌, ◌+◌, ◌++◌, length, IfOk, OnOk};
+ghost use Rattle.abc_time.specs.Grains.{grains_of_the_latest_end, tick_at};
+ghost use Rattle.smf_bytes.specs.File.{header, voice_tracks, file_bytes};
+ghost use Rattle.smf_bytes.specs.Limits.{IsWithinLimits, IsVoiceWithin};
+ghost use Rattle.smf_bytes.specs.Track.{track, voice_events, channel_of};
+
+use crate::chunk::{put_u16, put_u32};
+use crate::conductor::conductor;
+use crate::score::{Score, Sounding};
+use crate::sequence::Sequence;
+use crate::track::put_track;
+use crate::voice::{channel, voice};
+use abc_time::{Grains, tick_of};
+use std::alloc::{AllocError, Global};
+
+/// The Standard MIDI File of a score: format 1, 480 ticks to a quarter note, first the title and the
+/// changes, then a track for each voice.
+pub fn file_of(alloc: Global, score: &Score) -> Result<Vec<u8>, AllocError>
+    requires { IsWithinLimits score.now }
+    ensures { IfOk result (λ file. file.items ≡ file_bytes score.now) }
+{
+    let end = tick_of(score.end);
+    let mut file = Vec::new(alloc);
+    put_header(&mut file, score.voices.len() + 1)?;
+    let changes = conductor(
+        alloc,
+        score.end,
+        score.title.as_slice(),
+        score.conductor.as_slice(),
+    )?;
+    put_track(alloc, &mut file, end, changes)?;
+    for (place, notes) in score.voices.as_slice().iter().enumerate() {
+        put_voice(alloc, &mut file, score.end, place, notes)?;
+    }
+    Ok(file)
+}
+
+/// Appends the header of a file with so many tracks.
+#[tactic(auto, unfolding(crate::specs::File::header))]
+fn put_header(out: &mut Vec<u8>, tracks: usize) -> Result<(), AllocError>
+    requires { tracks ≤ 16 }
+    ensures { OnOk result (out.new.items ≡ out.old.items ++ header tracks) }
+{
+    out.extend_from_slice(b"MThd")?;
+    put_u32(out, 6)?;
+    put_u16(out, 1)?;
+    put_u16(out, tracks as u16)?;
+    put_u16(out, 480)?;
+    Ok(())
+}
+
+/// Appends the track of the voice at this place.
+fn put_voice(
+    alloc: Global,
+    out: &mut Vec<u8>,
+    end: Grains,
+    place: usize,
+    notes: &Sequence<Sounding>,
+) -> Result<(), AllocError>
+    requires end { end.0 ≤ grains_of_the_latest_end }
+    requires place { place < 15 }
+    requires notes { IsVoiceWithin end notes.now }
+    ensures { OnOk result (out.new.items ≡ out.old.items ++ track (tick_at end.0) (voice_events (channel_of place) notes.now)) }
+{
+    let events = voice(alloc, end, channel(place), notes.as_slice())?;
+    put_track(alloc, out, tick_of(end), events)
+}

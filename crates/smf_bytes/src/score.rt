@@ -1,0 +1,42 @@
+//! The score of a tune: what the file of a tune is written from.
+use crate::sequence::Sequence;
+use abc_time::Grains;
+
+/// A tune as notes and changes, at exact moments from its start.
+#[derive(Debug, PartialEq, Eq, Drop)]
+pub struct Score {
+    /// The title's bytes, empty where there is none.
+    pub title: Sequence<u8>,
+    /// When the tune, and with it each track, ends.
+    pub end: Grains,
+    /// Tempos, meters and keys, in any order.
+    pub conductor: Sequence<Change>,
+    /// The notes of each voice, in any order.
+    pub voices: Sequence<Sequence<Sounding>>,
+}
+
+/// A change of tempo, meter or key.
+#[derive(Clone, Copy, Debug, PartialEq, Eq)]
+pub struct Change {
+    pub at: Grains,
+    pub what: ChangeKind,
+}
+
+#[derive(Clone, Copy, Debug, PartialEq, Eq)]
+pub enum ChangeKind {
+    /// Microseconds to a quarter note, 1 to 16,777,215.
+    Tempo(u32),
+    /// The upper number of a meter, and the lower one: a power of two up to 64.
+    Meter { num: u8, den: u8 },
+    /// The sharps of a key, -7 to 7 with flats below 0, and whether it is minor.
+    Key { sharps: i8, minor: bool },
+}
+
+/// A note that sounds from one moment to another.
+#[derive(Clone, Copy, Debug, PartialEq, Eq)]
+pub struct Sounding {
+    /// 0 to 127, 60 the middle C.
+    pub key: u8,
+    pub on: Grains,
+    pub off: Grains,
+}

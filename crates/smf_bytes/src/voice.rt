@@ -1,0 +1,91 @@
+//! The events of a voice: its notes on and off.
+ghost use Rattle.std.specs.Prelude.{◌≡◌, ◌≤◌, ◌<◌, ◌++◌, All, IfOk, OnOk};
+ghost use Rattle.abc_time.specs.Grains.{grains_of_the_latest_end};
+ghost use Rattle.smf_bytes.specs.Event.{note_off, note_on, note_events};
+ghost use Rattle.smf_bytes.specs.Limits.{IsSoundingWithin};
+ghost use Rattle.smf_bytes.specs.Track.{voice_events, channel_of};
+
+use crate::event::Event;
+use crate::score::Sounding;
+use crate::sequence::Sequence;
+use abc_time::{Grains, tick_of};
+use std::alloc::{AllocError, Global};
+
+/// The channel of the voice at this place, from 0. The tenth is left out: it is for percussion.
+pub(crate) fn channel(place: usize) -> u8
+    requires { place < 15 }
+    ensures { result ≡ channel_of place }
+{
+    if place < 9 {
+        place as u8
+    } else {
+        place as u8 + 1
+    }
+}
+
+/// The events of a voice, of a tune that ends at `end`.
+pub(crate) fn voice(
+    alloc: Global,
+    end: Grains,
+    channel: u8,
+    notes: &[Sounding],
+) -> Result<Vec<Event>, AllocError>
+    requires end { end.0 ≤ grains_of_the_latest_end }
+    requires channel { channel < 16 }
+    requires notes { All (IsSoundingWithin end) notes.now }
+    ensures { IfOk result (λ events. events.items ≡ voice_events channel notes.now) }
+{
+    let mut events = Vec::new(alloc);
+    for note in notes {
+        push_note(alloc, &mut events, end, channel, note)?;
+    }
+    Ok(events)
+}
+
+/// Appends the off and the on of a note, unless both fall on one tick.
+fn push_note(
+    alloc: Global,
+    events: &mut Vec<Event>,
+    end: Grains,
+    channel: u8,
+    note: &Sounding,
+) -> Result<(), AllocError>
+    requires end { end.0 ≤ grains_of_the_latest_end }
+    requires channel { channel < 16 }
+    requires note { IsSoundingWithin end note.now }
+    ensures { OnOk result (events.new.items ≡ events.old.items ++ note_events channel note.now) }
+{
+    let on = tick_of(note.on);
+    let off = tick_of(note.off);
+    if on != off {
+        events.push(off_event(alloc, channel, note.key, off)?)?;
+        events.push(on_event(alloc, channel, note.key, on)?)?;
+    }
+    Ok(())
+}
+
+fn off_event(alloc: Global, channel: u8, key: u8, tick: u32) -> Result<Event, AllocError>
+    requires { channel < 16 }
+    ensures { IfOk result (λ event. event ≡ note_off channel key tick) }
+{
+    let bytes = Sequence::from_slice(alloc, &[0x80 + channel, key, 64])?;
+    Ok(Event {
+        tick,
+        class: 1,
+        key,
+        bytes,
+    })
+}
+
+fn on_event(alloc: Global, channel: u8, key: u8, tick: u32) -> Result<Event, AllocError>
+    requires { channel < 16 }
+    ensures { IfOk result (λ event. event ≡ note_on channel key tick) }
+{
+    let bytes = Sequence::from_slice(alloc, &[0x90 + channel, key, 80])?;
+    Ok(Event {
+        tick,
+        class: 2,
+        key,
+        bytes,
+    })
+}
