@@ -1,5 +1,6 @@
 -- What a file can hold, and the limits that are our own.
-use Rattle.std.specs.Prelude.{◌≡◌, ℕ, ◌^◌, ◌<◌, ◌≤◌, ◌≤ℤ◌, pos, negsuc, List, length, All}
+use Rattle.std.specs.Prelude.{ℕ, ◌^◌, ◌<◌, ◌≤◌, ◌==◌, ◌≤ℤ◌, pos, negsuc, Bool, IsTrue, List, [], ◌∷◌, length, All}
+use Rattle.std.specs.List.{list_any}
 use Rattle.abc_time.specs.declared.grains.Grains.{Grains}
 use Rattle.abc_time.specs.Grains.{grains_of_the_latest_end}
 use Rattle.smf_bytes.specs.declared.score.Score.{Score}
@@ -8,38 +9,42 @@ use Rattle.smf_bytes.specs.declared.score.ChangeKind.{ChangeKind}
 use Rattle.smf_bytes.specs.declared.score.ChangeKind.TheVariants.{Tempo, Meter, Key}
 use Rattle.smf_bytes.specs.declared.score.Sounding.{Sounding}
 
--- A power of two up to 64.
-pub record IsLowerNumber (den : ℕ) : Type 0 where
-  pub exponent : ℕ
-  pub small : exponent ≤ 6
-  pub power : den ≡ 2 ^ exponent
+-- The lower numbers of meters: the powers of two up to 64. Our own.
+abbrev pub is_lower_number : ℕ → Bool
+is_lower_number den = list_any (λ power. power == den) (1 ∷ 2 ∷ 4 ∷ 8 ∷ 16 ∷ 32 ∷ 64 ∷ [])
 
 -- A tempo of one to 2^24 - 1 microseconds to a quarter, a meter over a power of two, a key of at
 -- most seven sharps or flats.
 abbrev pub IsWritable : ChangeKind → Type 0
 IsWritable (Tempo micros) = (1 ≤ micros) × (micros < 2 ^ 24)
-IsWritable (Meter num den) = IsLowerNumber den
+IsWritable (Meter num den) = IsTrue (is_lower_number den)
 IsWritable (Key sharps minor) = (negsuc 6 ≤ℤ sharps) × (sharps ≤ℤ pos 7)
 
+-- A change that comes before the end, or at it.
 pub record IsChangeWithin (end : Grains) (change : Change) : Type 0 where
   pub before_end : change.at.0 ≤ end.0
   pub writable : IsWritable change.what
 
+-- A note from a moment to a later or the same one, not past the end; keys are 0 to 127 (SMF 1.0).
 pub record IsSoundingWithin (end : Grains) (note : Sounding) : Type 0 where
   pub forward : note.on.0 ≤ note.off.0
   pub before_end : note.off.0 ≤ end.0
   pub key : note.key ≤ 127
 
+-- At most 16,000,000 notes.
 pub record IsVoiceWithin (end : Grains) (notes : List Sounding) : Type 0 where
   pub count : length notes ≤ 16000000
   pub each : All (IsSoundingWithin end) notes
 
--- A score that a file can hold: all within its end, which is at most 131,072 whole notes, and not so
--- many events that a track's length would pass 32 bits.
-pub record IsWithinLimits (score : Score) : Type 0 where
+-- The end at most 131,072 whole notes, and counts that keep a track's length within 32 bits.
+pub record AreCountsWithin (score : Score) : Type 0 where
   pub end : score.end.0 ≤ grains_of_the_latest_end
   pub title : length score.title ≤ 65535
-  pub change_count : length score.conductor ≤ 1000003
+  pub changes : length score.conductor ≤ 1000003
+  pub voices : length score.voices ≤ 15
+
+-- A score that a file can hold.
+pub record IsWithinLimits (score : Score) : Type 0 where
+  pub counts : AreCountsWithin score
   pub changes : All (IsChangeWithin score.end) score.conductor
-  pub voice_count : length score.voices ≤ 15
   pub voices : All (IsVoiceWithin score.end) score.voices

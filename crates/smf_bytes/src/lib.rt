@@ -6,6 +6,7 @@ mod chunk;
 mod conductor;
 mod event;
 mod file;
+mod limits;
 mod number;
 mod order;
 mod score;
@@ -15,6 +16,7 @@ mod voice;
 
 pub use event::Event;
 pub use file::file_of;
+pub use limits::is_within_limits;
 pub use number::{NumberFault, number_texts, put_number, read_number};
 pub use order::{one_order, order_events};
 pub use score::{Change, ChangeKind, Score, Sounding};

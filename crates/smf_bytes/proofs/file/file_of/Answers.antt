@@ -21,7 +21,7 @@ put_track-requires-clause-length c =
     c.in_ok-changes.ensures ∙ ap (λ t. conductor_events t c.as_slice-2.result.now) c.as_slice.ensures ∙ ap (conductor_events score.title) c.as_slice-2.ensures in
     let tick = c.tick_of-end.result in
     let Short = λ (body : List Event). length (track_body tick body) < 2 ^ 32 in
-    subst Short (sym events) (conductor_length tick score.title score.conductor c.requires.title c.requires.change_count)
+    subst Short (sym events) (conductor_length tick score.title score.conductor c.requires.counts.title c.requires.counts.changes)
 
 pub loop-place-init : goal.loop-place-init
 loop-place-init c =

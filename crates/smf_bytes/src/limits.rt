@@ -1,0 +1,82 @@
+//! The limits within which a file can hold a score.
+ghost use Rattle.std.specs.Prelude.{◌≤◌, ◌↔◌, All, IsTrue};
+ghost use Rattle.abc_time.specs.Grains.{grains_of_the_latest_end};
+ghost use Rattle.smf_bytes.specs.Limits.{IsWritable, IsChangeWithin, IsSoundingWithin, IsVoiceWithin, AreCountsWithin, IsWithinLimits};
+
+use crate::score::{Change, ChangeKind, Score, Sounding};
+use crate::sequence::Sequence;
+use abc_time::{Grains, LATEST_END};
+
+/// Whether a file can hold the score: its end at most 131,072 whole notes, changes and notes within
+/// it, at most 15 voices, and so few events that each track's length fits 32 bits.
+pub fn is_within_limits(score: &Score) -> bool
+    ensures { IsTrue result ↔ IsWithinLimits score.now }
+{
+    are_counts_within(score)
+        && are_changes_within(score.end, score.conductor.as_slice())
+        && are_voices_within(score.end, score.voices.as_slice())
+}
+
+fn are_counts_within(score: &Score) -> bool
+    ensures { IsTrue result ↔ AreCountsWithin score.now }
+{
+    is_in_time(score.end)
+        && score.title.len() <= 65_535
+        && score.conductor.len() <= 1_000_003
+        && score.voices.len() <= 15
+}
+
+#[tactic(auto, unfolding(abc_time::specs::Grains::grains_of_a_whole_note, abc_time::specs::Grains::grains_of_the_latest_end))]
+fn is_in_time(end: Grains) -> bool
+    ensures { IsTrue result ↔ (end.0 ≤ grains_of_the_latest_end) }
+{
+    end <= LATEST_END
+}
+
+fn are_changes_within(end: Grains, changes: &[Change]) -> bool
+    ensures { IsTrue result ↔ All (IsChangeWithin end) changes.now }
+{
+    changes.iter().all(|change| is_change_within(end, change))
+}
+
+fn is_change_within(end: Grains, change: &Change) -> bool
+    ensures { IsTrue result ↔ IsChangeWithin end change.now }
+{
+    change.at <= end && is_writable(change.what)
+}
+
+fn is_writable(what: ChangeKind) -> bool
+    ensures { IsTrue result ↔ IsWritable what }
+{
+    match what {
+        ChangeKind::Tempo(micros) => 1 <= micros && micros < 1 << 24,
+        ChangeKind::Meter { num: _, den } => [1, 2, 4, 8, 16, 32, 64].contains(&den),
+        ChangeKind::Key { sharps, minor: _ } => -7 <= sharps && sharps <= 7,
+    }
+}
+
+fn are_voices_within(end: Grains, voices: &[Sequence<Sounding>]) -> bool
+    ensures { IsTrue result ↔ All (IsVoiceWithin end) voices.now }
+{
+    voices
+        .iter()
+        .all(|notes| is_voice_within(end, notes.as_slice()))
+}
+
+fn is_voice_within(end: Grains, notes: &[Sounding]) -> bool
+    ensures { IsTrue result ↔ IsVoiceWithin end notes.now }
+{
+    notes.len() <= 16_000_000 && are_notes_within(end, notes)
+}
+
+fn are_notes_within(end: Grains, notes: &[Sounding]) -> bool
+    ensures { IsTrue result ↔ All (IsSoundingWithin end) notes.now }
+{
+    notes.iter().all(|note| is_note_within(end, note))
+}
+
+fn is_note_within(end: Grains, note: &Sounding) -> bool
+    ensures { IsTrue result ↔ IsSoundingWithin end note.now }
+{
+    note.on <= note.off && note.off <= end && note.key <= 127
+}
