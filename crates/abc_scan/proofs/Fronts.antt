@@ -1,6 +1,7 @@
 -- The longest front of a list whose elements pass a test.
-use Rattle.std.proofs.Common.{◌≡◌, ℕ, suc, ◌+◌, Bool, true, List, [], ◌∷◌, ◌++◌, length, take, sym, ◌∙◌, subst, ⊎_elim, arith}
+use Rattle.std.proofs.Common.{◌≡◌, ℕ, suc, ◌+◌, Bool, true, false, List, [], ◌∷◌, ◌++◌, length, take, drop, refl, sym, ap, ◌∙◌, subst, ⊎_elim, arith, add-zero}
 use Rattle.std.specs.List.{prefix_len, AllPass}
+use Rattle.std.proofs.Math.Seq.{take-append_seam, drop-append_seam}
 use Rattle.std.proofs.lemmas.Bool.{cond-true, cond-false, cases_Bool}
 use Rattle.std.proofs.lemmas.List.Elements.{All-nil, All-cons, All-head, All-tail}
 
@@ -15,10 +16,25 @@ front_passes p (x ∷ xs) = ⊎_elim
     (λ fails. subst (λ n. AllPass p (take n (x ∷ xs))) (sym (cond-false (p x) (1 + prefix_len p xs) 0 fails)) (All-nil _))
     (cases_Bool (p x))
 
-pub front_passes_at : (p : ℕ → Bool) (xs : List ℕ) (n : ℕ) → n ≡ prefix_len p xs → AllPass p (take n xs)
-front_passes_at p xs n e = subst (λ m. AllPass p (take m xs)) (sym e) (front_passes p xs)
-
--- a list that passes and what follows it
+-- a list that passes, and what follows it
 pub front_append : (p : ℕ → Bool) (xs rest : List ℕ) → AllPass p xs → prefix_len p (xs ++ rest) ≡ length xs + prefix_len p rest
 front_append p [] rest h = omega arith
 front_append p (x ∷ xs) rest h = cond-true (p x) _ _ (All-head (λ y. p y ≡ true) x xs h) ∙ (let e = front_append p xs rest (All-tail (λ y. p y ≡ true) x xs h) in omega (arith, e))
+
+-- the front is such a list where nothing that passes follows it
+pub front_exact : (p : ℕ → Bool) (xs rest : List ℕ) → AllPass p xs → prefix_len p rest ≡ 0 → prefix_len p (xs ++ rest) ≡ length xs
+front_exact p xs rest h none = front_append p xs rest h ∙ ap (λ n. length xs + n) none ∙ add-zero (length xs)
+
+pub take_exact : (n : ℕ) (xs rest : List ℕ) → n ≡ length xs → take n (xs ++ rest) ≡ xs
+take_exact n xs rest e = ap (λ k. take k (xs ++ rest)) e ∙ take-append_seam xs rest
+
+pub drop_exact : (n : ℕ) (xs rest : List ℕ) → n ≡ length xs → drop n (xs ++ rest) ≡ rest
+drop_exact n xs rest e = ap (λ k. drop k (xs ++ rest)) e ∙ drop-append_seam xs rest
+
+-- a test that fails at the first element
+pub front_none : (p : ℕ → Bool) (x : ℕ) (xs : List ℕ) → p x ≡ false → prefix_len p (x ∷ xs) ≡ 0
+front_none p x xs h = cond-false (p x) _ _ h
+
+pub empty_list : (xs : List ℕ) → length xs ≡ 0 → xs ≡ []
+empty_list [] h = refl
+empty_list (x ∷ xs) h = absurd (omega arith)

@@ -2,3 +2,8 @@ pub mod ClassLaws
 pub mod Fronts
 pub mod Decimal
 pub mod Cuttings
+pub mod Lengths
+pub mod Notes
+pub mod Laws
+pub mod Spans
+pub mod Comments

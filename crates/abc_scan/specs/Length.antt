@@ -1,5 +1,5 @@
 -- Lengths as they are written behind notes and rests. ABC 2.1 section 4.3.
-use Rattle.std.specs.Prelude.{◌≡◌, ℕ, ◌+◌, ◌-◌, ◌*◌, ◌^◌, ◌<◌, Bool, Option, Some, None, List, [], ◌∷◌, ◌++◌, length, take, drop, replicate, if◌then◌else◌, ◌==◌, nat_lt, fold}
+use Rattle.std.specs.Prelude.{◌≤◌, ◌≡◌, ℕ, ◌+◌, ◌-◌, ◌*◌, ◌^◌, ◌<◌, Bool, Option, Some, None, List, [], ◌∷◌, ◌++◌, length, take, drop, replicate, if◌then◌else◌, ◌==◌, nat_lt, fold}
 use Rattle.std.specs.Char.{is_ascii_digit}
 use Rattle.std.specs.List.{prefix_len, AllPass}
 use Rattle.abc_scan.specs.declared.length.WrittenLength.{WrittenLength}
@@ -46,23 +46,35 @@ pub record IsLength (text : List ℕ) (value : WrittenLength) : Type 0 where
   pub one_slash : 0 < length under → slashes ≡ 1
   pub value_is : value ≡ written_length over slashes under
 
--- The parts of the longest length text at the front of a text: how many digits, slashes, and digits
--- behind one slash.
+-- Both parts of an accepted length are from 1 to 999,999,999, nine digits. Our own.
+pub record IsFactor (num den : ℕ) : Type 0 where
+  pub num_least : 1 ≤ num
+  pub num_most : num ≤ 999999999
+  pub den_least : 1 ≤ den
+  pub den_most : den ≤ 999999999
+
+abbrev pub HasFactor : WrittenLength → Type 0
+HasFactor (Factor num den) = IsFactor num den
+HasFactor Refused = Unit {0}
+
+-- The longest length text at the front of a text: its digits, and behind them its slashes, and behind
+-- one slash digits again.
 abbrev pub over_size : List ℕ → ℕ
 over_size text = prefix_len is_digit text
 
 abbrev pub slashes_size : List ℕ → ℕ
-slashes_size text = prefix_len is_slash (drop (over_size text) text)
-
-abbrev pub behind_slashes : List ℕ → List ℕ
-behind_slashes text = drop (over_size text + slashes_size text) text
+slashes_size rest = prefix_len is_slash rest
 
 abbrev pub under_size : List ℕ → ℕ
-under_size text = if slashes_size text == 1 then prefix_len is_digit (behind_slashes text) else 0
+under_size rest = if slashes_size rest == 1 then prefix_len is_digit (drop (slashes_size rest) rest) else 0
 
 -- How many bytes it takes, and its value.
 unfoldable pub length_size : List ℕ → ℕ
-length_size text = over_size text + slashes_size text + under_size text
+length_size text =
+    let rest = drop (over_size text) text in
+    over_size text + slashes_size rest + under_size rest
 
 unfoldable pub length_at : List ℕ → WrittenLength
-length_at text = written_length (take (over_size text) text) (slashes_size text) (take (under_size text) (behind_slashes text))
+length_at text =
+    let rest = drop (over_size text) text in
+    written_length (take (over_size text) text) (slashes_size rest) (take (under_size rest) (drop (slashes_size rest) rest))

@@ -1,5 +1,5 @@
 -- The part of a line that is read.
-use Rattle.std.specs.Prelude.{ℕ, ◌-◌, ◌&&◌, not, List, [], ◌∷◌, length, take, if◌then◌else◌, ◌==◌, nat_eq}
+use Rattle.std.specs.Prelude.{◌≡◌, ◌≢◌, ◌⊎◌, ℕ, ◌-◌, ◌&&◌, not, List, [], ◌∷◌, ◌++◌, length, take, if◌then◌else◌, ◌==◌, nat_eq}
 use Rattle.std.specs.List.{ends_with}
 
 -- The line without the carriage return at its end. Of two only the last is dropped. Our own.
@@ -19,3 +19,24 @@ without_comment text = before_comment 32 text
 -- The bytes of a line that are read.
 abbrev pub content : List ℕ → List ℕ
 content line = without_comment (without_return line)
+
+-- The last byte of a text, or this one where there is none.
+abbrev pub last_or : ℕ → List ℕ → ℕ
+last_or before [] = before
+last_or before (b ∷ bs) = last_or b bs
+
+-- What is read of a text that follows this byte is its front: each `%` in it directly follows a
+-- backslash, and behind it stands nothing, or a comment, whose `%` does not.
+pub record IsRead (before : ℕ) (text read : List ℕ) : Type 0 where
+  pub comment : List ℕ
+  pub spelling : text ≡ read ++ comment
+  pub escaped : (front rest : List ℕ) → read ≡ front ++ 37 ∷ rest → last_or before front ≡ 92
+  pub begins : (comment ≡ []) ⊎ ((rest : List ℕ) × (comment ≡ 37 ∷ rest) × (last_or before read ≢ 92))
+
+abbrev pub CutsComments : Type 0
+CutsComments = (text : List ℕ) → IsRead 32 text (without_comment text)
+
+-- One carriage return at the end is dropped, and nothing else.
+abbrev pub DropsOneReturn : Type 0
+DropsOneReturn =
+    (without_return [] ≡ []) × ((text : List ℕ) (b : ℕ) → without_return (text ++ b ∷ []) ≡ (if b == 13 then text else text ++ b ∷ []))

@@ -1,10 +1,24 @@
 -- What a music line is made of.
-use Rattle.std.specs.Prelude.{ℕ, Option, Some, None, List, [], ◌∷◌, if◌then◌else◌, unwrap_or}
+use Rattle.std.specs.Prelude.{◌≡◌, ℕ, Option, Some, None, List, [], ◌∷◌, if◌then◌else◌, unwrap_or, IsTrue}
 use Rattle.std.specs.Option.{option_map}
 use Rattle.abc_scan.specs.declared.token.TokenKind.{TokenKind}
 use Rattle.abc_scan.specs.declared.token.TokenKind.TheVariants as kinds
 use Rattle.abc_scan.specs.LineClass.{is_blank}
-use Rattle.abc_scan.specs.Note.{note_at, rest_at}
+use Rattle.abc_scan.specs.Note.{note_at, rest_at, IsNote, IsRest}
+
+-- A blank token is one space or tab.
+pub record IsBlankToken (text : List ℕ) : Type 0 where
+  pub byte : ℕ
+  pub spelling : text ≡ byte ∷ []
+  pub blank : IsTrue (is_blank byte)
+
+-- The bytes spell a token of this kind. A field line is no token of music, and `Other` is what spells none.
+abbrev pub Spells : List ℕ → TokenKind → Type 0
+Spells text (kinds.Note note) = IsNote text note
+Spells text (kinds.Rest value) = IsRest text value
+Spells text kinds.Blank = IsBlankToken text
+Spells text kinds.Field = ⊥
+Spells text kinds.Other = ⊥
 
 abbrev pub or_else : Option (TokenKind × ℕ) → Option (TokenKind × ℕ) → Option (TokenKind × ℕ)
 or_else (Some token) other = Some token

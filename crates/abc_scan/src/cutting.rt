@@ -1,8 +1,8 @@
 //! The tokens of a line.
 
-ghost use Rattle.std.specs.Prelude.{◌≡◌, ◌+◌, IfOk};
+ghost use Rattle.std.specs.Prelude.{◌≡◌, ◌+◌, IfOk, All, length};
 ghost use Rattle.abc_fold.specs.Work.{raised};
-ghost use Rattle.abc_scan.specs.Cutting.{cutting_of, field_token, tokens_in, tokens_of};
+ghost use Rattle.abc_scan.specs.Cutting.{cutting_of, field_token, tokens_in, tokens_of, IsSpan, JoinFromTo, covered_of, HasLength, CutsEachText, CutsOnce};
 
 use crate::class::{LineClass, class_of};
 use crate::text::content;
@@ -55,8 +55,19 @@ fn tokens_in(alloc: Global, class: LineClass, text: &[u8]) -> Result<Vec<Token>,
 /// where there is no memory for the tokens.
 pub fn scan(alloc: Global, line: &[u8], work: &mut Work) -> Result<Vec<Token>, AllocError>
     ensures tokens { IfOk result (λ tokens. tokens.items ≡ tokens_of line.now) }
+    ensures spans { IfOk result (λ tokens. All (IsSpan (length line.now)) tokens.items) }
+    ensures joined { IfOk result (λ tokens. JoinFromTo 0 tokens.items (covered_of line.now)) }
+    ensures lengths { IfOk result (λ tokens. All (λ t. HasLength t.kind) tokens.items) }
+
     ensures counted { work.new ≡ record work.old { scanned = raised work.old.scanned 1 } }
 {
     work.count_scanned();
     tokens_in(alloc, class_of(line), content(line))
 }
+
+/// What `scan` cuts a music line into is a cutting of it, each token the longest that begins at its
+/// place, and no text has another.
+pub fn one_cutting()
+    ensures cuts { CutsEachText }
+    ensures once { CutsOnce }
+{}

@@ -97,8 +97,9 @@ pub(crate) fn length_at(text: &[u8]) -> (WrittenLength, usize)
     ensures inside { result.1 ≤ length text.now }
 {
     let over = digits(text);
-    let slashes = slashes(&text[over..]);
-    let behind = &text[over + slashes..];
+    let rest = &text[over..];
+    let slashes = slashes(rest);
+    let behind = &rest[slashes..];
     let under = digits_behind(slashes, behind);
     let value = written_length(&text[..over], slashes, &behind[..under]);
     (value, over + slashes + under)

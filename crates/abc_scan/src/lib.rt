@@ -9,7 +9,8 @@ mod text;
 mod token;
 
 pub use class::{LineClass, class_of};
-pub use cutting::scan;
+pub use cutting::{one_cutting, scan};
 pub use length::WrittenLength;
 pub use note::{Accidental, Letter, Note};
+pub use text::part_read;
 pub use token::{Token, TokenKind};

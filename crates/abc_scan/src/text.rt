@@ -1,7 +1,7 @@
 //! The part of a line that is read.
 
 ghost use Rattle.std.specs.Prelude.{◌≡◌};
-ghost use Rattle.abc_scan.specs.Text.{without_return, without_comment, content};
+ghost use Rattle.abc_scan.specs.Text.{without_return, without_comment, content, CutsComments, DropsOneReturn};
 
 /// The line without the carriage return at its end, of which one is dropped.
 pub(crate) fn without_return(line: &[u8]) -> &[u8]
@@ -33,3 +33,9 @@ pub(crate) fn content(line: &[u8]) -> &[u8]
 {
     without_comment(without_return(line))
 }
+
+/// What is read of a line is the line without one carriage return at its end, up to the comment.
+pub fn part_read()
+    ensures returns { DropsOneReturn }
+    ensures comments { CutsComments }
+{}

@@ -1,0 +1,73 @@
+-- What is read of a line: no carriage return at its end, and no comment.
+use Rattle.std.proofs.Common.{◌≡◌, ℕ, ◌+◌, ◌-◌, true, false, cond, List, [], ◌∷◌, ◌++◌, length, take, drop, refl, sym, ap, ◌∙◌, subst, inl, inr, ⊎_elim, arith, length-append}
+use Rattle.std.specs.Prelude.{◌==◌, ◌&&◌, not, nat_eq}
+use Rattle.std.specs.List.{ends_with}
+use Rattle.std.specs.Cmp.Lexicographic.{pointwise}
+use Rattle.std.proofs.lemmas.Bool.{cond-true, cond-false, cases_Bool, eqb-true, eqb-false, and_parts, and_cases, and_left, ne_eqb, not-true, not-false}
+use Rattle.abc_scan.specs.Text.{without_return, before_comment, last_or, IsRead, CutsComments, DropsOneReturn}
+use Rattle.abc_scan.proofs.Fronts.{take_exact, drop_exact}
+
+-- a comment begins here
+nothing_escaped : (before : ℕ) (front rest : List ℕ) → [] ≡ front ++ 37 ∷ rest → last_or before front ≡ 92
+nothing_escaped before [] rest e = cc
+nothing_escaped before (f ∷ fs) rest e = cc
+
+comment_here : (before b : ℕ) (bs : List ℕ) → ((b == 37) && not (before == 92)) ≡ true → IsRead before (b ∷ bs) []
+comment_here before b bs test =
+    let parts = and_parts _ _ test in
+    record {
+      comment = b ∷ bs;
+      spelling = refl;
+      escaped = nothing_escaped before;
+      begins = inr (bs, ap (λ x. x ∷ bs) (eqb-true b 37 parts.0), eqb-false before 92 (not-true _ parts.1));
+    }
+
+-- or not yet
+escaped_later : (before b : ℕ) (read : List ℕ) → ((b == 37) && not (before == 92)) ≡ false → ((front rest : List ℕ) → read ≡ front ++ 37 ∷ rest → last_or b front ≡ 92) → (front rest : List ℕ) → b ∷ read ≡ front ++ 37 ∷ rest → last_or before front ≡ 92
+escaped_later before b read test later [] rest e =
+    let percent : b ≡ 37 = cc in
+    ⊎_elim (λ other. absurd (eqb-false b 37 other percent)) (λ slash. eqb-true before 92 (not-false _ slash)) (and_cases _ _ test)
+escaped_later before b read test later (f ∷ fs) rest e =
+    let same : b ≡ f = cc in
+    let behind : read ≡ fs ++ 37 ∷ rest = cc in
+    sym (ap (λ x. last_or x fs) same) ∙ later fs rest behind
+
+comment_later : (before b : ℕ) (bs read : List ℕ) → ((b == 37) && not (before == 92)) ≡ false → IsRead b bs read → IsRead before (b ∷ bs) (b ∷ read)
+comment_later before b bs read test later = record {
+  comment = later.comment;
+  spelling = ap (λ l. b ∷ l) later.spelling;
+  escaped = escaped_later before b read test later.escaped;
+  begins = later.begins;
+}
+
+reads : (before : ℕ) (text : List ℕ) → IsRead before text (before_comment before text)
+reads before [] = record { comment = []; spelling = refl; escaped = nothing_escaped before; begins = inl refl }
+reads before (b ∷ bs) = ⊎_elim
+    (λ test. subst (IsRead before (b ∷ bs)) (sym (cond-true ((b == 37) && not (before == 92)) [] (b ∷ before_comment b bs) test)) (comment_here before b bs test))
+    (λ test. subst (IsRead before (b ∷ bs)) (sym (cond-false ((b == 37) && not (before == 92)) [] (b ∷ before_comment b bs) test)) (comment_later before b bs (before_comment b bs) test (reads b bs)))
+    (cases_Bool ((b == 37) && not (before == 92)))
+
+pub cuts_comments : CutsComments
+cuts_comments text = reads 32 text
+
+-- the last byte of a text
+no_return : (b : ℕ) → (b ≡ 13 → ⊥) → pointwise nat_eq (13 ∷ []) (b ∷ []) ≡ false
+no_return b other = and_left _ _ (ne_eqb 13 b (λ e. other (sym e)))
+
+return_at : (text : List ℕ) (b : ℕ) → without_return (text ++ b ∷ []) ≡ cond (b == 13) text (text ++ b ∷ [])
+return_at text b =
+    let line = text ++ b ∷ [] in
+    let long : length line ≡ length text + 1 = length-append text (b ∷ []) in
+    let last : drop (length line - 1) line ≡ b ∷ [] = drop_exact (length line - 1) text (b ∷ []) (omega (arith, long)) in
+    let front : take (length line - 1) line ≡ text = take_exact (length line - 1) text (b ∷ []) (omega (arith, long)) in
+    ⊎_elim
+    (λ test_is.
+    let test : ends_with nat_eq line (13 ∷ []) ≡ true = ap (pointwise nat_eq (13 ∷ [])) last ∙ ap (λ x. pointwise nat_eq (13 ∷ []) (x ∷ [])) (eqb-true b 13 test_is) in
+    cond-true _ _ _ test ∙ front ∙ sym (cond-true (b == 13) text line test_is))
+    (λ other.
+    let test : ends_with nat_eq line (13 ∷ []) ≡ false = ap (pointwise nat_eq (13 ∷ [])) last ∙ no_return b (eqb-false b 13 other) in
+    cond-false _ _ _ test ∙ sym (cond-false (b == 13) text line other))
+    (cases_Bool (b == 13))
+
+pub drops_one_return : DropsOneReturn
+drops_one_return = (refl, return_at)

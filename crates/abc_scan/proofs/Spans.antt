@@ -1,0 +1,120 @@
+-- Where the tokens of a line lie, and which lengths they have.
+use Rattle.std.proofs.Common.{◌≡◌, ℕ, ◌+◌, ◌-◌, ◌^◌, ◌<◌, ◌≤◌, Option, Some, None, List, [], ◌∷◌, length, take, refl, sym, ap, ◌∙◌, subst, ⊎_elim, arith, length-append, length-take-le, ltb-false}
+use Rattle.std.specs.Prelude.{All, nat_lt, nat_eq, ◌==◌, ◌&&◌, not}
+use Rattle.std.specs.List.{AllPass, ends_with}
+use Rattle.std.proofs.Math.Nat.{pow-le-pow_right}
+use Rattle.std.proofs.lemmas.Nat.{pow_pos}
+use Rattle.std.proofs.lemmas.Bool.{cond-false, cond_both, eqb-false, and_left}
+use Rattle.std.proofs.lemmas.List.Elements.{All-nil, All-cons}
+use Rattle.abc_scan.specs.declared.class.LineClass.{LineClass}
+use Rattle.abc_scan.specs.declared.class.LineClass.TheVariants.{Blank, Comment, Field, Music}
+use Rattle.abc_scan.specs.declared.length.WrittenLength.{WrittenLength}
+use Rattle.abc_scan.specs.declared.token.Token.{Token}
+use Rattle.abc_scan.specs.declared.token.TokenKind.{TokenKind}
+use Rattle.abc_scan.specs.declared.token.TokenKind.TheVariants as kinds
+use Rattle.abc_scan.specs.LineClass.{class_of, IsFieldLine}
+use Rattle.abc_scan.specs.Length.{is_digit, decimal, number_or, factor, written_length, IsLength, HasFactor}
+use Rattle.abc_scan.specs.Text.{without_return, before_comment, without_comment, content}
+use Rattle.abc_scan.specs.Token.{Spells}
+use Rattle.abc_scan.specs.Cutting.{IsNext, IsCuttingFrom, cutting_of, tokens_in, tokens_of, IsSpan, JoinFromTo, covered_in, covered_of, HasLength}
+use Rattle.abc_scan.proofs.Decimal.{decimal-lt}
+use Rattle.abc_scan.proofs.ClassLaws.{laws, field_visible}
+use Rattle.abc_scan.proofs.Laws.{next_only, next_size, cuts_each}
+
+-- an accepted number is from 1 to 999,999,999
+abbrev InRange : Option ℕ → Type 0
+InRange None = Unit {0}
+InRange (Some n) = (1 ≤ n) × (n ≤ 999999999)
+
+number_or-range : (digits : List ℕ) (other : ℕ) → AllPass is_digit digits → InRange (Some other) → InRange (number_or digits other)
+number_or-range [] other all range = range
+number_or-range (d ∷ ds) other all range =
+    cond_both (nat_lt 9 (length (d ∷ ds))) _ _ InRange (λ _. tt)
+    (λ few. cond_both (decimal (d ∷ ds) == 0) _ _ InRange (λ _. tt)
+    (λ some. let below = decimal-lt (d ∷ ds) all (ltb-false 9 (length (d ∷ ds)) few) in let positive = eqb-false (decimal (d ∷ ds)) 0 some in (omega (arith, positive), omega (arith, below))))
+
+factor-range : (num den : Option ℕ) → InRange num → InRange den → HasFactor (factor num den)
+factor-range None den m n = tt
+factor-range (Some num) None m n = tt
+factor-range (Some num) (Some den) m n = record { num_least = m.0; num_most = m.1; den_least = n.0; den_most = n.1 }
+
+halves-range : (k : ℕ) → k ≤ 29 → InRange (Some (2 ^ k))
+halves-range k few = let most : 2 ^ k ≤ 2 ^ 29 = pow-le-pow_right (omega arith) few in let least = pow_pos k in (omega (arith, least), omega (arith, most))
+
+written-range : (over : List ℕ) (slashes : ℕ) (under : List ℕ) → AllPass is_digit over → AllPass is_digit under → HasFactor (written_length over slashes under)
+written-range over slashes under over_digits under_digits =
+    cond_both (nat_lt 29 slashes) _ _ HasFactor (λ _. tt)
+    (λ few. factor-range (number_or over 1) (number_or under (2 ^ slashes)) (number_or-range over 1 over_digits (omega arith, omega arith)) (number_or-range under (2 ^ slashes) under_digits (halves-range slashes (ltb-false 29 slashes few))))
+
+length-range : (text : List ℕ) (value : WrittenLength) → IsLength text value → HasFactor value
+length-range text value is = subst HasFactor (sym is.value_is) (written-range is.over is.slashes is.under is.over_digits is.under_digits)
+
+spelled-range : (text : List ℕ) (kind : TokenKind) → Spells text kind → HasLength kind
+spelled-range text (kinds.Note note) is = length-range is.written note.length is.length_is
+spelled-range text (kinds.Rest value) is = length-range is.written value is.length_is
+spelled-range text kinds.Blank is = tt
+spelled-range text kinds.Field is = tt
+spelled-range text kinds.Other is = tt
+
+next-range : (text front : List ℕ) (kind : TokenKind) → IsNext text front kind → HasLength kind
+next-range text front kind is = ⊎_elim (λ longest. spelled-range front kind longest.spells) (λ none. subst HasLength (sym none.2) tt) is
+
+-- of every cutting
+pub record Laid (at : ℕ) (tokens : List Token) (end len : ℕ) : Type 0 where
+  pub spans : All (IsSpan len) tokens
+  pub joined : JoinFromTo at tokens end
+  pub lengths : All (λ t. HasLength t.kind) tokens
+
+laid_cut : (at : ℕ) (text : List ℕ) (tokens : List Token) (len : ℕ) → IsCuttingFrom at text tokens → at + length text ≤ len → Laid at tokens (at + length text) len
+laid_cut at text [] len is fits = record {
+  spans = All-nil (IsSpan len);
+  joined = let none = ap length is in omega (arith, none);
+  lengths = All-nil (λ t. HasLength t.kind);
+}
+laid_cut at text (t ∷ ts) len (front, rest, cut, first, from, to, more) fits =
+    let only = ap (λ (x : TokenKind × ℕ). x.1) (next_only text front rest t.kind cut first) in
+    let some = next_size text in
+    let total : length text ≡ length front + length rest = ap length cut ∙ length-append front rest in
+    let end : t.to + length rest ≡ at + length text = omega (arith, to, total) in
+    let l = laid_cut t.to rest ts len more (omega (arith, end)) in
+    record {
+      spans = All-cons (IsSpan len) t ts (omega (arith, from, to, only, some), omega (arith, end)) l.spans;
+      joined = (from, subst (JoinFromTo t.to ts) end l.joined);
+      lengths = All-cons (λ u. HasLength u.kind) t ts (next-range text front t.kind first) l.lengths;
+    }
+
+-- what is read of a line is no longer than the line, and of a field not empty
+before_comment-le : (before : ℕ) (text : List ℕ) → length (before_comment before text) ≤ length text
+before_comment-le before [] = omega arith
+before_comment-le before (b ∷ bs) = cond_both ((b == 37) && not (before == 92)) [] (b ∷ before_comment b bs) (λ l. length l ≤ length (b ∷ bs)) (λ _. omega arith) (λ _. let rest = before_comment-le b bs in omega (arith, rest))
+
+without_return-le : (line : List ℕ) → length (without_return line) ≤ length line
+without_return-le line = cond_both (ends_with nat_eq line (13 ∷ [])) (take (length line - 1) line) line (λ l. length l ≤ length line) (λ _. let short = length-take-le (length line - 1) line (omega arith) in omega (arith, short)) (λ _. omega arith)
+
+content-le : (line : List ℕ) → length (content line) ≤ length line
+content-le line = let a = before_comment-le 32 (without_return line) in let b = without_return-le line in omega (arith, a, b)
+
+field_some : (text : List ℕ) (letter : ℕ) → IsFieldLine text letter → 0 < length (without_comment text)
+field_some text letter is =
+    let seen = field_visible text letter is in
+    let kept : without_comment text ≡ letter ∷ before_comment letter (58 ∷ is.value) = ap without_comment is.spelling ∙ cond-false _ _ _ (and_left (letter == 37) (not (32 == 92)) seen.1) in
+    subst (λ l. 0 < length l) (sym kept) (omega arith)
+
+laid_in : (line : List ℕ) (class : LineClass) → class_of line ≡ class → Laid 0 (tokens_in class (content line)) (covered_in class (content line)) (length line)
+laid_in line Blank e = record { spans = All-nil (IsSpan (length line)); joined = refl; lengths = All-nil (λ t. HasLength t.kind) }
+laid_in line Comment e = record { spans = All-nil (IsSpan (length line)); joined = refl; lengths = All-nil (λ t. HasLength t.kind) }
+laid_in line (Field letter) e =
+    let field = ((laws (without_return line) (class_of line) refl).field letter).0 e in
+    let some = field_some (without_return line) letter field in
+    record {
+      spans = All-cons (IsSpan (length line)) _ [] (some, content-le line) (All-nil (IsSpan (length line)));
+      joined = (refl, refl);
+      lengths = All-cons (λ t. HasLength t.kind) _ [] tt (All-nil (λ t. HasLength t.kind));
+    }
+laid_in line Music e =
+    let short = content-le line in
+    let sum : 0 + length (content line) ≡ length (content line) = omega arith in
+    subst (λ n. Laid 0 (cutting_of (content line)) n (length line)) sum (laid_cut 0 (content line) (cutting_of (content line)) (length line) (cuts_each (content line)) (omega (arith, short)))
+
+pub laid : (line : List ℕ) → Laid 0 (tokens_of line) (covered_of line) (length line)
+laid line = laid_in line (class_of line) refl

@@ -1,0 +1,19 @@
+use Rattle.std.proofs.Common.{◌≡◌, ◌∙◌, sym, subst, length}
+use Rattle.std.specs.Prelude.{All, IfOk}
+use Rattle.std.proofs.lemmas.Result.{IfOk-weaker}
+use Rattle.abc_scan.specs.Cutting.{tokens_in, tokens_of, covered_of, IsSpan, JoinFromTo, HasLength}
+use Rattle.abc_scan.proofs.Spans.{laid}
+use Rattle.abc_scan.proofs.cutting.scan.Goals as goal
+use Rattle.abc_scan.proofs.cutting.scan.Goals.{After-tokens_in}
+
+told : (c : After-tokens_in) → IfOk c.tokens_in.result (λ tokens. tokens.items ≡ tokens_of c.args.line.now)
+told c = IfOk-weaker c.tokens_in.result (λ tokens. tokens.items ≡ tokens_in c.class_of.result c.content.result.now) (λ tokens. tokens.items ≡ tokens_of c.args.line.now) (λ tokens e. e ∙ (λ i. tokens_in (c.class_of.ensures.value i) (c.content.ensures i))) c.tokens_in.ensures
+
+pub returns-clause-spans : goal.returns-clause-spans
+returns-clause-spans c = IfOk-weaker c.tokens_in.result (λ tokens. tokens.items ≡ tokens_of c.args.line.now) (λ tokens. All (IsSpan (length c.args.line.now)) tokens.items) (λ tokens e. subst (All (IsSpan (length c.args.line.now))) (sym e) (laid c.args.line.now).spans) (told c)
+
+pub returns-clause-joined : goal.returns-clause-joined
+returns-clause-joined c = IfOk-weaker c.tokens_in.result (λ tokens. tokens.items ≡ tokens_of c.args.line.now) (λ tokens. JoinFromTo 0 tokens.items (covered_of c.args.line.now)) (λ tokens e. subst (λ ts. JoinFromTo 0 ts (covered_of c.args.line.now)) (sym e) (laid c.args.line.now).joined) (told c)
+
+pub returns-clause-lengths : goal.returns-clause-lengths
+returns-clause-lengths c = IfOk-weaker c.tokens_in.result (λ tokens. tokens.items ≡ tokens_of c.args.line.now) (λ tokens. All (λ t. HasLength t.kind) tokens.items) (λ tokens e. subst (All (λ t. HasLength t.kind)) (sym e) (laid c.args.line.now).lengths) (told c)

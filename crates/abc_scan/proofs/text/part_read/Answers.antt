@@ -1,0 +1,8 @@
+use Rattle.abc_scan.proofs.Comments.{cuts_comments, drops_one_return}
+use Rattle.abc_scan.proofs.text.part_read.Goals as goal
+
+pub returns-clause-returns : goal.returns-clause-returns
+returns-clause-returns c = drops_one_return
+
+pub returns-clause-comments : goal.returns-clause-comments
+returns-clause-comments c = cuts_comments
