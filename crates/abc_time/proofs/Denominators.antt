@@ -1,6 +1,6 @@
 use Rattle.std.proofs.Common.{◌∙◌, ◌≡◌, ℕ, ◌+◌, ◌*◌, ◌<◌, ◌≤◌, List, length, get_or, map, take, drop, arith, ap, sym, subst}
 use Rattle.std.proofs.Math.Nat.{mul_assoc, mul_comm, mul-pos, mul-dvd-mul_left, dvd-mul_right, dvd_trans, dvd_of_mul-dvd-mul_left}
-use Rattle.std.proofs.lemmas.List.{take-map, take_all, get_or-map, length-map, take-append-drop}
+use Rattle.std.proofs.lemmas.List.{take-map, take_all, take-append-drop}
 use Rattle.std.proofs.lemmas.List.Elements.{All-take, All-map}
 use Rattle.std.specs.List.{All}
 use Rattle.std.specs.Int.{◌∣◌}
@@ -8,21 +8,12 @@ use Rattle.abc_time.specs.declared.ratio.Ratio.{Ratio}
 use Rattle.abc_time.specs.Length.{denominator_of}
 use Rattle.abc_time.specs.Product.{product_of}
 use Rattle.abc_time.specs.Ratio.{IsRatio}
-use Rattle.abc_time.proofs.Products.{product_of-append, product_of-take, product_of-positive}
+use Rattle.abc_time.proofs.Products.{product_of-append, product_of-map-take, product_of-positive}
 
 -- the product was before, and was divided by the unit's denominator and those of the first i factors
 pub record IsDivided (before : ℕ) (unit : Ratio) (factors : List Ratio) (now : List ℕ) (i : ℕ) : Type 0 where
   pub quotient : product_of now * denominator_of unit (take i factors) ≡ before
   pub positive : All (λ n. 1 ≤ n) now
-
-dens-take : (factors : List Ratio) (i : ℕ) (d : Ratio) → i < length factors
-    → product_of (map (λ r. r.den) (take (i + 1) factors)) ≡ product_of (map (λ r. r.den) (take i factors)) * (get_or factors i d).den
-dens-take factors i d inside =
-    let inner : i < length (map (λ (r : Ratio). r.den) factors) = rw length-map inside in
-    ap product_of (sym (take-map (λ (r : Ratio). r.den) (i + 1) factors))
-    ∙ product_of-take (map (λ (r : Ratio). r.den) factors) i inner
-    ∙ ap (λ n. product_of (take i (map (λ (r : Ratio). r.den) factors)) * n) (get_or-map (λ (r : Ratio). r.den) factors i d 0 inside)
-    ∙ ap (λ l. product_of l * (get_or factors i d).den) (take-map (λ (r : Ratio). r.den) i factors)
 
 -- the denominators of the first i + 1 factors divide the whole
 dens-dvd : (factors : List Ratio) (i : ℕ) → product_of (map (λ r. r.den) (take i factors)) ∣ product_of (map (λ r. r.den) factors)
@@ -48,7 +39,7 @@ pub IsDivided-step : (before : ℕ) (unit : Ratio) (factors : List Ratio) (now n
     → IsDivided before unit factors now i → i < length factors → product_of next * (get_or factors i d).den ≡ product_of now
     → All (λ n. 1 ≤ n) next → IsDivided before unit factors next (i + 1)
 IsDivided-step before unit factors now next i d h inside e p = record {
-  quotient = rw (dens-take factors i d inside) (regrouped _ unit.den _ _ (product_of now) before e h.quotient);
+  quotient = rw (product_of-map-take (λ (r : Ratio). r.den) factors i d inside) (regrouped _ unit.den _ _ (product_of now) before e h.quotient);
   positive = p;
 } where
   regrouped : (n u t e m b : ℕ) → n * e ≡ m → m * (u * t) ≡ b → n * (u * (t * e)) ≡ b
@@ -70,7 +61,7 @@ not_divided_next before unit factors now i d h inside u fs broken all =
     let some : 1 ≤ denominator_of unit (take i factors) = denominator_positive unit (take i factors) u (All-take IsRatio i factors fs) in
     let front : denominator_of unit (take (i + 1) factors) ∣ denominator_of unit factors = mul-dvd-mul_left _ unit.den (dens-dvd factors (i + 1)) in
     let e : denominator_of unit (take (i + 1) factors) ≡ denominator_of unit (take i factors) * (get_or factors i d).den =
-    ap (λ n. unit.den * n) (dens-take factors i d inside) ∙ sym (mul_assoc unit.den _ _) in
+    ap (λ n. unit.den * n) (product_of-map-take (λ (r : Ratio). r.den) factors i d inside) ∙ sym (mul_assoc unit.den _ _) in
     broken (dvd_of_mul-dvd-mul_left (get_or factors i d).den some
     (subst (λ n. n ∣ denominator_of unit (take i factors) * product_of now) e
     (subst (λ n. denominator_of unit (take (i + 1) factors) ∣ n) (sym h.quotient ∙ mul_comm (product_of now) (denominator_of unit (take i factors)))

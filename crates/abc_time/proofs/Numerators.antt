@@ -1,12 +1,12 @@
-use Rattle.std.proofs.Common.{◌∙◌, ◌≡◌, ◌≢◌, ℕ, ◌+◌, ◌*◌, ◌<◌, ◌≤◌, List, [], ◌∷◌, zero, suc, length, get_or, set, map, take, replicate, arith, ap, sym, subst, refl, lit≤}
-use Rattle.std.proofs.lemmas.List.{take-map, take_all, get_or-map, length-map, get_or-set_other, get_or-replicate, length-set}
+use Rattle.std.proofs.Common.{◌≡◌, ◌≢◌, ℕ, ◌+◌, ◌*◌, ◌<◌, ◌≤◌, List, [], ◌∷◌, zero, suc, length, get_or, set, take, replicate, arith, ap, sym, subst, refl, lit≤}
+use Rattle.std.proofs.lemmas.List.{take_all, get_or-set_other, get_or-replicate, length-set}
 use Rattle.std.proofs.lemmas.List.Elements.{All-cons, All-set, All-replicate}
 use Rattle.std.specs.List.{All}
 use Rattle.abc_time.specs.declared.ratio.Ratio.{Ratio}
 use Rattle.abc_time.specs.Length.{numerator_of}
 use Rattle.abc_time.specs.Product.{product_of}
 use Rattle.abc_time.specs.Ratio.{IsRatio}
-use Rattle.abc_time.proofs.Products.{product_of-take}
+use Rattle.abc_time.proofs.Products.{product_of-map-take}
 
 -- the places of `now` hold a whole note, the unit's numerator and those of the first i factors, and then ones
 pub record HasNumerators (whole : ℕ) (unit : Ratio) (factors : List Ratio) (now : List ℕ) (i : ℕ) : Type 0 where
@@ -14,15 +14,6 @@ pub record HasNumerators (whole : ℕ) (unit : Ratio) (factors : List Ratio) (no
   pub places : length now ≡ 7
   pub spare : (k : ℕ) → i + 2 ≤ k → k < length now → get_or now k 0 ≡ 1
   pub positive : All (λ n. 1 ≤ n) now
-
-nums-take : (factors : List Ratio) (i : ℕ) (d : Ratio) → i < length factors
-    → product_of (map (λ r. r.num) (take (i + 1) factors)) ≡ product_of (map (λ r. r.num) (take i factors)) * (get_or factors i d).num
-nums-take factors i d inside =
-    let inner : i < length (map (λ (r : Ratio). r.num) factors) = rw length-map inside in
-    ap product_of (sym (take-map (λ (r : Ratio). r.num) (i + 1) factors))
-    ∙ product_of-take (map (λ (r : Ratio). r.num) factors) i inner
-    ∙ ap (λ n. product_of (take i (map (λ (r : Ratio). r.num) factors)) * n) (get_or-map (λ (r : Ratio). r.num) factors i d 0 inside)
-    ∙ ap (λ l. product_of l * (get_or factors i d).num) (take-map (λ (r : Ratio). r.num) i factors)
 
 -- a place that holds 1 takes v
 product_of-put : (xs : List ℕ) (j v : ℕ) → j < length xs → get_or xs j 0 ≡ 1 → product_of (set xs j v) ≡ product_of xs * v
@@ -54,7 +45,7 @@ HasNumerators-step whole unit factors now i d h inside room fs =
     let v = (get_or factors i d).num in
     let room : i + 2 < length now = omega (arith, h.places) in
     record {
-      product = rw (nums-take factors i d inside) (regrouped _ _ whole unit.num _ v (product_of-put now (i + 2) v room (h.spare (i + 2) (omega arith) room)) h.product);
+      product = rw (product_of-map-take (λ (r : Ratio). r.num) factors i d inside) (regrouped _ _ whole unit.num _ v (product_of-put now (i + 2) v room (h.spare (i + 2) (omega arith) room)) h.product);
       places = rw length-set h.places;
       spare = λ k low in'.
           let ne : k ≢ i + 2 = omega arith in

@@ -1,6 +1,6 @@
-use Rattle.std.proofs.Common.{◌∙◌, ◌≡◌, ℕ, ◌+◌, ◌*◌, ◌^◌, ◌<◌, ◌≤◌, List, [], ◌∷◌, ◌++◌, zero, suc, length, get_or, set, take, drop, arith, ap, sym, refl}
+use Rattle.std.proofs.Common.{◌∙◌, ◌≡◌, ℕ, ◌+◌, ◌*◌, ◌^◌, ◌<◌, ◌≤◌, List, [], ◌∷◌, ◌++◌, zero, suc, length, get_or, set, map, take, drop, arith, ap, sym, refl}
 use Rattle.std.proofs.Math.Nat.{mul-pos, one-mul, mul-one, mul_assoc, le-mul_of_pos_right}
-use Rattle.std.proofs.lemmas.List.{drop_more, take_more, take-append-drop}
+use Rattle.std.proofs.lemmas.List.{drop_more, take_more, take-append-drop, take-map, get_or-map, length-map}
 use Rattle.std.specs.List.{All}
 use Rattle.std.proofs.lemmas.List.Elements.{All-head, All-tail, All-drop}
 use Rattle.abc_time.specs.Product.{product_of}
@@ -35,6 +35,15 @@ product_of-take-le xs i h =
     let e : product_of xs ≡ product_of (take i xs) * product_of (drop i xs) =
     ap product_of (sym (take-append-drop i xs)) ∙ product_of-append (take i xs) (drop i xs) in
     rw e (le-mul_of_pos_right _ (product_of-positive _ (All-drop (λ n. 1 ≤ n) i xs h)))
+
+-- the product of what f gives for the first i + 1 items
+pub product_of-map-take : {X : Type 0} (f : X → ℕ) (xs : List X) (i : ℕ) (d : X) → i < length xs
+    → product_of (map f (take (i + 1) xs)) ≡ product_of (map f (take i xs)) * f (get_or xs i d)
+product_of-map-take f xs i d inside =
+    let inner : i < length (map f xs) = rw length-map inside in
+    ap product_of (sym (take-map f (i + 1) xs)) ∙ product_of-take (map f xs) i inner
+    ∙ ap (λ n. product_of (take i (map f xs)) * n) (get_or-map f xs i d 0 inside)
+    ∙ ap (λ l. product_of l * f (get_or xs i d)) (take-map f i xs)
 
 -- one more factor of a product that a loop has come to
 pub product_of-next : (xs : List ℕ) (i product next : ℕ) → i < length xs → product ≡ product_of (take i xs)

@@ -1,6 +1,7 @@
-use Rattle.std.specs.Prelude.{ℕ, ◌*◌, ◌/◌, ◌≤◌}
+use Rattle.std.specs.Prelude.{ℕ, ◌*◌, ◌/◌, ◌≤◌, ◌≡◌, refl}
 use Rattle.std.proofs.Common.{lit<, le_trans}
 use Rattle.std.proofs.Math.Nat.{div-le_of_le-mul, div-mul-le_self, le-div_iff_mul-le}
+use Rattle.abc_time.specs.declared.grains.TheConstants.{LAST_TICK}
 
 -- Grains of a whole note, 2^16 * 3^4 * 5^2 * 7^2 * 11 * 13. Our own.
 unfoldable pub grains_of_a_whole_note : ℕ
@@ -22,8 +23,13 @@ grains_of_the_latest_end = 131072 * grains_of_a_whole_note
 abbrev pub tick_at : ℕ → ℕ
 tick_at moment = moment / grains_of_a_tick
 
+-- A whole note is 1,920 ticks.
+pub ticks_of_a_whole_note : 1920 * grains_of_a_tick ≡ grains_of_a_whole_note
+unfolding grains_of_a_tick grains_of_a_whole_note
+ticks_of_a_whole_note = refl
+
 -- The tick of the latest end is the last tick.
-pub tick_at-below : (moment : ℕ) → moment ≤ grains_of_the_latest_end → tick_at moment ≤ 251658240
+pub tick_at-below : (moment : ℕ) → moment ≤ grains_of_the_latest_end → tick_at moment ≤ LAST_TICK
 unfolding grains_of_a_whole_note grains_of_a_tick grains_of_the_latest_end
 tick_at-below moment early = div-le_of_le-mul 484323840 early
 
