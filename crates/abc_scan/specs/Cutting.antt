@@ -30,6 +30,7 @@ IsCuttingFrom at text (t ∷ ts) =
     (front : List ℕ) × (rest : List ℕ) × (text ≡ front ++ rest) × IsNext text front t.kind
     × (t.from ≡ at) × (t.to ≡ at + length front) × IsCuttingFrom t.to rest ts
 
+-- The tokens are the whole text of a line cut up.
 abbrev pub IsCutting : List ℕ → List Token → Type 0
 IsCutting text tokens = IsCuttingFrom 0 text tokens
 
@@ -79,6 +80,7 @@ covered_in Comment text = 0
 covered_in (Field letter) text = length text
 covered_in Music text = length text
 
+-- How many bytes the tokens of a line cover.
 abbrev pub covered_of : List ℕ → ℕ
 covered_of line = covered_in (class_of line) (content line)
 
@@ -90,9 +92,10 @@ HasLength kinds.Blank = Unit {0}
 HasLength kinds.Field = Unit {0}
 HasLength kinds.Other = Unit {0}
 
--- Every text is cut by `cutting_of`, and by no other list of tokens.
+-- What `cutting_of` gives is a cutting of the text.
 abbrev pub CutsEachText : Type 0
 CutsEachText = (text : List ℕ) → IsCutting text (cutting_of text)
 
+-- A text has one cutting.
 abbrev pub CutsOnce : Type 0
 CutsOnce = (text : List ℕ) (a b : List Token) → IsCutting text a → IsCutting text b → a ≡ b

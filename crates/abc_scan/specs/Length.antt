@@ -5,10 +5,11 @@ use Rattle.std.specs.List.{prefix_len, AllPass}
 use Rattle.abc_scan.specs.declared.length.WrittenLength.{WrittenLength}
 use Rattle.abc_scan.specs.declared.length.WrittenLength.TheVariants.{Factor, Refused}
 
--- A digit, and a slash.
+-- A digit.
 abbrev pub is_digit : ℕ → Bool
 is_digit b = is_ascii_digit b
 
+-- A slash.
 abbrev pub is_slash : ℕ → Bool
 is_slash b = b == 47
 
@@ -24,6 +25,7 @@ number_or (d ∷ ds) other =
     if nat_lt 9 (length (d ∷ ds)) then None
     else (if decimal (d ∷ ds) == 0 then None else Some (decimal (d ∷ ds)))
 
+-- Two accepted numbers, or refused.
 abbrev pub factor : Option ℕ → Option ℕ → WrittenLength
 factor None den = Refused
 factor (Some num) None = Refused
@@ -53,6 +55,7 @@ pub record IsFactor (num den : ℕ) : Type 0 where
   pub den_least : 1 ≤ den
   pub den_most : den ≤ 999999999
 
+-- A written length is refused or has such parts.
 abbrev pub HasFactor : WrittenLength → Type 0
 HasFactor (Factor num den) = IsFactor num den
 HasFactor Refused = Unit {0}

@@ -19,7 +19,7 @@ accidental_text (Some Natural) = 61 ∷ []
 accidental_text (Some Sharp) = 94 ∷ []
 accidental_text (Some DoubleSharp) = 94 ∷ 94 ∷ []
 
--- The capital letter, and the small one. ABC 2.1 section 4.1.
+-- The capital letter. ABC 2.1 section 4.1.
 abbrev pub capital : Letter → ℕ
 capital C = 67
 capital D = 68
@@ -29,6 +29,7 @@ capital G = 71
 capital A = 65
 capital B = 66
 
+-- The small letter, an octave higher. ABC 2.1 section 4.1.
 abbrev pub small : Letter → ℕ
 small C = 99
 small D = 100
@@ -42,10 +43,11 @@ small B = 98
 abbrev pub is_octave_mark : ℕ → Bool
 is_octave_mark b = (b == 39) || (b == 44)
 
--- Octaves above the one of the capital letters: 1 for a small letter, and the marks.
+-- Octaves above the one of the capital letters: 1 for a small letter.
 abbrev pub letter_octave : ℕ → ℕ
 letter_octave letter = if nat_lt letter 97 then 0 else 1
 
+-- The octave of a letter with marks: one more for each `'` (39), one less for each `,` (44).
 abbrev pub octave : ℕ → List ℕ → ℤ
 octave letter marks =
     pos (letter_octave letter + count_by (λ b. b == 39) marks) -ℤ pos (count_by (λ b. b == 44) marks)

@@ -6,7 +6,7 @@ use Rattle.abc_scan.specs.declared.token.TokenKind.TheVariants as kinds
 use Rattle.abc_scan.specs.LineClass.{is_blank}
 use Rattle.abc_scan.specs.Note.{note_at, rest_at, IsNote, IsRest}
 
--- A blank token is one space or tab.
+-- A blank token is one space or tab. Our own.
 pub record IsBlankToken (text : List ℕ) : Type 0 where
   pub byte : ℕ
   pub spelling : text ≡ byte ∷ []
@@ -20,10 +20,12 @@ Spells text kinds.Blank = IsBlankToken text
 Spells text kinds.Field = ⊥
 Spells text kinds.Other = ⊥
 
+-- The first of two readings that there is. No two kinds of token begin with the same byte.
 abbrev pub or_else : Option (TokenKind × ℕ) → Option (TokenKind × ℕ) → Option (TokenKind × ℕ)
 or_else (Some token) other = Some token
 or_else None other = other
 
+-- The blank at the front of a text.
 abbrev pub blank_at : List ℕ → Option (TokenKind × ℕ)
 blank_at [] = None
 blank_at (b ∷ bs) = if is_blank b then Some (kinds.Blank, 1) else None
