@@ -117,4 +117,5 @@ laid_in line Music e =
     subst (λ n. Laid 0 (cutting_of (content line)) n (length line)) sum (laid_cut 0 (content line) (cutting_of (content line)) (length line) (cuts_each (content line)) (omega (arith, short)))
 
 pub laid : (line : List ℕ) → Laid 0 (tokens_of line) (covered_of line) (length line)
+unfolding tokens_of covered_of
 laid line = laid_in line (class_of line) refl

@@ -61,7 +61,7 @@ tokens_in (Field letter) text = field_token text
 tokens_in Music text = cutting_of text
 
 -- The tokens of a line, by its class and what is read of it. ABC 2.1 sections 2.2 and 4.
-abbrev pub tokens_of : List ℕ → List Token
+unfoldable pub tokens_of : List ℕ → List Token
 tokens_of line = tokens_in (class_of line) (content line)
 
 -- A token has at least one byte, and they lie in a line of this length.
@@ -81,7 +81,7 @@ covered_in (Field letter) text = length text
 covered_in Music text = length text
 
 -- How many bytes the tokens of a line cover.
-abbrev pub covered_of : List ℕ → ℕ
+unfoldable pub covered_of : List ℕ → ℕ
 covered_of line = covered_in (class_of line) (content line)
 
 -- The length of a note or rest is refused, or a ratio of accepted numbers.

@@ -53,6 +53,7 @@ fn tokens_in(alloc: Global, class: LineClass, text: &[u8]) -> Result<Vec<Token>,
 
 /// The tokens of a line, without its carriage return and comment. Counts one line scanned, also
 /// where there is no memory for the tokens.
+#[tactic(auto, unfolding(crate::specs::Cutting::tokens_of, crate::specs::Cutting::covered_of))]
 pub fn scan(alloc: Global, line: &[u8], work: &mut Work) -> Result<Vec<Token>, AllocError>
     ensures tokens { IfOk result (λ tokens. tokens.items ≡ tokens_of line.now) }
     ensures spans { IfOk result (λ tokens. All (IsSpan (length line.now)) tokens.items) }

@@ -12,5 +12,5 @@ pub use class::{LineClass, class_of};
 pub use cutting::{one_cutting, scan};
 pub use length::WrittenLength;
 pub use note::{Accidental, Letter, Note};
-pub use text::part_read;
+pub use text::{content, part_read, without_return};
 pub use token::{Token, TokenKind};

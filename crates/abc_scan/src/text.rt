@@ -1,11 +1,12 @@
 //! The part of a line that is read.
 
-ghost use Rattle.std.specs.Prelude.{◌≡◌};
+ghost use Rattle.std.specs.Prelude.{◌≡◌, ◌≤◌, length};
 ghost use Rattle.abc_scan.specs.Text.{without_return, without_comment, content, CutsComments, DropsOneReturn};
 
 /// The line without the carriage return at its end, of which one is dropped.
-pub(crate) fn without_return(line: &[u8]) -> &[u8]
-    ensures { result.now ≡ without_return line.now }
+pub fn without_return(line: &[u8]) -> &[u8]
+    ensures value { result.now ≡ without_return line.now }
+    ensures bounded { length result.now ≤ length line.now }
 {
     if line.ends_with(b"\r") {
         &line[..line.len() - 1]
@@ -15,7 +16,8 @@ pub(crate) fn without_return(line: &[u8]) -> &[u8]
 }
 
 fn without_comment(text: &[u8]) -> &[u8]
-    ensures { result.now ≡ without_comment text.now }
+    ensures value { result.now ≡ without_comment text.now }
+    ensures bounded { length result.now ≤ length text.now }
 {
     let mut before = b' ';
     for (at, byte) in text.iter().enumerate() {
@@ -28,8 +30,9 @@ fn without_comment(text: &[u8]) -> &[u8]
 }
 
 /// The line without its carriage return and its comment.
-pub(crate) fn content(line: &[u8]) -> &[u8]
-    ensures { result.now ≡ content line.now }
+pub fn content(line: &[u8]) -> &[u8]
+    ensures value { result.now ≡ content line.now }
+    ensures bounded { length result.now ≤ length line.now }
 {
     without_comment(without_return(line))
 }

@@ -6,7 +6,7 @@ use Rattle.abc_scan.proofs.class.class_of.Goals as goal
 use Rattle.abc_scan.proofs.class.class_of.Goals.{After-class_of_text}
 
 told : (c : After-class_of_text) → Laws c.class_of_text.result (IsBlankLine (without_return c.args.line.now)) (IsCommentLine (without_return c.args.line.now)) (IsFieldLine (without_return c.args.line.now))
-told c = laws (without_return c.args.line.now) c.class_of_text.result (c.class_of_text.ensures ∙ ap class_of_text c.without_return.ensures)
+told c = laws (without_return c.args.line.now) c.class_of_text.result (c.class_of_text.ensures ∙ ap class_of_text c.without_return.ensures.value)
 
 pub returns-clause-blank : goal.returns-clause-blank
 returns-clause-blank c = (told c).blank
