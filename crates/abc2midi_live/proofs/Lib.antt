@@ -1,0 +1,5 @@
+pub mod Difference
+pub mod Lookup
+pub mod Melodies
+pub mod ShortLines
+pub mod Splices

@@ -1,0 +1,11 @@
+pub mod Book
+pub mod Edit
+pub mod Field
+pub mod Files
+pub mod Heading
+pub mod Melody
+pub mod Music
+pub mod Number
+pub mod PlainTune
+pub mod Score
+pub mod Text

@@ -1,0 +1,105 @@
+-- What the notes and rests of a plain line play.
+use Rattle.std.specs.Prelude.{ℕ, ℤ, pos, negsuc, ◌+ℤ◌, ◌*ℤ◌, ◌+◌, ◌/◌, Bool, true, false, ◌&&◌, if◌then◌else◌, List, [], ◌∷◌, ◌++◌, nat_le, Option, Some, None, is_none, Result}
+use Rattle.std.specs.List.{list_all, list_any}
+use Rattle.std.specs.Result.{result_unwrap_or}
+use Rattle.abc_scan.specs.Cutting.{tokens_of}
+use Rattle.abc_scan.specs.declared.class.LineClass.{LineClass}
+use Rattle.abc_scan.specs.declared.class.LineClass.TheVariants as classes
+use Rattle.abc_scan.specs.LineClass.{class_of}
+use Rattle.abc_scan.specs.declared.note.Letter.{Letter}
+use Rattle.abc_scan.specs.declared.note.Letter.TheVariants.{C, D, E, F, G, A, B}
+use Rattle.abc_scan.specs.declared.note.Note.{Note}
+use Rattle.abc_scan.specs.declared.token.Token.{Token}
+use Rattle.abc_scan.specs.declared.token.TokenKind.{TokenKind}
+use Rattle.abc_scan.specs.declared.token.TokenKind.TheVariants as kinds
+use Rattle.abc_scan.specs.declared.length.WrittenLength.{WrittenLength}
+use Rattle.abc_scan.specs.declared.length.WrittenLength.TheVariants.{Factor, Refused}
+use Rattle.abc_time.specs.declared.grains.Grains.{Grains}
+use Rattle.abc_time.specs.declared.ratio.Ratio.{Ratio}
+use Rattle.abc_time.specs.Grains.{grains_of_a_whole_note}
+use Rattle.abc_time.specs.Length.{length_of}
+use Rattle.abc2midi_live.specs.declared.melody.TimeToken.{TimeToken}
+use Rattle.abc2midi_live.specs.Text.{Text}
+
+-- semitones above C
+abbrev pub semitones : Letter → ℕ
+semitones C = 0
+semitones D = 2
+semitones E = 4
+semitones F = 5
+semitones G = 7
+semitones A = 9
+semitones B = 11
+
+-- a key that MIDI has, from 0 to 127
+abbrev pub midi_key : ℤ → Option ℕ
+midi_key (pos n) = if nat_le n 127 then Some n else None
+midi_key (negsuc n) = None
+
+-- A capital C is the middle C, key 60, and an octave has twelve keys (ABC 2.1 section 4.1). A note outside
+-- the keys of MIDI is silent, our own.
+abbrev pub key_of : Note → Option ℕ
+key_of note = midi_key (pos (60 + semitones note.letter) +ℤ (pos 12 *ℤ note.octave))
+
+-- how long the unit is, which is a whole number of grains
+abbrev pub unit_length : Ratio → Grains
+unit_length unit = record { 0 = grains_of_a_whole_note / unit.den }
+
+-- The unit times the length written (ABC 2.1 section 4.3); where that is refused, the plain unit, our own.
+abbrev pub length_by : Ratio → WrittenLength → Grains
+length_by unit (Factor num den) = result_unwrap_or (length_of unit (record { num = num; den = den } ∷ [])) (unit_length unit)
+length_by unit Refused = unit_length unit
+
+-- a note without accidental, a rest or a blank
+abbrev pub is_plain_kind : TokenKind → Bool
+is_plain_kind (kinds.Note note) = is_none note.accidental
+is_plain_kind (kinds.Rest written) = true
+is_plain_kind kinds.Blank = true
+is_plain_kind kinds.Field = false
+is_plain_kind kinds.Other = false
+
+-- what a token plays: a note or rest takes time, anything else none
+abbrev pub time_of : Ratio → TokenKind → Option TimeToken
+time_of unit (kinds.Note note) = Some (record { key = key_of note; length = length_by unit note.length })
+time_of unit (kinds.Rest written) = Some (record { key = None; length = length_by unit written })
+time_of unit kinds.Blank = None
+time_of unit kinds.Field = None
+time_of unit kinds.Other = None
+
+abbrev pub takes_time : TokenKind → Bool
+takes_time (kinds.Note note) = true
+takes_time (kinds.Rest written) = true
+takes_time kinds.Blank = false
+takes_time kinds.Field = false
+takes_time kinds.Other = false
+
+abbrev pub before : Option TimeToken → List TimeToken → List TimeToken
+before None times = times
+before (Some time) times = time ∷ times
+
+-- what the tokens of a line play, one after another
+abbrev pub times_of : Ratio → List Token → List TimeToken
+times_of unit [] = []
+times_of unit (t ∷ ts) = before (time_of unit t.kind) (times_of unit ts)
+
+abbrev pub is_music : LineClass → Bool
+is_music classes.Blank = false
+is_music classes.Comment = false
+is_music (classes.Field letter) = false
+is_music classes.Music = true
+
+-- plain music: notes, rests and blanks, at least one of them a note or rest
+abbrev pub are_plain : List Token → Bool
+are_plain tokens = list_all (λ t. is_plain_kind t.kind) tokens && list_any (λ t. takes_time t.kind) tokens
+
+abbrev pub is_plain_line : List ℕ → Bool
+is_plain_line line = is_music (class_of line) && are_plain (tokens_of line)
+
+-- what the lines of a body play, one after another
+abbrev pub body_times : Ratio → Text → List TimeToken
+body_times unit [] = []
+body_times unit (line ∷ lines) = times_of unit (tokens_of line) ++ body_times unit lines
+
+-- the same, if all are plain music
+abbrev pub plain_times : Ratio → Text → Option (List TimeToken)
+plain_times unit lines = if list_all is_plain_line lines then Some (body_times unit lines) else None

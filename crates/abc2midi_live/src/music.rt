@@ -1,0 +1,175 @@
+//! What the notes and rests of a plain line play.
+
+ghost use Rattle.std.specs.Prelude.{◌≡◌, ◌<◌, ◌≤◌, ◌++◌, All, IfOk, IfSome, OnOk};
+ghost use Rattle.abc_time.specs.Ratio.{IsRatio};
+ghost use Rattle.std.specs.List.{list_all, list_any};
+ghost use Rattle.abc_scan.specs.LineClass.{class_of};
+ghost use Rattle.abc_scan.specs.Cutting.{HasLength};
+ghost use Rattle.abc_scan.specs.Length.{HasFactor};
+ghost use Rattle.std.specs.Option.{option_map};
+ghost use Rattle.abc2midi_live.specs.Text.{lines_of};
+ghost use Rattle.abc2midi_live.specs.Melody.{HasMidiKey};
+ghost use Rattle.abc2midi_live.specs.Music.{key_of, semitones, unit_length, length_by, is_plain_kind, time_of, takes_time, times_of, are_plain, is_music, is_plain_line, plain_times};
+
+use crate::melody::TimeToken;
+use abc_fold::Work;
+use abc_scan::{Letter, LineClass, Note, Token, TokenKind, WrittenLength, class_of, scan};
+use abc_time::{Grains, Ratio, WHOLE_NOTE, length};
+use std::alloc::{AllocError, Global};
+
+fn semitones(letter: Letter) -> u8
+    ensures value { result ≡ semitones letter }
+    ensures within_octave { result < 12 }
+{
+    match letter {
+        Letter::C => 0,
+        Letter::D => 2,
+        Letter::E => 4,
+        Letter::F => 5,
+        Letter::G => 7,
+        Letter::A => 9,
+        Letter::B => 11,
+    }
+}
+
+/// The MIDI key of a note, where MIDI has it: the middle C, 60, is a capital C.
+fn key_of(note: Note) -> Option<u8>
+    ensures value { result ≡ key_of note }
+    ensures in_range { IfSome result (λ key. key ≤ 127) }
+{
+    if note.octave < -5 || note.octave > 5 {
+        return None;
+    }
+    let key = 60 + i64::from(semitones(note.letter)) + 12 * note.octave;
+    match u8::try_from(key) {
+        Ok(key) if key <= 127 => Some(key),
+        Ok(_) => None,
+        Err(_) => None,
+    }
+}
+
+/// How long the unit is.
+#[tactic(auto, unfolding(abc_time::specs::Grains::grains_of_a_whole_note))]
+fn unit_length(unit: Ratio) -> Grains
+    requires { IsRatio unit }
+    ensures { result ≡ unit_length unit }
+{
+    Grains(WHOLE_NOTE.0 / u64::from(unit.den))
+}
+
+/// How long a note or rest of a written length is.
+fn length_by(unit: Ratio, written: WrittenLength) -> Grains
+    requires unit { IsRatio unit }
+    requires written { HasFactor written }
+    ensures { result ≡ length_by unit written }
+{
+    match written {
+        WrittenLength::Factor { num, den } => {
+            length(unit, &[Ratio { num, den }]).unwrap_or(unit_length(unit))
+        }
+        WrittenLength::Refused => unit_length(unit),
+    }
+}
+
+/// What a token plays.
+fn time_of(unit: Ratio, kind: TokenKind) -> Option<TimeToken>
+    requires unit { IsRatio unit }
+    requires length { HasLength kind }
+    ensures value { result ≡ time_of unit kind }
+    ensures key { IfSome result HasMidiKey }
+{
+    match kind {
+        TokenKind::Note(note) => Some(TimeToken {
+            key: key_of(note),
+            length: length_by(unit, note.length),
+        }),
+        TokenKind::Rest(written) => Some(TimeToken {
+            key: None,
+            length: length_by(unit, written),
+        }),
+        TokenKind::Blank | TokenKind::Field | TokenKind::Other => None,
+    }
+}
+
+fn is_plain_kind(kind: TokenKind) -> bool
+    ensures { result ≡ is_plain_kind kind }
+{
+    match kind {
+        TokenKind::Note(note) => note.accidental.is_none(),
+        TokenKind::Rest(_) | TokenKind::Blank => true,
+        TokenKind::Field | TokenKind::Other => false,
+    }
+}
+
+fn takes_time(kind: TokenKind) -> bool
+    ensures { result ≡ takes_time kind }
+{
+    matches!(kind, TokenKind::Note(_) | TokenKind::Rest(_))
+}
+
+/// Whether tokens are plain music: notes, rests and blanks, at least one of them a note or rest.
+fn are_plain(tokens: &[Token]) -> bool
+    ensures { result ≡ are_plain tokens.now }
+{
+    are_plain_kinds(tokens) && has_time(tokens)
+}
+
+fn are_plain_kinds(tokens: &[Token]) -> bool
+    ensures { result ≡ list_all (λ t. is_plain_kind t.kind) tokens.now }
+{
+    tokens.iter().all(|token| is_plain_kind(token.kind))
+}
+
+fn has_time(tokens: &[Token]) -> bool
+    ensures { result ≡ list_any (λ t. takes_time t.kind) tokens.now }
+{
+    tokens.iter().any(|token| takes_time(token.kind))
+}
+
+fn is_music(line: &[u8]) -> bool
+    ensures { result ≡ is_music (class_of line.now) }
+{
+    matches!(class_of(line), LineClass::Music)
+}
+
+/// Appends what the tokens of a line play.
+fn push_times(
+    unit: Ratio,
+    tokens: &[Token],
+    times: &mut Vec<TimeToken>,
+) -> Result<(), AllocError>
+    requires unit { IsRatio unit }
+    requires lengths { All (λ t. HasLength t.kind) tokens.now }
+    requires keys { All HasMidiKey times.old.items }
+    ensures value { OnOk result (times.new.items ≡ times.old.items ++ times_of unit tokens.now) }
+    ensures keys { OnOk result (All HasMidiKey times.new.items) }
+{
+    for token in tokens {
+        if let Some(time) = time_of(unit, token.kind) {
+            times.push(time)?;
+        }
+    }
+    Ok(())
+}
+
+/// What the lines of a body play, one after another, if all are plain music.
+pub(crate) fn plain_times(
+    alloc: Global,
+    unit: Ratio,
+    lines: &[Vec<u8>],
+    work: &mut Work,
+) -> Result<Option<Vec<TimeToken>>, AllocError>
+    requires { IsRatio unit }
+    ensures value { IfOk result (λ times. option_map (λ v. v.items) times ≡ plain_times unit (lines_of lines.now)) }
+    ensures keys { IfOk result (λ times. IfSome times (λ v. All HasMidiKey v.items)) }
+{
+    let mut times = Vec::new(alloc);
+    for line in lines {
+        let tokens = scan(alloc, line, work)?;
+        if !is_music(line) || !are_plain(&tokens) {
+            return Ok(None);
+        }
+        push_times(unit, &tokens, &mut times)?;
+    }
+    Ok(Some(times))
+}
