@@ -1,5 +1,13 @@
+pub mod Answers
+pub mod Counts
+pub mod Cuts
 pub mod Difference
+pub mod Feeding
+pub mod InputLines
 pub mod Lookup
 pub mod Melodies
+pub mod Requests
+pub mod Runs
 pub mod ShortLines
 pub mod Splices
+pub mod Words

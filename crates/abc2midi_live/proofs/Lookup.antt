@@ -1,11 +1,13 @@
 -- What a binary search finds among files whose numbers rise.
-use Rattle.std.proofs.Common.{◌≡◌, ◌≢◌, ℕ, ◌<◌, ◌≤◌, List, [], ◌∷◌, length, get_or, map, Some, None, Result, Ok, Err, MatchResult, IfOk, subst, sym, ap, ◌∙◌, refl, inl, inr, arith, tests, zero, suc}
+use Rattle.std.proofs.Common.{◌≡◌, ◌≢◌, ℕ, ◌<◌, ◌≤◌, ◌++◌, List, [], ◌∷◌, length, get_or, map, Some, None, Result, Ok, Err, MatchResult, IfOk, subst, sym, ap, ◌∙◌, refl, inl, inr, arith, tests, zero, suc}
 use Rattle.std.specs.Global.{Vec}
 use Rattle.std.specs.declared.alloc.AllocError.{AllocError}
-use Rattle.std.specs.List.Sorted.{IsSearchInRange, IsBinarySearchResult}
+use Rattle.std.specs.List.Sorted.{IsSearchInRange, IsBinarySearchResult, IsStrictlyIncreasing}
 use Rattle.std.specs.Ordering.{nat_cmp, ordering_index}
 use Rattle.std.proofs.lemmas.Cmp.{ranked}
-use Rattle.std.proofs.lemmas.List.{length-map}
+use Rattle.std.specs.List.{All}
+use Rattle.std.proofs.lemmas.List.{length-map, map-append}
+use Rattle.std.proofs.lemmas.Grind.{common_steps}
 use Rattle.std.proofs.lemmas.List.Kept.{AllPairs-from_increasing}
 use Rattle.std.proofs.Math.ListN.{get_or-map}
 use Rattle.std.proofs.lemmas.Bool.{cases_lt}
@@ -68,3 +70,14 @@ numbers_of-entries_of (file ∷ files) = ap (λ ns. file.number ∷ ns) (numbers
 pub if_ok_items : (P : List ℕ → Type 0) (r : Result (Vec ℕ) AllocError) (numbers : List ℕ) → P numbers → IfOk r (λ v. v.items ≡ numbers) → IfOk r (λ v. P v.items)
 if_ok_items P (Ok v) numbers holds is = subst P (sym is) holds
 if_ok_items P (Err e) numbers holds is = tt
+
+-- numbers that rise still do behind a greater one
+increasing-push : (numbers : List ℕ) (n : ℕ) → IsStrictlyIncreasing numbers → All (λ m. m < n) numbers → IsStrictlyIncreasing (numbers ++ n ∷ [])
+increasing-push numbers n rising below = λ k within. grind (arith, common_steps, rising k, below k 0)
+
+-- files whose numbers rise still do behind one with a greater number
+pub rising-push : (files : List TuneFile) (file : TuneFile) → IsRising (entries_of files) → All (λ n. n < file.number) (numbers_of (entries_of files)) → IsRising (entries_of (files ++ file ∷ []))
+rising-push files file rising below =
+    let pushed : numbers_of (entries_of (files ++ file ∷ [])) ≡ numbers_of (entries_of files) ++ file.number ∷ [] =
+    ap numbers_of (map-append (λ (f : TuneFile). (f.number, f.bytes.items)) files (file ∷ [])) ∙ map-append (λ (f : ℕ × List ℕ). f.0) (entries_of files) ((file.number, file.bytes.items) ∷ []) in
+    subst IsStrictlyIncreasing (sym pushed) (increasing-push (numbers_of (entries_of files)) file.number rising below)

@@ -1,12 +1,13 @@
 -- Numbers as bytes.
-use Rattle.std.specs.Prelude.{ℕ, ◌+◌, ◌-◌, ◌*◌, ◌&&◌, if◌then◌else◌, List, [], ◌∷◌, length, nat_le, Option, Some, None}
+use Rattle.std.specs.Prelude.{ℕ, ◌&&◌, nat_le, Bool, if◌then◌else◌, List, length, Option, Some, None}
+use Rattle.std.specs.List.{list_all}
 use Rattle.std.specs.Char.{is_ascii_digit}
+use Rattle.std.specs.Str.Parse.{digits_value}
 
--- the number that decimal digits spell behind what was read before them, if all are digits
-abbrev pub digits_after : ℕ → List ℕ → Option ℕ
-digits_after n [] = Some n
-digits_after n (c ∷ cs) = if is_ascii_digit c then digits_after (10 * n + (c - 48)) cs else None
+-- A number has one to nine decimal digits; zeros may stand in front. Our own.
+abbrev pub is_number : List ℕ → Bool
+is_number text = nat_le 1 (length text) && nat_le (length text) 9 && list_all is_ascii_digit text
 
--- A number is one to nine decimal digits, by value: zeros may stand in front. Our own.
+-- the number that a text spells
 unfoldable pub number_of : List ℕ → Option ℕ
-number_of text = if nat_le 1 (length text) && nat_le (length text) 9 then digits_after 0 text else None
+number_of text = if is_number text then Some (digits_value 10 text) else None

@@ -98,7 +98,11 @@ fn have_no_comment(lines: &[Vec<u8>]) -> bool
 
 /// The MIDI files of a whole text.
 #[tactic(auto, unfolding(crate::specs::Book::files_of))]
-pub(crate) fn compile(alloc: Global, lines: &[Vec<u8>], work: &mut Work) -> Result<Files, AllocError>
+pub(crate) fn compile(
+    alloc: Global,
+    lines: &[Vec<u8>],
+    work: &mut Work,
+) -> Result<Files, AllocError>
     requires { list_all is_line (lines_of lines.now) ≡ true }
     ensures { IfOk result (λ files. files ≡ files_of (lines_of lines.now)) }
 {

@@ -68,7 +68,7 @@ pub(crate) fn is_field(letter: u8, line: &[u8]) -> bool
 
 fn is_unit_denominator(d: u32) -> bool
     ensures value { result ≡ is_unit_denominator d }
-    ensures positive { IsTrue result → 1 ≤ d }
+    ensures in_range { IsTrue result → (1 ≤ d) × (d ≤ 512) }
 {
     matches!(d, 1 | 2 | 4 | 8 | 16 | 32 | 64 | 128 | 256 | 512)
 }

@@ -1,17 +1,30 @@
-//! A tune book that is edited: its text, and the MIDI file of each reference number, always of the whole
-//! present text.
+//! A tune book that is edited by commands from a byte stream: its text, the MIDI file of each reference number, always
+//! that of the whole present text, and the answers to a byte stream.
 #![tactic(auto)]
 
+mod answer;
 mod book;
+mod command;
+mod cut;
+mod dialogue;
 mod edit;
+mod fault;
 mod field;
 mod files;
 mod header;
 mod lines;
+mod listener;
+mod machine;
 mod melody;
 mod music;
 mod number;
+mod reading;
 mod session;
+mod streams;
+mod transcript;
 
 pub use edit::{Edit, EditError, Report};
+pub use fault::RunFault;
 pub use session::Session;
+pub use streams::{Piped, Sink, Source, Store, StoreFault, StreamFault};
+pub use transcript::run;

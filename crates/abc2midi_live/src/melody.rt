@@ -44,7 +44,10 @@ pub(crate) fn end_of(tokens: &[TimeToken]) -> Option<Grains>
 }
 
 /// The notes that sound, from the tune's start on.
-pub(crate) fn notes_of(alloc: Global, tokens: &[TimeToken]) -> Result<Sequence<Sounding>, AllocError>
+pub(crate) fn notes_of(
+    alloc: Global,
+    tokens: &[TimeToken],
+) -> Result<Sequence<Sounding>, AllocError>
     requires early { total tokens.now ≤ grains_of_the_latest_end }
     requires few { length tokens.now ≤ 1000000 }
     requires keys { All HasMidiKey tokens.now }

@@ -133,11 +133,7 @@ fn is_music(line: &[u8]) -> bool
 }
 
 /// Appends what the tokens of a line play.
-fn push_times(
-    unit: Ratio,
-    tokens: &[Token],
-    times: &mut Vec<TimeToken>,
-) -> Result<(), AllocError>
+fn push_times(unit: Ratio, tokens: &[Token], times: &mut Vec<TimeToken>) -> Result<(), AllocError>
     requires unit { IsRatio unit }
     requires lengths { All (λ t. HasLength t.kind) tokens.now }
     requires keys { All HasMidiKey times.old.items }

@@ -1,23 +1,27 @@
 //! Numbers as bytes.
 
-ghost use Rattle.std.specs.Prelude.{◌≡◌, IfSome, ◌<◌, ◌^◌};
+ghost use Rattle.std.specs.Prelude.{◌≡◌};
+ghost use Rattle.std.specs.List.{list_all};
+ghost use Rattle.std.specs.Char.{is_ascii_digit};
 ghost use Rattle.abc2midi_live.specs.Number.{number_of};
 
-/// The number that one to nine decimal digits spell; zeros may stand in front.
-#[tactic(auto, unfolding(crate::specs::Number::number_of))]
-pub(crate) fn number_of(text: &[u8]) -> Option<u32>
-    ensures value { result ≡ number_of text.now }
-    ensures bounded { IfSome result (λ n. n < 10 ^ 9) }
+use std::str;
+
+/// How many digits a number has at most.
+const LONGEST_NUMBER: usize = 9;
+
+fn are_digits(text: &[u8]) -> bool
+    ensures { result ≡ list_all is_ascii_digit text.now }
 {
-    if text.is_empty() || text.len() > 9 {
+    text.iter().all(|b| b.is_ascii_digit())
+}
+
+/// The number that one to nine decimal digits spell; zeros may stand in front.
+pub(crate) fn number_of(text: &[u8]) -> Option<u32>
+    ensures { result ≡ number_of text.now }
+{
+    if text.len() > LONGEST_NUMBER || !are_digits(text) {
         return None;
     }
-    let mut number = 0;
-    for byte in text {
-        if !byte.is_ascii_digit() {
-            return None;
-        }
-        number = 10 * number + u32::from(*byte - b'0');
-    }
-    Some(number)
+    str::from_utf8(text).ok()?.parse().ok()
 }

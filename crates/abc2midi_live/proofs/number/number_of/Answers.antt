@@ -1,13 +1,24 @@
-use Rattle.std.proofs.Common.{◌^◌, ◌≤◌, lit<, arith}
-use Rattle.std.proofs.Math.Nat.{pow-le-pow_right}
+use Rattle.std.proofs.Common.{◌≡◌, Ok, Err, sym, ◌∙◌, ap, subst}
+use Rattle.std.specs.Str.Parse.{ParsesUnsigned}
+use Rattle.std.specs.Str.{IsUtf8}
+use Rattle.abc2midi_live.proofs.Words.{number_of-long, number_of-other, digits-IsUtf8, number_of-parsed, no_error, held}
 use Rattle.abc2midi_live.proofs.number.number_of.Goals as goal
+use Rattle.abc2midi_live.proofs.number.number_of.Goals.{then-text-gt-LONGEST_NUMBER-via-then-text-gt-LONGEST_NUMBER, then-text-gt-LONGEST_NUMBER-via-else-text-gt-LONGEST_NUMBER+then-not-are_digits}
 
-pub overflow_mul-number : goal.overflow_mul-number
-overflow_mul-number c =
-    let small : 10 ^ c.loop-byte.byte-index ≤ 100000000 = pow-le-pow_right (lit< tt) {i = c.loop-byte.byte-index} {j = 8} (omega arith) in
-    omega arith
+pub returns-then-text-gt-LONGEST_NUMBER : goal.returns-then-text-gt-LONGEST_NUMBER
+returns-then-text-gt-LONGEST_NUMBER c =
+    elim c.then-text-gt-LONGEST_NUMBER.branch [
+      | then-text-gt-LONGEST_NUMBER-via-then-text-gt-LONGEST_NUMBER w ↦ number_of-long c.args.text.now w.if-text-gt-LONGEST_NUMBER.true
+      | then-text-gt-LONGEST_NUMBER-via-else-text-gt-LONGEST_NUMBER+then-not-are_digits w ↦ number_of-other c.args.text.now (sym w.if-not-are_digits.ensures)
+    ]
 
-pub overflow_add-number : goal.overflow_add-number
-overflow_add-number c =
-    let small : 10 ^ c.loop-byte.byte-index ≤ 100000000 = pow-le-pow_right (lit< tt) {i = c.loop-byte.byte-index} {j = 8} (omega arith) in
-    omega arith
+-- digits are text
+pub returns-in_err-ok : goal.returns-in_err-ok
+returns-in_err-ok c =
+    absurd (no_error c.from_utf8.result _ _ (λ e h utf8. h.0 utf8) (digits-IsUtf8 c.args.text.now (sym c.if-not-are_digits.ensures)) c.from_utf8.ensures.cases c.in_err-ok.ensures.value)
+
+pub returns : goal.returns
+returns c =
+    c.ok-2.ensures.value
+    ∙ number_of-parsed c.args.text.now c.parse.result c.if-text-gt-LONGEST_NUMBER.false (sym c.if-not-are_digits.ensures)
+    (subst (λ text. ParsesUnsigned 32 10 text c.parse.result) (held c.from_utf8.result _ _ c.in_ok-ok.field-0 c.from_utf8.ensures.cases c.in_ok-ok.ensures.value).0 c.parse.ensures.value.0)

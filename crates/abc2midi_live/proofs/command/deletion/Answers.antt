@@ -1,0 +1,33 @@
+use Rattle.std.proofs.Common.{◌≡◌, ℕ, List, [], ◌∷◌, None, Some, Option, refl, sym, ap, ◌∙◌, unwrap_or}
+use Rattle.abc2midi_live.specs.Command.{insertion, replacement, deletion, hex_dump, quitting, words_behind}
+use Rattle.abc2midi_live.specs.declared.command.Command.TheVariants.{Unknown}
+use Rattle.abc2midi_live.proofs.Words.{none_spelled, one_spelled, all_spelled, more_spelled}
+use Rattle.abc2midi_live.proofs.command.deletion.Goals as goal
+
+pub returns-in_err-from : goal.returns-in_err-from
+unfolding deletion
+returns-in_err-from c =
+    ap (λ o. unwrap_or o Unknown) c.from_residual.ensures
+    ∙ none_spelled (words_behind c.args.words) deletion c.in_err-from.ensures refl
+
+pub returns-in_err-to : goal.returns-in_err-to
+unfolding deletion
+returns-in_err-to c =
+    ap (λ o. unwrap_or o Unknown) c.from_residual-in_err-to.ensures
+    ∙ none_spelled (words_behind c.in_ok-from.words) (λ ns. deletion (c.in_ok-from.from ∷ ns)) c.in_err-to.ensures refl
+    ∙ one_spelled (words_behind c.args.words) (words_behind c.in_ok-from.words) c.in_ok-from.from deletion c.in_ok-from.ensures
+
+pub returns-in_err-no_more : goal.returns-in_err-no_more
+unfolding deletion
+returns-in_err-no_more c =
+    ap (λ o. unwrap_or o Unknown) c.from_residual-in_err-no_more.ensures
+    ∙ more_spelled (words_behind c.in_ok-to.words) (λ ns. deletion (c.in_ok-from.from ∷ c.in_ok-to.to ∷ ns)) c.in_err-no_more.ensures (λ n ns. refl)
+    ∙ one_spelled (words_behind c.in_ok-from.words) (words_behind c.in_ok-to.words) c.in_ok-to.to (λ ns. deletion (c.in_ok-from.from ∷ ns)) c.in_ok-to.ensures
+    ∙ one_spelled (words_behind c.args.words) (words_behind c.in_ok-from.words) c.in_ok-from.from deletion c.in_ok-from.ensures
+
+pub returns : goal.returns
+unfolding deletion
+returns c =
+    all_spelled (words_behind c.in_ok-to.words) (λ ns. deletion (c.in_ok-from.from ∷ c.in_ok-to.to ∷ ns)) c.in_ok-no_more.ensures
+    ∙ one_spelled (words_behind c.in_ok-from.words) (words_behind c.in_ok-to.words) c.in_ok-to.to (λ ns. deletion (c.in_ok-from.from ∷ ns)) c.in_ok-to.ensures
+    ∙ one_spelled (words_behind c.args.words) (words_behind c.in_ok-from.words) c.in_ok-from.from deletion c.in_ok-from.ensures

@@ -1,0 +1,68 @@
+use Rattle.std.proofs.Common.{◌≡◌, ◌<◌, ◌≤◌, ◌+◌, List, ℕ, [], length, sym, ap, ◌∙◌, subst, refl, Bool, true, false, Err, arith}
+use Rattle.abc2midi_live.specs.Machine.{ahead}
+use Rattle.abc2midi_live.specs.Outcome.{Leaves, Reads, Turn, Exhausted, read_faults}
+use Rattle.abc2midi_live.specs.Streams.{raised}
+use Rattle.abc2midi_live.proofs.Counts.{raised_none}
+use Rattle.abc2midi_live.proofs.Feeding.{Heard, heard_none, heard_turn, heard_end, heard_left, heard_so_far, nothing_ahead, fault_exit, fault_is, reads_exit, calls_more}
+use Rattle.abc2midi_live.proofs.reading.listen.Goals as goal
+
+pub reads-init : goal.reads-init
+reads-init g c = record {
+  heard = heard_none _ _ _ _ (ap (λ m. ahead (g.M.Machine.future m) c.new-listener.result.begun.items) c.new-listener.ensures.machine ∙ ap (ahead (g.M.Machine.future c.args.machine)) c.new-listener.ensures.begun);
+  calls = sym (raised_none _);
+  reads = refl;
+  writes = refl;
+}
+
+pub returns-in_err-turn-clause-answers : goal.returns-in_err-turn-clause-answers
+unfolding ahead
+returns-in_err-turn-clause-answers g c =
+    let now = c.reads.listener in
+    fault_exit c.from_residual.result _ (Leaves (ahead (g.M.Machine.future c.args.machine) [] false) (g.R.Source.remaining c.args.reader.now) (g.R.Source.remaining c.turn.new.reader) (g.W.Sink.contents c.args.writer.now) (g.W.Sink.contents c.turn.new.writer)) c.in_err-turn.field-0.0 c.from_residual.ensures
+    (heard_left (ahead (g.M.Machine.future c.args.machine) []) (ahead (g.M.Machine.future now.machine) now.begun.items) (g.R.Source.remaining c.args.reader.now) (g.R.Source.remaining c.reads.reader) (g.R.Source.remaining c.turn.new.reader) (g.W.Sink.contents c.args.writer.now) (g.W.Sink.contents c.reads.writer) (g.W.Sink.contents c.turn.new.writer) c.in_err-turn.field-0.0 c.reads.invariant.heard c.in_err-turn.ensures.answers)
+
+pub returns-in_err-turn-clause-calls : goal.returns-in_err-turn-clause-calls
+returns-in_err-turn-clause-calls g c = (c.reads.counter + 1, omega arith, calls_more _ _ _ c.reads.counter c.reads.invariant.calls c.turn.ensures.calls)
+
+pub returns-in_err-turn-clause-reads : goal.returns-in_err-turn-clause-reads
+returns-in_err-turn-clause-reads g c =
+    rw (fault_is c.from_residual.result c.in_err-turn.field-0.0 c.from_residual.ensures)
+    (reads_exit c.in_err-turn.field-0.0 _ _ _ _ (c.in_err-turn.ensures.reads ∙ ap (λ f. raised f (read_faults {T = Bool} (Err c.in_err-turn.field-0.0))) c.reads.invariant.reads))
+
+pub returns-then-not-branch-clause-answers : goal.returns-then-not-branch-clause-answers
+unfolding ahead
+returns-then-not-branch-clause-answers g c =
+    let now = c.reads.listener in
+    let after = c.turn.new.listener in
+    heard_end (ahead (g.M.Machine.future c.args.machine) []) (ahead (g.M.Machine.future now.machine) now.begun.items) (ahead (g.M.Machine.future after.machine) after.begun.items) (g.R.Source.remaining c.args.reader.now) (g.R.Source.remaining c.reads.reader) (g.R.Source.remaining c.turn.new.reader) (g.W.Sink.contents c.args.writer.now) (g.W.Sink.contents c.reads.writer) (g.W.Sink.contents c.turn.new.writer) c.reads.invariant.heard
+    (subst (Turn (ahead (g.M.Machine.future now.machine) now.begun.items) (ahead (g.M.Machine.future after.machine) after.begun.items) (g.R.Source.remaining c.reads.reader) (g.R.Source.remaining c.turn.new.reader) (g.W.Sink.contents c.reads.writer) (g.W.Sink.contents c.turn.new.writer)) c.if-not-branch.true c.in_ok-turn.ensures.answers)
+
+pub returns-then-not-branch-clause-calls : goal.returns-then-not-branch-clause-calls
+returns-then-not-branch-clause-calls g c = (c.reads.counter + 1, omega arith, calls_more _ _ _ c.reads.counter c.reads.invariant.calls c.turn.ensures.calls)
+
+pub reads-preserved : goal.reads-preserved
+reads-preserved g c =
+    let now = c.reads.listener in
+    let after = c.turn.new.listener in
+    record {
+      heard = heard_turn (ahead (g.M.Machine.future c.args.machine) []) (ahead (g.M.Machine.future now.machine) now.begun.items) (ahead (g.M.Machine.future after.machine) after.begun.items) (g.R.Source.remaining c.args.reader.now) (g.R.Source.remaining c.reads.reader) (g.R.Source.remaining c.turn.new.reader) (g.W.Sink.contents c.args.writer.now) (g.W.Sink.contents c.reads.writer) (g.W.Sink.contents c.turn.new.writer) c.reads.invariant.heard
+          (subst (Turn (ahead (g.M.Machine.future now.machine) now.begun.items) (ahead (g.M.Machine.future after.machine) after.begun.items) (g.R.Source.remaining c.reads.reader) (g.R.Source.remaining c.turn.new.reader) (g.W.Sink.contents c.reads.writer) (g.W.Sink.contents c.turn.new.writer)) c.if-not-branch.false c.in_ok-turn.ensures.answers);
+      calls = calls_more _ _ _ c.reads.counter c.reads.invariant.calls c.turn.ensures.calls;
+      reads = c.in_ok-turn.ensures.reads ∙ raised_none _ ∙ c.reads.invariant.reads;
+      writes = c.in_ok-turn.ensures.writes ∙ raised_none _ ∙ c.reads.invariant.writes;
+    }
+
+pub returns-clause-answers : goal.returns-clause-answers
+unfolding ahead
+returns-clause-answers g c =
+    let now = c.reads.listener in
+    heard_so_far (ahead (g.M.Machine.future c.args.machine) []) (ahead (g.M.Machine.future now.machine) now.begun.items) (g.R.Source.remaining c.args.reader.now) (g.R.Source.remaining c.reads.reader) (g.W.Sink.contents c.args.writer.now) (g.W.Sink.contents c.reads.writer) c.reads.invariant.heard
+    (nothing_ahead (g.M.Machine.future now.machine) now.begun.items now.whole (g.met.M.Machine.waits now.machine))
+
+pub returns-clause-calls : goal.returns-clause-calls
+returns-clause-calls g c = (c.reads.counter, omega arith, c.reads.invariant.calls)
+
+pub returns-clause-reads : goal.returns-clause-reads
+returns-clause-reads g c =
+    let all : c.reads.counter ≡ 4294967295 = omega arith in
+    Exhausted (c.reads.invariant.calls ∙ ap (raised (g.R.Source.calls c.args.reader.now)) all)

@@ -1,0 +1,38 @@
+-- What the program answers to a command. Our own.
+use Rattle.std.specs.Prelude.{ℕ, List, ◌∷◌, ◌++◌, codes, decimal, flat_map, Option, Some, None, Result, Ok, Err}
+use Rattle.hex.specs.Hex.{encode_upper}
+use Rattle.abc2midi_live.specs.Book.{Files, written, removed}
+use Rattle.abc2midi_live.specs.declared.edit.EditError.{EditError}
+use Rattle.abc2midi_live.specs.declared.edit.EditError.TheVariants.{BadRange, BadLine, TooLarge, OutOfMemory}
+
+-- numbers, each with a space before it
+unfoldable pub listed : List ℕ → List ℕ
+listed numbers = flat_map (λ n. 32 ∷ decimal n) numbers
+
+-- an accepted edit: the numbers whose files it wrote and removed
+unfoldable pub report_line : List ℕ → List ℕ → List ℕ
+report_line written removed = codes "ok written" ++ listed written ++ codes " removed" ++ listed removed ++ codes "\n"
+
+-- the report of an edit between the files before it and those after it
+abbrev pub report : Files → Files → List ℕ
+report before after = report_line (written before after) (removed before after)
+
+-- a refused edit; want of memory is answered by no line
+unfoldable pub refusal : EditError → List ℕ
+refusal BadRange = codes "error BadRange\n"
+refusal BadLine = codes "error BadLine\n"
+refusal TooLarge = codes "error TooLarge\n"
+refusal OutOfMemory = codes ""
+
+-- the file of a number in upper-case hexadecimal
+unfoldable pub hex_line : Option (List ℕ) → List ℕ
+hex_line None = codes "none\n"
+hex_line (Some bytes) = encode_upper bytes ++ codes "\n"
+
+-- a line that is no command
+unfoldable pub unknown_line : List ℕ
+unknown_line = codes "error command\n"
+
+-- the end of the input inside the lines of a command
+unfoldable pub truncated_line : List ℕ
+truncated_line = codes "error truncated\n"

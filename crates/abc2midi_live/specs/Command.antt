@@ -1,0 +1,91 @@
+-- The commands of the program, one on a line of its input. Our own.
+use Rattle.std.specs.Prelude.{ℕ, ◌&&◌, ◌==◌, nat_le, Bool, if◌then◌else◌, List, [], ◌∷◌, length, codes, Option, Some, None}
+use Rattle.std.specs.Borrow.{Bor}
+use Rattle.std.specs.List.{slice_split}
+use Rattle.std.specs.Option.{option_map_or}
+use Rattle.std.specs.Str.{bytes_eq}
+use Rattle.std.specs.Str.Lines.{strip_carriage_return}
+use Rattle.abc2midi_live.specs.Number.{number_of}
+use Rattle.abc2midi_live.specs.declared.command.Command.{Command}
+use Rattle.abc2midi_live.specs.declared.command.Command.TheVariants.{Insert, Replace, Delete, Hex, Quit, Unknown}
+
+-- a number and those after it, where there are such
+abbrev pub both : Option ℕ → Option (List ℕ) → Option (List ℕ)
+both None numbers = None
+both (Some n) None = None
+both (Some n) (Some numbers) = Some (n ∷ numbers)
+
+-- the numbers that words spell, if each of them spells one
+unfoldable pub numbers_of : List (List ℕ) → Option (List ℕ)
+numbers_of [] = Some []
+numbers_of (word ∷ words) = both (number_of word) (numbers_of words)
+
+-- A command takes at most 1,048,576 lines.
+unfoldable pub if_few : ℕ → Command → Command
+if_few count command = if nat_le count 1048576 then command else Unknown
+
+-- insert L K
+unfoldable pub insertion : List ℕ → Command
+insertion (at ∷ count ∷ []) = if_few count (Insert at count)
+insertion _ = Unknown
+
+-- replace L M K
+unfoldable pub replacement : List ℕ → Command
+replacement (from ∷ to ∷ count ∷ []) = if_few count (Replace from to count)
+replacement _ = Unknown
+
+-- delete L M
+unfoldable pub deletion : List ℕ → Command
+deletion (from ∷ to ∷ []) = Delete from to
+deletion _ = Unknown
+
+-- hex N
+unfoldable pub hex_dump : List ℕ → Command
+hex_dump (number ∷ []) = Hex number
+hex_dump _ = Unknown
+
+-- quit
+unfoldable pub quitting : List ℕ → Command
+quitting [] = Quit
+quitting _ = Unknown
+
+-- the command made of the numbers that words spell
+unfoldable pub with_numbers : List (List ℕ) → (List ℕ → Command) → Command
+with_numbers words made = option_map_or made (numbers_of words) Unknown
+
+-- what a name makes of the numbers after it
+unfoldable pub command_named : List ℕ → List ℕ → Command
+command_named name =
+    if bytes_eq name (codes "insert") then insertion else
+    if bytes_eq name (codes "replace") then replacement else
+    if bytes_eq name (codes "delete") then deletion else
+    if bytes_eq name (codes "hex") then hex_dump else
+    if bytes_eq name (codes "quit") then quitting else
+    (λ numbers. Unknown)
+
+-- the command that words spell: a name, and then numbers
+unfoldable pub command_of_words : List (List ℕ) → Command
+command_of_words [] = Unknown
+command_of_words (name ∷ words) = with_numbers words (command_named name)
+
+-- The words of a line are what stands between its spaces.
+unfoldable pub words_of : List ℕ → List (List ℕ)
+words_of line = slice_split (λ b. b == 32) line
+
+-- the words behind a space, where there is one
+unfoldable pub words_behind : Option (Bor (List ℕ)) → List (List ℕ)
+words_behind None = []
+words_behind (Some rest) = words_of rest.now
+
+-- The command of a line: one carriage return at its end is dropped, and a line of more than 65,535 bytes is none.
+unfoldable pub command_of : List ℕ → Command
+command_of line = if nat_le (length line) 65535 then command_of_words (words_of (strip_carriage_return line)) else Unknown
+
+-- how many of the lines after it belong to a command
+abbrev pub line_count : Command → ℕ
+line_count (Insert at count) = count
+line_count (Replace from to count) = count
+line_count (Delete from to) = 0
+line_count (Hex number) = 0
+line_count Quit = 0
+line_count Unknown = 0

@@ -1,0 +1,41 @@
+-- What contracts see of a command whose lines have not all come. Our own.
+use Rattle.std.specs.Prelude.{◌≡◌, ℕ, Bool, true, false, nat_le, cond, List, [], ◌∷◌, ◌++◌, length, take, map, Option, Some, None, option_map, refl}
+use Rattle.std.proofs.Common.{sym, ap, ◌∙◌, append-nil}
+use Rattle.std.proofs.lemmas.List.{length-map}
+use Rattle.std.proofs.lemmas.Bool.{false≢true}
+use Rattle.std.proofs.Math.Dec.{leb-zero}
+use Rattle.abc2midi_live.specs.Text.{Text, text_of}
+use Rattle.abc2midi_live.specs.Command.{line_count}
+use Rattle.abc2midi_live.specs.Transcript.{Request, Edits, Shows, Misspelled, CutOff, Ends, Insertion, Replacement, request_of, requests, answers, answer, goes_on, text_after}
+use Rattle.abc2midi_live.specs.Dialogue.{Begun, awaited}
+use Rattle.abc2midi_live.specs.declared.dialogue.Gathering.{Gathering}
+use Rattle.abc2midi_live.specs.declared.command.Command.{Command}
+use Rattle.abc2midi_live.specs.declared.command.Command.TheVariants.{Insert, Replace, Delete, Hex, Quit, Unknown}
+
+abbrev pub begun_of : Option Gathering → Option Begun
+begun_of gathering = option_map (λ g. record { command = g.command; lines = text_of g.lines }) gathering
+
+-- a command without all its lines is cut off
+pub request_of-cut : (command : Command) (lines : Text) → nat_le (line_count command) (length lines) ≡ false → request_of command lines ≡ CutOff
+unfolding request_of
+request_of-cut (Insert at count) lines e = ap (λ b. cond b (Edits (Insertion at (take count lines))) CutOff) e
+request_of-cut (Replace from to count) lines e = ap (λ b. cond b (Edits (Replacement from to (take count lines))) CutOff) e
+request_of-cut (Delete from to) lines e = absurd (false≢true (sym e ∙ leb-zero (length lines)))
+request_of-cut (Hex number) lines e = absurd (false≢true (sym e ∙ leb-zero (length lines)))
+request_of-cut Quit lines e = absurd (false≢true (sym e ∙ leb-zero (length lines)))
+request_of-cut Unknown lines e = absurd (false≢true (sym e ∙ leb-zero (length lines)))
+
+-- the same of one that is gathering its lines
+pub gathering_few : (g : Gathering) → nat_le (line_count g.command) (length (text_of g.lines)) ≡ false
+gathering_few g = ap (nat_le (line_count g.command)) (length-map g.lines.items (λ line. line.items)) ∙ g.incomplete
+
+pub request_of-gathering : (g : Gathering) → request_of g.command (text_of g.lines) ≡ CutOff
+request_of-gathering g = request_of-cut g.command (text_of g.lines) (gathering_few g)
+
+-- nothing is answered before a line comes
+pub dialogue_waits : (text : Text) (gathering : Option Gathering) → awaited text (begun_of gathering) false [] ≡ []
+unfolding awaited answers answer requests
+dialogue_waits text None = refl
+dialogue_waits text (Some g) =
+    ap (λ ls. answers false text (request_of g.command ls ∷ [])) (append-nil (text_of g.lines))
+    ∙ ap (λ r. answers false text (r ∷ [])) (request_of-gathering g)

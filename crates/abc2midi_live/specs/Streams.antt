@@ -1,0 +1,36 @@
+-- What streams and stores do, as far as contracts see it: counts of 64 bits, and what a store contains. Our own.
+use Rattle.std.specs.Prelude.{◌≡◌, ◌≢◌, ℕ, ◌+◌, ◌-◌, ◌^◌, max, min, List, Option, Some, None, Result, Ok, Err, ⊤}
+use Rattle.std.specs.Cmp.Lexicographic.{slice_cmp}
+use Rattle.std.specs.Ordering.{nat_cmp}
+use Rattle.std.specs.FinMap.{FinMap, get, insert, remove}
+
+-- A count that is raised stays at its greatest value once it is there.
+unfoldable pub raised : ℕ → ℕ → ℕ
+raised count by = max count (min (count + by) (2 ^ 64 - 1))
+
+-- how many faults a call answered
+abbrev pub faults : {T E : Type 0} → Result T E → ℕ
+faults (Ok x) = 0
+faults (Err e) = 1
+
+-- what a store contains: names, and the bytes of each
+abbrev pub Contents : Type 0
+Contents = FinMap (slice_cmp nat_cmp) (List ℕ)
+
+-- where the contents are told, they are the old ones with these bytes under this name
+abbrev pub Puts : Option Contents → Option Contents → List ℕ → List ℕ → Type 0
+Puts None new name bytes = ⊤
+Puts (Some old) None name bytes = ⊥
+Puts (Some old) (Some new) name bytes = new ≡ insert old name bytes
+
+-- where the contents are told, they are the old ones without this name
+abbrev pub TakesOut : Option Contents → Option Contents → List ℕ → Type 0
+TakesOut None new name = ⊤
+TakesOut (Some old) None name = ⊥
+TakesOut (Some old) (Some new) name = new ≡ remove old name
+
+-- where the contents are told, every name but this one has what it had
+abbrev pub KeepsOthers : Option Contents → Option Contents → List ℕ → Type 0
+KeepsOthers None new name = ⊤
+KeepsOthers (Some old) None name = ⊥
+KeepsOthers (Some old) (Some new) name = (other : List ℕ) → other ≢ name → get new other ≡ get old other

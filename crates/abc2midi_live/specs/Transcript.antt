@@ -1,0 +1,106 @@
+-- What the program writes for an input: the answers to its commands, in order. Our own.
+use Rattle.std.specs.Prelude.{ℕ, zero, suc, ◌+◌, ◌-◌, ◌&&◌, ◌==◌, nat_le, Bool, true, false, if◌then◌else◌, List, [], ◌∷◌, ◌++◌, length, take, map, Result, Ok, Err}
+use Rattle.std.specs.List.{slice_split}
+use Rattle.std.specs.Result.{result_unwrap_or}
+use Rattle.abc2midi_live.specs.Text.{Text, checked}
+use Rattle.abc2midi_live.specs.Book.{files_of, file_at}
+use Rattle.abc2midi_live.specs.Command.{command_of, line_count}
+use Rattle.abc2midi_live.specs.Answer.{report, refusal, hex_line, unknown_line, truncated_line}
+use Rattle.abc2midi_live.specs.declared.edit.EditError.{EditError}
+use Rattle.abc2midi_live.specs.declared.edit.EditError.TheVariants.{BadRange}
+use Rattle.abc2midi_live.specs.declared.command.Command.{Command}
+use Rattle.abc2midi_live.specs.declared.command.Command.TheVariants.{Insert, Replace, Delete, Hex, Quit, Unknown}
+
+-- The parts of an input between line feeds are its lines. Behind the last line feed stands a line only where it is
+-- not empty and the input has ended; before that, more of it may come.
+abbrev pub whole_lines : Bool → List (List ℕ) → List (List ℕ)
+whole_lines ended [] = []
+whole_lines ended (line ∷ []) = if ended && nat_le 1 (length line) then line ∷ [] else []
+whole_lines ended (line ∷ next ∷ more) = line ∷ whole_lines ended (next ∷ more)
+
+-- the lines of an input; of a long one the first 65,536 bytes are kept, which is one more than a line may have
+unfoldable pub input_lines : Bool → List ℕ → List (List ℕ)
+input_lines ended bytes = map (take 65536) (whole_lines ended (slice_split (λ b. b == 10) bytes))
+
+-- what an edit command asks for
+pub data Change : Type 0 where
+  Insertion : (at : ℕ) (lines : Text) → Change
+  Replacement : (from to : ℕ) (lines : Text) → Change
+  Deletion : (from to : ℕ) → Change
+
+-- a command with the lines that belong to it
+pub data Request : Type 0 where
+  Edits : (change : Change) → Request
+  Shows : (number : ℕ) → Request
+  Misspelled : Request
+  CutOff : Request  -- there are not as many lines as it asks for
+  Ends : Request
+
+-- A command takes its lines from those that follow it.
+unfoldable pub request_of : Command → List (List ℕ) → Request
+request_of (Insert at count) lines = if nat_le count (length lines) then Edits (Insertion at (take count lines)) else CutOff
+request_of (Replace from to count) lines = if nat_le count (length lines) then Edits (Replacement from to (take count lines)) else CutOff
+request_of (Delete from to) lines = Edits (Deletion from to)
+request_of (Hex number) lines = Shows number
+request_of Quit lines = Ends
+request_of Unknown lines = Misspelled
+
+-- the requests of lines, of which the first `taken` belong to the command before
+unfoldable pub requests : ℕ → List (List ℕ) → List Request
+requests taken [] = []
+requests zero (line ∷ lines) = request_of (command_of line) lines ∷ requests (line_count (command_of line)) lines
+requests (suc taken) (line ∷ lines) = requests taken lines
+
+-- the text after a change, or the first reason to refuse it
+unfoldable pub changed : Text → Change → Result Text EditError
+changed text (Insertion at lines) =
+    if nat_le 1 at && nat_le at (length text + 1)
+    then checked text (record { at = at - 1; removed = 0; lines = lines }) else Err BadRange
+changed text (Replacement from to lines) =
+    if nat_le 1 from && nat_le from to && nat_le to (length text)
+    then checked text (record { at = from - 1; removed = to + 1 - from; lines = lines }) else Err BadRange
+changed text (Deletion from to) =
+    if nat_le 1 from && nat_le from to && nat_le to (length text)
+    then checked text (record { at = from - 1; removed = to + 1 - from; lines = [] }) else Err BadRange
+
+-- the answer to a change of a text
+unfoldable pub change_answer : Text → Result Text EditError → List ℕ
+change_answer before (Ok after) = report (files_of before) (files_of after)
+change_answer before (Err error) = refusal error
+
+-- the answer to a request; one that is cut off has its answer where the input has ended
+unfoldable pub answer : Bool → Text → Request → List ℕ
+answer ended text (Edits change) = change_answer text (changed text change)
+answer ended text (Shows number) = hex_line (file_at (files_of text) number)
+answer ended text Misspelled = unknown_line
+answer ended text CutOff = if ended then truncated_line else []
+answer ended text Ends = []
+
+-- A refused change leaves the text.
+unfoldable pub text_after : Text → Request → Text
+text_after text (Edits change) = result_unwrap_or (changed text change) text
+text_after text (Shows number) = text
+text_after text Misspelled = text
+text_after text CutOff = text
+text_after text Ends = text
+
+abbrev pub goes_on : Request → Bool
+goes_on (Edits change) = true
+goes_on (Shows number) = true
+goes_on Misspelled = true
+goes_on CutOff = false
+goes_on Ends = false
+
+-- the answers to requests, from a text on; no request has one after `quit`
+unfoldable pub answers : Bool → Text → List Request → List ℕ
+answers ended text [] = []
+answers ended text (request ∷ rest) =
+    answer ended text request ++ (if goes_on request then answers ended (text_after text request) rest else [])
+
+-- what is written for the whole of an input
+unfoldable pub transcript : List ℕ → List ℕ
+transcript input = answers true [] (requests 0 (input_lines true input))
+
+-- what is written for the beginning of an input: the answers to the commands that stand wholly in it
+unfoldable pub transcript_so_far : List ℕ → List ℕ
+transcript_so_far input = answers false [] (requests 0 (input_lines false input))

@@ -1,0 +1,61 @@
+//! The texts of answers.
+
+ghost use Rattle.std.specs.Prelude.{◌≡◌, ◌≢◌, ◌++◌, option_map, IfOk, OnOk, MatchOption};
+ghost use Rattle.abc2midi_live.specs.Answer.{listed, report_line, refusal, hex_line};
+
+use crate::edit::{EditError, Report};
+use itoa::Buffer;
+use std::alloc::{AllocError, Global};
+
+fn put_numbers(text: &mut Vec<u8>, numbers: &[u32]) -> Result<(), AllocError>
+    ensures { OnOk result (text.new.items ≡ text.old.items ++ listed numbers.now) }
+{
+    let mut digits = Buffer::new();
+    for number in numbers {
+        text.push(b' ')?;
+        text.extend_from_slice(digits.format(*number).as_bytes())?;
+    }
+    Ok(())
+}
+
+/// The answer to an accepted edit.
+#[tactic(auto, unfolding(crate::specs::Answer::report_line))]
+pub fn report_line(alloc: Global, report: &Report) -> Result<Vec<u8>, AllocError>
+    ensures { IfOk result (λ text. text.items ≡ report_line report.now.written.items report.now.removed.items) }
+{
+    let mut text = Vec::from_slice(alloc, b"ok written")?;
+    put_numbers(&mut text, &report.written)?;
+    text.extend_from_slice(b" removed")?;
+    put_numbers(&mut text, &report.removed)?;
+    text.push(b'\n')?;
+    Ok(text)
+}
+
+/// The answer to a refused edit; for want of memory there is none.
+#[tactic(auto, unfolding(crate::specs::Answer::refusal))]
+pub fn refusal(error: EditError) -> Option<&'static [u8]>
+    ensures { MatchOption result (error ≡ EditError.OutOfMemory)
+        (λ text. (text.now ≡ refusal error) × (error ≢ EditError.OutOfMemory)) }
+{
+    match error {
+        EditError::BadRange => Some(b"error BadRange\n"),
+        EditError::BadLine => Some(b"error BadLine\n"),
+        EditError::TooLarge => Some(b"error TooLarge\n"),
+        EditError::OutOfMemory => None,
+    }
+}
+
+/// The bytes of a file, where there is one.
+#[tactic(auto, unfolding(crate::specs::Answer::hex_line))]
+pub fn hex_line(alloc: Global, bytes: Option<&[u8]>) -> Result<Vec<u8>, AllocError>
+    ensures { IfOk result (λ text. text.items ≡ hex_line (option_map (λ b. b.now) bytes.entry)) }
+{
+    match bytes {
+        Some(bytes) => {
+            let mut text = hex::encode_upper(alloc, bytes)?.into_bytes();
+            text.push(b'\n')?;
+            Ok(text)
+        }
+        None => Vec::from_slice(alloc, b"none\n"),
+    }
+}

@@ -1,0 +1,150 @@
+//! Commands, each with the lines that belong to it, carried out on a session.
+
+ghost use Rattle.std.specs.Prelude.{◌≡◌, ◌<◌, ◌≤◌, nat_le, false, ℕ, Bool, List, Option, None, [], length, IfOk};
+ghost use Rattle.std.specs.Result.{result_unwrap_or};
+ghost use Rattle.abc2midi_live.specs.Command.{line_count};
+ghost use Rattle.abc2midi_live.specs.Text.{edited, text_of};
+ghost use Rattle.abc2midi_live.specs.Transcript.{change_answer, request_of};
+ghost use Rattle.abc2midi_live.specs.Dialogue.{Responds, Proceeds};
+
+use crate::answer::{hex_line, refusal, report_line};
+use crate::command::Command;
+use crate::edit::{Edit, EditError};
+use crate::machine::{Machine, Reply};
+use crate::session::Session;
+use abc_fold::Work;
+use std::alloc::{AllocError, Global};
+
+// Edits the text, and gives the answer to that.
+fn edit(
+    alloc: Global,
+    session: &mut Session,
+    edit: &Edit,
+    work: &mut Work,
+) -> Result<Vec<u8>, AllocError>
+    ensures answer { IfOk result (λ text. text.items ≡ change_answer session.old (edited session.old edit.now)) }
+    ensures text { IfOk result (λ _. session.new ≡ result_unwrap_or (edited session.old edit.now) session.old) }
+{
+    match session.apply(edit, work) {
+        Ok(report) => report_line(alloc, &report),
+        Err(error) => match refusal(error) {
+            Some(text) => Vec::from_slice(alloc, text),
+            None => Err(AllocError),
+        },
+    }
+}
+
+// Carries out a command with its lines, and answers it.
+fn respond(
+    alloc: Global,
+    session: &mut Session,
+    command: Command,
+    lines: Vec<Vec<u8>>,
+    work: &mut Work,
+) -> Result<Reply, AllocError>
+    requires { length lines.items ≡ line_count command }
+    ensures { IfOk result (Responds session.old session.new (request_of command (text_of lines))) }
+{
+    match command {
+        Command::Insert { at, .. } => {
+            let text = edit(alloc, session, &Edit::Insert { at, lines }, work)?;
+            Ok(Reply::Answer(text))
+        }
+        Command::Replace { from, to, .. } => {
+            let text = edit(alloc, session, &Edit::Replace { from, to, lines }, work)?;
+            Ok(Reply::Answer(text))
+        }
+        Command::Delete { from, to } => {
+            let text = edit(alloc, session, &Edit::Delete { from, to }, work)?;
+            Ok(Reply::Answer(text))
+        }
+        Command::Hex { number } => {
+            let text = hex_line(alloc, session.output(number))?;
+            Ok(Reply::Answer(text))
+        }
+        Command::Quit => Ok(Reply::End),
+        Command::Unknown => {
+            let text = Vec::from_slice(alloc, b"error command\n")?;
+            Ok(Reply::Answer(text))
+        }
+    }
+}
+
+/// A command whose lines have not all come.
+#[derive(Drop)]
+pub struct Gathering {
+    pub command: Command,
+    pub lines: Vec<Vec<u8>>,
+    ghost incomplete: { nat_le (line_count command) (length lines.items) ≡ false },
+}
+
+/// Commands that are carried out on a session, line by line.
+#[derive(Drop)]
+pub struct Dialogue {
+    pub alloc: Global,
+    pub session: Session,
+    pub gathering: Option<Gathering>,
+}
+
+impl Dialogue {
+    ghost use Rattle.abc2midi_live.specs.Gathering.{begun_of};
+
+    /// No command has come yet.
+    pub fn new(alloc: Global) -> Result<Dialogue, AllocError>
+        ensures session { IfOk result (λ d. d.session ≡ []) }
+        ensures gathering { IfOk result (λ d. d.gathering ≡ None) }
+    {
+        Ok(Dialogue {
+            alloc,
+            session: Session::new(alloc)?,
+            gathering: None,
+        })
+    }
+
+    // Goes on with a command and those of its lines that have come.
+    fn proceed(
+        &mut self,
+        command: Command,
+        lines: Vec<Vec<u8>>,
+        work: &mut Work,
+    ) -> Result<Reply, AllocError>
+        requires idle { self.old.gathering ≡ None }
+        requires few { length lines.items ≤ line_count command }
+        ensures { IfOk result (Proceeds self.old.session command (text_of lines) self.new.session (begun_of self.new.gathering)) }
+    {
+        if lines.len() < command.line_count() {
+            self.gathering = Some(Gathering { command, lines });
+            return Ok(Reply::Nothing);
+        }
+        respond(self.alloc, &mut self.session, command, lines, work)
+    }
+}
+
+impl Machine for Dialogue {
+    ghost use Rattle.abc2midi_live.specs.Dialogue.{awaited};
+    ghost use Rattle.abc2midi_live.specs.Gathering.{begun_of, dialogue_waits};
+
+    ghost future = { λ d. awaited d.session (begun_of d.gathering) };
+
+    ghost waits = { λ d. dialogue_waits d.session d.gathering };
+
+    fn take_line(&mut self, line: Vec<u8>, work: &mut Work) -> Result<Reply, AllocError> {
+        match self.gathering.take() {
+            Some(Gathering { command, mut lines }) => {
+                lines.push(line)?;
+                self.proceed(command, lines, work)
+            }
+            None => {
+                let lines = Vec::new(self.alloc);
+                self.proceed(Command::of(&line), lines, work)
+            }
+        }
+    }
+
+    fn last_words(&self) -> &'static [u8] {
+        match self.gathering {
+            Some(_) => b"error truncated\n",
+            None => b"",
+        }
+    }
+}

@@ -1,0 +1,180 @@
+//! Bytes that come in pieces, cut into lines for a machine whose answers go to a sink.
+
+ghost use Rattle.std.specs.Prelude.{◌≡◌, ◌≤◌, ◌==◌, ℕ, List, [], ◌∷◌, ◌++◌, take, length, true, false, All, OnOk, MatchResult, IfSome};
+ghost use Rattle.std.specs.Io.KnownBytes.{Appends, Keeps};
+ghost use Rattle.abc2midi_live.specs.Machine.{Answers, ahead, IsClean};
+ghost use Rattle.abc2midi_live.specs.Outcome.{write_faults, Unserved, BrokenOff};
+ghost use Rattle.abc2midi_live.specs.Streams.{raised};
+
+use crate::cut::cut;
+use crate::fault::RunFault;
+use crate::machine::{Machine, Reply};
+use crate::streams::Sink;
+use abc_fold::Work;
+use std::alloc::{AllocError, Global};
+use std::mem;
+
+/// How many bytes of a line are kept: one more than a line of a text may have.
+const KEPT: usize = 65_536;
+
+#[tactic(auto, using(crate::proofs::Counts::raised_none))]
+// Hands a line to the machine and writes its answer. Whether the machine goes on.
+fn serve<M: Machine, W: Sink>(
+    machine: &mut M,
+    writer: &mut W,
+    line: Vec<u8>,
+    work: &mut Work,
+) -> Result<bool, RunFault>
+    ensures answer { MatchResult result
+        (λ goes_on. (text : List ℕ) × Appends (W.contents writer.old) (W.contents writer.new) text
+        × Answers (M.future machine.old) (M.future machine.new) (line.items ∷ []) text goes_on)
+        (Unserved (W.contents writer.old) (W.contents writer.new)) }
+    ensures fails { W.failures writer.new ≡ raised (W.failures writer.old) (write_faults result) }
+{
+    match machine.take_line(line, work)? {
+        Reply::Nothing => Ok(true),
+        Reply::Answer(text) => match writer.write_all(&text) {
+            Ok(()) => Ok(true),
+            Err(_) => Err(RunFault::Write),
+        },
+        Reply::End => Ok(false),
+    }
+}
+
+#[tactic(auto, using(crate::proofs::Counts::raised_none))]
+// Writes a text, if there is one.
+fn say<W: Sink>(writer: &mut W, text: &[u8]) -> Result<(), RunFault>
+    ensures answer { MatchResult result
+        (λ _. Appends (W.contents writer.old) (W.contents writer.new) text.now)
+        (λ fault. fault ≡ RunFault.Write) }
+    ensures fails { W.failures writer.new ≡ raised (W.failures writer.old) (write_faults result) }
+{
+    if text.is_empty() {
+        return Ok(());
+    }
+    match writer.write_all(text) {
+        Ok(()) => Ok(()),
+        Err(_) => Err(RunFault::Write),
+    }
+}
+
+/// A machine, and what has come of its next line.
+#[derive(Drop)]
+pub struct Listener<M> {
+    pub machine: M,
+    pub begun: Vec<u8>,
+    ghost whole: { IsClean begun.items },
+    ghost kept: { length begun.items ≤ 65536 },
+}
+
+#[tactic(auto, using(crate::proofs::Counts::raised_none))]
+impl<M: Machine> Listener<M> {
+    pub fn new(alloc: Global, machine: M) -> Listener<M>
+        ensures machine { result.machine ≡ machine }
+        ensures begun { result.begun.items ≡ [] }
+    {
+        Listener {
+            machine,
+            begun: Vec::new(alloc),
+        }
+    }
+
+    // Keeps what there is room for.
+    fn keep(&mut self, piece: &[u8]) -> Result<(), AllocError>
+        requires { IsClean piece.now }
+        ensures begun { OnOk result (self.new.begun.items ≡ take 65536 (self.old.begun.items ++ piece.now)) }
+        ensures machine { self.new.machine ≡ self.old.machine }
+    {
+        let room = KEPT - self.begun.len();
+        self.begun
+            .extend_from_slice(&piece[..piece.len().min(room)])
+    }
+
+    // Takes the line that has come.
+    fn take_begun(&mut self, alloc: Global) -> Vec<u8>
+        ensures line { result.items ≡ self.old.begun.items }
+        ensures begun { self.new.begun.items ≡ [] }
+        ensures machine { self.new.machine ≡ self.old.machine }
+    {
+        mem::replace(&mut self.begun, Vec::new(alloc))
+    }
+
+    // Serves the line that the piece ends.
+    fn end_line<W: Sink>(
+        &mut self,
+        alloc: Global,
+        writer: &mut W,
+        piece: &[u8],
+        work: &mut Work,
+    ) -> Result<bool, RunFault>
+        requires { IsClean piece.now }
+        ensures answer { MatchResult result
+            (λ goes_on. (text : List ℕ) × Appends (W.contents writer.old) (W.contents writer.new) text
+            × Answers (ahead (M.future self.old.machine) self.old.begun.items)
+            (ahead (M.future self.new.machine) self.new.begun.items) (piece.now ++ 10 ∷ []) text goes_on)
+            (Unserved (W.contents writer.old) (W.contents writer.new)) }
+        ensures fails { W.failures writer.new ≡ raised (W.failures writer.old) (write_faults result) }
+    {
+        self.keep(piece)?;
+        let line = self.take_begun(alloc);
+        serve(&mut self.machine, writer, line, work)
+    }
+
+    /// Serves the lines that end in a piece of the input, and keeps what comes behind them. Whether the machine
+    /// goes on.
+    pub fn feed<W: Sink>(
+        &mut self,
+        alloc: Global,
+        writer: &mut W,
+        piece: &[u8],
+        work: &mut Work,
+    ) -> Result<bool, RunFault>
+        ensures answer { MatchResult result
+            (λ goes_on. (text : List ℕ) × Appends (W.contents writer.old) (W.contents writer.new) text
+            × Answers (ahead (M.future self.old.machine) self.old.begun.items)
+            (ahead (M.future self.new.machine) self.new.begun.items) piece.now text goes_on)
+            (BrokenOff (ahead (M.future self.old.machine) self.old.begun.items) piece.now
+            (W.contents writer.old) (W.contents writer.new)) }
+        ensures fails { W.failures writer.new ≡ raised (W.failures writer.old) (write_faults result) }
+    {
+        let mut rest = piece;
+        'lines: loop {
+            match cut(rest, b'\n') {
+                (line, Some(behind)) => {
+                    if !self.end_line(alloc, writer, line, work)? {
+                        return Ok(false);
+                    }
+                    rest = behind;
+                }
+                (line, None) => {
+                    self.keep(line)?;
+                    return Ok(true);
+                }
+            }
+        }
+    }
+
+    /// Serves what has come of a last line, and writes what the machine answers where no more lines come.
+    pub fn finish<W: Sink>(
+        &mut self,
+        alloc: Global,
+        writer: &mut W,
+        work: &mut Work,
+    ) -> Result<(), RunFault>
+        ensures answer { MatchResult result
+            (λ _. Appends (W.contents writer.old) (W.contents writer.new)
+            (ahead (M.future self.old.machine) self.old.begun.items true []))
+            (Unserved (W.contents writer.old) (W.contents writer.new)) }
+        ensures fails { W.failures writer.new ≡ raised (W.failures writer.old) (write_faults result) }
+    {
+        if self.begun.is_empty() {
+            return say(writer, self.machine.last_words());
+        }
+        let line = self.take_begun(alloc);
+        if serve(&mut self.machine, writer, line, work)? {
+            say(writer, self.machine.last_words())
+        } else {
+            Ok(())
+        }
+    }
+}

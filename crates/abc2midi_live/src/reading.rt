@@ -1,0 +1,80 @@
+//! A machine that listens to a reader, from its first byte to the end of the input.
+
+ghost use Rattle.std.specs.Prelude.{◌≡◌, ◌<◌, ◌≤◌, ℕ, List, true, false, length, MatchResult, IfSome};
+ghost use Rattle.std.specs.Io.KnownBytes.{Appends};
+ghost use Rattle.abc2midi_live.specs.Transcript.{input_lines};
+ghost use Rattle.abc2midi_live.specs.Outcome.{read_faults, write_faults, Leaves, Reads, Turn};
+ghost use Rattle.abc2midi_live.specs.Machine.{ahead};
+ghost use Rattle.abc2midi_live.specs.Streams.{raised};
+
+use crate::fault::RunFault;
+use crate::listener::Listener;
+use crate::machine::Machine;
+use crate::streams::{Sink, Source};
+use abc_fold::Work;
+use std::alloc::Global;
+
+/// How many reads are made at most.
+const MOST_READS: u32 = 4_294_967_295;
+
+// One read, and what it leads to. Whether the run goes on.
+#[tactic(auto, using(crate::proofs::Counts::raised_none))]
+fn turn<M: Machine, R: Source, W: Sink>(
+    alloc: Global,
+    listener: &mut Listener<M>,
+    buffer: &mut [u8],
+    reader: &mut R,
+    writer: &mut W,
+    work: &mut Work,
+) -> Result<bool, RunFault>
+    requires { 0 < length buffer.old }
+    ensures answers { MatchResult result
+        (Turn (ahead (M.future listener.old.machine) listener.old.begun.items)
+        (ahead (M.future listener.new.machine) listener.new.begun.items)
+        (R.remaining reader.old) (R.remaining reader.new) (W.contents writer.old) (W.contents writer.new))
+        (Leaves (ahead (M.future listener.old.machine) listener.old.begun.items false)
+        (R.remaining reader.old) (R.remaining reader.new) (W.contents writer.old) (W.contents writer.new)) }
+    ensures calls { R.calls reader.new ≡ raised (R.calls reader.old) 1 }
+    ensures reads { R.failures reader.new ≡ raised (R.failures reader.old) (read_faults result) }
+    ensures writes { W.failures writer.new ≡ raised (W.failures writer.old) (write_faults result) }
+{
+    let count = match reader.read(buffer) {
+        Ok(count) => count,
+        Err(_) => return Err(RunFault::Read),
+    };
+    if count > 0 {
+        return listener.feed(alloc, writer, &buffer[..count], work);
+    }
+    listener.finish(alloc, writer, work)?;
+    Ok(false)
+}
+
+/// Reads to the end of the input, or until the machine ends, and writes what the machine answers. The buffer is
+/// what each read fills.
+#[tactic(auto, using(crate::proofs::Counts::raised_none))]
+pub fn listen<M: Machine + Drop, R: Source, W: Sink>(
+    alloc: Global,
+    machine: M,
+    buffer: &mut [u8],
+    reader: &mut R,
+    writer: &mut W,
+    work: &mut Work,
+) -> Result<(), RunFault>
+    requires { 0 < length buffer.old }
+    ensures answers { MatchResult result
+        (λ _. IfSome (R.remaining reader.old) (λ input.
+        Appends (W.contents writer.old) (W.contents writer.new) (M.future machine true (input_lines true input))))
+        (Leaves (λ input. M.future machine false (input_lines false input))
+        (R.remaining reader.old) (R.remaining reader.new) (W.contents writer.old) (W.contents writer.new)) }
+    ensures calls { (made : ℕ) × (made ≤ 4294967295) × (R.calls reader.new ≡ raised (R.calls reader.old) made) }
+    ensures reads { Reads (R.failures reader.old) (R.failures reader.new) (R.calls reader.old) (R.calls reader.new) result }
+    ensures writes { W.failures writer.new ≡ raised (W.failures writer.old) (write_faults result) }
+{
+    let mut listener = Listener::new(alloc, machine);
+    'reads: for _ in 0..MOST_READS {
+        if !turn(alloc, &mut listener, buffer, reader, writer, work)? {
+            return Ok(());
+        }
+    }
+    Err(RunFault::Read)
+}

@@ -1,0 +1,133 @@
+//! Where commands come from, where answers go to, and where files are kept. Each counts its failures, so that
+//! contracts can say what caused a fault, and may tell its bytes.
+
+ghost use Rattle.std.specs.Prelude.{◌≡◌, ℕ, List, Option, None, OnOk, MatchResult};
+ghost use Rattle.std.specs.Io.{ReadsAtMost};
+ghost use Rattle.std.specs.Io.KnownBytes.{Appends, ReadConsumes};
+ghost use Rattle.abc2midi_live.specs.Streams.{raised, faults, Contents, Puts, TakesOut, KeepsOthers};
+
+use std::io::{ErrorKind, Read, Write};
+
+/// A stream failed.
+#[derive(Clone, Copy, Debug, PartialEq, Eq)]
+pub struct StreamFault;
+
+/// A store failed.
+#[derive(Clone, Copy, Debug, PartialEq, Eq)]
+pub struct StoreFault;
+
+/// What commands are read from.
+pub trait Source {
+    // How many calls failed.
+    ghost failures: { Self → ℕ };
+
+    // How many calls were made.
+    ghost calls: { Self → ℕ };
+
+    // The bytes to come, where they are told.
+    ghost remaining: { Self → Option (List ℕ) } = { λ _. None };
+
+    /// Puts the next bytes at the front of the buffer, and answers how many there are: none only at the end of the
+    /// input, or into a buffer without room. A fault takes no bytes.
+    fn read(&mut self, buf: &mut [u8]) -> Result<usize, StreamFault>
+        ensures within { ReadsAtMost result buf.new }
+        ensures bytes { ReadConsumes (remaining self.old) (remaining self.new) result buf.new }
+        ensures fails { failures self.new ≡ raised (failures self.old) (faults result) }
+        ensures counts { calls self.new ≡ raised (calls self.old) 1 };
+}
+
+/// What answers are written to.
+pub trait Sink {
+    // How many calls failed.
+    ghost failures: { Self → ℕ };
+
+    // The bytes written, where they are told.
+    ghost contents: { Self → Option (List ℕ) } = { λ _. None };
+
+    /// Appends all the bytes. After a fault nothing is said of how many of them went out.
+    fn write_all(&mut self, bytes: &[u8]) -> Result<(), StreamFault>
+        ensures bytes { OnOk result (Appends (contents self.old) (contents self.new) bytes.now) }
+        ensures fails { failures self.new ≡ raised (failures self.old) (faults result) };
+}
+
+/// What keeps files by their names.
+pub trait Store {
+    // How many calls failed.
+    ghost failures: { Self → ℕ };
+
+    // The bytes under each name, where they are told.
+    ghost contents: { Self → Option Contents } = { λ _. None };
+
+    /// Puts the bytes under the name, in place of what is there. A fault leaves the other names.
+    fn put(&mut self, name: &str, bytes: &[u8]) -> Result<(), StoreFault>
+        ensures files { MatchResult result
+            (λ _. Puts (contents self.old) (contents self.new) name.now bytes.now)
+            (λ _. KeepsOthers (contents self.old) (contents self.new) name.now) }
+        ensures fails { failures self.new ≡ raised (failures self.old) (faults result) };
+
+    /// Takes the name out, which is no fault where it is not there. A fault leaves the other names.
+    fn remove(&mut self, name: &str) -> Result<(), StoreFault>
+        ensures files { MatchResult result
+            (λ _. TakesOut (contents self.old) (contents self.new) name.now)
+            (λ _. KeepsOthers (contents self.old) (contents self.new) name.now) }
+        ensures fails { failures self.new ≡ raised (failures self.old) (faults result) };
+}
+
+/// A source over a reader of std, or a sink over a writer.
+#[derive(Drop)]
+pub struct Piped<T> {
+    inner: T,
+    failures: u64,
+    calls: u64,
+}
+
+impl<T> Piped<T> {
+    /// Nothing has been read or written yet.
+    pub fn new(inner: T) -> Piped<T> {
+        Piped {
+            inner,
+            failures: 0,
+            calls: 0,
+        }
+    }
+}
+
+#[tactic(auto, using(crate::proofs::Counts::raised_none, crate::proofs::Counts::raised_within))]
+impl<T: Read> Source for Piped<T> {
+    ghost failures = { λ p. p.failures };
+
+    ghost calls = { λ p. p.calls };
+
+    ghost remaining = { λ p. T.remaining p.inner };
+
+    // A read that a signal interrupted is made again.
+    fn read(&mut self, buf: &mut [u8]) -> Result<usize, StreamFault> {
+        self.calls = self.calls.saturating_add(1);
+        for _ in 0..u32::MAX {
+            match self.inner.read(buf) {
+                Ok(n) => return Ok(n),
+                Err(e) if e.kind() == ErrorKind::Interrupted => {}
+                Err(_) => break,
+            }
+        }
+        self.failures = self.failures.saturating_add(1);
+        Err(StreamFault)
+    }
+}
+
+#[tactic(auto, using(crate::proofs::Counts::raised_none, crate::proofs::Counts::raised_within))]
+impl<T: Write> Sink for Piped<T> {
+    ghost failures = { λ p. p.failures };
+
+    ghost contents = { λ p. T.contents p.inner };
+
+    fn write_all(&mut self, bytes: &[u8]) -> Result<(), StreamFault> {
+        match self.inner.write_all(bytes) {
+            Ok(()) => Ok(()),
+            Err(_) => {
+                self.failures = self.failures.saturating_add(1);
+                Err(StreamFault)
+            }
+        }
+    }
+}

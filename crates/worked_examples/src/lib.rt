@@ -1,0 +1,15 @@
+//! The tests of every crate's public calls, a module for each subject. Expected values are worked by hand from the
+//! rules in `docs/profile.md`, from Standard MIDI Files 1.0, or given by a second compiler that was written apart from
+//! this one; each test says which.
+#![tactic(auto)]
+
+#[cfg(test)]
+mod counters;
+#[cfg(test)]
+mod lengths;
+#[cfg(test)]
+mod midi_files;
+#[cfg(test)]
+mod scanning;
+#[cfg(test)]
+mod sessions;
