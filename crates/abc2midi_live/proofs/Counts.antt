@@ -1,6 +1,6 @@
 -- Laws of counts that stay at their greatest value.
-use Rattle.std.proofs.Common.{◌≡◌, ℕ, ◌+◌, ◌-◌, ◌^◌, ◌<◌, ◌≤◌, max, min, refl, sym, ap, ◌∙◌, arith}
-use Rattle.abc2midi_live.specs.Streams.{raised}
+use Rattle.std.proofs.Common.{◌≡◌, ℕ, ◌+◌, ◌-◌, ◌^◌, ◌<◌, min, arith}
+use Rattle.abc_fold.specs.Work.{raised}
 
 -- a count that nothing is added to
 pub raised_none : (count : ℕ) → raised count 0 ≡ count

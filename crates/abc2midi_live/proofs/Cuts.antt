@@ -1,12 +1,10 @@
 -- Laws of a text cut at a byte.
-use Rattle.std.proofs.Common.{◌≡◌, ℕ, ◌+◌, ◌-◌, ◌<◌, ◌≤◌, Bool, true, false, cond, eqb, ltb, ◌==◌, not, List, [], ◌∷◌, ◌++◌, length, take, drop, get_or, position, All, Option, Some, None, refl, sym, ap, ◌∙◌, subst, arith, take-append-drop, drop-cons, length-take, get_or-take, add-one}
-use Rattle.std.specs.List.{slice_split, onto_first, position_or_len, prefix_len}
+use Rattle.std.proofs.Common.{◌≡◌, ℕ, ◌+◌, ◌<◌, ◌≤◌, Bool, true, false, cond, eqb, ltb, ◌==◌, not, List, ◌∷◌, ◌++◌, length, take, drop, get_or, position, Some, None, refl, sym, ap, ◌∙◌, arith, take-append-drop, drop-cons, length-take, get_or-take, add-one}
+use Rattle.std.specs.List.{position_or_len}
 use Rattle.std.proofs.lemmas.List.Quantifiers.{position-Some}
 use Rattle.std.proofs.lemmas.List.Sums.{prefix_len_passes}
-use Rattle.std.proofs.lemmas.List.Splits.{slice_split_at, slice_split_none}
-use Rattle.std.proofs.lemmas.List.Elements.{All-from_get_or, All-nil, All-cons}
+use Rattle.std.proofs.lemmas.List.Elements.{All-from_get_or}
 use Rattle.std.proofs.lemmas.Bool.Decides.{nat_tests}
-use Rattle.std.proofs.lemmas.Grind.{common_steps}
 use Rattle.abc2midi_live.specs.Cut.{IsCut}
 
 -- the byte at a place, between what stands before it and behind it

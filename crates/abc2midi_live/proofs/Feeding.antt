@@ -1,5 +1,5 @@
 -- Laws of a machine that is fed pieces of an input.
-use Rattle.std.proofs.Common.{◌≡◌, ◌≢◌, ℕ, ◌+◌, ◌<◌, ◌≤◌, Bool, true, false, cond, List, [], ◌∷◌, ◌++◌, length, take, map, All, Option, Some, None, refl, sym, ap, ◌∙◌, subst, arith, append_assoc, append-nil, if◌then◌else◌, ◌==◌, Result, Ok, Err, MatchResult, option_map}
+use Rattle.std.proofs.Common.{◌≡◌, ℕ, ◌+◌, ◌<◌, ◌≤◌, Bool, true, false, List, [], ◌∷◌, ◌++◌, length, take, Option, Some, None, refl, sym, ap, ◌∙◌, subst, arith, append_assoc, append-nil, if◌then◌else◌, ◌==◌, Result, Ok, Err, MatchResult, option_map}
 use Rattle.std.specs.Prelude.{IsErr, IsErrAnd, IfSome}
 use Rattle.std.specs.Borrow.{Bor}
 use Rattle.abc2midi_live.specs.declared.fault.RunFault.TheVariants.{Read, Write, Memory}
@@ -11,8 +11,8 @@ use Rattle.std.proofs.lemmas.List.Elements.{All-append}
 use Rattle.abc2midi_live.specs.Cut.{IsCut}
 use Rattle.abc2midi_live.specs.Transcript.{input_lines}
 use Rattle.abc2midi_live.specs.Machine.{IsClean, Answers, ahead}
-use Rattle.abc2midi_live.specs.Outcome.{BrokenOff, Unserved, Turn, Leaves, Reads, ReadCause, Failed, Exhausted, read_faults}
-use Rattle.abc2midi_live.specs.Streams.{raised}
+use Rattle.abc2midi_live.specs.Outcome.{BrokenOff, Unserved, Turn, Leaves, Reads, Failed, read_faults}
+use Rattle.abc_fold.specs.Work.{raised}
 use Rattle.abc2midi_live.proofs.Counts.{raised_none, raised_twice}
 use Rattle.abc2midi_live.specs.declared.fault.RunFault.{RunFault}
 use Rattle.abc2midi_live.proofs.InputLines.{input_lines-line, input_lines-kept, input_lines-begun, input_lines-last, input_lines-nil}

@@ -1,9 +1,8 @@
 -- Sums of time tokens, and the limits on them.
-use Rattle.std.proofs.Common.{◌≡◌, ◌≢◌, ℕ, ◌+◌, ◌<◌, ◌≤◌, ◌^◌, List, [], ◌∷◌, length, drop, get_or, arith, refl}
+use Rattle.std.proofs.Common.{◌≡◌, ℕ, ◌+◌, ◌<◌, ◌≤◌, List, length, drop, get_or, arith, refl}
 use Rattle.std.proofs.lemmas.Bool.Decides.{nat_tests}
 use Rattle.std.proofs.lemmas.List.{at_drop_more}
-use Rattle.std.specs.Prelude.{Option, Some, None}
-use Rattle.abc_time.specs.declared.grains.Grains.{Grains}
+use Rattle.std.specs.Prelude.{Some, None}
 use Rattle.abc_time.specs.Grains.{grains_of_the_latest_end, grains_of_a_whole_note}
 use Rattle.abc2midi_live.specs.declared.melody.TimeToken.{TimeToken}
 use Rattle.abc2midi_live.specs.Melody.{total, end_of}

@@ -1,14 +1,14 @@
 -- Laws of requests and of their answers.
-use Rattle.std.proofs.Common.{◌≡◌, ℕ, ◌+◌, ◌-◌, ◌<◌, ◌≤◌, Bool, true, false, cond, leb, List, [], ◌∷◌, ◌++◌, length, take, map, Option, Some, None, Result, Ok, Err, MatchResult, ◌⊎◌, inl, inr, refl, sym, ap, ◌∙◌, subst, arith, append_assoc, append-nil, zero, suc, ◌≢◌, if◌then◌else◌, add-one, length-append}
+use Rattle.std.proofs.Common.{◌≡◌, ℕ, ◌+◌, ◌-◌, ◌<◌, ◌≤◌, Bool, true, false, cond, leb, List, [], ◌∷◌, ◌++◌, length, take, map, Option, Some, None, Result, Ok, Err, ◌⊎◌, inl, inr, refl, sym, ap, ◌∙◌, subst, arith, append_assoc, append-nil, ◌≢◌, if◌then◌else◌, add-one, length-append}
 use Rattle.std.proofs.lemmas.List.{take_all, take-append-le, map-append}
 use Rattle.std.specs.Global.{Vec}
 use Rattle.std.proofs.lemmas.Bool.Decides.{nat_tests}
 use Rattle.std.specs.Result.{result_unwrap_or}
-use Rattle.abc2midi_live.specs.Text.{Text, text_of, edited, checked}
+use Rattle.abc2midi_live.specs.Text.{Text, text_of, edited}
 use Rattle.abc2midi_live.specs.Book.{files_of, written, removed}
-use Rattle.abc2midi_live.specs.Answer.{report, report_line, refusal}
+use Rattle.abc2midi_live.specs.Answer.{report_line, refusal}
 use Rattle.abc2midi_live.specs.Command.{line_count, command_of}
-use Rattle.abc2midi_live.specs.Transcript.{Change, Insertion, Replacement, Deletion, changed, change_answer, Request, Edits, Shows, Misspelled, CutOff, Ends, request_of, requests, answer, answers, goes_on, text_after}
+use Rattle.abc2midi_live.specs.Transcript.{Change, Insertion, Replacement, Deletion, changed, change_answer, Request, Edits, CutOff, request_of, requests, answer, answers, goes_on, text_after}
 use Rattle.abc2midi_live.specs.Answer.{hex_line, unknown_line, truncated_line}
 use Rattle.abc2midi_live.specs.Book.{file_at}
 use Rattle.abc2midi_live.specs.declared.command.Command.{Command}
@@ -21,7 +21,7 @@ use Rattle.abc2midi_live.specs.declared.machine.Reply.TheVariants.{Nothing, Answ
 use Rattle.abc2midi_live.specs.declared.edit.Edit.{Edit}
 use Rattle.abc2midi_live.specs.declared.edit.Edit.TheVariants.{Insert, Replace, Delete}
 use Rattle.abc2midi_live.specs.declared.edit.EditError.{EditError}
-use Rattle.abc2midi_live.specs.declared.edit.EditError.TheVariants.{BadRange, BadLine, TooLarge, OutOfMemory}
+use Rattle.abc2midi_live.specs.declared.edit.EditError.TheVariants.{OutOfMemory}
 
 -- an edit changes a text as its change does
 pub edited-changed : (text : Text) (edit : Edit) → edited text edit ≡ changed text (change_of edit)

@@ -1,5 +1,5 @@
 -- What the program answers to a command. Our own.
-use Rattle.std.specs.Prelude.{ℕ, List, ◌∷◌, ◌++◌, codes, decimal, flat_map, Option, Some, None, Result, Ok, Err}
+use Rattle.std.specs.Prelude.{ℕ, List, ◌∷◌, ◌++◌, codes, decimal, flat_map, Option, Some, None}
 use Rattle.hex.specs.Hex.{encode_upper}
 use Rattle.abc2midi_live.specs.Book.{Files, written, removed}
 use Rattle.abc2midi_live.specs.declared.edit.EditError.{EditError}

@@ -1,12 +1,12 @@
 -- What contracts see of a command whose lines have not all come. Our own.
-use Rattle.std.specs.Prelude.{◌≡◌, ℕ, Bool, true, false, nat_le, cond, List, [], ◌∷◌, ◌++◌, length, take, map, Option, Some, None, option_map, refl}
+use Rattle.std.specs.Prelude.{◌≡◌, false, nat_le, cond, [], ◌∷◌, length, take, Option, Some, None, option_map, refl}
 use Rattle.std.proofs.Common.{sym, ap, ◌∙◌, append-nil}
 use Rattle.std.proofs.lemmas.List.{length-map}
 use Rattle.std.proofs.lemmas.Bool.{false≢true}
 use Rattle.std.proofs.Math.Dec.{leb-zero}
 use Rattle.abc2midi_live.specs.Text.{Text, text_of}
 use Rattle.abc2midi_live.specs.Command.{line_count}
-use Rattle.abc2midi_live.specs.Transcript.{Request, Edits, Shows, Misspelled, CutOff, Ends, Insertion, Replacement, request_of, requests, answers, answer, goes_on, text_after}
+use Rattle.abc2midi_live.specs.Transcript.{Edits, CutOff, Insertion, Replacement, request_of, requests, answers, answer}
 use Rattle.abc2midi_live.specs.Dialogue.{Begun, awaited}
 use Rattle.abc2midi_live.specs.declared.dialogue.Gathering.{Gathering}
 use Rattle.abc2midi_live.specs.declared.command.Command.{Command}

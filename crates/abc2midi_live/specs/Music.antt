@@ -1,5 +1,5 @@
 -- What the notes and rests of a plain line play.
-use Rattle.std.specs.Prelude.{ℕ, ℤ, pos, negsuc, ◌+ℤ◌, ◌*ℤ◌, ◌+◌, ◌/◌, Bool, true, false, ◌&&◌, if◌then◌else◌, List, [], ◌∷◌, ◌++◌, nat_le, Option, Some, None, is_none, Result}
+use Rattle.std.specs.Prelude.{ℕ, ℤ, pos, negsuc, ◌+ℤ◌, ◌*ℤ◌, ◌+◌, ◌/◌, Bool, true, false, ◌&&◌, if◌then◌else◌, List, [], ◌∷◌, ◌++◌, nat_le, Option, Some, None, is_none}
 use Rattle.std.specs.List.{list_all, list_any}
 use Rattle.std.specs.Result.{result_unwrap_or}
 use Rattle.abc_scan.specs.Cutting.{tokens_of}

@@ -1,8 +1,8 @@
 -- How a run ends, and what it leaves. Our own.
-use Rattle.std.specs.Prelude.{◌≡◌, ℕ, Bool, true, false, List, [], ◌++◌, Option, Result, Ok, Err, ⊤, IfSome}
+use Rattle.std.specs.Prelude.{◌≡◌, ℕ, Bool, true, false, List, ◌++◌, Option, Result, Ok, Err, ⊤, IfSome}
 use Rattle.std.specs.Io.KnownBytes.{Appends, Consumes, Keeps}
 use Rattle.abc2midi_live.specs.Machine.{Answers}
-use Rattle.abc2midi_live.specs.Streams.{raised}
+use Rattle.abc_fold.specs.Work.{raised}
 use Rattle.abc2midi_live.specs.declared.fault.RunFault.{RunFault}
 use Rattle.abc2midi_live.specs.declared.fault.RunFault.TheVariants.{Read, Write, Memory}
 

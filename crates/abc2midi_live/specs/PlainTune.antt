@@ -1,6 +1,6 @@
 -- The tunes that are compiled today: a reference number, titles and unit note lengths, the key C, and lines
 -- of notes without accidental, rests and blanks. Any other text has no file yet. Our own.
-use Rattle.std.specs.Prelude.{ℕ, ◌+◌, Bool, true, false, ◌&&◌, ◌||◌, ◌==◌, if◌then◌else◌, List, [], ◌∷◌, take, drop, length, Option, Some, None, is_some, unwrap_or}
+use Rattle.std.specs.Prelude.{ℕ, ◌+◌, Bool, false, ◌&&◌, ◌||◌, ◌==◌, if◌then◌else◌, List, [], ◌∷◌, take, drop, length, Option, Some, None, is_some, unwrap_or}
 use Rattle.std.specs.List.{list_all}
 use Rattle.abc_scan.specs.Text.{content, without_return}
 use Rattle.abc_time.specs.declared.ratio.Ratio.{Ratio}

@@ -1,5 +1,5 @@
 -- The score of a plain tune.
-use Rattle.std.specs.Prelude.{ℕ, pos, false, List, [], ◌∷◌}
+use Rattle.std.specs.Prelude.{pos, false, List, [], ◌∷◌}
 use Rattle.abc_time.specs.declared.grains.Grains.{Grains}
 use Rattle.abc2midi_live.specs.declared.melody.TimeToken.{TimeToken}
 use Rattle.abc2midi_live.specs.Melody.{notes_from}

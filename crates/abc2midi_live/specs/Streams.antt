@@ -1,12 +1,8 @@
--- What streams and stores do, as far as contracts see it: counts of 64 bits, and what a store contains. Our own.
-use Rattle.std.specs.Prelude.{◌≡◌, ◌≢◌, ℕ, ◌+◌, ◌-◌, ◌^◌, max, min, List, Option, Some, None, Result, Ok, Err, ⊤}
+-- What streams and stores do, as far as contracts see it: their faults, and what a store contains. Our own.
+use Rattle.std.specs.Prelude.{◌≡◌, ◌≢◌, ℕ, List, Option, Some, None, Result, Ok, Err, ⊤}
 use Rattle.std.specs.Cmp.Lexicographic.{slice_cmp}
 use Rattle.std.specs.Ordering.{nat_cmp}
 use Rattle.std.specs.FinMap.{FinMap, get, insert, remove}
-
--- A count that is raised stays at its greatest value once it is there.
-unfoldable pub raised : ℕ → ℕ → ℕ
-raised count by = max count (min (count + by) (2 ^ 64 - 1))
 
 -- how many faults a call answered
 abbrev pub faults : {T E : Type 0} → Result T E → ℕ

@@ -4,7 +4,7 @@ ghost use Rattle.std.specs.Prelude.{◌≡◌, ◌≤◌, ◌==◌, ℕ, List, [
 ghost use Rattle.std.specs.Io.KnownBytes.{Appends, Keeps};
 ghost use Rattle.abc2midi_live.specs.Machine.{Answers, ahead, IsClean};
 ghost use Rattle.abc2midi_live.specs.Outcome.{write_faults, Unserved, BrokenOff};
-ghost use Rattle.abc2midi_live.specs.Streams.{raised};
+ghost use Rattle.abc_fold.specs.Work.{raised};
 
 use crate::cut::cut;
 use crate::fault::RunFault;

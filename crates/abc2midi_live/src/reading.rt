@@ -5,7 +5,7 @@ ghost use Rattle.std.specs.Io.KnownBytes.{Appends};
 ghost use Rattle.abc2midi_live.specs.Transcript.{input_lines};
 ghost use Rattle.abc2midi_live.specs.Outcome.{read_faults, write_faults, Leaves, Reads, Turn};
 ghost use Rattle.abc2midi_live.specs.Machine.{ahead};
-ghost use Rattle.abc2midi_live.specs.Streams.{raised};
+ghost use Rattle.abc_fold.specs.Work.{raised};
 
 use crate::fault::RunFault;
 use crate::listener::Listener;

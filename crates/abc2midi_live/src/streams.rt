@@ -4,7 +4,8 @@
 ghost use Rattle.std.specs.Prelude.{◌≡◌, ℕ, List, Option, None, OnOk, MatchResult};
 ghost use Rattle.std.specs.Io.{ReadsAtMost};
 ghost use Rattle.std.specs.Io.KnownBytes.{Appends, ReadConsumes};
-ghost use Rattle.abc2midi_live.specs.Streams.{raised, faults, Contents, Puts, TakesOut, KeepsOthers};
+ghost use Rattle.abc_fold.specs.Work.{raised};
+ghost use Rattle.abc2midi_live.specs.Streams.{faults, Contents, Puts, TakesOut, KeepsOthers};
 
 use std::io::{ErrorKind, Read, Write};
 

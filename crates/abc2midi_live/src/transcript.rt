@@ -3,7 +3,7 @@
 ghost use Rattle.std.specs.Prelude.{◌≡◌, ◌≤◌, ℕ, List, None, MatchResult, IfSome};
 ghost use Rattle.std.specs.Io.KnownBytes.{Appends};
 ghost use Rattle.abc2midi_live.specs.Outcome.{write_faults, Leaves, Reads};
-ghost use Rattle.abc2midi_live.specs.Streams.{raised};
+ghost use Rattle.abc_fold.specs.Work.{raised};
 ghost use Rattle.abc2midi_live.specs.Transcript.{transcript, transcript_so_far};
 
 use crate::dialogue::Dialogue;

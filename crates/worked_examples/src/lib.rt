@@ -10,6 +10,8 @@ mod lengths;
 #[cfg(test)]
 mod midi_files;
 #[cfg(test)]
+mod runs;
+#[cfg(test)]
 mod scanning;
 #[cfg(test)]
 mod sessions;

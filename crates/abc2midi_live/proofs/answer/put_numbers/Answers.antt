@@ -1,5 +1,4 @@
-use Rattle.std.proofs.Common.{◌≡◌, refl, sym, ap, ◌∙◌}
-use Rattle.abc2midi_live.specs.Answer.{listed}
+use Rattle.std.proofs.Common.{sym, ◌∙◌}
 use Rattle.abc2midi_live.proofs.Answers.{listed-none, listed-more}
 use Rattle.abc2midi_live.proofs.answer.put_numbers.Goals as goal
 

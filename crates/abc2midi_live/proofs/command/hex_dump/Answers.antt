@@ -1,5 +1,5 @@
-use Rattle.std.proofs.Common.{◌≡◌, ℕ, List, [], ◌∷◌, None, Some, Option, refl, sym, ap, ◌∙◌, unwrap_or}
-use Rattle.abc2midi_live.specs.Command.{insertion, replacement, deletion, hex_dump, quitting, words_behind}
+use Rattle.std.proofs.Common.{◌∷◌, refl, ap, ◌∙◌, unwrap_or}
+use Rattle.abc2midi_live.specs.Command.{hex_dump, words_behind}
 use Rattle.abc2midi_live.specs.declared.command.Command.TheVariants.{Unknown}
 use Rattle.abc2midi_live.proofs.Words.{none_spelled, one_spelled, all_spelled, more_spelled}
 use Rattle.abc2midi_live.proofs.command.hex_dump.Goals as goal

@@ -1,6 +1,6 @@
-use Rattle.std.proofs.Common.{◌≡◌, ℕ, List, [], ◌∷◌, Bool, true, false, refl, sym, ap, ◌∙◌}
+use Rattle.std.proofs.Common.{true, false}
 use Rattle.std.specs.Prelude.{codes}
-use Rattle.abc2midi_live.specs.Command.{insertion, replacement, deletion, hex_dump, quitting, words_behind, with_numbers, command_named}
+use Rattle.abc2midi_live.specs.Command.{words_behind, command_named}
 use Rattle.abc2midi_live.proofs.Words.{is_name, no_name}
 use Rattle.abc2midi_live.proofs.command.named.Goals as goal
 

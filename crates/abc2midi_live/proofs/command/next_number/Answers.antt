@@ -1,5 +1,5 @@
-use Rattle.std.proofs.Common.{◌≡◌, inl, inr, sym, ap, ◌∙◌}
-use Rattle.abc2midi_live.specs.Command.{words_behind, words_of, numbers_of, both}
+use Rattle.std.proofs.Common.{inl, inr, sym, ap, ◌∙◌}
+use Rattle.abc2midi_live.specs.Command.{words_behind, numbers_of, both}
 use Rattle.abc2midi_live.proofs.Words.{words_of-cut, numbers_of-front}
 use Rattle.abc2midi_live.proofs.command.next_number.Goals as goal
 

@@ -1,4 +1,4 @@
-use Rattle.std.proofs.Common.{◌≡◌, ◌∙◌}
+use Rattle.std.proofs.Common.{◌∙◌}
 use Rattle.abc2midi_live.specs.Command.{words_behind, words_of}
 use Rattle.abc2midi_live.proofs.Words.{words_of-cut, command_of_words-cut}
 use Rattle.abc2midi_live.proofs.command.spelled.Goals as goal

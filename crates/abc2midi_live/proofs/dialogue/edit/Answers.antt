@@ -1,4 +1,4 @@
-use Rattle.std.proofs.Common.{◌≡◌, refl, sym, ap, ◌∙◌}
+use Rattle.std.proofs.Common.{◌∙◌}
 use Rattle.std.proofs.lemmas.Result.{IfOk-weaker}
 use Rattle.abc2midi_live.proofs.Requests.{answer_accepted, answer_refused, refused_by}
 use Rattle.abc2midi_live.proofs.dialogue.edit.Goals as goal

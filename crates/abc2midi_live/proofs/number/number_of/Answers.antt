@@ -1,6 +1,5 @@
-use Rattle.std.proofs.Common.{◌≡◌, Ok, Err, sym, ◌∙◌, ap, subst}
+use Rattle.std.proofs.Common.{sym, ◌∙◌, subst}
 use Rattle.std.specs.Str.Parse.{ParsesUnsigned}
-use Rattle.std.specs.Str.{IsUtf8}
 use Rattle.abc2midi_live.proofs.Words.{number_of-long, number_of-other, digits-IsUtf8, number_of-parsed, no_error, held}
 use Rattle.abc2midi_live.proofs.number.number_of.Goals as goal
 use Rattle.abc2midi_live.proofs.number.number_of.Goals.{then-text-gt-LONGEST_NUMBER-via-then-text-gt-LONGEST_NUMBER, then-text-gt-LONGEST_NUMBER-via-else-text-gt-LONGEST_NUMBER+then-not-are_digits}

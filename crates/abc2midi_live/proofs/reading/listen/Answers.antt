@@ -1,9 +1,9 @@
-use Rattle.std.proofs.Common.{◌≡◌, ◌<◌, ◌≤◌, ◌+◌, List, ℕ, [], length, sym, ap, ◌∙◌, subst, refl, Bool, true, false, Err, arith}
+use Rattle.std.proofs.Common.{◌≡◌, ◌+◌, [], sym, ap, ◌∙◌, subst, refl, Bool, false, Err, arith}
 use Rattle.abc2midi_live.specs.Machine.{ahead}
-use Rattle.abc2midi_live.specs.Outcome.{Leaves, Reads, Turn, Exhausted, read_faults}
-use Rattle.abc2midi_live.specs.Streams.{raised}
+use Rattle.abc2midi_live.specs.Outcome.{Leaves, Turn, Exhausted, read_faults}
+use Rattle.abc_fold.specs.Work.{raised}
 use Rattle.abc2midi_live.proofs.Counts.{raised_none}
-use Rattle.abc2midi_live.proofs.Feeding.{Heard, heard_none, heard_turn, heard_end, heard_left, heard_so_far, nothing_ahead, fault_exit, fault_is, reads_exit, calls_more}
+use Rattle.abc2midi_live.proofs.Feeding.{heard_none, heard_turn, heard_end, heard_left, heard_so_far, nothing_ahead, fault_exit, fault_is, reads_exit, calls_more}
 use Rattle.abc2midi_live.proofs.reading.listen.Goals as goal
 
 pub reads-init : goal.reads-init

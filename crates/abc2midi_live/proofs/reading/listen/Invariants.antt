@@ -1,6 +1,6 @@
-use Rattle.std.proofs.Common.{◌≡◌, [], length}
+use Rattle.std.proofs.Common.{◌≡◌, []}
 use Rattle.abc2midi_live.specs.Machine.{ahead}
-use Rattle.abc2midi_live.specs.Streams.{raised}
+use Rattle.abc_fold.specs.Work.{raised}
 use Rattle.abc2midi_live.proofs.Feeding.{Heard}
 use Rattle.abc2midi_live.proofs.reading.listen.Given as goal
 

@@ -1,4 +1,4 @@
-use Rattle.std.proofs.Common.{◌≡◌, ◌<◌, List, ℕ, [], length, sym, ap, ◌∙◌, subst, refl, false, arith}
+use Rattle.std.proofs.Common.{◌≡◌, ◌<◌, length, false, arith}
 use Rattle.abc2midi_live.specs.Machine.{ahead}
 use Rattle.abc2midi_live.specs.Outcome.{Leaves}
 use Rattle.abc2midi_live.proofs.Feeding.{turn_failed, turn_fed, turn_ended, turn_unserved, nothing_ahead, nothing_read, fault_exit}

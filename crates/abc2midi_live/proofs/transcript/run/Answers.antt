@@ -1,6 +1,5 @@
-use Rattle.std.proofs.Common.{◌≡◌, List, ℕ, true, false, Result, Err, sym, ap, ◌∙◌, arith}
-use Rattle.abc2midi_live.specs.Outcome.{Leaves, write_faults}
-use Rattle.abc2midi_live.specs.Streams.{raised}
+use Rattle.std.proofs.Common.{true, false, sym, arith}
+use Rattle.abc2midi_live.specs.Outcome.{Leaves}
 use Rattle.abc2midi_live.specs.Transcript.{input_lines, transcript, transcript_so_far}
 use Rattle.abc2midi_live.specs.Dialogue.{awaited}
 use Rattle.abc2midi_live.specs.Gathering.{begun_of}

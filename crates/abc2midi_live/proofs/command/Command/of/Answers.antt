@@ -1,4 +1,4 @@
-use Rattle.std.proofs.Common.{◌≡◌, ◌∙◌, ap}
+use Rattle.std.proofs.Common.{◌∙◌, ap}
 use Rattle.abc2midi_live.specs.Command.{command_of_words, words_of}
 use Rattle.abc2midi_live.proofs.Words.{command_of-long, command_of-short}
 use Rattle.abc2midi_live.proofs.command.Command.of.Goals as goal

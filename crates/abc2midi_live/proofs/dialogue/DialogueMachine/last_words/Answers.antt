@@ -1,4 +1,4 @@
-use Rattle.std.proofs.Common.{◌≡◌, true, [], sym, ◌∙◌, ap}
+use Rattle.std.proofs.Common.{true, [], sym, ◌∙◌, ap}
 use Rattle.abc2midi_live.specs.Answer.{truncated_line}
 use Rattle.abc2midi_live.specs.Dialogue.{awaited}
 use Rattle.abc2midi_live.specs.Gathering.{begun_of, request_of-gathering}

@@ -1,8 +1,7 @@
-use Rattle.std.proofs.Common.{◌≡◌, List, map, [], ◌∷◌, ◌++◌, Option, Some, None, refl, sym, ap, ◌∙◌, subst}
+use Rattle.std.proofs.Common.{map, [], ◌∷◌, ◌++◌, Some, None, ap, ◌∙◌, subst}
 use Rattle.std.proofs.lemmas.Result.{IfOk-weaker}
-use Rattle.std.proofs.lemmas.List.{length-map}
 use Rattle.abc2midi_live.specs.Text.{text_of}
-use Rattle.abc2midi_live.specs.Command.{line_count, command_of}
+use Rattle.abc2midi_live.specs.Command.{command_of}
 use Rattle.abc2midi_live.specs.Machine.{Replies}
 use Rattle.abc2midi_live.specs.Dialogue.{awaited, Says}
 use Rattle.abc2midi_live.specs.Gathering.{begun_of, gathering_few}

@@ -16,8 +16,7 @@ pub invariant_of-result : goal.invariant_of-result
 invariant_of-result c =
     let few : length c.append_copies-3.new.text.items ≤ 1048576 = omega (arith, length-lines_of c.append_copies-3.new.text.items, ap length (is_spliced c), c.requires.fits) in
     let good : list_all is_line c.args.self.now ≡ true = ap (list_all is_line) (sym c.self.view_is) ∙ c.self.invariant.1 in
-    let s = splice_from c.args.at c.args.removed c.args.lines.now in
-    (few, ap (list_all is_line) (is_spliced c) ∙ spliced-good c.args.self.now s good c.requires.good)
+    (few, ap (list_all is_line) (is_spliced c) ∙ spliced-good c.args.self.now (splice_from c.args.at c.args.removed c.args.lines.now) good c.requires.good)
 
 pub returns : goal.returns
 returns c = is_spliced c

@@ -1,4 +1,4 @@
-use Rattle.std.proofs.Common.{◌≡◌, sym, ap, ◌∙◌}
+use Rattle.std.proofs.Common.{ap, ◌∙◌}
 use Rattle.abc2midi_live.proofs.Feeding.{serve_line}
 use Rattle.abc2midi_live.proofs.listener.Listener.end_line.Goals as goal
 

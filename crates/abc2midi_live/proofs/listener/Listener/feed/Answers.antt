@@ -1,11 +1,11 @@
-use Rattle.std.proofs.Common.{◌≡◌, List, ℕ, [], ◌∷◌, ◌++◌, true, false, refl, sym, ap, ◌∙◌, subst}
+use Rattle.std.proofs.Common.{List, ℕ, [], ◌∷◌, ◌++◌, true, sym, ◌∙◌, subst}
 use Rattle.std.specs.Borrow.{Bor}
 use Rattle.abc2midi_live.proofs.Counts.{raised_none}
 use Rattle.std.proofs.KnownBytes.{Keeps-refl}
 use Rattle.abc2midi_live.specs.Machine.{ahead, Answers}
 use Rattle.abc2midi_live.specs.Outcome.{BrokenOff}
 use Rattle.abc2midi_live.specs.declared.fault.RunFault.TheVariants.{Memory}
-use Rattle.abc2midi_live.proofs.Feeding.{Fed, fed_none, fed_more, fed_end, fed_all, fed_broken, fed_fault, nothing_ahead, piece_kept, fault_exit, cut_some, cut_none}
+use Rattle.abc2midi_live.proofs.Feeding.{Fed, fed_more, fed_end, fed_all, fed_broken, fed_fault, nothing_ahead, piece_kept, fault_exit, cut_some, cut_none}
 use Rattle.abc2midi_live.proofs.listener.Listener.feed.Goals as goal
 
 pub returns-in_err-end_line-in_default-Some-clause-answer :

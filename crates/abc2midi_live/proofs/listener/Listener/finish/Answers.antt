@@ -1,6 +1,5 @@
-use Rattle.std.proofs.Common.{◌≡◌, ◌<◌, ◌≤◌, List, ℕ, length, [], ◌∷◌, sym, ap, ◌∙◌, arith, true, false, subst}
-use Rattle.std.proofs.lemmas.Bool.Decides.{nat_tests}
-use Rattle.abc2midi_live.proofs.Feeding.{Served, last_served, none_ahead, finish_said, finish_none, not_empty, is_empty}
+use Rattle.std.proofs.Common.{sym, ap, subst}
+use Rattle.abc2midi_live.proofs.Feeding.{Served, last_served, finish_said, finish_none, not_empty, is_empty}
 use Rattle.abc2midi_live.proofs.listener.Listener.finish.Goals as goal
 
 pub returns-then-is_empty-clause-answer : goal.returns-then-is_empty-clause-answer

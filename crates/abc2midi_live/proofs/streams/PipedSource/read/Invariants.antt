@@ -1,6 +1,6 @@
 use Rattle.std.proofs.Common.{◌≡◌}
 use Rattle.std.specs.Io.KnownBytes.{Keeps}
-use Rattle.abc2midi_live.specs.Streams.{raised}
+use Rattle.abc_fold.specs.Work.{raised}
 use Rattle.abc2midi_live.proofs.streams.PipedSource.read.Given as goal
 
 -- the reads so far took no bytes
