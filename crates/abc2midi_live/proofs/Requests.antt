@@ -2,9 +2,11 @@
 use Rattle.std.proofs.Common.{◌≡◌, ℕ, ◌+◌, ◌-◌, ◌<◌, ◌≤◌, Bool, true, false, cond, leb, List, [], ◌∷◌, ◌++◌, length, take, map, Option, Some, None, Result, Ok, Err, ◌⊎◌, inl, inr, refl, sym, ap, ◌∙◌, subst, arith, append_assoc, append-nil, ◌≢◌, if◌then◌else◌, add-one, length-append}
 use Rattle.std.proofs.lemmas.List.{take_all, take-append-le, map-append}
 use Rattle.std.specs.Global.{Vec}
+use Rattle.std.specs.Prelude.{IfOk, OnOk}
+use Rattle.std.specs.declared.alloc.AllocError.{AllocError}
 use Rattle.std.proofs.lemmas.Bool.Decides.{nat_tests}
 use Rattle.std.specs.Result.{result_unwrap_or}
-use Rattle.abc2midi_live.specs.Text.{Text, text_of, edited}
+use Rattle.abc2midi_live.specs.Text.{Text, text_of, edited, Refuses}
 use Rattle.abc2midi_live.specs.Book.{files_of, written, removed}
 use Rattle.abc2midi_live.specs.Answer.{report_line, refusal}
 use Rattle.abc2midi_live.specs.Command.{line_count, command_of}
@@ -48,6 +50,12 @@ unwrap_refused old change error e = sym (ap (λ c. result_unwrap_or c old) e)
 pub refused_by : (change : Result Text EditError) (error : EditError) (P : Type 0) → (change ≡ Err error) ⊎ ((error ≡ OutOfMemory) × P) → error ≢ OutOfMemory → change ≡ Err error
 refused_by change error P (inl e) other = e
 refused_by change error P (inr h) other = absurd (other h.0)
+
+-- the answer to a refused edit, if there is one
+pub refusal_answer : (r : Result (Vec ℕ) AllocError) (old : Text) (change : Result Text EditError) (error : EditError) → Refuses error change
+    → IfOk r (λ text. text.items ≡ refusal error) → OnOk r (error ≢ OutOfMemory) → IfOk r (λ text. text.items ≡ change_answer old change)
+refusal_answer (Ok text) old change error refused is other = answer_refused old change error text.items (refused_by change error _ refused other) is
+refusal_answer (Err e) old change error refused is other = tt
 
 -- a request to edit, as carried out
 abbrev pub Answered : Text → Text → Request → List ℕ → Type 0

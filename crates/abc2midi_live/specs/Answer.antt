@@ -1,9 +1,9 @@
 -- What the program answers to a command. Our own.
 use Rattle.std.specs.Prelude.{ℕ, List, ◌∷◌, ◌++◌, codes, decimal, flat_map, Option, Some, None}
 use Rattle.hex.specs.Hex.{encode_upper}
+use Rattle.abc2midi_live.specs.Edit.{name_of}
 use Rattle.abc2midi_live.specs.Book.{Files, written, removed}
 use Rattle.abc2midi_live.specs.declared.edit.EditError.{EditError}
-use Rattle.abc2midi_live.specs.declared.edit.EditError.TheVariants.{BadRange, BadLine, TooLarge, OutOfMemory}
 
 -- numbers, each with a space before it
 unfoldable pub listed : List ℕ → List ℕ
@@ -17,12 +17,9 @@ report_line written removed = codes "ok written" ++ listed written ++ codes " re
 abbrev pub report : Files → Files → List ℕ
 report before after = report_line (written before after) (removed before after)
 
--- a refused edit; want of memory is answered by no line
+-- a refused edit
 unfoldable pub refusal : EditError → List ℕ
-refusal BadRange = codes "error BadRange\n"
-refusal BadLine = codes "error BadLine\n"
-refusal TooLarge = codes "error TooLarge\n"
-refusal OutOfMemory = codes ""
+refusal error = codes "error " ++ name_of error ++ codes "\n"
 
 -- the file of a number in upper-case hexadecimal
 unfoldable pub hex_line : Option (List ℕ) → List ℕ

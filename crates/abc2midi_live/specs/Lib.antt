@@ -13,6 +13,7 @@ pub mod Melody
 pub mod Music
 pub mod Number
 pub mod Outcome
+pub mod Piped
 pub mod PlainTune
 pub mod Score
 pub mod Streams

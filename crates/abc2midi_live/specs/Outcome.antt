@@ -55,8 +55,8 @@ read_faults (Err Memory) = 0
 pub data ReadCause (failures failures' calls calls' : ℕ) : Type 0 where
   -- a read failed
   Failed : failures' ≡ raised failures 1 → ReadCause failures failures' calls calls'
-  -- 4,294,967,295 reads were made
-  Exhausted : calls' ≡ raised calls 4294967295 → ReadCause failures failures' calls calls'
+  -- none failed, but 4,294,967,295 were made
+  Exhausted : failures' ≡ failures → calls' ≡ raised calls 4294967295 → ReadCause failures failures' calls calls'
 
 -- what a result says of the reader's counts
 abbrev pub Reads : {T : Type 0} → ℕ → ℕ → ℕ → ℕ → Result T RunFault → Type 0

@@ -2,7 +2,7 @@
 use Rattle.std.specs.Prelude.{ℕ, zero, suc, ◌+◌, ◌-◌, ◌&&◌, ◌==◌, nat_le, Bool, true, false, if◌then◌else◌, List, [], ◌∷◌, ◌++◌, length, take, map, Result, Ok, Err}
 use Rattle.std.specs.List.{slice_split}
 use Rattle.std.specs.Result.{result_unwrap_or}
-use Rattle.abc2midi_live.specs.Text.{Text, checked}
+use Rattle.abc2midi_live.specs.Text.{Text, checked, names_range}
 use Rattle.abc2midi_live.specs.Book.{files_of, file_at}
 use Rattle.abc2midi_live.specs.Command.{command_of, line_count}
 use Rattle.abc2midi_live.specs.Answer.{report, refusal, hex_line, unknown_line, truncated_line}
@@ -57,10 +57,10 @@ changed text (Insertion at lines) =
     if nat_le 1 at && nat_le at (length text + 1)
     then checked text (record { at = at - 1; removed = 0; lines = lines }) else Err BadRange
 changed text (Replacement from to lines) =
-    if nat_le 1 from && nat_le from to && nat_le to (length text)
+    if names_range from to (length text)
     then checked text (record { at = from - 1; removed = to + 1 - from; lines = lines }) else Err BadRange
 changed text (Deletion from to) =
-    if nat_le 1 from && nat_le from to && nat_le to (length text)
+    if names_range from to (length text)
     then checked text (record { at = from - 1; removed = to + 1 - from; lines = [] }) else Err BadRange
 
 -- the answer to a change of a text

@@ -1,6 +1,6 @@
 //! The texts of answers.
 
-ghost use Rattle.std.specs.Prelude.{◌≡◌, ◌≢◌, ◌++◌, option_map, IfOk, OnOk, MatchOption};
+ghost use Rattle.std.specs.Prelude.{◌≡◌, ◌≢◌, ◌++◌, option_map, IfOk, OnOk};
 ghost use Rattle.abc2midi_live.specs.Answer.{listed, report_line, refusal, hex_line};
 
 use crate::edit::{EditError, Report};
@@ -31,17 +31,20 @@ pub fn report_line(alloc: Global, report: &Report) -> Result<Vec<u8>, AllocError
     Ok(text)
 }
 
-/// The answer to a refused edit; for want of memory there is none.
+/// The answer to a refused edit; there is none for want of memory.
 #[tactic(auto, unfolding(crate::specs::Answer::refusal))]
-pub fn refusal(error: EditError) -> Option<&'static [u8]>
-    ensures { MatchOption result (error ≡ EditError.OutOfMemory)
-        (λ text. (text.now ≡ refusal error) × (error ≢ EditError.OutOfMemory)) }
+pub fn refusal(alloc: Global, error: EditError) -> Result<Vec<u8>, AllocError>
+    ensures text { IfOk result (λ text. text.items ≡ refusal error) }
+    ensures refused { OnOk result (error ≢ EditError.OutOfMemory) }
 {
     match error {
-        EditError::BadRange => Some(b"error BadRange\n"),
-        EditError::BadLine => Some(b"error BadLine\n"),
-        EditError::TooLarge => Some(b"error TooLarge\n"),
-        EditError::OutOfMemory => None,
+        EditError::OutOfMemory => Err(AllocError),
+        _ => {
+            let mut text = Vec::from_slice(alloc, b"error ")?;
+            text.extend_from_slice(error.name().as_bytes())?;
+            text.push(b'\n')?;
+            Ok(text)
+        }
     }
 }
 

@@ -9,7 +9,7 @@ ghost use Rattle.abc2midi_live.specs.Dialogue.{Responds, Proceeds};
 
 use crate::answer::{hex_line, refusal, report_line};
 use crate::command::Command;
-use crate::edit::{Edit, EditError};
+use crate::edit::Edit;
 use crate::machine::{Machine, Reply};
 use crate::session::Session;
 use abc_fold::Work;
@@ -27,10 +27,7 @@ fn edit(
 {
     match session.apply(edit, work) {
         Ok(report) => report_line(alloc, &report),
-        Err(error) => match refusal(error) {
-            Some(text) => Vec::from_slice(alloc, text),
-            None => Err(AllocError),
-        },
+        Err(error) => refusal(alloc, error),
     }
 }
 

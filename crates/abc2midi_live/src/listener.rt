@@ -17,8 +17,8 @@ use std::mem;
 /// How many bytes of a line are kept: one more than a line of a text may have.
 const KEPT: usize = 65_536;
 
-#[tactic(auto, using(crate::proofs::Counts::raised_none))]
 // Hands a line to the machine and writes its answer. Whether the machine goes on.
+#[tactic(auto, using(crate::proofs::Counts::raised_none))]
 fn serve<M: Machine, W: Sink>(
     machine: &mut M,
     writer: &mut W,
@@ -41,8 +41,8 @@ fn serve<M: Machine, W: Sink>(
     }
 }
 
-#[tactic(auto, using(crate::proofs::Counts::raised_none))]
 // Writes a text, if there is one.
+#[tactic(auto, using(crate::proofs::Counts::raised_none))]
 fn say<W: Sink>(writer: &mut W, text: &[u8]) -> Result<(), RunFault>
     ensures answer { MatchResult result
         (λ _. Appends (W.contents writer.old) (W.contents writer.new) text.now)
@@ -61,14 +61,15 @@ fn say<W: Sink>(writer: &mut W, text: &[u8]) -> Result<(), RunFault>
 /// A machine, and what has come of its next line.
 #[derive(Drop)]
 pub struct Listener<M> {
-    pub machine: M,
-    pub begun: Vec<u8>,
+    machine: M,
+    begun: Vec<u8>,
     ghost whole: { IsClean begun.items },
     ghost kept: { length begun.items ≤ 65536 },
 }
 
 #[tactic(auto, using(crate::proofs::Counts::raised_none))]
 impl<M: Machine> Listener<M> {
+    /// Nothing has come yet.
     pub fn new(alloc: Global, machine: M) -> Listener<M>
         ensures machine { result.machine ≡ machine }
         ensures begun { result.begun.items ≡ [] }

@@ -83,8 +83,12 @@ pub struct Piped<T> {
 }
 
 impl<T> Piped<T> {
+    ghost use Rattle.abc2midi_live.specs.Piped.{piped};
+
     /// Nothing has been read or written yet.
-    pub fn new(inner: T) -> Piped<T> {
+    pub fn new(inner: T) -> Piped<T>
+        ensures { result ≡ piped inner }
+    {
         Piped {
             inner,
             failures: 0,

@@ -65,4 +65,4 @@ returns-clause-calls g c = (c.reads.counter, omega arith, c.reads.invariant.call
 pub returns-clause-reads : goal.returns-clause-reads
 returns-clause-reads g c =
     let all : c.reads.counter ≡ 4294967295 = omega arith in
-    Exhausted (c.reads.invariant.calls ∙ ap (raised (g.R.Source.calls c.args.reader.now)) all)
+    Exhausted c.reads.invariant.reads (c.reads.invariant.calls ∙ ap (raised (g.R.Source.calls c.args.reader.now)) all)

@@ -1,0 +1,6 @@
+-- What contracts see of a stream of std. Our own.
+use Rattle.abc2midi_live.specs.declared.streams.Piped.{Piped}
+
+-- a reader or a writer of std that has not been used yet
+abbrev pub piped : {T : Type 0} → T → Piped T
+piped inner = record { inner = inner; failures = 0; calls = 0 }
