@@ -22,6 +22,14 @@ impl<'a, R: Files + AllocGlobal> Directory<'a, R> {
         }
     }
 
+    /// Whether there is such a folder.
+    pub(crate) fn is_there(&self) -> bool {
+        match fs::metadata(self.rt, self.path) {
+            Ok(metadata) => metadata.is_dir(),
+            Err(_) => false,
+        }
+    }
+
     fn write(&self, name: &str, bytes: &[u8]) -> io::Result<()> {
         let path = format!(in self.rt.alloc(); "{}/{name}", self.path)?;
         fs::write(self.rt, path.as_str(), bytes)

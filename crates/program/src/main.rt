@@ -74,6 +74,11 @@ fn converse<R: Runtime + AllocGlobal>(rt: &R) -> Result<(), Failure> {
     let mut reader = Piped::new(rt.reader());
     let mut writer = Piped::new(io::writer(rt));
     let mut store = Directory::new(rt, dir);
+    if !store.is_there() {
+        let _ = eprintln!(rt;
+            "warning: there is no folder '{dir}', so no MIDI file can be stored in it"
+        );
+    }
     let mut work = Work::mint(rt);
     run(alloc, None, &mut reader, &mut writer, &mut store, &mut work)?;
     Ok(())
