@@ -27,6 +27,7 @@ abbrev pub file_of_times : Option (List TimeToken) → Heading → Files
 file_of_times None heading = []
 file_of_times (Some times) heading = file_until (end_of times) heading times
 
+-- the file of a tune with this heading; a text without one has none
 abbrev pub file_of_heading : Option Heading → Files
 file_of_heading None = []
 file_of_heading (Some heading) = file_of_times (plain_times heading.unit heading.body) heading

@@ -21,6 +21,7 @@ trimmed text = reverse (without_front_blanks (reverse (without_front_blanks text
 abbrev pub value_of : List ℕ → List ℕ
 value_of line = trimmed (drop 2 (content line))
 
+-- whether a class is that of the field with this letter
 abbrev pub has_letter : ℕ → LineClass → Bool
 has_letter letter Blank = false
 has_letter letter Comment = false
@@ -31,14 +32,16 @@ has_letter letter Music = false
 abbrev pub is_field : ℕ → List ℕ → Bool
 is_field letter line = has_letter letter (class_of line)
 
--- a unit is one over a power of two up to 512; the bound is our own
+-- a unit is one over a power of two up to 512 (ABC 2.1 section 3.1.7; the bound is our own)
 abbrev pub is_unit_denominator : ℕ → Bool
 is_unit_denominator d = list_any (λ power. d == power) (1 ∷ 2 ∷ 4 ∷ 8 ∷ 16 ∷ 32 ∷ 64 ∷ 128 ∷ 256 ∷ 512 ∷ [])
 
+-- the unit with this denominator, if it may have it
 abbrev pub unit_over : Option ℕ → Option Ratio
 unit_over None = None
 unit_over (Some d) = if is_unit_denominator d then Some (record { num = 1; den = d }) else None
 
+-- the unit whose value goes on like this behind its `1`: no more, or a slash (47) and a denominator
 abbrev pub unit_behind_one : List ℕ → Option Ratio
 unit_behind_one [] = Some (record { num = 1; den = 1 })
 unit_behind_one (slash ∷ digits) = if slash == 47 then unit_over (number_of digits) else None

@@ -1,4 +1,4 @@
--- How the files of a book are kept.
+-- How the files of a book are kept. Our own.
 use Rattle.std.specs.Prelude.{List, map}
 use Rattle.abc2midi_live.specs.declared.files.TuneFile.{TuneFile}
 use Rattle.abc2midi_live.specs.Book.{Files}

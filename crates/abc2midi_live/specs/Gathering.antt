@@ -12,6 +12,7 @@ use Rattle.abc2midi_live.specs.declared.dialogue.Gathering.{Gathering}
 use Rattle.abc2midi_live.specs.declared.command.Command.{Command}
 use Rattle.abc2midi_live.specs.declared.command.Command.TheVariants.{Insert, Replace, Delete, Hex, Quit, Unknown}
 
+-- a command that is gathering its lines, without where they lie in memory
 abbrev pub begun_of : Option Gathering → Option Begun
 begun_of gathering = option_map (λ g. record { command = g.command; lines = text_of g.lines }) gathering
 

@@ -1,4 +1,4 @@
--- What contracts see of a heading in memory.
+-- What contracts see of a heading in memory. Our own.
 use Rattle.abc2midi_live.specs.declared.header.Heading.{Heading}
 use Rattle.abc2midi_live.specs.PlainTune.{Heading as PlainHeading}
 use Rattle.abc2midi_live.specs.Text.{lines_of}

@@ -1,11 +1,11 @@
--- The time tokens of a tune, one after another.
+-- The time tokens of a tune, one after another. Our own.
 use Rattle.std.specs.Prelude.{ℕ, ◌+◌, ◌≤◌, ◌&&◌, if◌then◌else◌, List, [], ◌∷◌, length, nat_le, Option, Some, None, IfSome}
 use Rattle.abc_time.specs.declared.grains.Grains.{Grains}
 use Rattle.abc_time.specs.Grains.{grains_of_the_latest_end}
 use Rattle.abc2midi_live.specs.declared.melody.TimeToken.{TimeToken}
 use Rattle.smf_bytes.specs.declared.score.Sounding.{Sounding}
 
--- a silent token, or one whose key MIDI has
+-- a silent token, or one whose key MIDI has (SMF 1.0)
 abbrev pub HasMidiKey : TimeToken → Type 0
 HasMidiKey t = IfSome t.key (λ key. key ≤ 127)
 

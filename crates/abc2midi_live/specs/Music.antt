@@ -1,4 +1,4 @@
--- What the notes and rests of a plain line play.
+-- What the notes and rests of a plain line play. What is plain is our own.
 use Rattle.std.specs.Prelude.{ℕ, ℤ, pos, negsuc, ◌+ℤ◌, ◌*ℤ◌, ◌+◌, ◌/◌, Bool, true, false, ◌&&◌, if◌then◌else◌, List, [], ◌∷◌, ◌++◌, nat_le, Option, Some, None, is_none}
 use Rattle.std.specs.List.{list_all, list_any}
 use Rattle.std.specs.Result.{result_unwrap_or}
@@ -21,7 +21,7 @@ use Rattle.abc_time.specs.Length.{length_of}
 use Rattle.abc2midi_live.specs.declared.melody.TimeToken.{TimeToken}
 use Rattle.abc2midi_live.specs.Text.{Text}
 
--- semitones above C
+-- semitones above C (ABC 2.1 section 4.1)
 abbrev pub semitones : Letter → ℕ
 semitones C = 0
 semitones D = 2
@@ -31,7 +31,7 @@ semitones G = 7
 semitones A = 9
 semitones B = 11
 
--- a key that MIDI has, from 0 to 127
+-- a key that MIDI has, from 0 to 127 (SMF 1.0)
 abbrev pub midi_key : ℤ → Option ℕ
 midi_key (pos n) = if nat_le n 127 then Some n else None
 midi_key (negsuc n) = None
@@ -41,7 +41,7 @@ midi_key (negsuc n) = None
 abbrev pub key_of : Note → Option ℕ
 key_of note = midi_key (pos (60 + semitones note.letter) +ℤ (pos 12 *ℤ note.octave))
 
--- how long the unit is, which is a whole number of grains
+-- how long the unit is, which is a whole number of grains; in grains, our own
 abbrev pub unit_length : Ratio → Grains
 unit_length unit = record { 0 = grains_of_a_whole_note / unit.den }
 
@@ -66,6 +66,7 @@ time_of unit kinds.Blank = None
 time_of unit kinds.Field = None
 time_of unit kinds.Other = None
 
+-- whether a token is a note or a rest
 abbrev pub takes_time : TokenKind → Bool
 takes_time (kinds.Note note) = true
 takes_time (kinds.Rest written) = true
@@ -73,6 +74,7 @@ takes_time kinds.Blank = false
 takes_time kinds.Field = false
 takes_time kinds.Other = false
 
+-- what one token plays, if anything, before what others play
 abbrev pub before : Option TimeToken → List TimeToken → List TimeToken
 before None times = times
 before (Some time) times = time ∷ times
@@ -82,6 +84,7 @@ abbrev pub times_of : Ratio → List Token → List TimeToken
 times_of unit [] = []
 times_of unit (t ∷ ts) = before (time_of unit t.kind) (times_of unit ts)
 
+-- whether a class is music
 abbrev pub is_music : LineClass → Bool
 is_music classes.Blank = false
 is_music classes.Comment = false
@@ -92,6 +95,7 @@ is_music classes.Music = true
 abbrev pub are_plain : List Token → Bool
 are_plain tokens = list_all (λ t. is_plain_kind t.kind) tokens && list_any (λ t. takes_time t.kind) tokens
 
+-- whether a line is plain music
 abbrev pub is_plain_line : List ℕ → Bool
 is_plain_line line = is_music (class_of line) && are_plain (tokens_of line)
 

@@ -51,7 +51,7 @@ read_faults (Err Read) = 1
 read_faults (Err Write) = 0
 read_faults (Err Memory) = 0
 
--- why a run says that it can't read
+-- why a run says that it cannot read
 pub data ReadCause (failures failures' calls calls' : ℕ) : Type 0 where
   -- a read failed
   Failed : failures' ≡ raised failures 1 → ReadCause failures failures' calls calls'

@@ -12,6 +12,7 @@ use Rattle.abc2midi_live.specs.Text.{Text}
 abbrev pub has_no_comment : List ℕ → Bool
 has_no_comment line = length (content line) == length (without_return line)
 
+-- a number from 1
 abbrev pub positive : Option ℕ → Option ℕ
 positive None = None
 positive (Some n) = if n == 0 then None else Some n
@@ -34,14 +35,16 @@ abbrev pub title_in : Text → List ℕ
 title_in [] = []
 title_in (line ∷ lines) = if is_field 84 line then value_of line else title_in lines
 
+-- the later of two units, where there is one
 abbrev pub later_of : Option Ratio → Option Ratio → Option Ratio
 later_of earlier None = earlier
 later_of earlier (Some later) = Some later
 
+-- the unit that a line gives, if it is an L: line (76)
 abbrev pub unit_on : List ℕ → Option Ratio
 unit_on line = if is_field 76 line then unit_of (value_of line) else None
 
--- the last L: of the header counts
+-- the last L: of the header counts (ABC 2.1 section 3.1.7)
 abbrev pub last_unit : Text → Option Ratio
 last_unit [] = None
 last_unit (line ∷ lines) = later_of (unit_on line) (last_unit lines)
@@ -50,7 +53,7 @@ last_unit (line ∷ lines) = later_of (unit_on line) (last_unit lines)
 abbrev pub unit_in : Text → Ratio
 unit_in header = unwrap_or (last_unit header) (record { num = 1; den = 8 })
 
--- the value of the K: field is the letter C (67)
+-- the value of the K: field is the letter C (67), its tonic (ABC 2.1 section 3.1.14)
 abbrev pub is_letter_c : List ℕ → Bool
 is_letter_c [] = false
 is_letter_c (b ∷ []) = b == 67
@@ -71,6 +74,7 @@ heading_from number header (key ∷ body) =
     then Some (record { number = number; title = title_in header; unit = unit_in header; body = body })
     else None
 
+-- the heading of the number that a first line gives, and of the lines behind it
 abbrev pub heading_behind : Option ℕ → Text → Option Heading
 heading_behind None rest = None
 heading_behind (Some number) rest =

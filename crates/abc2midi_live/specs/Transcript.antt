@@ -84,6 +84,7 @@ text_after text Misspelled = text
 text_after text CutOff = text
 text_after text Ends = text
 
+-- whether the run goes on after a request
 abbrev pub goes_on : Request → Bool
 goes_on (Edits change) = true
 goes_on (Shows number) = true

@@ -61,22 +61,25 @@ HasFactor (Factor num den) = IsFactor num den
 HasFactor Refused = Unit {0}
 
 -- The longest length text at the front of a text: its digits, and behind them its slashes, and behind
--- one slash digits again.
+-- one slash digits again. How many digits come first.
 abbrev pub over_size : List ℕ → ℕ
 over_size text = prefix_len is_digit text
 
+-- How many slashes stand behind the digits.
 abbrev pub slashes_size : List ℕ → ℕ
 slashes_size rest = prefix_len is_slash rest
 
+-- How many digits stand behind the slashes: only one slash takes any.
 abbrev pub under_size : List ℕ → ℕ
 under_size rest = if slashes_size rest == 1 then prefix_len is_digit (drop (slashes_size rest) rest) else 0
 
--- How many bytes it takes, and its value.
+-- How many bytes it takes.
 unfoldable pub length_size : List ℕ → ℕ
 length_size text =
     let rest = drop (over_size text) text in
     over_size text + slashes_size rest + under_size rest
 
+-- Its value.
 unfoldable pub length_at : List ℕ → WrittenLength
 length_at text =
     let rest = drop (over_size text) text in

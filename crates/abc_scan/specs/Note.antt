@@ -71,11 +71,12 @@ pub record IsRest (text : List ℕ) (value : WrittenLength) : Type 0 where
   pub letter_is : (letter ≡ 122) ⊎ (letter ≡ 120)
   pub length_is : IsLength written value
 
--- The accidental at the front of a text.
+-- Whether a text begins with this byte.
 abbrev pub begins_with : ℕ → List ℕ → Bool
 begins_with byte [] = false
 begins_with byte (b ∷ bs) = b == byte
 
+-- The longest accidental at the front of a text. ABC 2.1 section 4.2.
 unfoldable pub accidental_at : List ℕ → Option Accidental
 accidental_at [] = None
 accidental_at (b ∷ bs) =
@@ -83,10 +84,11 @@ accidental_at (b ∷ bs) =
     else (if b == 95 then (if begins_with 95 bs then Some DoubleFlat else Some Flat)
     else (if b == 61 then Some Natural else None))
 
+-- How many bytes an accidental takes.
 abbrev pub accidental_size : Option Accidental → ℕ
 accidental_size a = length (accidental_text a)
 
--- The letter that a byte is.
+-- The letter that a byte is, capital or small. ABC 2.1 section 4.1.
 unfoldable pub letter_of : ℕ → Option Letter
 letter_of b =
     if (b == 67) || (b == 99) then Some C
@@ -98,11 +100,11 @@ letter_of b =
     else (if (b == 66) || (b == 98) then Some B
     else None))))))
 
--- The longest note at the front of a text, and how many bytes it takes: behind its accidental, and
--- behind its letter.
+-- How many octave marks stand at the front of a text.
 abbrev pub marks_size : List ℕ → ℕ
 marks_size text = prefix_len is_octave_mark text
 
+-- The longest note of an accidental, a letter's byte and what stands behind it, and how many bytes it takes.
 abbrev pub note_of : Option Accidental → ℕ → List ℕ → Letter → Note × ℕ
 note_of accidental byte rest letter = (
   record {
@@ -114,17 +116,20 @@ note_of accidental byte rest letter = (
   accidental_size accidental + 1 + marks_size rest + length_size (drop (marks_size rest) rest),
 )
 
+-- The longest note of an accidental and what stands behind it, and how many bytes it takes.
 abbrev pub note_behind : Option Accidental → List ℕ → Option (Note × ℕ)
 note_behind accidental [] = None
 note_behind accidental (b ∷ rest) = option_map (note_of accidental b rest) (letter_of b)
 
+-- The longest note at the front of a text, and how many bytes it takes.
 unfoldable pub note_at : List ℕ → Option (Note × ℕ)
 note_at text = note_behind (accidental_at text) (drop (accidental_size (accidental_at text)) text)
 
--- The longest rest at the front of a text, and how many bytes it takes.
+-- `z` or `x`. ABC 2.1 section 4.5.
 abbrev pub is_rest_letter : ℕ → Bool
 is_rest_letter b = (b == 122) || (b == 120)
 
+-- The longest rest at the front of a text, and how many bytes it takes.
 unfoldable pub rest_at : List ℕ → Option (WrittenLength × ℕ)
 rest_at [] = None
 rest_at (b ∷ rest) = if is_rest_letter b then Some (length_at rest, 1 + length_size rest) else None

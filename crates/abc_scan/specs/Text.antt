@@ -16,7 +16,7 @@ before_comment before (b ∷ bs) = if (b == 37) && not (before == 92) then [] el
 abbrev pub without_comment : List ℕ → List ℕ
 without_comment text = before_comment 32 text
 
--- The bytes of a line that are read.
+-- The bytes of a line that are read: the carriage return is dropped first. ABC 2.1 section 2.2; the order is our own.
 abbrev pub content : List ℕ → List ℕ
 content line = without_comment (without_return line)
 
@@ -33,10 +33,11 @@ pub record IsRead (before : ℕ) (text read : List ℕ) : Type 0 where
   pub escaped : (front rest : List ℕ) → read ≡ front ++ 37 ∷ rest → last_or before front ≡ 92
   pub begins : (comment ≡ []) ⊎ ((rest : List ℕ) × (comment ≡ 37 ∷ rest) × (last_or before read ≢ 92))
 
+-- What is left of each text without its comment is what is read of it.
 abbrev pub CutsComments : Type 0
 CutsComments = (text : List ℕ) → IsRead 32 text (without_comment text)
 
--- One carriage return at the end is dropped, and nothing else.
+-- One carriage return at the end is dropped, and nothing else. Our own.
 abbrev pub DropsOneReturn : Type 0
 DropsOneReturn =
     (without_return [] ≡ []) × ((text : List ℕ) (b : ℕ) → without_return (text ++ b ∷ []) ≡ (if b == 13 then text else text ++ b ∷ []))

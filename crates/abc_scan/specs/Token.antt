@@ -1,4 +1,4 @@
--- What a music line is made of.
+-- What a music line is made of. ABC 2.1 section 4.
 use Rattle.std.specs.Prelude.{◌≡◌, ℕ, Option, Some, None, List, [], ◌∷◌, if◌then◌else◌, unwrap_or, IsTrue}
 use Rattle.std.specs.Option.{option_map}
 use Rattle.abc_scan.specs.declared.token.TokenKind.{TokenKind}

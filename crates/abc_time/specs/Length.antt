@@ -6,16 +6,16 @@ use Rattle.abc_time.specs.declared.ratio.Ratio.{Ratio}
 use Rattle.abc_time.specs.Grains.{grains_of_a_whole_note, grains_of_the_longest_length}
 use Rattle.abc_time.specs.Product.{product_of}
 
--- The product of the numerators, the unit's among them.
+-- The product of the numerators, the unit's among them. Our own.
 abbrev pub numerator_of : Ratio → List Ratio → ℕ
 numerator_of unit factors = unit.num * product_of (map (λ r. r.num) factors)
 
--- The product of the denominators, the unit's among them.
+-- The product of the denominators, the unit's among them. Our own.
 abbrev pub denominator_of : Ratio → List Ratio → ℕ
 denominator_of unit factors = unit.den * product_of (map (λ r. r.den) factors)
 
--- The unit of length times the factors is g grains, exactly (ABC 2.1 section 4.3 and the sections
--- on tuplets and broken rhythm; in grains, our own).
+-- The unit of length times the factors is g grains, exactly (ABC 2.1 sections 4.3, 4.4 and 4.13; in
+-- grains, our own).
 abbrev pub IsLength : Ratio → List Ratio → ℕ → Type 0
 IsLength unit factors g = g * denominator_of unit factors ≡ grains_of_a_whole_note * numerator_of unit factors
 

@@ -1,6 +1,6 @@
 use Rattle.std.specs.Prelude.{ℕ, List, [], ◌∷◌, ◌*◌}
 
--- The product of the numbers: 1 where there is none.
+-- The product of the numbers: 1 where there is none. Our own.
 abbrev pub product_of : List ℕ → ℕ
 product_of [] = 1
 product_of (n ∷ ns) = n * product_of ns

@@ -14,7 +14,7 @@ use Rattle.smf_bytes.specs.Number.{number_text}
 abbrev pub meta_event : ℕ → List ℕ → List ℕ
 meta_event type content = 255 ∷ type ∷ (number_text (length content) ++ content)
 
--- The name of the sequence, FF 03 (SMF 1.0), if there is one.
+-- The name of the sequence, FF 03 (SMF 1.0), if there is one; at tick 0, our own.
 abbrev pub title_events : List ℕ → List Event
 title_events [] = []
 title_events (byte ∷ bytes) = record { tick = 0; class = 1; key = 0; bytes = meta_event 3 (byte ∷ bytes) } ∷ []
@@ -33,11 +33,12 @@ change_bytes (Tempo micros) = meta_event 81 (big_bytes 3 micros)
 change_bytes (Meter num den) = meta_event 88 (num ∷ trailing_zeros w8 den ∷ 24 ∷ 8 ∷ [])
 change_bytes (Key sharps minor) = meta_event 89 (cast_unsigned w8 sharps ∷ (if minor then 1 else 0) ∷ [])
 
+-- A change as an event, at the tick of its moment. Our own.
 abbrev pub change_event : Change → Event
 change_event change =
     record { tick = tick_at change.at.0; class = class_of change.what; key = 0; bytes = change_bytes change.what }
 
--- Note off, 8c kk vv, with the release velocity 64 (SMF 1.0).
+-- Note off, 8c kk vv, with the release velocity 64 (SMF 1.0; the velocity is our own).
 abbrev pub note_off : ℕ → ℕ → ℕ → Event
 note_off channel key tick = record { tick = tick; class = 1; key = key; bytes = (128 + channel) ∷ key ∷ 64 ∷ [] }
 

@@ -14,13 +14,13 @@ abbrev pub is_lower_number : ℕ → Bool
 is_lower_number den = list_any (λ power. power == den) (1 ∷ 2 ∷ 4 ∷ 8 ∷ 16 ∷ 32 ∷ 64 ∷ [])
 
 -- A tempo of one to 2^24 - 1 microseconds to a quarter, a meter over a power of two, a key of at
--- most seven sharps or flats.
+-- most seven sharps or flats (SMF 1.0).
 abbrev pub IsWritable : ChangeKind → Type 0
 IsWritable (Tempo micros) = (1 ≤ micros) × (micros < 2 ^ 24)
 IsWritable (Meter num den) = IsTrue (is_lower_number den)
 IsWritable (Key sharps minor) = (negsuc 6 ≤ℤ sharps) × (sharps ≤ℤ pos 7)
 
--- A change that comes before the end, or at it.
+-- A change that comes before the end, or at it. Our own.
 pub record IsChangeWithin (end : Grains) (change : Change) : Type 0 where
   pub before_end : change.at.0 ≤ end.0
   pub writable : IsWritable change.what
@@ -31,12 +31,13 @@ pub record IsSoundingWithin (end : Grains) (note : Sounding) : Type 0 where
   pub before_end : note.off.0 ≤ end.0
   pub key : note.key ≤ 127
 
--- At most 16,000,000 notes.
+-- At most 16,000,000 notes. Our own.
 pub record IsVoiceWithin (end : Grains) (notes : List Sounding) : Type 0 where
   pub count : length notes ≤ 16000000
   pub each : All (IsSoundingWithin end) notes
 
--- The end at most 131,072 whole notes, and counts that keep a track's length within 32 bits.
+-- The end at most 131,072 whole notes, and counts that keep a track's length within 32 bits (SMF 1.0;
+-- the counts are our own).
 pub record AreCountsWithin (score : Score) : Type 0 where
   pub end : score.end.0 ≤ grains_of_the_latest_end
   pub title : length score.title ≤ 65535

@@ -1,0 +1,46 @@
+-- Values as the worked examples write them: a tick is 484,323,840 grains. Our own.
+use Rattle.std.specs.Prelude.{ℕ, ℤ, ◌*◌, None, [], ◌∷◌, codes}
+use Rattle.abc_scan.specs.declared.length.WrittenLength.{WrittenLength}
+use Rattle.abc_scan.specs.declared.length.WrittenLength.TheVariants.{Factor}
+use Rattle.abc_scan.specs.declared.note.Letter.{Letter}
+use Rattle.abc_scan.specs.declared.token.Token.{Token}
+use Rattle.abc_scan.specs.declared.token.TokenKind.{TokenKind}
+use Rattle.abc_scan.specs.declared.token.TokenKind.TheVariants as kinds
+use Rattle.abc_time.specs.declared.grains.Grains.{Grains}
+use Rattle.abc_time.specs.declared.ratio.Ratio.{Ratio}
+use Rattle.abc2midi_live.specs.Text.{Text}
+use Rattle.smf_bytes.specs.declared.score.Change.{Change}
+use Rattle.smf_bytes.specs.declared.score.ChangeKind.{ChangeKind}
+use Rattle.smf_bytes.specs.declared.score.Sounding.{Sounding}
+
+-- one number over another
+abbrev pub ratio : ℕ → ℕ → Ratio
+ratio num den = record { num = num; den = den }
+
+-- the moment of a tick
+abbrev pub at_tick : ℕ → Grains
+at_tick tick = record { 0 = tick * 484323840 }
+
+-- a key that sounds from one tick to another
+abbrev pub sounding : ℕ → ℕ → ℕ → Sounding
+sounding key on off = record { key = key; on = at_tick on; off = at_tick off }
+
+-- a change at a tick
+abbrev pub change_at : ℕ → ChangeKind → Change
+change_at tick what = record { at = at_tick tick; what = what }
+
+-- a note without accidental
+abbrev pub note : Letter → ℤ → WrittenLength → TokenKind
+note letter octave length = kinds.Note (record { accidental = None; letter = letter; octave = octave; length = length })
+
+-- no length is written, which is one unit
+abbrev pub plain : WrittenLength
+plain = Factor 1 1
+
+-- a token from one byte of a line to another, counted from 0
+abbrev pub token : TokenKind → ℕ → ℕ → Token
+token kind from to = record { kind = kind; from = from; to = to }
+
+-- a text of four lines
+abbrev pub four_lines : Text
+four_lines = codes "a" ∷ codes "b" ∷ codes "c" ∷ codes "d" ∷ []
