@@ -1,6 +1,7 @@
 -- Laws of command lines: numbers, and words behind one another.
-use Rattle.std.proofs.Common.{◌≡◌, ◌≢◌, ℕ, ◌^◌, ◌<◌, ◌≤◌, ◌&&◌, Bool, true, false, cond, leb, ◌==◌, List, [], ◌∷◌, length, Option, Some, None, Result, Ok, Err, ◌⊎◌, inl, inr, refl, sym, ap, ◌∙◌, subst, arith, rules, MatchResult, option_map, zero, suc}
+use Rattle.std.proofs.Common.{◌≡◌, ◌≢◌, ℕ, ◌^◌, ◌<◌, ◌≤◌, ◌&&◌, Bool, true, false, cond, leb, ◌==◌, List, [], ◌∷◌, length, Option, Some, None, Result, Ok, Err, refl, sym, ap, ⊎_elim, ◌∙◌, subst, arith, rules, MatchResult, option_map, zero, suc, ◌++◌, append_assoc, append-nil, length-append}
 use Rattle.std.specs.Option.{option_map_or}
+use Rattle.std.specs.Prelude.{codes}
 use Rattle.std.proofs.lemmas.Str.{IsUtf8-from_ascii}
 use Rattle.std.proofs.lemmas.Str.Ascii.{IsAscii-nil, IsAscii-cons}
 use Rattle.std.specs.Borrow.{Bor}
@@ -13,10 +14,11 @@ use Rattle.std.specs.Result.{result_ok, OkIff}
 use Rattle.std.proofs.lemmas.Str.Parse.{IsNumeralModel, numerals_by_value, parse_digits, digits_value_short}
 use Rattle.std.proofs.lemmas.List.Splits.{slice_split_at, slice_split_none}
 use Rattle.std.proofs.lemmas.Bool.Decides.{nat_tests}
+use Rattle.std.proofs.lemmas.Bool.{cases_Bool}
+use Rattle.std.proofs.lemmas.Slice.Eq.{bytes_eq-Decides}
 use Rattle.abc2midi_live.specs.Cut.{IsCut}
 use Rattle.abc2midi_live.specs.Number.{number_of}
-use Rattle.abc2midi_live.specs.Command.{numbers_of, both, with_numbers, words_of, words_behind, command_named, command_of_words, command_of}
-use Rattle.abc2midi_live.specs.declared.command.Command.{Command}
+use Rattle.abc2midi_live.specs.Command.{numbers_of, both, with_numbers, words_of, words_behind, command_named, command_of_words, command_of, IsUseless, insertion, replacement, deletion, hex_dump, quitting}
 use Rattle.abc2midi_live.specs.declared.command.Command.TheVariants.{Unknown}
 
 no_number : (short all : Bool) (n : ℕ) → all ≡ false → ◌≡◌ {A = Option ℕ} None (cond (short && all) (Some n) None)
@@ -86,37 +88,6 @@ number_of-parsed word read short digits parsed =
     let small : digits_value 10 word < 2 ^ 32 = omega (arith, digits_value_short own word 9 digits short) in
     as_number word read (parse_digits own 32 word read parsed digits) small short digits
 
--- no number stands first
-pub none_spelled : (words : List (List ℕ)) (made : List ℕ → Command) → (words ≡ []) ⊎ (numbers_of words ≡ None) → made [] ≡ Unknown → Unknown ≡ with_numbers words made
-unfolding with_numbers numbers_of
-none_spelled words made (inl e) h = sym (ap (λ w. with_numbers w made) e ∙ h)
-none_spelled words made (inr e) h = sym (ap (λ o. option_map_or made o Unknown) e)
-
-step : (made : List ℕ → Command) (n : ℕ) (rest : Option (List ℕ)) → option_map_or (λ ns. made (n ∷ ns)) rest Unknown ≡ option_map_or made (both (Some n) rest) Unknown
-step made n None = refl
-step made n (Some ns) = refl
-
--- a number stands first
-pub one_spelled : (words rest : List (List ℕ)) (n : ℕ) (made : List ℕ → Command) → numbers_of words ≡ both (Some n) (numbers_of rest) → with_numbers rest (λ ns. made (n ∷ ns)) ≡ with_numbers words made
-unfolding with_numbers
-one_spelled words rest n made e = step made n (numbers_of rest) ∙ sym (ap (λ o. option_map_or made o Unknown) e)
-
--- no word is left
-pub all_spelled : (words : List (List ℕ)) (made : List ℕ → Command) → words ≡ [] → made [] ≡ with_numbers words made
-unfolding with_numbers numbers_of
-all_spelled words made e = sym (ap (λ w. with_numbers w made) e)
-
-useless : (made : List ℕ → Command) → ((n : ℕ) (ns : List ℕ) → made (n ∷ ns) ≡ Unknown) → (first : Option ℕ) (others : Option (List ℕ)) → Unknown ≡ option_map_or made (both first others) Unknown
-useless made h None others = refl
-useless made h (Some n) None = refl
-useless made h (Some n) (Some ns) = sym (h n ns)
-
--- a word is left that a command has no use for
-pub more_spelled : (words : List (List ℕ)) (made : List ℕ → Command) → words ≢ [] → ((n : ℕ) (ns : List ℕ) → made (n ∷ ns) ≡ Unknown) → Unknown ≡ with_numbers words made
-unfolding with_numbers numbers_of
-more_spelled [] made some h = absurd (some refl)
-more_spelled (word ∷ words) made some h = useless made h (number_of word) (numbers_of words)
-
 -- the words behind a cut
 pub words_of-cut : (text front : List ℕ) (rest : Option (Bor (List ℕ))) → IsCut 32 text front (option_map (λ r. r.now) rest) → words_of text ≡ front ∷ words_behind rest
 unfolding words_of words_behind
@@ -129,11 +100,6 @@ unfolding words_of
 words_of-some [] e = cc
 words_of-some (b ∷ text) e = some_parts (b == 32) b (slice_split (λ c. c == 32) text) e
 
--- the number in front, or none
-pub numbers_of-front : (words : List (List ℕ)) (word : List ℕ) (rest : List (List ℕ)) → words ≡ word ∷ rest → numbers_of words ≡ both (number_of word) (numbers_of rest)
-unfolding numbers_of
-numbers_of-front words word rest e = ap numbers_of e
-
 -- where a fact holds that an error rules out, a result is none
 pub no_error : {T E : Type 0} (read : Result T E) (P : T → Type 0) (Q : E → Type 0) {R : Type 0} → ((e : E) → Q e → R → ⊥) → R → MatchResult read P Q → None ≡ result_ok read → ⊥
 no_error (Ok x) P Q rules r h e = cc
@@ -144,19 +110,6 @@ pub held : {T E : Type 0} (read : Result T E) (P : T → Type 0) (Q : E → Type
 held (Ok y) P Q x h e = let same : y ≡ x = cc in subst P same h
 held (Err y) P Q x h e = cc
 
--- a test of a name, as the code makes it
-pub is_name : (tested : Bool) (name literal slice : List ℕ) (b : Bool) → tested ≡ bytes_eq name slice → slice ≡ literal → tested ≡ b → bytes_eq name literal ≡ b
-is_name tested name literal slice b e f g = sym (ap (bytes_eq name) f) ∙ sym e ∙ g
-
-unused : (numbers : Option (List ℕ)) → Unknown ≡ option_map_or (λ ns. Unknown) numbers Unknown
-unused None = refl
-unused (Some ns) = refl
-
--- a name that no command has
-pub no_name : (words : List (List ℕ)) → Unknown ≡ with_numbers words (λ ns. Unknown)
-unfolding with_numbers
-no_name words = unused (numbers_of words)
-
 -- the command of a line of allowed length
 pub command_of-short : (line : List ℕ) → length line ≤ 65535 → command_of_words (words_of (strip_carriage_return line)) ≡ command_of line
 unfolding command_of
@@ -166,6 +119,100 @@ pub command_of-long : (line : List ℕ) → 65535 < length line → Unknown ≡ 
 unfolding command_of
 command_of-long line h = grind (arith, nat_tests)
 
-pub command_of_words-cut : (words : List (List ℕ)) (name : List ℕ) (rest : List (List ℕ)) → words ≡ name ∷ rest → with_numbers rest (command_named name) ≡ command_of_words words
-unfolding command_of_words
-command_of_words-cut words name rest e = sym (ap command_of_words e)
+-- the numbers so far, and those that the words behind them spell
+pub numbers_behind : List ℕ → List (List ℕ) → Option (List ℕ)
+numbers_behind numbers words = option_map (λ more. numbers ++ more) (numbers_of words)
+
+front : (words : List (List ℕ)) (word : List ℕ) (rest : List (List ℕ)) (n : Option ℕ) → words ≡ word ∷ rest → n ≡ number_of word → numbers_of words ≡ both n (numbers_of rest)
+unfolding numbers_of
+front words word rest n e f = ap numbers_of e ∙ ap (λ o. both o (numbers_of rest)) (sym f)
+
+none_mapped : (numbers : List ℕ) → option_map (λ more. numbers ++ more) None ≡ None
+none_mapped numbers = refl
+
+moved : (numbers : List ℕ) (n : ℕ) (more : Option (List ℕ)) → option_map (λ more. numbers ++ more) (both (Some n) more) ≡ option_map (λ more. (numbers ++ n ∷ []) ++ more) more
+moved numbers n None = refl
+moved numbers n (Some more) = ap Some (sym (append_assoc numbers (n ∷ []) more))
+
+-- at first there are none
+pub numbers_behind-first : (words : List (List ℕ)) → numbers_behind [] words ≡ numbers_of words
+unfolding numbers_behind
+numbers_behind-first words = go (numbers_of words) where
+  go : (o : Option (List ℕ)) → option_map (λ more. [] ++ more) o ≡ o
+  go None = refl
+  go (Some more) = refl
+
+-- a word that spells a number
+pub numbers_behind-more : (numbers : List ℕ) (words : List (List ℕ)) (word : List ℕ) (rest : List (List ℕ)) (n : ℕ) → words ≡ word ∷ rest → Some n ≡ number_of word → numbers_behind (numbers ++ n ∷ []) rest ≡ numbers_behind numbers words
+unfolding numbers_behind
+numbers_behind-more numbers words word rest n e f = sym (ap (option_map (λ more. numbers ++ more)) (front words word rest (Some n) e f) ∙ moved numbers n (numbers_of rest))
+
+-- a word that spells none
+pub numbers_behind-other : (numbers : List ℕ) (words : List (List ℕ)) (word : List ℕ) (rest : List (List ℕ)) → words ≡ word ∷ rest → None ≡ number_of word → IsUseless (numbers_behind numbers words)
+unfolding numbers_behind
+numbers_behind-other numbers words word rest e f = subst IsUseless (sym (ap (option_map (λ more. numbers ++ more)) (front words word rest None e f))) tt
+
+longer : (numbers : List ℕ) (n : ℕ) (more : Option (List ℕ)) → 3 ≤ length numbers → IsUseless (option_map (λ more. numbers ++ more) (both (Some n) more))
+longer numbers n None full = tt
+longer numbers n (Some more) full = let e = length-append numbers (n ∷ more) in omega (arith, e)
+
+-- a fourth number
+pub numbers_behind-full : (numbers : List ℕ) (words : List (List ℕ)) (word : List ℕ) (rest : List (List ℕ)) (n : ℕ) → words ≡ word ∷ rest → Some n ≡ number_of word → 3 ≤ length numbers → IsUseless (numbers_behind numbers words)
+unfolding numbers_behind
+numbers_behind-full numbers words word rest n e f full = subst IsUseless (sym (ap (option_map (λ more. numbers ++ more)) (front words word rest (Some n) e f))) (longer numbers n (numbers_of rest) full)
+
+-- no word is left
+pub numbers_behind-none : (numbers : List ℕ) (words : List (List ℕ)) → words ≡ [] → numbers_behind numbers words ≡ Some numbers
+unfolding numbers_behind numbers_of
+numbers_behind-none numbers words e = ap (λ w. option_map (λ more. numbers ++ more) (numbers_of w)) e ∙ ap Some (append-nil numbers)
+
+-- a literal is text, so bytes that are no text are none
+other_name : (name literal : List ℕ) → (IsUtf8 name → ⊥) → IsUtf8 literal → bytes_eq name literal ≡ false
+other_name name literal h text = ⊎_elim
+    (λ same. absurd (h (subst IsUtf8 (sym ((bytes_eq-Decides name literal).0 same)) text)))
+    (λ other. other)
+    (cases_Bool (bytes_eq name literal))
+
+-- a name that is no text
+pub command_named-other : (name numbers : List ℕ) → (IsUtf8 name → ⊥) → Unknown ≡ command_named name numbers
+unfolding command_named
+command_named-other name numbers h =
+    rw (
+      other_name name (codes "insert") h (IsUtf8-from_ascii (codes "insert") (search rules)),
+      other_name name (codes "replace") h (IsUtf8-from_ascii (codes "replace") (search rules)),
+      other_name name (codes "delete") h (IsUtf8-from_ascii (codes "delete") (search rules)),
+      other_name name (codes "hex") h (IsUtf8-from_ascii (codes "hex") (search rules)),
+      other_name name (codes "quit") h (IsUtf8-from_ascii (codes "quit") (search rules)),
+    ) refl
+
+unused : (b c d e f : Bool) (x y z w : ℕ) (more : List ℕ) → cond b insertion (cond c replacement (cond d deletion (cond e hex_dump (cond f quitting (λ numbers. Unknown))))) (x ∷ y ∷ z ∷ w ∷ more) ≡ Unknown
+unfolding insertion replacement deletion hex_dump quitting
+unused true c d e f x y z w more = refl
+unused false true d e f x y z w more = refl
+unused false false true e f x y z w more = refl
+unused false false false true f x y z w more = refl
+unused false false false false true x y z w more = refl
+unused false false false false false x y z w more = refl
+
+-- no command takes more than three numbers
+many_named : (name numbers : List ℕ) → 3 < length numbers → command_named name numbers ≡ Unknown
+unfolding command_named
+many_named name [] h = absurd (omega arith)
+many_named name (x ∷ []) h = absurd (omega arith)
+many_named name (x ∷ y ∷ []) h = absurd (omega arith)
+many_named name (x ∷ y ∷ z ∷ []) h = absurd (omega arith)
+many_named name (x ∷ y ∷ z ∷ w ∷ more) h = unused (bytes_eq name (codes "insert")) (bytes_eq name (codes "replace")) (bytes_eq name (codes "delete")) (bytes_eq name (codes "hex")) (bytes_eq name (codes "quit")) x y z w more
+
+useless_named : (name : List ℕ) (numbers : Option (List ℕ)) → IsUseless numbers → option_map_or (command_named name) numbers Unknown ≡ Unknown
+useless_named name None h = refl
+useless_named name (Some numbers) h = many_named name numbers h
+
+-- a name and words that no command takes
+pub command_of_words-useless : (words : List (List ℕ)) (name : List ℕ) (rest : List (List ℕ)) → words ≡ name ∷ rest → IsUseless (numbers_of rest) → Unknown ≡ command_of_words words
+unfolding command_of_words with_numbers
+command_of_words-useless words name rest e h = sym (ap command_of_words e ∙ useless_named name (numbers_of rest) h)
+
+-- a name and numbers
+pub command_of_words-cut : (words : List (List ℕ)) (name : List ℕ) (rest : List (List ℕ)) (numbers : List ℕ) → words ≡ name ∷ rest → numbers_of rest ≡ Some numbers → command_named name numbers ≡ command_of_words words
+unfolding command_of_words with_numbers
+command_of_words-cut words name rest numbers e f = sym (ap command_of_words e ∙ ap (λ o. option_map_or (command_named name) o Unknown) f)

@@ -1,5 +1,5 @@
 -- The commands of the program, one on a line of its input. Our own.
-use Rattle.std.specs.Prelude.{ℕ, ◌==◌, nat_le, if◌then◌else◌, List, [], ◌∷◌, length, codes, Option, Some, None}
+use Rattle.std.specs.Prelude.{ℕ, ◌<◌, ◌==◌, nat_le, if◌then◌else◌, List, [], ◌∷◌, length, codes, Option, Some, None}
 use Rattle.std.specs.Borrow.{Bor}
 use Rattle.std.specs.List.{slice_split}
 use Rattle.std.specs.Option.{option_map_or}
@@ -19,6 +19,11 @@ both (Some n) (Some numbers) = Some (n ∷ numbers)
 unfoldable pub numbers_of : List (List ℕ) → Option (List ℕ)
 numbers_of [] = Some []
 numbers_of (word ∷ words) = both (number_of word) (numbers_of words)
+
+-- no command takes what words spell: a word is no number, or there are more than three
+abbrev pub IsUseless : Option (List ℕ) → Type 0
+IsUseless None = Unit {0}
+IsUseless (Some numbers) = 3 < length numbers
 
 -- A command takes at most 1,048,576 lines.
 unfoldable pub if_few : ℕ → Command → Command

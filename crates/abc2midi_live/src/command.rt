@@ -1,12 +1,13 @@
 //! The commands, and how they are read from a line.
 
-ghost use Rattle.std.specs.Prelude.{◌≡◌, ◌≢◌, ◌⊎◌, [], None, MatchOption, unwrap_or};
+ghost use Rattle.std.specs.Prelude.{◌≡◌, ◌≤◌, take, Some, MatchOption, IfSome};
 ghost use Rattle.std.specs.Str.Lines.{strip_carriage_return};
 ghost use Rattle.abc2midi_live.specs.Number.{number_of};
-ghost use Rattle.abc2midi_live.specs.Command.{insertion, replacement, deletion, hex_dump, quitting, both, if_few, command_named, command_of, command_of_words, numbers_of, with_numbers, words_behind, words_of, line_count};
+ghost use Rattle.abc2midi_live.specs.Command.{insertion, replacement, deletion, hex_dump, quitting, if_few, command_named, command_of, command_of_words, numbers_of, words_behind, IsUseless, words_of, line_count};
 
 use crate::cut::cut;
 use crate::number::number_of;
+use std::str;
 
 /// How many lines a command takes at most.
 const MOST_LINES: u32 = 1_048_576;
@@ -31,97 +32,131 @@ pub enum Command {
     Unknown,
 }
 
-// The number before the next space, and the words behind that.
-fn next_number(words: Option<&[u8]>) -> Option<(u32, Option<&[u8]>)>
-    ensures { MatchOption result
-        ((words_behind words.entry ≡ []) ⊎ (numbers_of (words_behind words.entry) ≡ None))
-        (λ read. numbers_of (words_behind words.entry) ≡ both (Some read.0) (numbers_of (words_behind read.1))) }
-{
-    let (word, rest) = cut(words?, b' ');
-    Some((number_of(word)?, rest))
+/// How many numbers a command has at most.
+const MOST_NUMBERS: usize = 3;
+
+/// The numbers of a command: the first `count` values.
+#[derive(Clone, Copy)]
+struct Numbers {
+    values: [u32; MOST_NUMBERS],
+    count: usize,
 }
 
-fn no_more(words: Option<&[u8]>) -> Option<()>
-    ensures { MatchOption result (words_behind words.entry ≢ []) (λ _. words_behind words.entry ≡ []) }
-{
-    match words {
-        Some(_) => None,
-        None => Some(()),
+impl Numbers {
+    fn as_slice(&self) -> &[u32]
+        requires { self.now.count ≤ 3 }
+        ensures { result.now ≡ take self.now.count self.now.values }
+    {
+        &self.values[..self.count]
     }
 }
 
-fn if_few(count: u32, command: Command) -> Option<Command>
-    ensures { unwrap_or result Command.Unknown ≡ if_few count command }
+/// The numbers that words spell, if each of them spells one and there are at most three.
+fn numbers_of(words: Option<&[u8]>) -> Option<Numbers>
+    ensures numbers { MatchOption result (IsUseless (numbers_of (words_behind words.entry)))
+        (λ n. numbers_of (words_behind words.entry) ≡ Some (take n.count n.values)) }
+    ensures few { IfSome result (λ n. n.count ≤ 3) }
+{
+    let mut values = [0; MOST_NUMBERS];
+    let mut count = 0;
+    let mut rest = words;
+    while let Some(text) = rest {
+        let (word, behind) = cut(text, b' ');
+        let number = number_of(word)?;
+        if count == MOST_NUMBERS {
+            return None;
+        }
+        values[count] = number;
+        count += 1;
+        rest = behind;
+    }
+    Some(Numbers { values, count })
+}
+
+#[tactic(auto, unfolding(crate::specs::Command::if_few))]
+fn if_few(count: u32, command: Command) -> Command
+    ensures { result ≡ if_few count command }
 {
     if count <= MOST_LINES {
-        Some(command)
+        command
     } else {
-        None
+        Command::Unknown
     }
 }
 
-fn insertion(words: Option<&[u8]>) -> Option<Command>
-    ensures { unwrap_or result Command.Unknown ≡ with_numbers (words_behind words.entry) insertion }
+#[tactic(auto, unfolding(crate::specs::Command::insertion))]
+fn insertion(numbers: &[u32]) -> Command
+    ensures { result ≡ insertion numbers.now }
 {
-    let (at, words) = next_number(words)?;
-    let (count, words) = next_number(words)?;
-    no_more(words)?;
-    if_few(count, Command::Insert { at, count })
+    match *numbers {
+        [at, count] => if_few(count, Command::Insert { at, count }),
+        _ => Command::Unknown,
+    }
 }
 
-fn replacement(words: Option<&[u8]>) -> Option<Command>
-    ensures { unwrap_or result Command.Unknown ≡ with_numbers (words_behind words.entry) replacement }
+#[tactic(auto, unfolding(crate::specs::Command::replacement))]
+fn replacement(numbers: &[u32]) -> Command
+    ensures { result ≡ replacement numbers.now }
 {
-    let (from, words) = next_number(words)?;
-    let (to, words) = next_number(words)?;
-    let (count, words) = next_number(words)?;
-    no_more(words)?;
-    if_few(count, Command::Replace { from, to, count })
+    match *numbers {
+        [from, to, count] => if_few(count, Command::Replace { from, to, count }),
+        _ => Command::Unknown,
+    }
 }
 
-fn deletion(words: Option<&[u8]>) -> Option<Command>
-    ensures { unwrap_or result Command.Unknown ≡ with_numbers (words_behind words.entry) deletion }
+#[tactic(auto, unfolding(crate::specs::Command::deletion))]
+fn deletion(numbers: &[u32]) -> Command
+    ensures { result ≡ deletion numbers.now }
 {
-    let (from, words) = next_number(words)?;
-    let (to, words) = next_number(words)?;
-    no_more(words)?;
-    Some(Command::Delete { from, to })
+    match *numbers {
+        [from, to] => Command::Delete { from, to },
+        _ => Command::Unknown,
+    }
 }
 
-fn hex_dump(words: Option<&[u8]>) -> Option<Command>
-    ensures { unwrap_or result Command.Unknown ≡ with_numbers (words_behind words.entry) hex_dump }
+#[tactic(auto, unfolding(crate::specs::Command::hex_dump))]
+fn hex_dump(numbers: &[u32]) -> Command
+    ensures { result ≡ hex_dump numbers.now }
 {
-    let (number, words) = next_number(words)?;
-    no_more(words)?;
-    Some(Command::Hex { number })
+    match *numbers {
+        [number] => Command::Hex { number },
+        _ => Command::Unknown,
+    }
 }
 
-fn quitting(words: Option<&[u8]>) -> Option<Command>
-    ensures { unwrap_or result Command.Unknown ≡ with_numbers (words_behind words.entry) quitting }
+#[tactic(auto, unfolding(crate::specs::Command::quitting))]
+fn quitting(numbers: &[u32]) -> Command
+    ensures { result ≡ quitting numbers.now }
 {
-    no_more(words)?;
-    Some(Command::Quit)
+    match *numbers {
+        [] => Command::Quit,
+        _ => Command::Unknown,
+    }
 }
 
-fn named(name: &[u8], words: Option<&[u8]>) -> Option<Command>
-    ensures { unwrap_or result Command.Unknown ≡ with_numbers (words_behind words.entry) (command_named name.now) }
+/// The command of a name and the numbers after it.
+#[tactic(auto, unfolding(crate::specs::Command::command_named))]
+fn named(name: &str, numbers: &[u32]) -> Command
+    ensures { result ≡ command_named name.now numbers.now }
 {
-    if name == b"insert".as_slice() {
-        return insertion(words);
+    match name {
+        "insert" => insertion(numbers),
+        "replace" => replacement(numbers),
+        "delete" => deletion(numbers),
+        "hex" => hex_dump(numbers),
+        "quit" => quitting(numbers),
+        _ => Command::Unknown,
     }
-    if name == b"replace".as_slice() {
-        return replacement(words);
+}
+
+/// The same for a word that need not be text.
+fn named_by_bytes(name: &[u8], numbers: &[u32]) -> Command
+    ensures { result ≡ command_named name.now numbers.now }
+{
+    match str::from_utf8(name) {
+        Ok(name) => named(name, numbers),
+        Err(_) => Command::Unknown,
     }
-    if name == b"delete".as_slice() {
-        return deletion(words);
-    }
-    if name == b"hex".as_slice() {
-        return hex_dump(words);
-    }
-    if name == b"quit".as_slice() {
-        return quitting(words);
-    }
-    None
 }
 
 fn without_return(line: &[u8]) -> &[u8]
@@ -133,11 +168,15 @@ fn without_return(line: &[u8]) -> &[u8]
     }
 }
 
-fn spelled(line: &[u8]) -> Option<Command>
-    ensures { unwrap_or result Command.Unknown ≡ command_of_words (words_of line.now) }
+/// The command that the words of a line spell.
+fn spelled(line: &[u8]) -> Command
+    ensures { result ≡ command_of_words (words_of line.now) }
 {
     let (name, words) = cut(line, b' ');
-    named(name, words)
+    match numbers_of(words) {
+        Some(numbers) => named_by_bytes(name, numbers.as_slice()),
+        None => Command::Unknown,
+    }
 }
 
 impl Command {
@@ -148,7 +187,7 @@ impl Command {
         if line.len() > LONGEST_LINE {
             return Command::Unknown;
         }
-        spelled(without_return(line)).unwrap_or(Command::Unknown)
+        spelled(without_return(line))
     }
 
     /// How many of the lines after it belong to the command.
