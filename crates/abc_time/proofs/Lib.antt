@@ -6,3 +6,4 @@ pub mod LengthLaws
 pub mod Numerators
 pub mod Products
 pub mod Quotients
+pub mod Tempos

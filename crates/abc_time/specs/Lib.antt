@@ -3,3 +3,4 @@ pub mod Grains
 pub mod Length
 pub mod Product
 pub mod Ratio
+pub mod Tempo

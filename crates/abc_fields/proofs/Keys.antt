@@ -1,0 +1,301 @@
+-- A value is read as its grammar says.
+use Rattle.std.proofs.Common.{◌≡◌, ◌==◌, ◌||◌, ℕ, ◌⊎◌, ℤ, pos, negsuc, ◌+ℤ◌, Bool, true, false, List, [], ◌∷◌, length, codes, Option, Some, None, Result, Ok, Err, refl, sym, ap, ◌∙◌, subst, inl, inr, ⊎_elim, arith}
+use Rattle.std.specs.Prelude.{◌↔◌, int_lt, IfSome, IfOk}
+use Rattle.std.specs.Option.{option_map, ok_or}
+use Rattle.std.specs.Str.{bytes_eq}
+use Rattle.std.proofs.lemmas.Bool.{cond-true, cond-false, cases_Bool, eqb-true, or_cases, or_parts, or_from, false_from_ne_true, both_ways}
+use Rattle.std.proofs.lemmas.Int.{ints}
+use Rattle.std.proofs.lemmas.Slice.Eq.{bytes_eq-Decides}
+use Rattle.abc_fields.specs.declared.fault.FaultCode.{FaultCode}
+use Rattle.abc_fields.specs.declared.fault.FaultCode.TheVariants.{BadKey}
+use Rattle.abc_fields.specs.declared.key.Key.{Key}
+use Rattle.abc_fields.specs.declared.shift.Shift.{Shift}
+use Rattle.abc_fields.specs.declared.signature.Signature.{Signature}
+use Rattle.abc_fields.specs.declared.tonic.Basis.{Basis}
+use Rattle.abc_fields.specs.declared.tonic.Basis.TheVariants.{Named, Explicit}
+use Rattle.abc_fields.specs.Listed.{with_accidentals}
+use Rattle.abc_fields.specs.Mode.{added_sharps, is_minor}
+use Rattle.abc_fields.specs.Shift.{IsShift, IsSmallShift, no_shift, shift_of}
+use Rattle.abc_fields.specs.Signature.{IsSharps, IsSignature, signature_of}
+use Rattle.abc_fields.specs.Tonic.{IsTonic, tonic_sharps, tonic_at, basis_at}
+use Rattle.abc_fields.specs.Word.{IsFirstWord, words_of}
+use Rattle.abc_fields.specs.Key.{no_key, no_signature, IsKeyOn, HasNoTonic, IsStart, IsCompleted, IsSpelled, IsKey, IsInRange, key_with, key_on, names_clef, without_line, sets_properties, begins_accidental, toneless_start, tonal_start, start_by_words, start_by, start_of, key_after, completed, spelled_key, key_in, key_of}
+use Rattle.abc_fields.specs.Key.IsStart.{tonal, listed, properties}
+use Rattle.abc_fields.specs.Key.IsKey.{nothing, spelled}
+use Rattle.abc_fields.proofs.Words.{words_exact}
+use Rattle.abc_fields.proofs.Shifts.{shift_exact, shift_small}
+use Rattle.abc_fields.proofs.Tonics.{tonic_from, tonic_to, basis_from, basis_to}
+use Rattle.abc_fields.proofs.Clefs.{begins_from, begins_to, sets_from, sets_to}
+use Rattle.abc_fields.proofs.Signatures.{natural_range, signature_of_range}
+use Rattle.abc_fields.proofs.Listings.{listed_from, listed_to, listed_range}
+
+-- the key on a tonic
+in_range : (sharps : ℤ) → int_lt sharps (negsuc 6) ≡ false → int_lt (pos 7) sharps ≡ false → IsSharps sharps
+in_range sharps low high = (grind (arith, ints), grind (arith, ints))
+
+not_below : (sharps : ℤ) → IsSharps sharps → int_lt sharps (negsuc 6) ≡ false
+not_below sharps h = grind (arith, ints)
+
+not_above : (sharps : ℤ) → IsSharps sharps → int_lt (pos 7) sharps ≡ false
+not_above sharps h = grind (arith, ints)
+
+abbrev key_of_sharps : ℤ → Bool → Key
+key_of_sharps sharps minor = record { signature = Some (signature_of sharps); sharps = sharps; minor = minor; shift = no_shift }
+
+with_from : (sharps : ℤ) (minor : Bool) (key : Key) → key_with sharps minor ≡ Some key → IsSharps sharps × (key ≡ key_of_sharps sharps minor)
+unfolding key_with
+with_from sharps minor key e = ⊎_elim
+    (λ t. let none : None ≡ Some key = sym (cond-true _ None (Some (key_of_sharps sharps minor)) t) ∙ e in cc)
+    (λ t.
+    let known : Some (key_of_sharps sharps minor) ≡ Some key = sym (cond-false _ None (Some (key_of_sharps sharps minor)) t) ∙ e in
+    let parts = or_parts (int_lt sharps (negsuc 6)) (int_lt (pos 7) sharps) t in
+    (in_range sharps parts.0 parts.1, cc))
+    (cases_Bool (int_lt sharps (negsuc 6) || int_lt (pos 7) sharps))
+
+with_to : (sharps : ℤ) (minor : Bool) → IsSharps sharps → key_with sharps minor ≡ Some (key_of_sharps sharps minor)
+unfolding key_with
+with_to sharps minor h = cond-false _ None (Some (key_of_sharps sharps minor)) (or_from (int_lt sharps (negsuc 6)) (int_lt (pos 7) sharps) (not_below sharps h) (not_above sharps h))
+
+key_on_from : (major : ℤ) (basis : Basis) (key : Key) → key_on major basis ≡ Some key → IsKeyOn major basis key
+key_on_from major Explicit key e = cc
+key_on_from major (Named mode) key e = with_from (major +ℤ added_sharps mode) (is_minor mode) key e
+
+key_on_to : (major : ℤ) (basis : Basis) (key : Key) → IsKeyOn major basis key → key_on major basis ≡ Some key
+key_on_to major Explicit key h = ap Some (sym h)
+key_on_to major (Named mode) key h = with_to (major +ℤ added_sharps mode) (is_minor mode) h.0 ∙ ap Some (sym h.1)
+
+-- what a value begins with
+no_tonic_from : (value : List ℕ) → tonic_at value ≡ None → HasNoTonic value
+no_tonic_from value e = λ sharps rest is. let known : ◌≡◌ {A = Option (ℤ × List ℕ)} None (Some (sharps, rest)) = sym e ∙ tonic_to value sharps rest is in cc
+
+no_tonic_to : (value : List ℕ) (o : Option (ℤ × List ℕ)) → tonic_at value ≡ o → HasNoTonic value → o ≡ None
+no_tonic_to value None e h = refl
+no_tonic_to value (Some p) e h = absurd (h p.0 p.1 (tonic_from value p.0 p.1 e))
+
+first_from : (value first : List ℕ) (rest : List (List ℕ)) → words_of value ≡ first ∷ rest → (behind : List ℕ) × IsFirstWord value first behind
+first_from value first rest e = let are = (words_exact value (first ∷ rest)).0 e in (are.0, are.1)
+
+first_to : (value first behind : List ℕ) → IsFirstWord value first behind → words_of value ≡ first ∷ words_of behind
+first_to value first behind is = (words_exact value (first ∷ words_of behind)).1 (behind, is, (words_exact behind (words_of behind)).0 refl)
+
+toneless_from : (value first behind : List ℕ) (found : Key × List ℕ) → HasNoTonic value → IsFirstWord value first behind
+    → option_map {T = Key} {U = Key × List ℕ} (λ key. (key, value)) (toneless_start first) ≡ Some found → IsStart value found.0 found.1
+toneless_from value first behind found toneless is e = ⊎_elim
+    (λ t.
+    let known : Some (no_key, value) ≡ Some found = sym (ap (option_map {T = Key} {U = Key × List ℕ} (λ key. (key, value))) (cond-true (begins_accidental first) _ _ t)) ∙ e in
+    let same : (no_key, value) ≡ found = cc in
+    subst (λ (p : Key × List ℕ). IsStart value p.0 p.1) same (listed first behind toneless is (begins_from first t) refl refl))
+    (λ t.
+    let later = sym (ap (option_map {T = Key} {U = Key × List ℕ} (λ key. (key, value))) (cond-false (begins_accidental first) _ _ t)) ∙ e in
+    ⊎_elim
+    (λ u.
+    let known : Some (no_signature, value) ≡ Some found = sym (ap (option_map {T = Key} {U = Key × List ℕ} (λ key. (key, value))) (cond-true (sets_properties first) _ _ u)) ∙ later in
+    let same : (no_signature, value) ≡ found = cc in
+    subst (λ (p : Key × List ℕ). IsStart value p.0 p.1) same
+    (properties first behind toneless is (λ begins. both_ways (begins_accidental first) t (begins_to first begins)) (sets_from first u) refl refl))
+    (λ u. let none : None ≡ Some found = sym (ap (option_map {T = Key} {U = Key × List ℕ} (λ key. (key, value))) (cond-false (sets_properties first) _ _ u)) ∙ later in cc)
+    (cases_Bool (sets_properties first)))
+    (cases_Bool (begins_accidental first))
+
+by_words : (value : List ℕ) (found : Key × List ℕ) (words : List (List ℕ)) → words_of value ≡ words → HasNoTonic value → start_by_words value words ≡ Some found → IsStart value found.0 found.1
+by_words value found [] w toneless e = cc
+by_words value found (first ∷ rest) w toneless e = let is = first_from value first rest w in toneless_from value first is.0 found toneless is.1 e
+
+tonal_from : (value : List ℕ) (found : Key × List ℕ) (major : ℤ) (behind : List ℕ) (o : Option (Basis × List ℕ)) → basis_at behind ≡ o → IsTonic value major behind
+    → tonal_start major o ≡ Some found → IsStart value found.0 found.1
+tonal_from value found major behind None b is e = cc
+tonal_from value found major behind (Some basis) b is e = by_key (key_on major basis.0) refl e
+  where
+    by_key : (o : Option Key) → key_on major basis.0 ≡ o → option_map {T = Key} {U = Key × List ℕ} (λ key. (key, basis.1)) o ≡ Some found → IsStart value found.0 found.1
+    by_key None k e = cc
+    by_key (Some key) k e =
+        let same : (key, basis.1) ≡ found = cc in
+        subst (λ (p : Key × List ℕ). IsStart value p.0 p.1) same (tonal major behind basis.0 is (basis_from behind basis.0 basis.1 b) (key_on_from major basis.0 key k))
+
+by_tonic : (value : List ℕ) (found : Key × List ℕ) (o : Option (ℤ × List ℕ)) → tonic_at value ≡ o → start_by value o ≡ Some found → IsStart value found.0 found.1
+by_tonic value found None t e = by_words value found (words_of value) refl (no_tonic_from value t) e
+by_tonic value found (Some tonic) t e = tonal_from value found tonic.0 tonic.1 (basis_at tonic.1) refl (tonic_from value tonic.0 tonic.1 t) e
+
+start_from : (value : List ℕ) (found : Key × List ℕ) → start_of value ≡ Some found → IsStart value found.0 found.1
+unfolding start_of
+start_from value found e = by_tonic value found (tonic_at value) refl e
+
+toneless_to : (value first behind : List ℕ) (start : Key) → HasNoTonic value → IsFirstWord value first behind → toneless_start first ≡ Some start → start_of value ≡ Some (start, value)
+unfolding start_of
+toneless_to value first behind start toneless is e =
+    ap (start_by value) (no_tonic_to value (tonic_at value) refl toneless)
+    ∙ ap (start_by_words value) (first_to value first behind is)
+    ∙ ap (option_map {T = Key} {U = Key × List ℕ} (λ key. (key, value))) e
+
+start_to : (value : List ℕ) (start : Key) (text : List ℕ) → IsStart value start text → start_of value ≡ Some (start, text)
+unfolding start_of
+start_to value start text (tonal major behind basis is b k) =
+    ap (start_by value) (tonic_to value major behind is)
+    ∙ ap (tonal_start major) (basis_to behind basis text b)
+    ∙ ap (option_map {T = Key} {U = Key × List ℕ} (λ key. (key, text))) (key_on_to major basis start k)
+start_to value start text (listed first behind toneless is begins s t) =
+    toneless_to value first behind no_key toneless is (cond-true (begins_accidental first) _ _ (begins_to first begins)) ∙ (λ i. Some (sym s i, sym t i))
+start_to value start text (properties first behind toneless is other sets s t) =
+    toneless_to value first behind no_signature toneless is
+    (cond-false (begins_accidental first) _ _ (false_from_ne_true (begins_accidental first) (λ b. other (begins_from first b))) ∙ cond-true (sets_properties first) _ _ (sets_to first sets))
+    ∙ (λ i. Some (sym s i, sym t i))
+
+-- what completes it
+signature_from : (o : Option Signature) (words : List (List ℕ)) → IsCompleted o words (option_map (λ signature. with_accidentals signature words) o)
+signature_from None words = refl
+signature_from (Some signature) words = (with_accidentals signature words, listed_from words signature, refl)
+
+signature_to : (o : Option Signature) (words : List (List ℕ)) (changed : Option Signature) → IsCompleted o words changed → option_map (λ signature. with_accidentals signature words) o ≡ changed
+signature_to None words changed h = sym h
+signature_to (Some signature) words changed h = ap Some (sym (listed_to words signature h.0 h.1)) ∙ sym h.2
+
+pub record Completes (start : Key) (words : List (List ℕ)) (key : Key) : Type 0 where
+  pub signature : IsCompleted start.signature words key.signature
+  pub sharps : key.sharps ≡ start.sharps
+  pub minor : key.minor ≡ start.minor
+  pub shift : IsShift words key.shift
+
+by_shift : (start : Key) (words : List (List ℕ)) (key : Key) (o : Option Shift) → shift_of words ≡ o → option_map (key_after start words) o ≡ Some key → Completes start words key
+by_shift start words key None s e = cc
+by_shift start words key (Some shift) s e =
+    let same : key_after start words shift ≡ key = cc in
+    subst (Completes start words) same (record {
+      signature = signature_from start.signature words;
+      sharps = refl;
+      minor = refl;
+      shift = (shift_exact words shift).0 s;
+    })
+
+completed_from : (start : Key) (words : List (List ℕ)) (key : Key) → completed start words ≡ Some key → Completes start words key
+unfolding completed
+completed_from start words key e = by_shift start words key (shift_of words) refl e
+
+completed_to : (start : Key) (words : List (List ℕ)) (key : Key) → Completes start words key → completed start words ≡ Some key
+unfolding completed
+completed_to start words key h =
+    let signature = signature_to start.signature words key.signature h.signature in
+    ap (option_map (key_after start words)) ((shift_exact words key.shift).1 h.shift)
+    ∙ (λ i. Some (record { signature = signature i; sharps = sym h.sharps i; minor = sym h.minor i; shift = key.shift }))
+
+-- the value
+no_length : (value : List ℕ) → (length value == 0) ≡ true → value ≡ []
+no_length [] t = refl
+no_length (b ∷ bs) t = absurd (let e : length (b ∷ bs) ≡ 0 = eqb-true (length (b ∷ bs)) 0 t in omega (arith, e))
+
+nothing_from : (value : List ℕ) → ((length value == 0) || bytes_eq value (codes "none")) ≡ true → (value ≡ []) ⊎ (value ≡ codes "none")
+nothing_from value t = ⊎_elim
+    (λ t. inl (no_length value t))
+    (λ t. inr ((bytes_eq-Decides value (codes "none")).0 t))
+    (or_cases (length value == 0) (bytes_eq value (codes "none")) t)
+
+nothing_to : (value : List ℕ) → (value ≡ []) ⊎ (value ≡ codes "none") → ((length value == 0) || bytes_eq value (codes "none")) ≡ true
+nothing_to value h = ⊎_elim
+    (λ e. ap (λ v. (length v == 0) || bytes_eq v (codes "none")) e)
+    (λ e. ap (λ v. (length v == 0) || bytes_eq v (codes "none")) e)
+    h
+
+no_start : (value : List ℕ) → (value ≡ []) ⊎ (value ≡ codes "none") → start_of value ≡ None
+unfolding start_of tonic_sharps words_of without_line names_clef
+no_start value h = ⊎_elim (λ e. ap start_of e) (λ e. ap start_of e) h
+
+by_start : (value : List ℕ) (key : Key) (o : Option (Key × List ℕ)) → start_of value ≡ o → spelled_key o ≡ Some key → IsSpelled value key
+by_start value key None s e = cc
+by_start value key (Some start) s e =
+    let text = start.1 in
+    let h = completed_from start.0 (words_of text) key e in
+    record {
+      start = start.0;
+      text = text;
+      words = words_of text;
+      begins = start_from value start s;
+      are_words = (words_exact text (words_of text)).0 refl;
+      signature = h.signature;
+      sharps = h.sharps;
+      minor = h.minor;
+      shift = h.shift;
+    }
+
+key_in_from : (value : List ℕ) (key : Key) → key_in value ≡ Some key → IsKey value key
+unfolding key_in
+key_in_from value key e = ⊎_elim
+    (λ t.
+    let known : Some no_key ≡ Some key = sym (cond-true _ (Some no_key) (spelled_key (start_of value)) t) ∙ e in
+    let same : key ≡ no_key = cc in
+    nothing (nothing_from value t) same)
+    (λ t. spelled (by_start value key (start_of value) refl (sym (cond-false _ (Some no_key) (spelled_key (start_of value)) t) ∙ e)))
+    (cases_Bool ((length value == 0) || bytes_eq value (codes "none")))
+
+key_in_to : (value : List ℕ) (key : Key) → IsKey value key → key_in value ≡ Some key
+unfolding key_in
+key_in_to value key (nothing is e) = cond-true _ (Some no_key) (spelled_key (start_of value)) (nothing_to value is) ∙ ap Some (sym e)
+key_in_to value key (spelled h) =
+    let begins = start_to value h.start h.text h.begins in
+    let something : ((length value == 0) || bytes_eq value (codes "none")) ≡ false = false_from_ne_true _ (λ t.
+    let none : ◌≡◌ {A = Option (Key × List ℕ)} None (Some (h.start, h.text)) = sym (no_start value (nothing_from value t)) ∙ begins in cc) in
+    let words : words_of h.text ≡ h.words = (words_exact h.text h.words).1 h.are_words in
+    let done : completed h.start h.words ≡ Some key = completed_to h.start h.words key (record { signature = h.signature; sharps = h.sharps; minor = h.minor; shift = h.shift }) in
+    cond-false _ (Some no_key) (spelled_key (start_of value)) something
+    ∙ ap spelled_key begins
+    ∙ ap (completed h.start) words
+    ∙ done
+
+-- a value is accepted, or refused by one fault
+read_from : (value : List ℕ) (key : Key) (o : Option Key) → key_in value ≡ o → ok_or o BadKey ≡ Ok key → IsKey value key
+read_from value key None k e = cc
+read_from value key (Some found) k e = let same : found ≡ key = cc in key_in_from value key (k ∙ ap Some same)
+
+refused_from : (value : List ℕ) (o : Option Key) → key_in value ≡ o → ok_or o BadKey ≡ Err BadKey → (key : Key) → IsKey value key → ⊥
+refused_from value None k e key is = let known : None ≡ Some key = sym k ∙ key_in_to value key is in cc
+refused_from value (Some found) k e key is = cc
+
+refused_to : (value : List ℕ) (o : Option Key) → key_in value ≡ o → ((key : Key) → IsKey value key → ⊥) → ok_or o BadKey ≡ Err BadKey
+refused_to value None k h = refl
+refused_to value (Some found) k h = absurd (h found (key_in_from value found k))
+
+-- a key is within its bounds
+no_sharps : IsSharps (pos 0)
+no_sharps = (omega (arith, ints), omega (arith, ints))
+
+no_shift_small : IsSmallShift no_shift
+no_shift_small = record { clef = tt; octave = tt; transpose = tt }
+
+no_key_range : IsInRange no_key
+no_key_range = record { sharps = no_sharps; signature = natural_range; shift = no_shift_small }
+
+key_on_range : (major : ℤ) (basis : Basis) (key : Key) → IsKeyOn major basis key → IsInRange key
+key_on_range major Explicit key h = subst IsInRange (sym h) no_key_range
+key_on_range major (Named mode) key h = subst IsInRange (sym h.1) (record { sharps = h.0; signature = signature_of_range (major +ℤ added_sharps mode); shift = no_shift_small })
+
+start_range : (value : List ℕ) (start : Key) (text : List ℕ) → IsStart value start text → IsInRange start
+start_range value start text (tonal major behind basis is b k) = key_on_range major basis start k
+start_range value start text (listed first behind toneless is begins s t) = subst IsInRange (sym s) no_key_range
+start_range value start text (properties first behind toneless is other sets s t) = subst IsInRange (sym s) (record { sharps = no_sharps; signature = tt; shift = no_shift_small })
+
+signature_range : (o : Option Signature) (words : List (List ℕ)) (changed : Option Signature) → IsCompleted o words changed → IfSome o IsSignature → IfSome changed IsSignature
+signature_range None words changed h r = subst (λ c. IfSome c IsSignature) (sym h) tt
+signature_range (Some signature) words changed h r =
+    subst (λ c. IfSome c IsSignature) (ap Some (sym (listed_to words signature h.0 h.1)) ∙ sym h.2) (listed_range words signature r)
+
+key_range : (value : List ℕ) (key : Key) → IsKey value key → IsInRange key
+key_range value key (nothing is e) = subst IsInRange (sym e) no_key_range
+key_range value key (spelled h) =
+    let r = start_range value h.start h.text h.begins in
+    record {
+      sharps = subst IsSharps (sym h.sharps) r.sharps;
+      signature = signature_range h.start.signature h.words key.signature h.signature r.signature;
+      shift = shift_small h.words (Some key.shift) (sym ((shift_exact h.words key.shift).1 h.shift));
+    }
+
+in_range_by : (value : List ℕ) (o : Option Key) → key_in value ≡ o → IfOk (ok_or o BadKey) IsInRange
+in_range_by value None k = tt
+in_range_by value (Some key) k = key_range value key (key_in_from value key k)
+
+-- the laws of a reading
+pub key_exact : (value : List ℕ) (r : Result Key FaultCode) → r ≡ key_of value → (key : Key) → (r ≡ Ok key) ↔ IsKey value key
+key_exact value r e key = (λ h. read_from value key (key_in value) refl (sym e ∙ h), λ is. e ∙ ap (λ o. ok_or o BadKey) (key_in_to value key is))
+
+pub key_refused : (value : List ℕ) (r : Result Key FaultCode) → r ≡ key_of value → (r ≡ Err BadKey) ↔ ((key : Key) → IsKey value key → ⊥)
+key_refused value r e = (λ h. refused_from value (key_in value) refl (sym e ∙ h), λ h. e ∙ refused_to value (key_in value) refl h)
+
+pub key_in_range : (value : List ℕ) (r : Result Key FaultCode) → r ≡ key_of value → IfOk r IsInRange
+key_in_range value r e = subst (λ x. IfOk x IsInRange) (sym e) (in_range_by value (key_in value) refl)

@@ -1,0 +1,299 @@
+-- A text is a meter exactly where it is read.
+use Rattle.std.proofs.Common.{◌≡◌, ℕ, ◌+◌, ◌-◌, ◌≤◌, ◌<◌, ◌^◌, ◌&&◌, ◌||◌, ◌==◌, ◌↔◌, Bool, true, false, cond, leb, List, [], ◌∷◌, ◌++◌, length, get_or, take, drop, sum, codes, bytes_eq, Option, Some, None, Result, Ok, Err, ok_or, refl, sym, ap, ◌∙◌, subst, inl, inr, ⊎_elim, arith, All, IfOk, suc}
+use Rattle.std.specs.List.{before_first, after_first, position_or_len}
+use Rattle.std.proofs.Math.Seq.{take-append_seam, get_or-append_seam, drop-append-add, drop-cons}
+use Rattle.std.proofs.Math.ListN.{get_or-append}
+use Rattle.std.proofs.lemmas.Bool.{eqb-true, and_parts, and_from, and_left, cases_Bool, cond-true, cond-false, or_cases, or_from, false_from_ne_true, cases_lt}
+use Rattle.std.proofs.lemmas.Bool.Decides.{nat_tests}
+use Rattle.std.proofs.lemmas.List.{drop_all, take-append-drop, length-append}
+use Rattle.std.proofs.lemmas.List.Elements.{All-nil, All-cons, All-head, All-same, All-append, All-weaker}
+use Rattle.std.proofs.lemmas.List.Sums.{split_at_first, passes_at_first, position_or_len_is}
+use Rattle.std.proofs.lemmas.Slice.Eq.{bytes_eq-Decides}
+use Rattle.abc_fields.specs.declared.fault.FaultCode.{FaultCode}
+use Rattle.abc_fields.specs.declared.fault.FaultCode.TheVariants.{BadMeter}
+use Rattle.abc_fields.specs.declared.meter.Meter.{Meter}
+use Rattle.abc_fields.specs.declared.meter.Meter.TheVariants.{Free, Of}
+use Rattle.abc_fields.specs.Number.{number_of}
+use Rattle.abc_fields.specs.Power.{IsPowerUpTo, is_power}
+use Rattle.abc_fields.specs.Meter.{IsSum, IsAbove, IsFraction, IsMeter, IsMeterInRange, has_plus, sum_of, closes_a_sum, above_of, power_up_to_64, meter_by, fraction_of, symbol_or_fraction, meter_of}
+use Rattle.abc_fields.proofs.Numbers.{number_of-spells, number_of-spelled}
+use Rattle.abc_fields.proofs.Powers.{low_power_from, low_power_to, low_power_least, low_power_most}
+use Rattle.abc_fields.proofs.Readings.{refused_from}
+use Rattle.abc_fields.proofs.SumTexts.{sum_of-from, sum_of-to, has_plus-from, has_plus-to, IsSumByte, sum_bytes}
+
+-- a list ends with its last element
+last_is : (xs : List ℕ) (c : ℕ) → 1 ≤ c → get_or xs (length xs - 1) 0 ≡ c → xs ≡ take (length xs - 1) xs ++ c ∷ []
+last_is [] c some e = absurd (omega (arith, e))
+last_is (x ∷ xs) c some e =
+    let i = length (x ∷ xs) - 1 in
+    let inside : i < length (x ∷ xs) = omega arith in
+    let over : length (x ∷ xs) ≤ suc i = omega arith in
+    sym (take-append-drop i (x ∷ xs)) ∙ ap (λ l. take i (x ∷ xs) ++ l) (drop-cons (x ∷ xs) i 0 inside ∙ ap (λ b. b ∷ drop (suc i) (x ∷ xs)) e ∙ ap (λ l. c ∷ l) (drop_all (suc i) (x ∷ xs) over))
+
+-- what stands above
+record IsRead (text : List ℕ) (n : ℕ) : Type 0 where
+  above : IsAbove text n
+  small : n ≤ 255
+
+plain : (text : List ℕ) (n : ℕ) → sum_of text ≡ Some n → IsRead text n
+plain text n e = let k = sum_of-from text n e in record { above = record { numbers = k.0; total_is = k.2; spelling = inl k.1 }; small = k.3 }
+
+in_parentheses : (b : ℕ) (rest : List ℕ) (n : ℕ) → ((b == 40) && closes_a_sum rest) ≡ true → sum_of (take (length rest - 1) rest) ≡ Some n → IsRead (b ∷ rest) n
+in_parentheses b rest n t e =
+    let inner = take (length rest - 1) rest in
+    let opens = and_parts (b == 40) (closes_a_sum rest) t in
+    let closes = and_parts (get_or rest (length rest - 1) 0 == 41) (has_plus inner) opens.1 in
+    let k = sum_of-from inner n e in
+    record {
+      above = record {
+        numbers = k.0;
+        total_is = k.2;
+        spelling = inr (record {
+          inner = inner;
+          spelling = ap (λ x. x ∷ rest) (eqb-true b 40 opens.0) ∙ ap (λ l. 40 ∷ l) (last_is rest 41 (omega arith) (eqb-true (get_or rest (length rest - 1) 0) 41 closes.0));
+          summed = k.1;
+          several = has_plus-from inner k.0 k.1 closes.1;
+        });
+      };
+      small = k.3;
+    }
+
+above_from : (text : List ℕ) (n : ℕ) → above_of text ≡ Some n → IsRead text n
+above_from [] n e = plain [] n e
+above_from (b ∷ rest) n e = ⊎_elim
+    (λ t. in_parentheses b rest n t (sym (cond-true _ _ _ t) ∙ e))
+    (λ t. plain (b ∷ rest) n (sym (cond-false _ _ _ t) ∙ e))
+    (cases_Bool ((b == 40) && closes_a_sum rest))
+
+plain_to : (text numbers : List ℕ) → IsSum text numbers → above_of text ≡ sum_of text
+plain_to [] numbers h = refl
+plain_to (b ∷ rest) numbers h = cond-false _ _ _ (and_left _ _ (All-head IsSumByte b rest (sum_bytes (b ∷ rest) numbers h)).not_open)
+
+closed_to : (inner numbers : List ℕ) → IsSum inner numbers → 2 ≤ length numbers → above_of (40 ∷ inner ++ 41 ∷ []) ≡ sum_of inner
+closed_to inner numbers h several =
+    let rest = inner ++ 41 ∷ [] in
+    let front : length rest - 1 ≡ length inner = omega (arith, length-append inner (41 ∷ [])) in
+    let inside : take (length rest - 1) rest ≡ inner = ap (λ i. take i rest) front ∙ take-append_seam inner (41 ∷ []) in
+    let last : (get_or rest (length rest - 1) 0 == 41) ≡ true = ap (λ i. get_or rest i 0 == 41) front ∙ ap (λ x. x == 41) (get_or-append_seam inner 41 [] 0) in
+    let plus : has_plus (take (length rest - 1) rest) ≡ true = ap has_plus inside ∙ has_plus-to inner numbers h several in
+    cond-true ((40 == 40) && closes_a_sum rest) _ _ (and_from _ _ last plus) ∙ ap sum_of inside
+
+above_to : (text : List ℕ) (n : ℕ) → IsAbove text n → n ≤ 255 → above_of text ≡ Some n
+above_to text n h small =
+    let total : n ≡ sum h.numbers = h.total_is in
+    let within : sum h.numbers ≤ 255 = omega arith in
+    ⊎_elim
+    (λ k. plain_to text h.numbers k ∙ sum_of-to text h.numbers k within ∙ ap Some (sym total))
+    (λ p. ap above_of p.spelling ∙ closed_to p.inner h.numbers p.summed p.several ∙ sum_of-to p.inner h.numbers p.summed within ∙ ap Some (sym total))
+    h.spelling
+
+abbrev HasNoStroke : List ℕ → Type 0
+HasNoStroke text = All (λ b. (b == 47) ≡ false) text
+
+sum_HasNoStroke : (text numbers : List ℕ) → IsSum text numbers → HasNoStroke text
+sum_HasNoStroke text numbers h = All-weaker IsSumByte (λ b. (b == 47) ≡ false) (λ b k. k.no_stroke) text (sum_bytes text numbers h)
+
+above_HasNoStroke : (text : List ℕ) (n : ℕ) → IsAbove text n → HasNoStroke text
+above_HasNoStroke text n h = ⊎_elim
+    (λ k. sum_HasNoStroke text h.numbers k)
+    (λ p. let clean = λ (b : ℕ). (b == 47) ≡ false in
+    All-same clean text (40 ∷ p.inner ++ 41 ∷ []) p.spelling (All-cons clean 40 (p.inner ++ 41 ∷ []) refl (All-append clean p.inner (41 ∷ []) (sum_HasNoStroke p.inner h.numbers p.summed) (All-cons clean 41 [] refl (All-nil clean)))))
+    h.spelling
+
+-- what stands below
+low_at : (n d : ℕ) (t : Bool) → t ≡ (is_power n && leb n 64) → cond t (Some n) None ≡ Some d → (n ≡ d) × IsPowerUpTo 6 d
+low_at n d true e h = let same : n ≡ d = cc in (same, subst (IsPowerUpTo 6) same (low_power_from n (sym e)))
+low_at n d false e h = cc
+
+low_from : (o : Option ℕ) (d : ℕ) → power_up_to_64 o ≡ Some d → (o ≡ Some d) × IsPowerUpTo 6 d
+low_from None d h = cc
+low_from (Some n) d h = let k = low_at n d (is_power n && leb n 64) refl h in (ap Some k.0, k.1)
+
+low_to : (o : Option ℕ) (d : ℕ) → o ≡ Some d → IsPowerUpTo 6 d → power_up_to_64 o ≡ Some d
+low_to o d e h = ap power_up_to_64 e ∙ cond-true _ _ _ (low_power_to d h)
+
+-- a fraction
+record Parts (o p : Option ℕ) (m : Meter) : Type 0 where
+  num : ℕ
+  den : ℕ
+  num_is : o ≡ Some num
+  den_is : p ≡ Some den
+  some : 1 ≤ num
+  meter : m ≡ Of num den
+
+parts_at : (n d : ℕ) (m : Meter) (t : Bool) → t ≡ (n == 0) → cond t None (Some (Of n d)) ≡ Some m → Parts (Some n) (Some d) m
+parts_at n d m true e h = cc
+parts_at n d m false e h = record { num = n; den = d; num_is = refl; den_is = refl; some = grind (arith, nat_tests); meter = cc }
+
+parts : (o p : Option ℕ) (m : Meter) → meter_by o p ≡ Some m → Parts o p m
+parts None p m h = cc
+parts (Some n) None m h = cc
+parts (Some n) (Some d) m h = parts_at n d m (n == 0) refl h
+
+abbrev is_stroke : ℕ → Bool
+is_stroke b = b == 47
+
+number_of_nothing : (d : ℕ) → number_of [] ≡ Some d → ⊥
+unfolding number_of
+number_of_nothing d e = cc
+
+-- a number stands behind a stroke
+has_stroke : (text : List ℕ) (d : ℕ) → number_of (after_first is_stroke text) ≡ Some d → position_or_len is_stroke text < length text
+has_stroke text d e = ⊎_elim
+    (λ inside. inside)
+    (λ over. absurd (number_of_nothing d (sym (ap number_of (drop_all (position_or_len is_stroke text + 1) text (omega arith))) ∙ e)))
+    (cases_lt (position_or_len is_stroke text) (length text))
+
+cut : (text : List ℕ) → position_or_len is_stroke text < length text → text ≡ before_first is_stroke text ++ 47 ∷ after_first is_stroke text
+cut text inside =
+    split_at_first is_stroke text 0 inside
+    ∙ ap (λ b. before_first is_stroke text ++ b ∷ after_first is_stroke text) (eqb-true (get_or text (position_or_len is_stroke text) 0) 47 (passes_at_first is_stroke text 0 inside))
+
+record FractionRead (text : List ℕ) (m : Meter) : Type 0 where
+  num : ℕ
+  den : ℕ
+  meter : m ≡ Of num den
+  fraction : IsFraction text num den
+
+fraction_from : (text : List ℕ) (m : Meter) → fraction_of text ≡ Some m → FractionRead text m
+unfolding fraction_of
+fraction_from text m e =
+    let p = parts (above_of (before_first is_stroke text)) (power_up_to_64 (number_of (after_first is_stroke text))) m e in
+    let above = above_from (before_first is_stroke text) p.num p.num_is in
+    let below = low_from (number_of (after_first is_stroke text)) p.den p.den_is in
+    record {
+      num = p.num;
+      den = p.den;
+      meter = p.meter;
+      fraction = record {
+        above = before_first is_stroke text;
+        below = after_first is_stroke text;
+        spelling = cut text (has_stroke text p.den below.0);
+        num_is = above.above;
+        den_is = number_of-spells (after_first is_stroke text) p.den below.0;
+        num_least = p.some;
+        num_most = above.small;
+        den_power = below.1;
+      };
+    }
+
+stroke_at : (above below : List ℕ) → HasNoStroke above → position_or_len is_stroke (above ++ 47 ∷ below) ≡ length above
+stroke_at above below clean =
+    position_or_len_is is_stroke (above ++ 47 ∷ below) (length above) 0 (omega (arith, length-append above (47 ∷ below)))
+    (λ k l. ap is_stroke (get_or-append above (47 ∷ below) 0 k l) ∙ clean k 0 l)
+    (λ l. ap is_stroke (get_or-append_seam above 47 below 0))
+
+fraction_cut : (above below : List ℕ) → HasNoStroke above → fraction_of (above ++ 47 ∷ below) ≡ meter_by (above_of above) (power_up_to_64 (number_of below))
+unfolding fraction_of
+fraction_cut above below clean =
+    let text = above ++ 47 ∷ below in
+    ap (λ i. meter_by (above_of (take i text)) (power_up_to_64 (number_of (drop (i + 1) text)))) (stroke_at above below clean)
+    ∙ ap (λ t. meter_by (above_of t) (power_up_to_64 (number_of (drop (length above + 1) text)))) (take-append_seam above (47 ∷ below))
+    ∙ ap (λ t. meter_by (above_of above) (power_up_to_64 (number_of t))) (drop-append-add above (47 ∷ below) 1)
+
+fraction_to : (text : List ℕ) (num den : ℕ) → IsFraction text num den → fraction_of text ≡ Some (Of num den)
+fraction_to text num den h =
+    let some : 1 ≤ num = h.num_least in
+    ap fraction_of h.spelling ∙ fraction_cut h.above h.below (above_HasNoStroke h.above num h.num_is)
+    ∙ ap (λ o. meter_by o (power_up_to_64 (number_of h.below))) (above_to h.above num h.num_is h.num_most)
+    ∙ ap (meter_by (Some num)) (low_to (number_of h.below) den (number_of-spelled h.below den h.den_is) h.den_power)
+    ∙ cond-false (num == 0) _ _ (grind (arith, nat_tests))
+
+-- the meter by what its tests say
+abbrev by_tests : Bool → Bool → Bool → Option Meter → Option Meter
+by_tests free common cut fraction = cond free (Some Free) (cond common (Some (Of 4 4)) (cond cut (Some (Of 2 2)) fraction))
+
+tested_from : (free common cut : Bool) (fraction : Option Meter) (text : List ℕ) (m : Meter) → (free ≡ true → IsMeter text Free) → (common ≡ true → text ≡ codes "C") → (cut ≡ true → text ≡ codes "C|")
+    → (fraction ≡ Some m → IsMeter text m) → by_tests free common cut fraction ≡ Some m → IsMeter text m
+tested_from true common cut fraction text m f g h k e = let same : Free ≡ m = cc in subst (IsMeter text) same (f refl)
+tested_from false true cut fraction text m f g h k e = let same : Of 4 4 ≡ m = cc in subst (IsMeter text) same (inl (inl (g refl, refl, refl)))
+tested_from false false true fraction text m f g h k e = let same : Of 2 2 ≡ m = cc in subst (IsMeter text) same (inl (inr (h refl, refl, refl)))
+tested_from false false false fraction text m f g h k e = k e
+
+free_from : (text : List ℕ) → (bytes_eq text [] || bytes_eq text (codes "none")) ≡ true → IsMeter text Free
+free_from text e = ⊎_elim
+    (λ empty. inl ((bytes_eq-Decides text []).0 empty))
+    (λ none. inr ((bytes_eq-Decides text (codes "none")).0 none))
+    (or_cases _ _ e)
+
+read_from : (text : List ℕ) (m : Meter) → symbol_or_fraction text ≡ Some m → IsMeter text m
+unfolding symbol_or_fraction
+read_from text m e =
+    tested_from (bytes_eq text [] || bytes_eq text (codes "none")) (bytes_eq text (codes "C")) (bytes_eq text (codes "C|")) (fraction_of text) text m
+    (free_from text) (bytes_eq-Decides text (codes "C")).0 (bytes_eq-Decides text (codes "C|")).0
+    (λ h. let k = fraction_from text m h in subst (IsMeter text) (sym k.meter) (inr k.fraction)) e
+
+-- no fraction is a symbol
+differs : (text word : List ℕ) (m : Meter) → fraction_of text ≡ Some m → fraction_of word ≡ None → bytes_eq text word ≡ false
+differs text word m e none = false_from_ne_true (bytes_eq text word)
+    (λ t. let same : text ≡ word = (bytes_eq-Decides text word).0 t in let k : ◌≡◌ {A = Option Meter} None (Some m) = sym none ∙ ap fraction_of (sym same) ∙ e in cc)
+
+fraction_is : (text : List ℕ) (m : Meter) → fraction_of text ≡ Some m → fraction_of [] ≡ None → fraction_of (codes "none") ≡ None → fraction_of (codes "C") ≡ None → fraction_of (codes "C|") ≡ None → symbol_or_fraction text ≡ Some m
+unfolding symbol_or_fraction
+fraction_is text m e empty none common cut =
+    cond-false (bytes_eq text [] || bytes_eq text (codes "none")) _ _ (or_from _ _ (differs text [] m e empty) (differs text (codes "none") m e none))
+    ∙ cond-false (bytes_eq text (codes "C")) _ _ (differs text (codes "C") m e common)
+    ∙ cond-false (bytes_eq text (codes "C|")) _ _ (differs text (codes "C|") m e cut)
+    ∙ e
+
+no_fraction : (word : List ℕ) → number_of (after_first is_stroke word) ≡ None → fraction_of word ≡ None
+unfolding fraction_of
+no_fraction word e = ap (λ o. meter_by (above_of (before_first is_stroke word)) (power_up_to_64 o)) e ∙ without (above_of (before_first is_stroke word)) where
+  without : (num : Option ℕ) → meter_by num None ≡ None
+  without None = refl
+  without (Some n) = refl
+
+nothing : number_of [] ≡ None
+unfolding number_of
+nothing = refl
+
+read_to : (text : List ℕ) (m : Meter) → IsMeter text m → symbol_or_fraction text ≡ Some m
+unfolding symbol_or_fraction
+read_to text Free h = ⊎_elim (λ e. ap symbol_or_fraction e) (λ e. ap symbol_or_fraction e) h
+read_to text (Of num den) h = ⊎_elim
+    (λ symbol. ⊎_elim
+    (λ k. ap symbol_or_fraction k.0 ∙ ap (λ n. Some (Of n 4)) (sym k.1) ∙ ap (λ d. Some (Of num d)) (sym k.2))
+    (λ k. ap symbol_or_fraction k.0 ∙ ap (λ n. Some (Of n 2)) (sym k.1) ∙ ap (λ d. Some (Of num d)) (sym k.2))
+    symbol)
+    (λ k. fraction_is text (Of num den) (fraction_to text num den k) (no_fraction [] nothing) (no_fraction (codes "none") nothing) (no_fraction (codes "C") nothing) (no_fraction (codes "C|") nothing))
+    h
+
+-- and its parts are in range
+two_power : (k n : ℕ) → k ≤ 6 → n ≡ 2 ^ k → IsPowerUpTo 6 n
+two_power k n small e = record { power = k; small = small; value = e }
+
+meter_range : (text : List ℕ) (m : Meter) → IsMeter text m → IsMeterInRange m
+meter_range text Free h = tt
+meter_range text (Of num den) h = ⊎_elim
+    (λ symbol. ⊎_elim
+    (λ k. let n = k.1 in let d = k.2 in record { num_least = omega arith; num_most = omega arith; den_least = omega arith; den_most = omega arith; den_power = two_power 2 den (omega arith) d })
+    (λ k. let n = k.1 in let d = k.2 in record { num_least = omega arith; num_most = omega arith; den_least = omega arith; den_most = omega arith; den_power = two_power 1 den (omega arith) d })
+    symbol)
+    (λ k. record { num_least = k.num_least; num_most = k.num_most; den_least = low_power_least den k.den_power; den_most = low_power_most den k.den_power; den_power = k.den_power })
+    h
+
+pub record Laws (text : List ℕ) (r : Result Meter FaultCode) : Type 0 where
+  pub ok : (m : Meter) → (r ≡ Ok m) ↔ IsMeter text m
+  pub refused : (r ≡ Err BadMeter) ↔ ((m : Meter) → IsMeter text m → ⊥)
+  pub range : IfOk r IsMeterInRange
+
+ok_from : (o : Option Meter) (m : Meter) → ok_or o BadMeter ≡ Ok m → o ≡ Some m
+ok_from None m e = cc
+ok_from (Some n) m e = cc
+
+bad : (o : Option Meter) (e : FaultCode) → ok_or o BadMeter ≡ Err e → e ≡ BadMeter
+bad None e h = cc
+bad (Some n) e h = cc
+
+in_range : (r : Result Meter FaultCode) {P : Meter → Type 0} → ((m : Meter) → r ≡ Ok m → P m) → IfOk r P
+in_range (Ok m) h = h m refl
+in_range (Err e) h = tt
+
+pub laws : (text : List ℕ) (r : Result Meter FaultCode) → r ≡ meter_of text → Laws text r
+laws text r e =
+    let ok : (m : Meter) → (r ≡ Ok m) ↔ IsMeter text m = λ m. (λ k. read_from text m (ok_from (symbol_or_fraction text) m (sym e ∙ k)), λ h. e ∙ ap (λ o. ok_or o BadMeter) (read_to text m h)) in
+    record {
+      ok = ok;
+      refused = refused_from r BadMeter (IsMeter text) ok (λ f k. bad (symbol_or_fraction text) f (sym e ∙ k));
+      range = in_range r (λ m k. meter_range text m ((ok m).0 k));
+    }

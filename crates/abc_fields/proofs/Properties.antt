@@ -1,0 +1,278 @@
+-- Laws of properties.
+use Rattle.std.proofs.Common.{◌≡◌, ℕ, ℤ, suc, ◌+◌, ◌-◌, ◌<◌, ◌≤◌, true, false, leb, eqb, List, [], ◌∷◌, ◌++◌, length, get_or, take, drop, Option, Some, None, refl, sym, ap, ◌∙◌, subst, inl, inr, ⊎_elim, arith, length-append, drop-cons}
+use Rattle.std.specs.Prelude.{◌⊎◌, ◌&&◌, pos, negsuc, neg_ℤ, codes, nat_eq}
+use Rattle.std.specs.List.{ends_with, slice_range}
+use Rattle.std.specs.Option.{option_map, option_map_or, unwrap_or}
+use Rattle.std.proofs.Math.Seq.{take-append_seam, drop-append_seam, get_or-append_seam}
+use Rattle.std.proofs.lemmas.Bool.{cond-true, cond-false, cases_Bool, le-leb, eqb-true, eq-eqb, ne_eqb, and_parts, and_from, true≢false, false_from_ne_true}
+use Rattle.std.proofs.lemmas.Bool.Decides.{Decides-eqb}
+use Rattle.std.proofs.lemmas.List.{take-append-drop, drop_all}
+use Rattle.std.proofs.lemmas.List.Elements.{All-head}
+use Rattle.std.proofs.lemmas.List.Prefix.{end_rest}
+use Rattle.std.proofs.lemmas.Slice.Eq.{bytes_eq-Decides, ends_is}
+use Rattle.std.specs.Char.{is_ascii_digit}
+use Rattle.abc_fields.specs.Number.{IsNumber, number_of}
+use Rattle.abc_fields.specs.declared.property.Property.{Property}
+use Rattle.abc_fields.specs.declared.property.Property.TheVariants.{Clef, Octave, Transpose, Other}
+use Rattle.abc_fields.specs.Property.{IsUnquoted, IsSignedNumber, EndsIn, HasMark, HasNoMark, IsClef, Gives, clef_name, octave_name, transpose_name, BeginsWith, HasNoName, IsProperty, is_quoted, unquoted, signed_number, mark_of, clef_of, begins_with, property_of}
+use Rattle.abc_fields.proofs.Numbers.{number_of-spells, number_of-spelled}
+
+-- quotes
+quoted_of : (text value : List ℕ) → text ≡ 34 ∷ (value ++ 34 ∷ []) → (is_quoted text ≡ true) × (slice_range text 1 (length text - 1) ≡ value)
+quoted_of text value e =
+    let long : length text ≡ suc (length value + 1) = ap length e ∙ ap suc (length-append value (34 ∷ [])) in
+    let last : length text - 1 ≡ suc (length value) = omega (arith, long) in
+    let count : length text - 1 - 1 ≡ length value = omega (arith, long) in
+    let opens : get_or text 0 0 ≡ 34 = ap (λ l. get_or l 0 0) e in
+    let closes : get_or text (length text - 1) 0 ≡ 34 = (λ i. get_or (e i) (last i) 0) ∙ get_or-append_seam value 34 [] 0 in (
+      and_from _ _ (and_from _ _ (le-leb 2 (length text) (omega (arith, long))) (eq-eqb _ _ opens)) (eq-eqb _ _ closes),
+      (λ i. take (count i) (drop 1 (e i))) ∙ take-append_seam value (34 ∷ []),
+    )
+
+one_left : (bs : List ℕ) → 0 < length bs → bs ≡ take (length bs - 1) bs ++ (get_or bs (length bs - 1) 0 ∷ [])
+one_left bs some =
+    let n = length bs - 1 in
+    let inside : n < length bs = omega arith in
+    let past : length bs ≤ suc n = omega arith in
+    sym (take-append-drop n bs) ∙ ap (λ l. take n bs ++ l) (drop-cons bs n 0 inside ∙ ap (λ l. get_or bs n 0 ∷ l) (drop_all (suc n) bs past))
+
+quoted_is : (text : List ℕ) → is_quoted text ≡ true → text ≡ 34 ∷ (slice_range text 1 (length text - 1) ++ 34 ∷ [])
+quoted_is [] test = cc
+quoted_is (b ∷ []) test = cc
+quoted_is (b ∷ c ∷ cs) test =
+    let text = b ∷ c ∷ cs in
+    let bs = c ∷ cs in
+    let both = and_parts (leb 2 (length text) && eqb b 34) (eqb (get_or text (length text - 1) 0) 34) test in
+    let opens : b ≡ 34 = eqb-true b 34 (and_parts (leb 2 (length text)) (eqb b 34) both.0).1 in
+    let count : length text - 1 - 1 ≡ length bs - 1 = omega arith in
+    let last : length text - 1 ≡ suc (length bs - 1) = omega arith in
+    let closes : get_or bs (length bs - 1) 0 ≡ 34 = ap (λ n. get_or text n 0) (sym last) ∙ eqb-true _ 34 both.1 in
+    (λ i. opens i ∷ one_left bs (omega arith) i) ∙ (λ i. 34 ∷ (take (sym count i) bs ++ closes i ∷ []))
+
+unquoted_is : (text : List ℕ) → IsUnquoted text (unquoted text)
+unfolding unquoted
+unquoted_is text = ⊎_elim
+    (λ test. inl (quoted_is text test ∙ ap (λ l. 34 ∷ (l ++ 34 ∷ [])) (sym (cond-true _ _ _ test))))
+    (λ other. inr (sym (cond-false _ _ _ other), λ inner e. true≢false (sym (quoted_of text inner e).0 ∙ other)))
+    (cases_Bool (is_quoted text))
+
+unquoted_known : (text value : List ℕ) → IsUnquoted text value → unquoted text ≡ value
+unfolding unquoted
+unquoted_known text value is = ⊎_elim
+    (λ e. let both = quoted_of text value e in cond-true _ _ _ both.0 ∙ both.1)
+    (λ plain. ⊎_elim (λ test. absurd (plain.1 _ (quoted_is text test))) (λ other. cond-false _ _ _ other ∙ plain.0) (cases_Bool (is_quoted text)))
+    is
+
+-- signs and numbers
+map_some : {A B : Type 0} (f : A → B) (o : Option A) (y : B) → option_map f o ≡ Some y → (x : A) × (o ≡ Some x) × (y ≡ f x)
+map_some f None y e = cc
+map_some f (Some x) y e = (x, refl, cc)
+
+no_number : (n : ℕ) → IsNumber [] n → ⊥
+no_number n is = let some : 1 ≤ 0 = is.some in omega arith
+
+no_sign_first : (b : ℕ) (bs : List ℕ) (n : ℕ) → IsNumber (b ∷ bs) n → ((b ≡ 45) ⊎ (b ≡ 43)) → ⊥
+no_sign_first b bs n is sign =
+    let digit : is_ascii_digit b ≡ true = All-head (λ x. is_ascii_digit x ≡ true) b bs is.digits in
+    ⊎_elim (λ e. true≢false (sym digit ∙ ap is_ascii_digit e)) (λ e. true≢false (sym digit ∙ ap is_ascii_digit e)) sign
+
+signed_read : (text : List ℕ) (n : ℤ) → signed_number text ≡ Some n → IsSignedNumber text n
+unfolding signed_number
+signed_read [] n e = cc
+signed_read (b ∷ bs) n e = ⊎_elim
+    (λ minus.
+    let parts = map_some (λ k. neg_ℤ (pos k)) (number_of bs) n (sym (cond-true _ _ _ minus) ∙ e) in
+    record {
+      digits = bs;
+      size = parts.0;
+      number = number_of-spells bs parts.0 parts.1;
+      sign = inr (inr (ap (λ x. x ∷ bs) (eqb-true b 45 minus), parts.2));
+    })
+    (λ no_minus.
+    let rest = sym (cond-false _ _ _ no_minus) ∙ e in
+    ⊎_elim
+    (λ plus.
+    let parts = map_some pos (number_of bs) n (sym (cond-true _ _ _ plus) ∙ rest) in
+    record {
+      digits = bs;
+      size = parts.0;
+      number = number_of-spells bs parts.0 parts.1;
+      sign = inr (inl (ap (λ x. x ∷ bs) (eqb-true b 43 plus), parts.2));
+    })
+    (λ no_plus.
+    let parts = map_some pos (number_of (b ∷ bs)) n (sym (cond-false _ _ _ no_plus) ∙ rest) in
+    record {
+      digits = b ∷ bs;
+      size = parts.0;
+      number = number_of-spells (b ∷ bs) parts.0 parts.1;
+      sign = inl (refl, parts.2);
+    })
+    (cases_Bool (eqb b 43)))
+    (cases_Bool (eqb b 45))
+
+unsigned_known : (text : List ℕ) (size : ℕ) → IsNumber text size → signed_number text ≡ Some (pos size)
+unfolding signed_number
+unsigned_known [] size is = absurd (no_number size is)
+unsigned_known (b ∷ bs) size is =
+    let no_minus : eqb b 45 ≡ false = ne_eqb b 45 (λ e. no_sign_first b bs size is (inl e)) in
+    let no_plus : eqb b 43 ≡ false = ne_eqb b 43 (λ e. no_sign_first b bs size is (inr e)) in
+    cond-false _ _ _ no_minus ∙ cond-false _ _ _ no_plus ∙ ap (option_map pos) (number_of-spelled (b ∷ bs) size is)
+
+signed_known : (text : List ℕ) (n : ℤ) → IsSignedNumber text n → signed_number text ≡ Some n
+unfolding signed_number
+signed_known text n is =
+    let known : number_of is.digits ≡ Some is.size = number_of-spelled is.digits is.size is.number in
+    ⊎_elim
+    (λ h. ap signed_number h.0 ∙ unsigned_known is.digits is.size is.number ∙ ap Some (sym h.1))
+    (⊎_elim
+    (λ h. ap signed_number h.0 ∙ ap (option_map pos) known ∙ ap Some (sym h.1))
+    (λ h. ap signed_number h.0 ∙ ap (option_map (λ k. neg_ℤ (pos k))) known ∙ ap Some (sym h.1)))
+    is.sign
+
+-- the mark of a clef
+pub ends_true : (text end : List ℕ) → ends_with nat_eq text end ≡ true → EndsIn text end
+ends_true text end e = (take (length text - length end) text, (ends_is Decides-eqb text end (ends_with nat_eq text end) refl).0 e)
+
+pub ends_from : (text end : List ℕ) → EndsIn text end → ends_with nat_eq text end ≡ true
+ends_from text end is = (ends_is Decides-eqb text end (ends_with nat_eq text end) refl).1 is.0 is.1
+
+one_end : (text : List ℕ) → EndsIn text (codes "-8") → EndsIn text (codes "+8") → ⊥
+one_end text low high =
+    let e : codes "-8" ≡ codes "+8" = sym (end_rest text (codes "-8") low.0 low.1) ∙ end_rest text (codes "+8") high.0 high.1 in
+    let first : 45 ≡ 43 = ap (λ l. get_or l 0 0) e in
+    omega (arith, first)
+
+mark_read : (text : List ℕ) (n : ℤ) → mark_of text ≡ Some n → HasMark text n
+unfolding mark_of
+mark_read text n e = ⊎_elim
+    (λ high. inl (ends_true text _ high, let same : Some (pos 12) ≡ Some n = sym (cond-true _ _ _ high) ∙ e in cc))
+    (λ no_high.
+    let rest = sym (cond-false _ _ _ no_high) ∙ e in
+    ⊎_elim
+    (λ low. inr (ends_true text _ low, let same : Some (negsuc 11) ≡ Some n = sym (cond-true _ _ _ low) ∙ rest in cc))
+    (λ no_low. let none : None ≡ Some n = sym (cond-false _ _ _ no_low) ∙ rest in cc)
+    (cases_Bool (ends_with nat_eq text (codes "-8"))))
+    (cases_Bool (ends_with nat_eq text (codes "+8")))
+
+mark_known : (text : List ℕ) (n : ℤ) → HasMark text n → mark_of text ≡ Some n
+unfolding mark_of
+mark_known text n has = ⊎_elim
+    (λ high. cond-true _ _ _ (ends_from text (codes "+8") high.0) ∙ ap Some (sym high.1))
+    (λ low.
+    let no_high : ends_with nat_eq text (codes "+8") ≡ false = false_from_ne_true _ (λ e. one_end text low.0 (ends_true text _ e)) in
+    cond-false _ _ _ no_high ∙ cond-true _ _ _ (ends_from text (codes "-8") low.0) ∙ ap Some (sym low.1))
+    has
+
+no_mark_read : (text : List ℕ) → mark_of text ≡ None → HasNoMark text
+no_mark_read text e n has = let some : None ≡ Some n = sym e ∙ mark_known text n has in cc
+
+no_mark_from : (text : List ℕ) (o : Option ℤ) → mark_of text ≡ o → HasNoMark text → o ≡ None
+no_mark_from text None e has = refl
+no_mark_from text (Some n) e has = absurd (has n (mark_read text n e))
+
+no_mark_known : (text : List ℕ) → HasNoMark text → mark_of text ≡ None
+no_mark_known text has = no_mark_from text (mark_of text) refl has
+
+clef_by : (text : List ℕ) (o : Option ℤ) → mark_of text ≡ o → IsClef text (unwrap_or o (pos 0))
+clef_by text None e = inr (no_mark_read text e, refl)
+clef_by text (Some n) e = inl (mark_read text n e)
+
+clef_known : (text : List ℕ) (n : ℤ) → IsClef text n → clef_of text ≡ n
+clef_known text n is = ⊎_elim
+    (λ has. ap (λ o. unwrap_or o (pos 0)) (mark_known text n has))
+    (λ none. ap (λ o. unwrap_or o (pos 0)) (no_mark_known text none.0) ∙ sym none.1)
+    is
+
+-- names
+begins_true : (name word : List ℕ) → begins_with name word ≡ true → word ≡ name ++ drop (length name) word
+begins_true name word e =
+    let same : take (length name) word ≡ name = (bytes_eq-Decides (take (length name) word) name).0 e in
+    sym (take-append-drop (length name) word) ∙ ap (λ l. l ++ drop (length name) word) same
+
+begins_from : (name word text : List ℕ) → word ≡ name ++ text → begins_with name word ≡ true
+begins_from name word text e = (bytes_eq-Decides (take (length name) word) name).1 (ap (take (length name)) e ∙ take-append_seam name text)
+
+behind_name : (name word text : List ℕ) → word ≡ name ++ text → drop (length name) word ≡ text
+behind_name name word text e = ap (drop (length name)) e ∙ drop-append_seam name text
+
+begins_false : (name word : List ℕ) → ¬ BeginsWith name word → begins_with name word ≡ false
+begins_false name word never = false_from_ne_true _ (λ e. never (drop (length name) word, begins_true name word e))
+
+no_begin : (name word : List ℕ) → begins_with name word ≡ false → ¬ BeginsWith name word
+no_begin name word fails begins = true≢false (sym (begins_from name word begins.0 begins.1) ∙ fails)
+
+first_differs : (a b : ℕ) (xs ys text word : List ℕ) → (a ≡ b → ⊥) → word ≡ (a ∷ xs) ++ text → begins_with (b ∷ ys) word ≡ false
+first_differs a b xs ys text word differ e = begins_false (b ∷ ys) word (λ begins. differ (ap (λ l. get_or l 0 0) (sym e ∙ begins.1)))
+
+given : (name word : List ℕ) → begins_with name word ≡ true → Gives name word (unquoted (drop (length name) word))
+given name word e = record {
+  text = drop (length name) word;
+  spelling = begins_true name word e;
+  unquoted = unquoted_is (drop (length name) word);
+}
+
+value_known : (name word value : List ℕ) (g : Gives name word value) → unquoted (drop (length name) word) ≡ value
+value_known name word value g = ap unquoted (behind_name name word g.text g.spelling) ∙ unquoted_known g.text value g.unquoted
+
+-- a word is read as what it says
+plain_read : (word : List ℕ) (o : Option ℤ) → HasNoName word → mark_of word ≡ o → IsProperty word (option_map_or Clef o Other)
+plain_read word None unnamed e = (unnamed, no_mark_read word e)
+plain_read word (Some n) unnamed e = inr (unnamed, mark_read word n e)
+
+pub property_read : (word : List ℕ) (p : Property) → property_of word ≡ Some p → IsProperty word p
+unfolding property_of
+property_read word p e = ⊎_elim
+    (λ clef.
+    let value = unquoted (drop 5 word) in
+    let same : Clef (clef_of value) ≡ p = (let chosen : Some (Clef (clef_of value)) ≡ Some p = sym (cond-true _ _ _ clef) ∙ e in cc) in
+    subst (IsProperty word) same (inl (value, given clef_name word clef, clef_by value (mark_of value) refl)))
+    (λ no_clef.
+    let rest = sym (cond-false _ _ _ no_clef) ∙ e in
+    ⊎_elim
+    (λ octave.
+    let value = unquoted (drop 7 word) in
+    let parts = map_some Octave (signed_number value) p (sym (cond-true _ _ _ octave) ∙ rest) in
+    subst (IsProperty word) (sym parts.2) (value, given octave_name word octave, signed_read value parts.0 parts.1))
+    (λ no_octave.
+    let rest2 = sym (cond-false _ _ _ no_octave) ∙ rest in
+    ⊎_elim
+    (λ transpose.
+    let value = unquoted (drop 10 word) in
+    let parts = map_some Transpose (signed_number value) p (sym (cond-true _ _ _ transpose) ∙ rest2) in
+    subst (IsProperty word) (sym parts.2) (value, given transpose_name word transpose, signed_read value parts.0 parts.1))
+    (λ no_transpose.
+    let same : option_map_or Clef (mark_of word) Other ≡ p = (let chosen : Some (option_map_or Clef (mark_of word) Other) ≡ Some p = sym (cond-false _ _ _ no_transpose) ∙ rest2 in cc) in
+    subst (IsProperty word) same (plain_read word (mark_of word) (no_begin clef_name word no_clef, no_begin octave_name word no_octave, no_begin transpose_name word no_transpose) refl))
+    (cases_Bool (begins_with transpose_name word)))
+    (cases_Bool (begins_with octave_name word)))
+    (cases_Bool (begins_with clef_name word))
+
+clef_named : (word : List ℕ) → begins_with clef_name word ≡ true → property_of word ≡ Some (Clef (clef_of (unquoted (drop 5 word))))
+unfolding property_of
+clef_named word clef = cond-true _ _ _ clef
+
+octave_named : (word : List ℕ) → begins_with clef_name word ≡ false → begins_with octave_name word ≡ true → property_of word ≡ option_map Octave (signed_number (unquoted (drop 7 word)))
+unfolding property_of
+octave_named word no_clef octave = cond-false _ _ _ no_clef ∙ cond-true _ _ _ octave
+
+transpose_named : (word : List ℕ) → begins_with clef_name word ≡ false → begins_with octave_name word ≡ false → begins_with transpose_name word ≡ true → property_of word ≡ option_map Transpose (signed_number (unquoted (drop 10 word)))
+unfolding property_of
+transpose_named word no_clef no_octave transpose = cond-false _ _ _ no_clef ∙ cond-false _ _ _ no_octave ∙ cond-true _ _ _ transpose
+
+not_named : (word : List ℕ) → HasNoName word → property_of word ≡ Some (option_map_or Clef (mark_of word) Other)
+unfolding property_of
+not_named word unnamed = cond-false _ _ _ (begins_false clef_name word unnamed.0) ∙ cond-false _ _ _ (begins_false octave_name word unnamed.1) ∙ cond-false _ _ _ (begins_false transpose_name word unnamed.2)
+
+pub property_known : (word : List ℕ) (p : Property) → IsProperty word p → property_of word ≡ Some p
+property_known word (Clef n) is = ⊎_elim
+    (λ h. clef_named word (begins_from clef_name word h.1.text h.1.spelling) ∙ ap (λ v. Some (Clef (clef_of v))) (value_known clef_name word h.0 h.1) ∙ ap (λ k. Some (Clef k)) (clef_known h.0 n h.2))
+    (λ h. not_named word h.0 ∙ ap (λ o. Some (option_map_or Clef o Other)) (mark_known word n h.1))
+    is
+property_known word (Octave n) is =
+    let no_clef : begins_with clef_name word ≡ false = first_differs 111 99 (drop 1 octave_name) (drop 1 clef_name) is.1.text word (λ e. omega arith) is.1.spelling in
+    octave_named word no_clef (begins_from octave_name word is.1.text is.1.spelling) ∙ ap (λ v. option_map Octave (signed_number v)) (value_known octave_name word is.0 is.1) ∙ ap (option_map Octave) (signed_known is.0 n is.2)
+property_known word (Transpose n) is =
+    let no_clef : begins_with clef_name word ≡ false = first_differs 116 99 (drop 1 transpose_name) (drop 1 clef_name) is.1.text word (λ e. omega arith) is.1.spelling in
+    let no_octave : begins_with octave_name word ≡ false = first_differs 116 111 (drop 1 transpose_name) (drop 1 octave_name) is.1.text word (λ e. omega arith) is.1.spelling in
+    transpose_named word no_clef no_octave (begins_from transpose_name word is.1.text is.1.spelling) ∙ ap (λ v. option_map Transpose (signed_number v)) (value_known transpose_name word is.0 is.1) ∙ ap (option_map Transpose) (signed_known is.0 n is.2)
+property_known word Other is = not_named word is.0 ∙ ap (λ o. Some (option_map_or Clef o Other)) (no_mark_known word is.1)

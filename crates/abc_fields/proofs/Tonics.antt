@@ -1,0 +1,242 @@
+-- The front of a key is read as its grammar says.
+use Rattle.std.proofs.Common.{◌≡◌, ℕ, zero, suc, ◌+◌, ◌<◌, ℤ, pos, negsuc, ◌+ℤ◌, ◌-ℤ◌, Bool, true, false, cond, List, [], ◌∷◌, ◌++◌, length, take, drop, Option, Some, None, codes, refl, sym, ap, ◌∙◌, subst, inl, inr, ⊎_elim, arith}
+use Rattle.std.specs.Prelude.{◌==◌, ◌≢◌, slice_get}
+use Rattle.std.specs.List.{AllPass, prefix_len}
+use Rattle.std.specs.Option.{option_map}
+use Rattle.std.specs.Str.{bytes_eq}
+use Rattle.std.specs.Char.{is_ascii_alphabetic}
+use Rattle.std.proofs.Math.Seq.{take-append_seam, drop-append_seam}
+use Rattle.std.proofs.lemmas.Bool.{cond-true, cond-false, cond_both, cases_Bool, eqb-true, eqb-false, ne_eqb, false_from_ne_true}
+use Rattle.std.proofs.lemmas.List.{take-append-drop}
+use Rattle.std.proofs.lemmas.List.Elements.{All-nil, All-cons, All-head, All-tail}
+use Rattle.std.proofs.lemmas.Slice.Eq.{bytes_eq-Decides}
+use Rattle.abc_fields.specs.declared.mode.Mode.{Mode}
+use Rattle.abc_fields.specs.declared.mode.Mode.TheVariants.{Ionian}
+use Rattle.abc_fields.specs.declared.tonic.Basis.{Basis}
+use Rattle.abc_fields.specs.declared.tonic.Basis.TheVariants.{Named, Explicit}
+use Rattle.abc_fields.specs.Blank.{is_blank}
+use Rattle.abc_fields.specs.Mode.{IsMode, mode_named, mode_of}
+use Rattle.abc_fields.specs.Tonic.{IsTonicLetter, HasNoSign, IsSign, IsTonic, StopsAt, IsRun, IsBasis, tonic_sharps, sign_at, tonic_at, basis_by, basis_at}
+use Rattle.abc_fields.specs.Tonic.IsSign.{sharp, flat, none}
+use Rattle.abc_fields.specs.Tonic.IsBasis.{named, explicit, major}
+use Rattle.abc_fields.proofs.Modes.{mode_from, mode_to}
+
+-- the letter of a tonic
+letter_case : (letter known fifths : ℕ) (rest : Option ℤ) (s : ℤ) → cond (letter == known) (Some (pos fifths -ℤ pos 1)) rest ≡ Some s
+    → slice_get (codes "FCGDAEB") fifths ≡ Some known → (rest ≡ Some s → IsTonicLetter letter s) → IsTonicLetter letter s
+letter_case letter known fifths rest s e at later = ⊎_elim
+    (λ t.
+    let same : Some (pos fifths -ℤ pos 1) ≡ Some s = sym (cond-true (letter == known) (Some (pos fifths -ℤ pos 1)) rest t) ∙ e in
+    let sharps : s ≡ pos fifths -ℤ pos 1 = cc in
+    (fifths, at ∙ ap Some (sym (eqb-true letter known t)), sharps))
+    (λ t. later (sym (cond-false (letter == known) (Some (pos fifths -ℤ pos 1)) rest t) ∙ e))
+    (cases_Bool (letter == known))
+
+letter_from : (letter : ℕ) (s : ℤ) → tonic_sharps letter ≡ Some s → IsTonicLetter letter s
+unfolding tonic_sharps
+letter_from letter s e =
+    letter_case letter 70 0 _ s e refl (λ e.
+    letter_case letter 67 1 _ s e refl (λ e.
+    letter_case letter 71 2 _ s e refl (λ e.
+    letter_case letter 68 3 _ s e refl (λ e.
+    letter_case letter 65 4 _ s e refl (λ e.
+    letter_case letter 69 5 _ s e refl (λ e.
+    letter_case letter 66 6 _ s e refl (λ e. cc)))))))
+
+letter_is : (known letter : ℕ) → Some known ≡ Some letter → letter ≡ known
+letter_is known letter e = cc
+
+letter_to : (letter : ℕ) (s : ℤ) (fifths : ℕ) → slice_get (codes "FCGDAEB") fifths ≡ Some letter → s ≡ pos fifths -ℤ pos 1 → tonic_sharps letter ≡ Some s
+unfolding tonic_sharps
+letter_to letter s zero e h = ap tonic_sharps (letter_is 70 letter e) ∙ ap Some (sym h)
+letter_to letter s (suc zero) e h = ap tonic_sharps (letter_is 67 letter e) ∙ ap Some (sym h)
+letter_to letter s (suc (suc zero)) e h = ap tonic_sharps (letter_is 71 letter e) ∙ ap Some (sym h)
+letter_to letter s (suc (suc (suc zero))) e h = ap tonic_sharps (letter_is 68 letter e) ∙ ap Some (sym h)
+letter_to letter s (suc (suc (suc (suc zero)))) e h = ap tonic_sharps (letter_is 65 letter e) ∙ ap Some (sym h)
+letter_to letter s (suc (suc (suc (suc (suc zero))))) e h = ap tonic_sharps (letter_is 69 letter e) ∙ ap Some (sym h)
+letter_to letter s (suc (suc (suc (suc (suc (suc zero)))))) e h = ap tonic_sharps (letter_is 66 letter e) ∙ ap Some (sym h)
+letter_to letter s (suc (suc (suc (suc (suc (suc (suc k))))))) e h = cc
+
+-- the sign behind it
+sign_from : (text : List ℕ) → IsSign text (sign_at text).0 (sign_at text).1
+sign_from [] = none ((λ rest e. cc), (λ rest e. cc)) refl refl
+sign_from (b ∷ bs) =
+    cond_both (b == 35) (pos 7, bs) _ (λ (p : ℤ × List ℕ). IsSign (b ∷ bs) p.0 p.1) (λ t. sharp (ap (λ x. x ∷ bs) (eqb-true b 35 t)) refl) (λ t.
+    cond_both (b == 98) (negsuc 6, bs) (pos 0, b ∷ bs) (λ (p : ℤ × List ℕ). IsSign (b ∷ bs) p.0 p.1) (λ u. flat (ap (λ x. x ∷ bs) (eqb-true b 98 u)) refl) (λ u.
+    none ((λ rest e. eqb-false b 35 t cc), (λ rest e. eqb-false b 98 u cc)) refl refl))
+
+no_sign : (text : List ℕ) → HasNoSign text → sign_at text ≡ (pos 0, text)
+no_sign [] h = refl
+no_sign (b ∷ bs) h =
+    cond-false (b == 35) _ _ (ne_eqb b 35 (λ e. h.0 bs (ap (λ x. x ∷ bs) e)))
+    ∙ cond-false (b == 98) _ _ (ne_eqb b 98 (λ e. h.1 bs (ap (λ x. x ∷ bs) e)))
+
+sign_to : (text : List ℕ) (added : ℤ) (rest : List ℕ) → IsSign text added rest → sign_at text ≡ (added, rest)
+sign_to text added rest (sharp e h) = ap sign_at e ∙ (λ i. (sym h i, rest))
+sign_to text added rest (flat e h) = ap sign_at e ∙ (λ i. (sym h i, rest))
+sign_to text added rest (none unsigned e h) = no_sign text unsigned ∙ (λ i. (sym h i, e i))
+
+-- the tonic
+abbrev with_sign : List ℕ → ℤ → ℤ × List ℕ
+with_sign behind n = (n +ℤ (sign_at behind).0, (sign_at behind).1)
+
+tonic_by : (letter : ℕ) (behind : List ℕ) (s : ℤ) (rest : List ℕ) (o : Option ℤ) → tonic_sharps letter ≡ o
+    → option_map (with_sign behind) o ≡ Some (s, rest) → IsTonic (letter ∷ behind) s rest
+tonic_by letter behind s rest None o e = cc
+tonic_by letter behind s rest (Some n) o e =
+    let same : with_sign behind n ≡ (s, rest) = cc in
+    subst (λ (p : ℤ × List ℕ). IsTonic (letter ∷ behind) p.0 p.1) same (record {
+      letter = letter;
+      behind = behind;
+      spelling = refl;
+      natural = n;
+      letter_sharps = letter_from letter n o;
+      added = (sign_at behind).0;
+      sign = sign_from behind;
+      sharps_are = refl;
+    })
+
+pub tonic_from : (text : List ℕ) (s : ℤ) (rest : List ℕ) → tonic_at text ≡ Some (s, rest) → IsTonic text s rest
+tonic_from [] s rest e = cc
+tonic_from (letter ∷ behind) s rest e = tonic_by letter behind s rest (tonic_sharps letter) refl e
+
+pub tonic_to : (text : List ℕ) (s : ℤ) (rest : List ℕ) → IsTonic text s rest → tonic_at text ≡ Some (s, rest)
+tonic_to text s rest h =
+    let sign = sign_to h.behind h.added rest h.sign in
+    let letter = letter_to h.letter h.natural h.letter_sharps.0 h.letter_sharps.1 h.letter_sharps.2 in
+    ap tonic_at h.spelling
+    ∙ ap (option_map (with_sign h.behind)) letter
+    ∙ (λ i. Some (h.natural +ℤ (sign i).0, (sign i).1))
+    ∙ (λ i. Some (sym h.sharps_are i, rest))
+
+-- the longest front that passes a test
+front_len : (test : ℕ → Bool) (front rest : List ℕ) → AllPass test front → StopsAt test rest → prefix_len test (front ++ rest) ≡ length front
+front_len test [] [] pass stops = refl
+front_len test [] (b ∷ bs) pass stops = cond-false (test b) (1 + prefix_len test bs) 0 (stops b bs refl)
+front_len test (f ∷ fs) rest pass stops =
+    let more = front_len test fs rest (All-tail (λ x. test x ≡ true) f fs pass) stops in
+    cond-true (test f) (1 + prefix_len test (fs ++ rest)) 0 (All-head (λ x. test x ≡ true) f fs pass) ∙ omega (arith, more)
+
+one_longer : (test : ℕ → Bool) (b : ℕ) (bs : List ℕ) → test b ≡ true → prefix_len test (b ∷ bs) ≡ suc (prefix_len test bs)
+one_longer test b bs t = cond-true (test b) (1 + prefix_len test bs) 0 t ∙ omega arith
+
+front_passes : (test : ℕ → Bool) (text : List ℕ) → AllPass test (take (prefix_len test text) text)
+front_passes test [] = All-nil _
+front_passes test (b ∷ bs) = ⊎_elim
+    (λ t. subst (λ n. AllPass test (take n (b ∷ bs))) (sym (one_longer test b bs t)) (All-cons (λ x. test x ≡ true) b (take (prefix_len test bs) bs) t (front_passes test bs)))
+    (λ t. subst (λ n. AllPass test (take n (b ∷ bs))) (sym (cond-false (test b) (1 + prefix_len test bs) 0 t)) (All-nil _))
+    (cases_Bool (test b))
+
+front_stops : (test : ℕ → Bool) (text : List ℕ) → StopsAt test (drop (prefix_len test text) text)
+front_stops test [] = λ b rest e. cc
+front_stops test (b ∷ bs) = ⊎_elim
+    (λ t. subst (λ n. StopsAt test (drop n (b ∷ bs))) (sym (one_longer test b bs t)) (front_stops test bs))
+    (λ t. subst (λ n. StopsAt test (drop n (b ∷ bs))) (sym (cond-false (test b) (1 + prefix_len test bs) 0 t)) (λ c rest e. let same : b ≡ c = cc in subst (λ x. test x ≡ false) same t))
+    (cases_Bool (test b))
+
+-- the run of letters
+run_of : (text : List ℕ) →
+    let behind = drop (prefix_len is_blank text) text in
+    IsRun text (take (prefix_len is_blank text) text) (take (prefix_len is_ascii_alphabetic behind) behind) (drop (prefix_len is_ascii_alphabetic behind) behind)
+run_of text =
+    let n = prefix_len is_blank text in
+    let behind = drop n text in
+    let m = prefix_len is_ascii_alphabetic behind in
+    let whole = take-append-drop m behind in
+    record {
+      spelling = sym (ap (λ l. take n text ++ l) whole ∙ take-append-drop n text);
+      are_blanks = front_passes is_blank text;
+      no_more_blanks = subst (StopsAt is_blank) (sym whole) (front_stops is_blank text);
+      are_letters = front_passes is_ascii_alphabetic behind;
+      no_more_letters = front_stops is_ascii_alphabetic behind;
+    }
+
+run_read : (text blanks run rest : List ℕ) → IsRun text blanks run rest → basis_at text ≡ basis_by (mode_of run) (length blanks) run text rest
+unfolding basis_at
+run_read text blanks run rest is =
+    let n : prefix_len is_blank text ≡ length blanks = ap (prefix_len is_blank) is.spelling ∙ front_len is_blank blanks (run ++ rest) is.are_blanks is.no_more_blanks in
+    let behind : drop (prefix_len is_blank text) text ≡ run ++ rest = (λ i. drop (n i) (is.spelling i)) ∙ drop-append_seam blanks (run ++ rest) in
+    let m : prefix_len is_ascii_alphabetic (drop (prefix_len is_blank text) text) ≡ length run = ap (prefix_len is_ascii_alphabetic) behind ∙ front_len is_ascii_alphabetic run rest is.are_letters is.no_more_letters in
+    let letters = (λ i. take (m i) (behind i)) ∙ take-append_seam run rest in
+    let more = (λ i. drop (m i) (behind i)) ∙ drop-append_seam run rest in
+    λ i. basis_by (mode_of (letters i)) (n i) (letters i) text (more i)
+
+-- what a signature is made from
+no_mode : (run : List ℕ) (o : Option Mode) → mode_of run ≡ o → ((mode : Mode) → IsMode run mode → ⊥) → o ≡ None
+no_mode run None e h = refl
+no_mode run (Some mode) e h = absurd (h mode (mode_from run mode e))
+
+exp_is_no_mode : mode_of (codes "exp") ≡ None
+unfolding mode_of mode_named
+exp_is_no_mode = refl
+
+no_length : (text : List ℕ) → (length text == 0) ≡ true → text ≡ []
+no_length [] t = refl
+no_length (b ∷ bs) t = absurd (let e : length (b ∷ bs) ≡ 0 = eqb-true (length (b ∷ bs)) 0 t in omega (arith, e))
+
+some_length : (text : List ℕ) → 0 < length text → (length text == 0) ≡ false
+some_length text some = ne_eqb (length text) 0 (λ e. omega (arith, e, some))
+
+not_exp : (run : List ℕ) → run ≢ codes "exp" → bytes_eq run (codes "exp") ≡ false
+not_exp run other = false_from_ne_true (bytes_eq run (codes "exp")) (λ t. other ((bytes_eq-Decides run (codes "exp")).0 t))
+
+by_default : (blanks : ℕ) (run text rest : List ℕ) → (blanks == 0) ≡ false → bytes_eq run (codes "exp") ≡ false → basis_by None blanks run text rest ≡ Some (Named Ionian, text)
+by_default blanks run text rest some other = ⊎_elim
+    (λ t. cond-true (length run == 0) _ _ t)
+    (λ t. cond-false (length run == 0) _ _ t ∙ cond-false (blanks == 0) _ _ some ∙ cond-false (bytes_eq run (codes "exp")) _ _ other)
+    (cases_Bool (length run == 0))
+
+pub basis_to : (text : List ℕ) (basis : Basis) (rest : List ℕ) → IsBasis text basis rest → basis_at text ≡ Some (basis, rest)
+basis_to text basis rest (named blanks run mode is m e) =
+    run_read text blanks run rest is ∙ ap (λ o. basis_by o (length blanks) run text rest) (mode_to run mode m) ∙ (λ i. Some (sym e i, rest))
+basis_to text basis rest (explicit blanks is some e) =
+    run_read text blanks (codes "exp") rest is
+    ∙ ap (λ o. basis_by o (length blanks) (codes "exp") text rest) exp_is_no_mode
+    ∙ cond-false (length blanks == 0) _ _ (some_length blanks some)
+    ∙ (λ i. Some (sym e i, rest))
+basis_to text basis rest (major blanks run behind is nameless why e all) =
+    run_read text blanks run behind is
+    ∙ ap (λ o. basis_by o (length blanks) run text behind) (no_mode run (mode_of run) refl nameless)
+    ∙ ⊎_elim
+    (λ nil. ap (λ r. basis_by None (length blanks) r text behind) nil)
+    (λ later. by_default (length blanks) run text behind (some_length blanks later.0) (not_exp run later.1))
+    why
+    ∙ (λ i. Some (sym e i, sym all i))
+
+at_pair : (text : List ℕ) (a b : Basis × List ℕ) → Some a ≡ Some b → IsBasis text a.0 a.1 → IsBasis text b.0 b.1
+at_pair text a b e h = let same : a ≡ b = cc in subst (λ (p : Basis × List ℕ). IsBasis text p.0 p.1) same h
+
+basis_later : (text blanks run behind : List ℕ) (found : Basis × List ℕ) → IsRun text blanks run behind → ((mode : Mode) → IsMode run mode → ⊥) → (length blanks == 0) ≡ false
+    → cond (bytes_eq run (codes "exp")) (Some (Explicit, behind)) (Some (Named Ionian, text)) ≡ Some found → IsBasis text found.0 found.1
+basis_later text blanks run behind found is nameless some e = ⊎_elim
+    (λ t. at_pair text (Explicit, behind) found (sym (cond-true (bytes_eq run (codes "exp")) _ _ t) ∙ e)
+    (explicit blanks (subst (λ r. IsRun text blanks r behind) ((bytes_eq-Decides run (codes "exp")).0 t) is) (some_blanks blanks some) refl))
+    (λ t. at_pair text (Named Ionian, text) found (sym (cond-false (bytes_eq run (codes "exp")) _ _ t) ∙ e)
+    (major blanks run behind is nameless (inr (some_blanks blanks some, λ same. true_not_false (bytes_eq run (codes "exp")) t ((bytes_eq-Decides run (codes "exp")).1 same))) refl refl))
+    (cases_Bool (bytes_eq run (codes "exp")))
+  where
+    some_blanks : (blanks : List ℕ) → (length blanks == 0) ≡ false → 0 < length blanks
+    some_blanks [] t = cc
+    some_blanks (b ∷ bs) t = omega arith
+
+    true_not_false : (t : Bool) → t ≡ false → t ≡ true → ⊥
+    true_not_false t e h = cc
+
+basis_by_mode : (text blanks run behind : List ℕ) (found : Basis × List ℕ) (o : Option Mode) → mode_of run ≡ o → IsRun text blanks run behind
+    → basis_by o (length blanks) run text behind ≡ Some found → IsBasis text found.0 found.1
+basis_by_mode text blanks run behind found (Some mode) o is e = at_pair text (Named mode, behind) found e (named blanks run mode is (mode_from run mode o) refl)
+basis_by_mode text blanks run behind found None o is e =
+    let nameless : (mode : Mode) → IsMode run mode → ⊥ = λ mode m. let known : Some mode ≡ None = sym (mode_to run mode m) ∙ o in cc in
+    ⊎_elim
+    (λ t. at_pair text (Named Ionian, text) found (sym (cond-true (length run == 0) _ _ t) ∙ e) (major blanks run behind is nameless (inl (no_length run t)) refl refl))
+    (λ t. let later = sym (cond-false (length run == 0) _ _ t) ∙ e in
+    ⊎_elim
+    (λ u. let none : None ≡ Some found = sym (cond-true (length blanks == 0) _ _ u) ∙ later in cc)
+    (λ u. basis_later text blanks run behind found is nameless u (sym (cond-false (length blanks == 0) _ _ u) ∙ later))
+    (cases_Bool (length blanks == 0)))
+    (cases_Bool (length run == 0))
+
+pub basis_from : (text : List ℕ) (basis : Basis) (rest : List ℕ) → basis_at text ≡ Some (basis, rest) → IsBasis text basis rest
+basis_from text basis rest e =
+    let is = run_of text in
+    basis_by_mode text _ _ _ (basis, rest) _ refl is (sym (run_read text _ _ _ is) ∙ e)

@@ -1,0 +1,11 @@
+use Rattle.std.proofs.Common.{◌≡◌, length}
+use Rattle.abc_fields.specs.Word.{words_of}
+use Rattle.abc_fields.specs.Shift.{no_shift, shift_after}
+use Rattle.abc_fields.proofs.shift.shift_in.Given as goal
+
+-- what is left to read after the shift so far gives what the whole text does
+abbrev pub invariant-loop-word : goal.invariant-loop-word
+invariant-loop-word l = shift_after (words_of l.rest) l.shift ≡ shift_after (words_of l.text) no_shift
+
+abbrev pub decreases-loop-word : goal.decreases-loop-word
+decreases-loop-word l = length l.rest

@@ -1,0 +1,52 @@
+-- The letters of the parts that an order plays. ABC 2.1 section 3.1.9.
+use Rattle.std.specs.Prelude.{ℕ, ◌+◌, ◌*◌, ◌==◌, if◌then◌else◌, List, [], ◌∷◌, ◌++◌, fold, replicate, Option, Some, None}
+use Rattle.std.specs.List.{concat}
+use Rattle.std.specs.Char.{is_ascii_uppercase, digit_value}
+use Rattle.abc_fields.specs.Parts.{order_bytes}
+
+-- What the front of an order plays: for each open group, the innermost first, the letters in front of
+-- it in the group around it; in the innermost group the letters in front of its last item, those of
+-- that item, once, and what its count is so far.
+pub record Played : Type 0 where
+  pub around : List (List ℕ)
+  pub before : List ℕ
+  pub item : List ℕ
+  pub count : Option ℕ
+
+abbrev pub nothing_played : Played
+nothing_played = record { around = []; before = []; item = []; count = None }
+
+-- An item without a count is played once.
+abbrev pub count_or_once : Option ℕ → ℕ
+count_or_once None = 1
+count_or_once (Some n) = n
+
+-- The letters that the innermost group plays so far.
+abbrev pub letters_so_far : Played → List ℕ
+letters_so_far played = played.before ++ concat (replicate (count_or_once played.count) played.item)
+
+-- A new item in a group, behind these letters.
+abbrev pub with_item : List (List ℕ) → List ℕ → List ℕ → Played
+with_item around before item = record { around = around; before = before; item = item; count = None }
+
+-- A group that ends is an item of the group around it.
+abbrev pub close_group : List (List ℕ) → List ℕ → Played
+close_group [] item = with_item [] [] item
+close_group (before ∷ around) item = with_item around before item
+
+-- A count with one digit more.
+abbrev pub count_on : Option ℕ → ℕ → ℕ
+count_on None digit = digit_value digit
+count_on (Some n) digit = n * 10 + digit_value digit
+
+-- With one byte more: a letter, a parenthesis (40 and 41) or a digit.
+unfoldable pub play_on : Played → ℕ → Played
+play_on played b =
+    if is_ascii_uppercase b then with_item played.around (letters_so_far played) (b ∷ [])
+    else (if b == 40 then with_item (letters_so_far played ∷ played.around) [] []
+    else (if b == 41 then close_group played.around (letters_so_far played)
+    else record played { count = Some (count_on played.count b) }))
+
+-- The letters of the parts that an order plays; of another text it says nothing.
+abbrev pub letters_of : List ℕ → List ℕ
+letters_of value = letters_so_far (fold play_on nothing_played (order_bytes value))

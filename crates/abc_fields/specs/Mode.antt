@@ -1,0 +1,62 @@
+-- The modes of keys. ABC 2.1 section 3.1.14.
+use Rattle.std.specs.Prelude.{ℕ, ◌≡◌, ◌⊎◌, ◌||◌, Bool, true, false, ℤ, pos, negsuc, if◌then◌else◌, List, [], ◌∷◌, take, map, codes, Option, Some, None}
+use Rattle.std.specs.List.{Contains}
+use Rattle.std.specs.Str.{bytes_eq}
+use Rattle.std.specs.Char.{to_ascii_lowercase}
+use Rattle.abc_fields.specs.declared.mode.Mode.{Mode}
+use Rattle.abc_fields.specs.declared.mode.Mode.TheVariants.{Lydian, Ionian, Mixolydian, Dorian, Aeolian, Phrygian, Locrian}
+
+-- How many sharps a mode adds to those of the major key on the same tonic.
+abbrev pub added_sharps : Mode → ℤ
+added_sharps Lydian = pos 1
+added_sharps Ionian = pos 0
+added_sharps Mixolydian = negsuc 0
+added_sharps Dorian = negsuc 1
+added_sharps Aeolian = negsuc 2
+added_sharps Phrygian = negsuc 3
+added_sharps Locrian = negsuc 4
+
+-- Minor and Aeolian are minor.
+abbrev pub is_minor : Mode → Bool
+is_minor Lydian = false
+is_minor Ionian = false
+is_minor Mixolydian = false
+is_minor Dorian = false
+is_minor Aeolian = true
+is_minor Phrygian = false
+is_minor Locrian = false
+
+-- The first three letters of a mode's names; major is Ionian, and minor is Aeolian.
+abbrev pub names_of : Mode → List (List ℕ)
+names_of Lydian = codes "lyd" ∷ []
+names_of Ionian = codes "maj" ∷ codes "ion" ∷ []
+names_of Mixolydian = codes "mix" ∷ []
+names_of Dorian = codes "dor" ∷ []
+names_of Aeolian = codes "min" ∷ codes "aeo" ∷ []
+names_of Phrygian = codes "phr" ∷ []
+names_of Locrian = codes "loc" ∷ []
+
+-- The first three letters of a text, small.
+abbrev pub front_of : List ℕ → List ℕ
+front_of run = map to_ascii_lowercase (take 3 run)
+
+-- A run of letters names a mode: it is `m`, or its first three letters, capitals or not, are those of
+-- one of the mode's names.
+abbrev pub IsMode : List ℕ → Mode → Type 0
+IsMode run mode = ((run ≡ codes "m") × (mode ≡ Aeolian)) ⊎ Contains (names_of mode) (front_of run)
+
+-- The mode that three small letters name.
+unfoldable pub mode_named : List ℕ → Option Mode
+mode_named name =
+    if bytes_eq name (codes "lyd") then Some Lydian
+    else (if bytes_eq name (codes "maj") || bytes_eq name (codes "ion") then Some Ionian
+    else (if bytes_eq name (codes "mix") then Some Mixolydian
+    else (if bytes_eq name (codes "dor") then Some Dorian
+    else (if bytes_eq name (codes "min") || bytes_eq name (codes "aeo") then Some Aeolian
+    else (if bytes_eq name (codes "phr") then Some Phrygian
+    else (if bytes_eq name (codes "loc") then Some Locrian
+    else None))))))
+
+-- The mode that a run of letters names.
+unfoldable pub mode_of : List ℕ → Option Mode
+mode_of run = if bytes_eq run (codes "m") then Some Aeolian else mode_named (front_of run)

@@ -1,0 +1,193 @@
+//! Keys.
+
+ghost use Rattle.std.specs.Prelude.{◌≡◌, ◌↔◌, ◌+ℤ◌, Some, None, Ok, Err, MatchOption, IfOk};
+ghost use Rattle.abc_fields.specs.declared.key.Key.{Key};
+ghost use Rattle.abc_fields.specs.Word.{words_of};
+ghost use Rattle.abc_fields.specs.Mode.{added_sharps};
+ghost use Rattle.abc_fields.specs.Tonic.{IsMajor};
+ghost use Rattle.abc_fields.specs.Key.{completed, key_with, key_on, without_line, names_clef, ends_in_octave, is_clef_name, begins_accidental, sets_properties, toneless_start, start_of, key_in, key_of, IsKey, IsInRange};
+
+use crate::fault::FaultCode;
+use crate::listed::with_accidentals;
+use crate::mode::Mode;
+use crate::shift::{NO_SHIFT, Shift, shift_in};
+use crate::signature::{NATURAL, Signature, signature_of};
+use crate::tonic::{Basis, basis_at, tonic_at};
+use crate::word::next_word;
+
+/// A key, with what its value says beside it (ABC 2.1 section 3.1.14).
+#[derive(Clone, Copy, Debug, PartialEq, Eq)]
+pub struct Key {
+    /// None where the value sets properties alone, which leave the signature as it is.
+    pub signature: Option<Signature>,
+    /// The sharps of the tonic in its mode, from -7 to 7, negative for flats; 0 without a tonic.
+    pub sharps: i8,
+    /// Whether the mode is minor.
+    pub minor: bool,
+    /// How the notes are shifted.
+    pub shift: Shift,
+}
+
+/// No key: a signature without sharps and flats.
+const NO_KEY: Key = Key {
+    signature: Some(NATURAL),
+    sharps: 0,
+    minor: false,
+    shift: NO_SHIFT,
+};
+
+/// No signature at all.
+const NO_SIGNATURE: Key = Key {
+    signature: None,
+    sharps: 0,
+    minor: false,
+    shift: NO_SHIFT,
+};
+
+/// The sharps of a mode on the tonic whose major key has `major` of them.
+fn sharps_in(major: i8, mode: Mode) -> i8
+    requires { IsMajor major }
+    ensures { result ≡ major +ℤ added_sharps mode }
+{
+    major + mode.added_sharps()
+}
+
+/// The key with so many sharps, if it has at most seven sharps or flats.
+#[tactic(auto, unfolding(crate::specs::Key::key_with))]
+fn key_with(sharps: i8, minor: bool) -> Option<Key>
+    ensures { result ≡ key_with sharps minor }
+{
+    if sharps < -7 || sharps > 7 {
+        return None;
+    }
+    Some(Key {
+        signature: Some(signature_of(sharps)),
+        sharps,
+        minor,
+        shift: NO_SHIFT,
+    })
+}
+
+/// The key of a basis on the tonic whose major key has these sharps.
+fn key_on(major: i8, basis: Basis) -> Option<Key>
+    requires { IsMajor major }
+    ensures { result ≡ key_on major basis }
+{
+    match basis {
+        Basis::Named(mode) => key_with(sharps_in(major, mode), mode.is_minor()),
+        Basis::Explicit => Some(NO_KEY),
+    }
+}
+
+/// Whether a word ends in `+8` or `-8`.
+fn ends_in_octave(word: &[u8]) -> bool
+    ensures { result ≡ ends_in_octave word.now }
+{
+    word.ends_with(b"+8") || word.ends_with(b"-8")
+}
+
+/// A word without the line of a clef, one digit 1 to 5 at its end.
+#[tactic(auto, unfolding(crate::specs::Key::without_line))]
+fn without_line(word: &[u8]) -> &[u8]
+    ensures { result.now ≡ without_line word.now }
+{
+    match word {
+        [name @ .., b'1'..=b'5'] => name,
+        _ => word,
+    }
+}
+
+/// Whether a text is the name of a clef.
+#[tactic(auto, unfolding(crate::specs::Key::names_clef))]
+fn names_clef(name: &[u8]) -> bool
+    ensures { result ≡ names_clef name.now }
+{
+    matches!(name, b"treble" | b"bass" | b"alto" | b"tenor" | b"perc")
+}
+
+/// Whether a word is the name of a clef, perhaps with the line that it stands on.
+fn is_clef_name(word: &[u8]) -> bool
+    ensures { result ≡ is_clef_name word.now }
+{
+    names_clef(without_line(word))
+}
+
+/// Whether a word sets properties, where it stands first.
+fn sets_properties(word: &[u8]) -> bool
+    ensures { result ≡ sets_properties word.now }
+{
+    word.contains(&b'=') || ends_in_octave(word) || is_clef_name(word)
+}
+
+/// Whether a word begins with an accidental.
+fn begins_accidental(word: &[u8]) -> bool
+    ensures { result ≡ begins_accidental word.now }
+{
+    matches!(word, [b'^' | b'_' | b'=', ..])
+}
+
+/// What a key without a tonic begins with, by its first word: no key, to which accidentals are
+/// listed, or no signature.
+fn toneless_start(first: &[u8]) -> Option<Key>
+    ensures { result ≡ toneless_start first.now }
+{
+    if begins_accidental(first) {
+        Some(NO_KEY)
+    } else if sets_properties(first) {
+        Some(NO_SIGNATURE)
+    } else {
+        None
+    }
+}
+
+/// The key at the front of a value, and the text whose words complete it.
+#[tactic(auto, unfolding(crate::specs::Key::start_of))]
+fn start_of(value: &[u8]) -> Option<(Key, &[u8])>
+    ensures { MatchOption result (start_of value.now ≡ None) (λ p. start_of value.now ≡ Some (p.0, p.1.now)) }
+{
+    match tonic_at(value) {
+        Some((major, behind)) => {
+            let (basis, text) = basis_at(behind)?;
+            Some((key_on(major, basis)?, text))
+        }
+        None => {
+            let (first, _) = next_word(value)?;
+            Some((toneless_start(first)?, value))
+        }
+    }
+}
+
+/// A key with the accidentals and the properties among the words of a text.
+#[tactic(auto, unfolding(crate::specs::Key::completed))]
+fn completed(start: Key, text: &[u8]) -> Option<Key>
+    ensures { result ≡ completed start (words_of text.now) }
+{
+    let mut key = start;
+    key.shift = shift_in(text)?;
+    if let Some(signature) = start.signature {
+        key.signature = Some(with_accidentals(signature, text));
+    }
+    Some(key)
+}
+
+/// The key that a value says, if it is accepted.
+#[tactic(auto, unfolding(crate::specs::Key::key_in))]
+fn key_in(value: &[u8]) -> Option<Key>
+    ensures { result ≡ key_in value.now }
+{
+    if value.is_empty() || value == b"none".as_slice() {
+        return Some(NO_KEY);
+    }
+    let (start, text) = start_of(value)?;
+    completed(start, text)
+}
+
+/// The value of a field K: (ABC 2.1 section 3.1.14), without blanks at its ends.
+pub fn read_key(value: &[u8]) -> Result<Key, FaultCode>
+    ensures value { result ≡ key_of value.now }
+    ensures ok { (key : Key) → (result ≡ Ok key) ↔ IsKey value.now key }
+    ensures refused { (result ≡ Err FaultCode.BadKey) ↔ ((key : Key) → ¬ IsKey value.now key) }
+    ensures range { IfOk result IsInRange }
+{
+    key_in(value).ok_or(FaultCode::BadKey)
+}

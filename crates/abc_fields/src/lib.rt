@@ -1,0 +1,33 @@
+//! The values of information fields, each read as its grammar says or refused by name: meter, unit
+//! note length, tempo, key, parts and voice.
+#![tactic(auto)]
+
+mod accidental;
+mod blank;
+mod cut;
+mod fault;
+mod key;
+mod listed;
+mod meter;
+mod mode;
+mod number;
+mod parts;
+mod power;
+mod property;
+mod shift;
+mod signature;
+mod tempo;
+mod tonic;
+mod unit;
+mod voice;
+mod word;
+
+pub use fault::FaultCode;
+pub use key::{Key, read_key};
+pub use meter::{Meter, read_meter};
+pub use parts::read_parts;
+pub use shift::Shift;
+pub use signature::{NATURAL, Signature, alteration};
+pub use tempo::{Tempo, read_tempo};
+pub use unit::read_unit;
+pub use voice::{Voice, read_voice};

@@ -1,0 +1,103 @@
+//! The meter, M:.
+
+ghost use Rattle.std.specs.Prelude.{◌≡◌, ◌<◌, ◌==◌, ◌↔◌, length, position, IfSome, IfOk};
+ghost use Rattle.abc_fields.specs.Meter.{plus, sum_of, above_of, power_up_to_64, fraction_of, symbol_or_fraction, meter_of, IsMeter, IsMeterInRange};
+ghost use Rattle.abc_fields.specs.Number.{number_of};
+
+use crate::fault::FaultCode;
+use crate::number::number_of;
+use crate::power::is_power;
+
+/// The meter of a tune (ABC 2.1 section 3.1.6).
+#[derive(Clone, Copy, Debug, PartialEq, Eq)]
+pub enum Meter {
+    /// No meter.
+    Free,
+    /// A bar of `num` parts, of which a whole note has `den`.
+    Of { num: u8, den: u8 },
+}
+
+/// The sum so far and the number that a word spells, where they come to at most 255.
+fn plus(sum: u8, word: &[u8]) -> Option<u8>
+    ensures { result ≡ plus sum (number_of word.now) }
+{
+    u8::try_from(u32::from(sum) + number_of(word)?).ok()
+}
+
+/// The sum of the numbers between plus signs, where it is at most 255.
+fn sum_of(text: &[u8]) -> Option<u8>
+    ensures { result ≡ sum_of text.now }
+{
+    let mut sum = 0;
+    for word in text.split(|byte| *byte == b'+') {
+        sum = plus(sum, word)?;
+    }
+    Some(sum)
+}
+
+/// What stands above the stroke: a number, or a sum, which may stand in parentheses.
+fn above_of(text: &[u8]) -> Option<u8>
+    ensures { result ≡ above_of text.now }
+{
+    match text {
+        [b'(', sum @ .., b')'] if sum.contains(&b'+') => sum_of(sum),
+        _ => sum_of(text),
+    }
+}
+
+/// What stands below the stroke: a power of two up to 64.
+fn below_of(text: &[u8]) -> Option<u8>
+    ensures { result ≡ power_up_to_64 (number_of text.now) }
+{
+    let number = number_of(text)?;
+    if is_power(number) && number <= 64 {
+        Some(number as u8)
+    } else {
+        None
+    }
+}
+
+/// Where the first stroke of a text stands.
+fn stroke_of(text: &[u8]) -> Option<usize>
+    ensures value { result ≡ position (λ b. b == 47) text.now }
+    ensures inside { IfSome result (λ at. at < length text.now) }
+{
+    text.iter().position(|byte| *byte == b'/')
+}
+
+/// Reads a meter that is written as a fraction.
+fn fraction_of(text: &[u8]) -> Option<Meter>
+    ensures { result ≡ fraction_of text.now }
+{
+    let stroke = stroke_of(text)?;
+    let num = above_of(&text[..stroke])?;
+    let den = below_of(&text[stroke + 1..])?;
+    if num == 0 {
+        None
+    } else {
+        Some(Meter::Of { num, den })
+    }
+}
+
+/// Reads a symbol, or a meter that is written as a fraction.
+#[tactic(auto, unfolding(crate::specs::Meter::symbol_or_fraction))]
+fn symbol_or_fraction(text: &[u8]) -> Option<Meter>
+    ensures { result ≡ symbol_or_fraction text.now }
+{
+    match text {
+        b"" | b"none" => Some(Meter::Free),
+        b"C" => Some(Meter::Of { num: 4, den: 4 }),
+        b"C|" => Some(Meter::Of { num: 2, den: 2 }),
+        _ => fraction_of(text),
+    }
+}
+
+/// Reads the value of M: (ABC 2.1 section 3.1.6).
+pub fn read_meter(value: &[u8]) -> Result<Meter, FaultCode>
+    ensures value { result ≡ meter_of value.now }
+    ensures ok { (meter : Meter) → (result ≡ Ok meter) ↔ IsMeter value.now meter }
+    ensures refused { (result ≡ Err FaultCode.BadMeter) ↔ ((meter : Meter) → ¬ IsMeter value.now meter) }
+    ensures range { IfOk result IsMeterInRange }
+{
+    symbol_or_fraction(value).ok_or(FaultCode::BadMeter)
+}

@@ -1,0 +1,154 @@
+//! The order of parts: the value of P: in a header.
+
+ghost use Rattle.std.specs.Prelude.{◌≡◌, ◌↔◌, ℕ, List};
+ghost use Rattle.abc_fields.specs.Letters.{letters_of};
+ghost use Rattle.abc_fields.specs.Parts.{is_ignored, ends_item, begins_item, with_digit, next, is_whole, place_behind, is_order, parts_of, IsParts};
+
+use crate::blank::is_blank;
+use crate::fault::FaultCode;
+
+/// How many groups stand within one another at most.
+const DEEPEST_GROUP: u8 = 32;
+
+/// How many digits a count has at most.
+const LONGEST_COUNT: u8 = 9;
+
+/// What stands before a place of an order, in the group of that place.
+#[derive(Clone, Copy)]
+enum Before {
+    Nothing,
+    /// An item with so many digits of its count, of which one is not 0 where it is positive.
+    Item { digits: u8, positive: bool },
+}
+
+impl Before {
+    /// An item whose count has not begun.
+    const ITEM: Before = Before::Item {
+        digits: 0,
+        positive: false,
+    };
+
+    /// Whether an item may end here: it has no count, or a count that is not 0.
+    fn ends_item(self) -> bool
+        ensures { result ≡ ends_item self }
+    {
+        match self {
+            Before::Nothing => false,
+            Before::Item { digits, positive } => digits == 0 || positive,
+        }
+    }
+
+    /// Whether an item may begin here.
+    fn begins_item(self) -> bool
+        ensures { result ≡ begins_item self }
+    {
+        match self {
+            Before::Nothing => true,
+            Before::Item { .. } => self.ends_item(),
+        }
+    }
+
+    /// With one digit more of the count, if it may have one.
+    fn with_digit(self, digit: u8) -> Option<Before>
+        ensures { result ≡ with_digit self digit }
+    {
+        match self {
+            Before::Item { digits, positive } if digits < LONGEST_COUNT => Some(Before::Item {
+                digits: digits + 1,
+                positive: positive || digit != b'0',
+            }),
+            _ => None,
+        }
+    }
+}
+
+/// A place in an order: how many groups it stands in, and what stands before it.
+#[derive(Clone, Copy)]
+struct Place {
+    depth: u8,
+    before: Before,
+}
+
+impl Place {
+    const FIRST: Place = Place {
+        depth: 0,
+        before: Before::Nothing,
+    };
+
+    /// The place behind a byte that may stand here.
+    #[tactic(auto, unfolding(crate::specs::Parts::next))]
+    fn next(self, byte: u8) -> Option<Place>
+        ensures { result ≡ next self byte }
+    {
+        let Place { depth, before } = self;
+        match byte {
+            b'A'..=b'Z' if before.begins_item() => Some(Place {
+                depth,
+                before: Before::ITEM,
+            }),
+            b'(' if before.begins_item() && depth < DEEPEST_GROUP => Some(Place {
+                depth: depth + 1,
+                before: Before::Nothing,
+            }),
+            b')' if before.ends_item() && depth > 0 => Some(Place {
+                depth: depth - 1,
+                before: Before::ITEM,
+            }),
+            b'0'..=b'9' => Some(Place {
+                depth,
+                before: before.with_digit(byte)?,
+            }),
+            _ => None,
+        }
+    }
+
+    /// Whether the order may end here.
+    fn is_whole(self) -> bool
+        ensures { result ≡ is_whole self }
+    {
+        self.depth == 0 && self.before.ends_item()
+    }
+}
+
+/// Whether a byte is ignored in an order: a dot (ABC 2.1 section 3.1.9) or a blank.
+fn is_ignored(byte: u8) -> bool
+    ensures { result ≡ is_ignored byte }
+{
+    byte == b'.' || is_blank(byte)
+}
+
+/// The place behind a text that may stand in an order.
+#[tactic(auto, using(crate::proofs::Orders::order_step, crate::proofs::Orders::order_lost))]
+fn place_behind(text: &[u8]) -> Option<Place>
+    ensures { result ≡ place_behind text.now }
+{
+    let mut place = Place::FIRST;
+    for byte in text {
+        if !is_ignored(*byte) {
+            place = place.next(*byte)?;
+        }
+    }
+    Some(place)
+}
+
+fn is_order(text: &[u8]) -> bool
+    ensures { result ≡ is_order text.now }
+{
+    place_behind(text).is_some_and(|place| place.is_whole())
+}
+
+/// Reads the order of parts in a header (ABC 2.1 section 3.1.9): items one after another, each a letter
+/// or a group of items in parentheses, with a count behind it or not. Dots and blanks are ignored.
+#[tactic(auto, using(crate::proofs::LetterLaws::parts_letters))]
+pub fn read_parts(value: &[u8]) -> Result<(), FaultCode>
+    ensures value { result ≡ parts_of value.now }
+    ensures ok { (result ≡ Ok tt) ↔ ((letters : List ℕ) × IsParts value.now letters) }
+    ensures letters { (letters : List ℕ) → IsParts value.now letters → letters ≡ letters_of value.now }
+    ensures refused { (result ≡ Err FaultCode.BadOrder) ↔ ((letters : List ℕ) → ¬ IsParts value.now letters) }
+{
+    if is_order(value) {
+        Ok(())
+    } else {
+        Err(FaultCode::BadOrder)
+    }
+}

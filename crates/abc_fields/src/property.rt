@@ -1,0 +1,80 @@
+//! Properties, as `clef=bass octave=-1`, and clefs with a mark, as `treble-8`.
+
+ghost use Rattle.std.specs.Prelude.{◌≡◌, ◌↔◌, ◌≤ℤ◌, ℤ, pos, negsuc, Some, None, length, IfSome};
+ghost use Rattle.abc_fields.specs.Property.{IsProperty, clef_of, mark_of, property_of, signed_number, unquoted};
+ghost use Rattle.abc_fields.specs.declared.property.Property.{Property};
+
+use crate::number::number_of;
+
+/// What a word of a field says.
+#[derive(Clone, Copy, Debug, PartialEq, Eq)]
+pub(crate) enum Property {
+    /// An octave up or down in semitones, or 0.
+    Clef(i64),
+    /// In octaves.
+    Octave(i64),
+    /// In semitones.
+    Transpose(i64),
+    /// Nothing that has an effect.
+    Other,
+}
+
+/// A text without the quotes at its ends.
+#[tactic(auto, unfolding(crate::specs::Property::unquoted))]
+fn unquoted(text: &[u8]) -> &[u8]
+    ensures { result.now ≡ unquoted text.now }
+{
+    match text {
+        [b'"', value @ .., b'"'] => value,
+        _ => text,
+    }
+}
+
+/// The number that a sign and one to nine digits spell.
+#[tactic(auto, unfolding(crate::specs::Property::signed_number, crate::specs::Number::number_of))]
+fn signed_number(text: &[u8]) -> Option<i64>
+    ensures { result ≡ signed_number text.now }
+{
+    match text {
+        [b'-', digits @ ..] => number_of(digits).map(|n| -i64::from(n)),
+        [b'+', digits @ ..] => number_of(digits).map(i64::from),
+        digits => number_of(digits).map(i64::from),
+    }
+}
+
+/// The octave, in semitones, that the mark at the end of a clef shifts by (ABC 2.1 section 4.6).
+#[tactic(auto, unfolding(crate::specs::Property::mark_of))]
+fn mark_of(text: &[u8]) -> Option<i64>
+    ensures { result ≡ mark_of text.now }
+{
+    if text.ends_with(b"+8") {
+        Some(12)
+    } else if text.ends_with(b"-8") {
+        Some(-12)
+    } else {
+        None
+    }
+}
+
+/// The same, but 0 for a clef without a mark.
+fn clef_of(text: &[u8]) -> i64
+    ensures { result ≡ clef_of text.now }
+{
+    mark_of(text).unwrap_or(0)
+}
+
+/// What a word says, or none where its number is refused.
+#[tactic(auto, unfolding(crate::specs::Property::property_of))]
+pub(crate) fn property_of(word: &[u8]) -> Option<Property>
+    ensures value { result ≡ property_of word.now }
+{
+    if let Some(clef) = word.strip_prefix(b"clef=") {
+        Some(Property::Clef(clef_of(unquoted(clef))))
+    } else if let Some(octave) = word.strip_prefix(b"octave=") {
+        signed_number(unquoted(octave)).map(Property::Octave)
+    } else if let Some(transpose) = word.strip_prefix(b"transpose=") {
+        signed_number(unquoted(transpose)).map(Property::Transpose)
+    } else {
+        Some(mark_of(word).map_or(Property::Other, Property::Clef))
+    }
+}

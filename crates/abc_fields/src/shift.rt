@@ -1,0 +1,65 @@
+//! Shifts of the notes of a voice.
+
+ghost use Rattle.std.specs.Prelude.{◌≡◌, ◌↔◌, Some, IfSome};
+ghost use Rattle.abc_fields.specs.declared.shift.Shift.{Shift};
+ghost use Rattle.abc_fields.specs.Word.{words_of};
+ghost use Rattle.abc_fields.specs.Shift.{IsShift, IsSmallShift, shift_of, with_property};
+
+use crate::property::{Property, property_of};
+use crate::word::next_word;
+
+/// What the properties of a field K: or V: say of the pitch of notes, each part where it is given
+/// (ABC 2.1 sections 4.6 and 7.1).
+#[derive(Clone, Copy, Debug, PartialEq, Eq)]
+pub struct Shift {
+    /// In semitones: 12 or -12 for a clef that is marked `+8` or `-8`, 0 for another.
+    pub clef: Option<i64>,
+    /// In octaves.
+    pub octave: Option<i64>,
+    /// In semitones.
+    pub transpose: Option<i64>,
+}
+
+/// A shift that says nothing of any part.
+pub(crate) const NO_SHIFT: Shift = Shift {
+    clef: None,
+    octave: None,
+    transpose: None,
+};
+
+/// A shift after one more property: the last one of each part counts.
+fn with_property(shift: Shift, property: Property) -> Shift
+    ensures { result ≡ with_property shift property }
+{
+    match property {
+        Property::Clef(n) => Shift {
+            clef: Some(n),
+            ..shift
+        },
+        Property::Octave(n) => Shift {
+            octave: Some(n),
+            ..shift
+        },
+        Property::Transpose(n) => Shift {
+            transpose: Some(n),
+            ..shift
+        },
+        Property::Other => shift,
+    }
+}
+
+/// The shift that the words of a text say, or none where a number is refused.
+#[tactic(auto, unfolding(crate::specs::Shift::shift_of))]
+pub(crate) fn shift_in(text: &[u8]) -> Option<Shift>
+    ensures value { result ≡ shift_of (words_of text.now) }
+    ensures small { IfSome result IsSmallShift }
+    ensures grammar { (shift : Shift) → (shift_of (words_of text.now) ≡ Some shift) ↔ IsShift (words_of text.now) shift }
+{
+    let mut shift = NO_SHIFT;
+    let mut rest = text;
+    while let Some((word, behind)) = next_word(rest) {
+        shift = with_property(shift, property_of(word)?);
+        rest = behind;
+    }
+    Some(shift)
+}

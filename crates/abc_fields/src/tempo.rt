@@ -1,0 +1,173 @@
+//! The tempo, `Q:`.
+
+ghost use Rattle.std.specs.Prelude.{◌≡◌, ◌≤◌, ◌↔◌, ◌*◌, ok_or, IfOk, IfSome, length};
+ghost use Rattle.abc_time.specs.Ratio.{IsRatio};
+ghost use Rattle.abc_fields.specs.Tempo.{positive_of, part_of, fraction_of, sum_of, lowest, word_size, first_word, behind_word, bare_tempo, tempo_around, tempo_in, tempo_of, IsTempo, IsInRange};
+
+use crate::blank::is_blank;
+use crate::cut::{cut_at, trim_end, trim_start};
+use crate::fault::FaultCode;
+use crate::number::number_of;
+use abc_time::Ratio;
+
+/// What a tempo field says (ABC 2.1 section 3.1.8).
+#[derive(Clone, Copy, Debug, PartialEq, Eq)]
+pub enum Tempo {
+    /// Nothing: it is empty, or only a text.
+    Unset,
+    /// So many unit notes per minute.
+    Units(u32),
+    /// So many beats per minute, a beat being this part of a whole note, in lowest terms.
+    Beat { beat: Ratio, n: u32 },
+}
+
+/// How many fractions a beat may be the sum of.
+const MOST_FRACTIONS: usize = 16;
+
+/// How often 512 can be halved.
+const MOST_HALVINGS: usize = 9;
+
+/// The finest part of a whole note that a beat counts in.
+const FINEST: u32 = 512;
+
+/// The number from 1 that a text spells.
+#[tactic(auto, unfolding(crate::specs::Tempo::positive_of))]
+fn positive_of(text: &[u8]) -> Option<u32>
+    ensures value { result ≡ positive_of text.now }
+    ensures range { IfSome result (λ n. (1 ≤ n) × (n ≤ 999999999)) }
+{
+    let n = number_of(text)?;
+    if n == 0 { None } else { Some(n) }
+}
+
+/// A fraction of a whole note in 512ths, if both its parts are accepted.
+#[tactic(auto, unfolding(crate::specs::Tempo::part_of))]
+fn part_of(above: u32, below: u32) -> Option<u32>
+    ensures value { result ≡ part_of above below }
+    ensures range { IfSome result (λ part. (1 ≤ part) × (part ≤ 262144)) }
+{
+    if above == 0 || above > FINEST || below == 0 || FINEST % below != 0 {
+        return None;
+    }
+    Some(above * (FINEST / below))
+}
+
+/// The fraction that a word spells, in 512ths.
+#[tactic(auto, unfolding(crate::specs::Tempo::fraction_of))]
+fn fraction_of(word: &[u8]) -> Option<u32>
+    ensures value { result ≡ fraction_of word.now }
+    ensures range { IfSome result (λ part. (1 ≤ part) × (part ≤ 262144)) }
+{
+    let (above, below) = cut_at(word, b'/')?;
+    part_of(number_of(above)?, number_of(below)?)
+}
+
+/// How many bytes the first word of a text has.
+fn word_size(text: &[u8]) -> usize
+    ensures value { result ≡ word_size text.now }
+    ensures inside { result ≤ length text.now }
+{
+    text.iter().take_while(|byte| !is_blank(**byte)).count()
+}
+
+/// The first word of a text, and what stands behind it and the blanks after it.
+#[tactic(auto, unfolding(crate::specs::Tempo::first_word, crate::specs::Tempo::behind_word))]
+fn split_word(text: &[u8]) -> (&[u8], &[u8])
+    ensures word { result.0.now ≡ first_word text.now }
+    ensures behind { result.1.now ≡ behind_word text.now }
+{
+    let size = word_size(text);
+    (&text[..size], trim_start(&text[size..]))
+}
+
+/// The sum of the fractions that a text spells, in 512ths.
+fn sum_of(text: &[u8]) -> Option<u32>
+    ensures value { result ≡ sum_of MOST_FRACTIONS text.now }
+    ensures range { IfSome result (λ sum. (1 ≤ sum) × (sum ≤ 16 * 262144)) }
+{
+    let mut sum = 0;
+    let mut rest = text;
+    for _ in 0..MOST_FRACTIONS {
+        let (word, behind) = split_word(rest);
+        sum += fraction_of(word)?;
+        if behind.is_empty() {
+            return Some(sum);
+        }
+        rest = behind;
+    }
+    None
+}
+
+/// So many 512ths in lowest terms.
+fn lowest(sum: u32) -> Ratio
+    ensures { result ≡ lowest sum }
+{
+    let mut num = sum;
+    let mut den = FINEST;
+    for _ in 0..MOST_HALVINGS {
+        if num % 2 != 0 {
+            return Ratio { num, den };
+        }
+        num /= 2;
+        den /= 2;
+    }
+    Ratio { num, den }
+}
+
+/// The tempo that a text without quotes spells.
+#[tactic(auto, unfolding(crate::specs::Tempo::bare_tempo))]
+fn bare_tempo(text: &[u8]) -> Option<Tempo>
+    ensures { result ≡ bare_tempo text.now }
+{
+    match cut_at(text, b'=') {
+        None => Some(Tempo::Units(positive_of(text)?)),
+        Some((front, back)) => Some(Tempo::Beat {
+            beat: lowest(sum_of(front)?),
+            n: positive_of(trim_start(back))?,
+        }),
+    }
+}
+
+/// The tempo of what stands before a quoted text and behind it.
+#[tactic(auto, unfolding(crate::specs::Tempo::tempo_around))]
+fn tempo_around(before: &[u8], behind: &[u8]) -> Option<Tempo>
+    ensures { result ≡ tempo_around before.now behind.now }
+{
+    match (before.is_empty(), behind.is_empty()) {
+        (true, true) => Some(Tempo::Unset),
+        (true, false) => bare_tempo(trim_start(behind)),
+        (false, true) => bare_tempo(trim_end(before)),
+        (false, false) => None,
+    }
+}
+
+/// The tempo that a value spells.
+#[tactic(auto, unfolding(crate::specs::Tempo::tempo_in))]
+fn tempo_in(value: &[u8]) -> Option<Tempo>
+    ensures { result ≡ tempo_in value.now }
+{
+    if value.is_empty() {
+        return Some(Tempo::Unset);
+    }
+    match cut_at(value, b'"') {
+        None => bare_tempo(value),
+        Some((before, quoted)) => {
+            let (_, behind) = cut_at(quoted, b'"')?;
+            tempo_around(before, behind)
+        }
+    }
+}
+
+/// Reads the value of a tempo field (ABC 2.1 section 3.1.8): a beat, which is a fraction of a whole
+/// note or the sum of some, `=` and how many beats there are per minute; or only how many unit notes
+/// there are per minute. A quoted text may stand before or behind; alone it sets nothing.
+///
+/// Up to 16 fractions are read, above the line from 1 to 512 and below it a power of two up to 512.
+pub fn read_tempo(value: &[u8]) -> Result<Tempo, FaultCode>
+    ensures value { result ≡ tempo_of value.now }
+    ensures ok { (m : Tempo) → (result ≡ Ok m) ↔ IsTempo value.now m }
+    ensures refused { (result ≡ Err FaultCode.BadTempo) ↔ ((m : Tempo) → ¬ IsTempo value.now m) }
+    ensures range { IfOk result IsInRange }
+{
+    tempo_in(value).ok_or(FaultCode::BadTempo)
+}

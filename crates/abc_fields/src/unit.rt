@@ -1,0 +1,33 @@
+//! The unit note length, L:.
+
+ghost use Rattle.std.specs.Prelude.{◌≡◌, ◌↔◌, IfOk};
+ghost use Rattle.abc_time.specs.Ratio.{IsRatio};
+ghost use Rattle.abc_fields.specs.Unit.{part_of, unit_of, IsUnit};
+
+use crate::fault::FaultCode;
+use crate::number::number_of;
+use crate::power::is_power;
+use abc_time::Ratio;
+
+/// Which part of a whole note the value says, as 8 for `1/8`.
+fn part_of(value: &[u8]) -> Option<u32>
+    ensures { result ≡ part_of value.now }
+{
+    match value {
+        [b'1'] => Some(1),
+        [b'1', b'/', below @ ..] => number_of(below).filter(|number| is_power(*number)),
+        _ => None,
+    }
+}
+
+/// Reads the value of L:, `1` or `1/8` and the like (ABC 2.1 section 3.1.7).
+pub fn read_unit(value: &[u8]) -> Result<Ratio, FaultCode>
+    ensures value { result ≡ unit_of value.now }
+    ensures ok { (unit : Ratio) → (result ≡ Ok unit) ↔ IsUnit value.now unit }
+    ensures refused { (result ≡ Err FaultCode.BadUnit) ↔ ((unit : Ratio) → ¬ IsUnit value.now unit) }
+    ensures range { IfOk result IsRatio }
+{
+    part_of(value)
+        .map(|den| Ratio { num: 1, den })
+        .ok_or(FaultCode::BadUnit)
+}

@@ -1,0 +1,49 @@
+//! The field V: (ABC 2.1 section 7.1).
+
+ghost use Rattle.std.specs.Prelude.{◌≡◌, ◌↔◌, ◌<◌, ◌≤◌, Ok, Err, IfOk, IfSome, ◌∷◌, length, drop, slice_range};
+ghost use Rattle.abc_fields.specs.declared.fault.FaultCode.TheVariants.{BadVoice};
+ghost use Rattle.abc_fields.specs.declared.voice.Voice.{Voice};
+ghost use Rattle.abc_fields.specs.Shift.{IsSmallShift};
+ghost use Rattle.abc_fields.specs.Word.{words_of};
+ghost use Rattle.abc_fields.specs.Voice.{IsVoice, voice_in, voice_of};
+
+use crate::fault::FaultCode;
+use crate::shift::{Shift, shift_in};
+use crate::word::first_word;
+
+/// A voice as the value of a field V: names it. Its identifier is the part of the value from `from`
+/// up to, but without, `to`.
+#[derive(Clone, Copy, Debug, PartialEq, Eq)]
+pub struct Voice {
+    pub from: usize,
+    pub to: usize,
+    pub shift: Shift,
+}
+
+#[tactic(auto, unfolding(crate::specs::Voice::voice_in))]
+fn voice_in(value: &[u8]) -> Option<Voice>
+    ensures value { result ≡ voice_in value.now }
+    ensures some { IfSome result (λ voice. voice.from < voice.to) }
+    ensures inside { IfSome result (λ voice. voice.to ≤ length value.now) }
+    ensures name { IfSome result (λ voice. words_of value.now ≡ slice_range value.now voice.from voice.to ∷ words_of (drop voice.to value.now)) }
+    ensures small { IfSome result (λ voice. IsSmallShift voice.shift) }
+{
+    let (from, to) = first_word(value)?;
+    let shift = shift_in(&value[to..])?;
+    Some(Voice { from, to, shift })
+}
+
+/// Reads the value of a field V: (ABC 2.1 section 7.1). Without an identifier, or with a malformed
+/// number of `octave` or `transpose`, it is refused.
+#[tactic(auto, unfolding(crate::specs::Voice::voice_of))]
+pub fn read_voice(value: &[u8]) -> Result<Voice, FaultCode>
+    ensures value { result ≡ voice_of value.now }
+    ensures ok { (voice : Voice) → (result ≡ Ok voice) ↔ IsVoice value.now voice }
+    ensures refused { (result ≡ Err BadVoice) ↔ ((voice : Voice) → ¬ IsVoice value.now voice) }
+    ensures some { IfOk result (λ voice. voice.from < voice.to) }
+    ensures inside { IfOk result (λ voice. voice.to ≤ length value.now) }
+    ensures name { IfOk result (λ voice. words_of value.now ≡ slice_range value.now voice.from voice.to ∷ words_of (drop voice.to value.now)) }
+    ensures small { IfOk result (λ voice. IsSmallShift voice.shift) }
+{
+    voice_in(value).ok_or(FaultCode::BadVoice)
+}
