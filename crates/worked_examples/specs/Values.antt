@@ -1,5 +1,8 @@
 -- Values as the worked examples write them: a tick is 484,323,840 grains. Our own.
-use Rattle.std.specs.Prelude.{ℕ, ℤ, ◌*◌, None, [], ◌∷◌, codes}
+use Rattle.std.specs.Prelude.{ℕ, ℤ, ◌*◌, Option, Some, None, Result, Ok, Err, [], ◌∷◌, codes}
+use Rattle.abc_fields.specs.declared.fault.FaultCode.{FaultCode}
+use Rattle.abc_fields.specs.declared.key.Key.{Key}
+use Rattle.abc_fields.specs.declared.shift.Shift.{Shift}
 use Rattle.abc_scan.specs.declared.length.WrittenLength.{WrittenLength}
 use Rattle.abc_scan.specs.declared.length.WrittenLength.TheVariants.{Factor}
 use Rattle.abc_scan.specs.declared.note.Letter.{Letter}
@@ -44,3 +47,17 @@ token kind from to = record { kind = kind; from = from; to = to }
 -- a text of four lines
 abbrev pub four_lines : Text
 four_lines = codes "a" ∷ codes "b" ∷ codes "c" ∷ codes "d" ∷ []
+
+-- a shift with these parts
+abbrev pub shift : Option ℤ → Option ℤ → Option ℤ → Shift
+shift clef octave transpose = record { clef = clef; octave = octave; transpose = transpose }
+
+-- the sharps of a key that is accepted
+abbrev pub sharps_of : Result Key FaultCode → Option ℤ
+sharps_of (Ok key) = Some key.sharps
+sharps_of (Err fault) = None
+
+-- the shift of a key that is accepted
+abbrev pub shift_in_key : Result Key FaultCode → Option Shift
+shift_in_key (Ok key) = Some key.shift
+shift_in_key (Err fault) = None

@@ -5,6 +5,7 @@
 pub mod answers;
 pub mod commands;
 pub mod counters;
+pub mod fields;
 pub mod lengths;
 pub mod midi_files;
 pub mod scanning;

@@ -1,6 +1,6 @@
 use abc_time::{
-    Grains, LAST_TICK, LATEST_END, LONGEST_LENGTH, LengthFault, Ratio, TICK, WHOLE_NOTE, length,
-    tick_of,
+    Grains, LAST_TICK, LATEST_END, LONGEST_LENGTH, LengthFault, Ratio, TICK, WHOLE_NOTE,
+    grain_numbers, length, quarter_micros, tick_of,
 };
 use std::test::Fail;
 
@@ -99,5 +99,36 @@ fn ticks(rt: HostRuntime) -> Result<(), Fail> {
     assert_eq!(rt; tick_of(WHOLE_NOTE), 1_920);
     assert_eq!(rt; tick_of(LATEST_END), LAST_TICK);
     assert_eq!(rt; tick_of(LATEST_END), 131_072 * 1_920);
+    Ok(())
+}
+
+// A quarter note in microseconds, from the worked examples on tempo, and both ends of what a file can hold.
+#[test]
+fn quarter_notes_in_microseconds(rt: HostRuntime) -> Result<(), Fail> {
+    let quarter = Ratio { num: 1, den: 4 };
+    assert_eq!(rt; quarter_micros(quarter, 120), Some(500_000));
+    assert_eq!(rt; quarter_micros(Ratio { num: 5, den: 4 }, 40), Some(300_000));
+    assert_eq!(rt; quarter_micros(EIGHTH, 120), Some(1_000_000));
+    assert_eq!(rt; quarter_micros(quarter, 7), Some(8_571_428));
+    assert_eq!(rt; quarter_micros(quarter, 4), Some(15_000_000));
+    assert_eq!(rt; quarter_micros(quarter, 3), None);
+    assert_eq!(rt; quarter_micros(quarter, 60_000_000), Some(1));
+    assert_eq!(rt; quarter_micros(quarter, 60_000_001), None);
+    let longest = Ratio {
+        num: 1,
+        den: 16_777_215,
+    };
+    assert_eq!(rt; quarter_micros(longest, 15_000_000), Some(16_777_215));
+    let longer = Ratio {
+        num: 1,
+        den: 16_777_216,
+    };
+    assert_eq!(rt; quarter_micros(longer, 15_000_000), None);
+    let least = Ratio {
+        num: 1,
+        den: 999_999_999,
+    };
+    assert_eq!(rt; quarter_micros(least, 999_999_999), Some(15_000_000));
+    assert_eq!(rt; quarter_micros(HUGE, 999_999_999), None);
     Ok(())
 }

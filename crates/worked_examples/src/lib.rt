@@ -7,6 +7,8 @@
 mod counters;
 pub mod definitions;
 #[cfg(test)]
+mod fields;
+#[cfg(test)]
 mod lengths;
 #[cfg(test)]
 mod midi_files;

@@ -1,0 +1,101 @@
+//! Values of fields, by the definitions of what each says (ABC 2.1 section 3.1; bounds and refusals are our own).
+#![tactic(auto, unfolding(abc_fields::specs::Accidental::alteration_of, abc_fields::specs::Accidental::changes_of, abc_fields::specs::Cut::cut_at, abc_fields::specs::Cut::trim_start, abc_fields::specs::Cut::trim_end, abc_fields::specs::Key::key_with, abc_fields::specs::Key::names_clef, abc_fields::specs::Key::without_line, abc_fields::specs::Key::start_of, abc_fields::specs::Key::completed, abc_fields::specs::Key::key_in, abc_fields::specs::Letters::play_on, abc_fields::specs::Listed::with_accidentals, abc_fields::specs::Meter::sum_of, abc_fields::specs::Meter::fraction_of, abc_fields::specs::Meter::symbol_or_fraction, abc_fields::specs::Mode::mode_named, abc_fields::specs::Mode::mode_of, abc_fields::specs::Number::number_of, abc_fields::specs::Parts::next, abc_fields::specs::Property::unquoted, abc_fields::specs::Property::signed_number, abc_fields::specs::Property::mark_of, abc_fields::specs::Property::property_of, abc_fields::specs::Shift::shift_of, abc_fields::specs::Signature::alteration, abc_fields::specs::Signature::altered, abc_fields::specs::Signature::signature_of, abc_fields::specs::Tempo::positive_of, abc_fields::specs::Tempo::part_of, abc_fields::specs::Tempo::fraction_of, abc_fields::specs::Tempo::first_word, abc_fields::specs::Tempo::behind_word, abc_fields::specs::Tempo::sum_of, abc_fields::specs::Tempo::halved, abc_fields::specs::Tempo::bare_tempo, abc_fields::specs::Tempo::tempo_around, abc_fields::specs::Tempo::tempo_in, abc_fields::specs::Tempo::tempo_of, abc_fields::specs::Tonic::tonic_sharps, abc_fields::specs::Tonic::basis_at, abc_fields::specs::Voice::voice_in, abc_fields::specs::Voice::voice_of, abc_fields::specs::Word::words_of, abc_fields::specs::Word::first_word, abc_time::specs::Tempo::quarter_of))]
+
+ghost use Rattle.std.specs.Prelude.{◌≡◌, pos, negsuc, true, false, [], ◌∷◌, codes, Some, None, Ok, Err};
+ghost use Rattle.abc_fields.specs.Key.{key_of};
+ghost use Rattle.abc_fields.specs.Letters.{letters_of};
+ghost use Rattle.abc_fields.specs.Meter.{meter_of};
+ghost use Rattle.abc_fields.specs.Parts.{parts_of};
+ghost use Rattle.abc_fields.specs.Tempo.{tempo_of};
+ghost use Rattle.abc_fields.specs.Unit.{unit_of};
+ghost use Rattle.abc_fields.specs.Voice.{voice_of};
+ghost use Rattle.abc_fields.specs.declared.fault.FaultCode.TheVariants.{BadKey, BadMeter, BadOrder, BadTempo, BadUnit, BadVoice};
+ghost use Rattle.abc_fields.specs.declared.meter.Meter.TheVariants.{Free, Of};
+ghost use Rattle.abc_fields.specs.declared.tempo.Tempo.TheVariants.{Beat, Units, Unset};
+ghost use Rattle.abc_time.specs.Tempo.{quarter_micros_of};
+ghost use Rattle.worked_examples.specs.Values.{ratio, sharps_of, shift, shift_in_key};
+
+/// The meter: symbols, fractions and sums.
+pub fn meters()
+    ensures empty { meter_of [] ≡ Ok Free }
+    ensures none { meter_of (codes "none") ≡ Ok Free }
+    ensures common { meter_of (codes "C") ≡ Ok (Of 4 4) }
+    ensures cut { meter_of (codes "C|") ≡ Ok (Of 2 2) }
+    ensures two_quarters { meter_of (codes "2/4") ≡ Ok (Of 2 4) }
+    ensures sum { meter_of (codes "2+3+2/8") ≡ Ok (Of 7 8) }
+    ensures in_parentheses { meter_of (codes "(2+3)/8") ≡ Ok (Of 5 8) }
+    ensures summand_of_zero { meter_of (codes "0+3/4") ≡ Ok (Of 3 4) }
+    ensures no_sum { meter_of (codes "(4)/4") ≡ Err BadMeter }
+    ensures third { meter_of (codes "2/3") ≡ Err BadMeter }
+    ensures too_many { meter_of (codes "256/64") ≡ Err BadMeter }
+    ensures small { meter_of (codes "c") ≡ Err BadMeter }
+{}
+
+/// The unit note length.
+pub fn units()
+    ensures whole { unit_of (codes "1") ≡ Ok (ratio 1 1) }
+    ensures eighth { unit_of (codes "1/8") ≡ Ok (ratio 1 8) }
+    ensures smallest { unit_of (codes "1/512") ≡ Ok (ratio 1 512) }
+    ensures leading_zero { unit_of (codes "1/08") ≡ Ok (ratio 1 8) }
+    ensures zero_before_one { unit_of (codes "01/8") ≡ Err BadUnit }
+    ensures third { unit_of (codes "1/3") ≡ Err BadUnit }
+    ensures empty { unit_of [] ≡ Err BadUnit }
+{}
+
+/// The tempo: beats that are added, unit notes, texts.
+pub fn tempos()
+    ensures sum { tempo_of (codes "1/4 3/8 1/4 3/8=40") ≡ Ok (Beat (ratio 5 4) 40) }
+    ensures units { tempo_of (codes "120") ≡ Ok (Units 120) }
+    ensures text_before { tempo_of (codes "\"Allegro\" 1/4 = 120") ≡ Ok (Beat (ratio 1 4) 120) }
+    ensures text_behind { tempo_of (codes "120\"a\"") ≡ Ok (Units 120) }
+    ensures text_alone { tempo_of (codes "\"Allegro\"") ≡ Ok Unset }
+    ensures empty { tempo_of [] ≡ Ok Unset }
+    ensures two_texts { tempo_of (codes "\"a\"120\"b\"") ≡ Err BadTempo }
+    ensures no_beat { tempo_of (codes "=60") ≡ Err BadTempo }
+    ensures zero { tempo_of (codes "0") ≡ Err BadTempo }
+    ensures inner_blank { tempo_of (codes "1 /4=60") ≡ Err BadTempo }
+{}
+
+/// Microseconds of a quarter note: what a file can say has three bytes, and is not 0.
+pub fn quarter_notes()
+    ensures sum { quarter_micros_of (ratio 5 4) 40 ≡ Some 300000 }
+    ensures eighths { quarter_micros_of (ratio 1 8) 120 ≡ Some 1000000 }
+    ensures rounded_down { quarter_micros_of (ratio 1 4) 7 ≡ Some 8571428 }
+    ensures too_slow { quarter_micros_of (ratio 1 4) 1 ≡ None }
+    ensures fastest { quarter_micros_of (ratio 1 4) 60000000 ≡ Some 1 }
+    ensures too_fast { quarter_micros_of (ratio 1 4) 60000001 ≡ None }
+{}
+
+/// The order of parts, and what it plays.
+pub fn orders()
+    ensures nested { letters_of (codes "((AB)3.(CD)3)2") ≡ codes "ABABABCDCDCDABABABCDCDCD" }
+    ensures blank_in_a_count { letters_of (codes "A1 2B") ≡ codes "AAAAAAAAAAAAB" }
+    ensures good { parts_of (codes "(AB)2.C") ≡ Ok tt }
+    ensures empty { parts_of [] ≡ Err BadOrder }
+    ensures never { parts_of (codes "A0") ≡ Err BadOrder }
+    ensures open { parts_of (codes "(A") ≡ Err BadOrder }
+    ensures empty_group { parts_of (codes "()") ≡ Err BadOrder }
+{}
+
+/// Keys: the tonic and the mode make the sharps; words behind them list accidentals and properties.
+pub fn keys()
+    ensures phrygian { sharps_of (key_of (codes "F# Phrygian")) ≡ Some (pos 2) }
+    ensures locrian { sharps_of (key_of (codes "E loc")) ≡ Some (negsuc 0) }
+    ensures minor { sharps_of (key_of (codes "C m=B")) ≡ Some (negsuc 2) }
+    ensures explicit { sharps_of (key_of (codes "G# exp ^f")) ≡ Some (pos 0) }
+    ensures eight_sharps { key_of (codes "G# major") ≡ Err BadKey }
+    ensures capital_m { key_of (codes "CM") ≡ Err BadKey }
+    ensures none_and_more { key_of (codes "none clef=bass") ≡ Err BadKey }
+    ensures malformed { key_of (codes "C octave=x") ≡ Err BadKey }
+    ensures shifted { shift_in_key (key_of (codes "C transpose=-2 treble-8")) ≡ Some (shift (Some (negsuc 11)) None (Some (negsuc 1))) }
+    ensures properties { key_of (codes "alto1") ≡ Ok (record { signature = None; sharps = pos 0; minor = false; shift = shift None None None }) }
+{}
+
+/// Voices: the first word is the identifier, and the last of each property counts.
+pub fn voices()
+    ensures identifier { voice_of (codes " T1 name") ≡ Ok (record { from = 1; to = 3; shift = shift None None None }) }
+    ensures last { voice_of (codes "T1 octave=1 octave=-1") ≡ Ok (record { from = 0; to = 2; shift = shift None (Some (negsuc 0)) None }) }
+    ensures clef { voice_of (codes "T1 foo=x-8") ≡ Ok (record { from = 0; to = 2; shift = shift (Some (negsuc 11)) None None }) }
+    ensures one_quote { voice_of (codes "T1 octave=\"1") ≡ Err BadVoice }
+    ensures empty { voice_of [] ≡ Err BadVoice }
+{}
