@@ -10,7 +10,9 @@ mod product;
 mod ratio;
 mod tempo;
 
-pub use grains::{Grains, LAST_TICK, LATEST_END, LONGEST_LENGTH, TICK, WHOLE_NOTE, tick_of};
+pub use grains::{
+    Grains, LAST_TICK, LATEST_END, LONGEST_LENGTH, TICK, WHOLE_NOTE, grain_numbers, tick_of,
+};
 pub use lengths::{LengthFault, length};
 pub use ratio::Ratio;
 pub use tempo::quarter_micros;
