@@ -8,8 +8,8 @@ use Rattle.std.proofs.lemmas.Option.{cond_some}
 use Rattle.std.proofs.lemmas.List.{append-nil, reverse-append, reverse-reverse, length-reverse, take-append-drop}
 use Rattle.std.proofs.lemmas.List.Sums.{split_at_first, passes_at_first, prefix_len-le-length}
 use Rattle.std.proofs.lemmas.List.Elements.{All-nil, All-cons, All-head, All-tail, All-append}
-use Rattle.abc_fields.specs.Blank.{is_blank}
-use Rattle.abc_fields.specs.Cut.{cut_at, trim_start, trim_end, AreBlanks}
+use Rattle.abc_fields.specs.Blank.{is_blank, trim_start, trim_end, AreBlanks}
+use Rattle.abc_fields.specs.Cut.{cut_at}
 
 -- the longest front of a list whose elements pass a test
 one_more : (n : ℕ) → 1 + n ≡ suc n
@@ -130,15 +130,32 @@ trim_end-gap front gap h none =
     let size : length (front ++ gap) - suffix_len is_blank (front ++ gap) ≡ length front = omega (arith, back, length-reverse gap, length-append front gap) in
     take_exact _ front gap size
 
-pub trim_end-parts : (text : List ℕ) → (gap : List ℕ) × (text ≡ trim_end text ++ gap) × AreBlanks gap
-unfolding trim_end
-trim_end-parts text =
+-- a text read from its end: what stands before its last blanks, and these
+back_parts : (text : List ℕ) → text ≡ reverse (drop (suffix_len is_blank text) (reverse text)) ++ reverse (take (suffix_len is_blank text) (reverse text))
+back_parts text =
     let back = reverse text in
-    let n = prefix_len is_blank back in
-    let whole : text ≡ reverse (drop n back) ++ reverse (take n back) = sym (reverse-reverse text) ∙ ap reverse (sym (take-append-drop n back)) ∙ reverse-append (take n back) (drop n back) in
+    let n = suffix_len is_blank text in
+    sym (reverse-reverse text) ∙ ap reverse (sym (take-append-drop n back)) ∙ reverse-append (take n back) (drop n back)
+
+trim_end-reverse : (text : List ℕ) → trim_end text ≡ reverse (drop (suffix_len is_blank text) (reverse text))
+unfolding trim_end
+trim_end-reverse text =
+    let back = reverse text in
+    let n = suffix_len is_blank text in
     let size : length text - n ≡ length (reverse (drop n back)) = omega (arith, length-reverse (drop n back), length-drop n back, length-reverse text) in
-    let kept : take (length text - n) text ≡ reverse (drop n back) = ap (take (length text - n)) whole ∙ take_exact _ (reverse (drop n back)) (reverse (take n back)) size in
-    (reverse (take n back), whole ∙ ap (λ x. x ++ reverse (take n back)) (sym kept), AllPass-reverse is_blank _ (front_passes is_blank back))
+    ap (take (length text - n)) (back_parts text) ∙ take_exact _ (reverse (drop n back)) (reverse (take n back)) size
+
+pub trim_end-parts : (text : List ℕ) → (gap : List ℕ) × (text ≡ trim_end text ++ gap) × AreBlanks gap
+trim_end-parts text =
+    let gap = reverse (take (suffix_len is_blank text) (reverse text)) in
+    (gap, back_parts text ∙ ap (λ x. x ++ gap) (sym (trim_end-reverse text)), AllPass-reverse is_blank _ (front_passes is_blank (reverse text)))
+
+-- it is nothing, or ends with another byte than a blank
+pub trim_end-stops : (text : List ℕ) → (trim_end text ≡ []) ⊎ ((xs : List ℕ) × (y : ℕ) × (trim_end text ≡ xs ++ y ∷ []) × (is_blank y ≡ false))
+trim_end-stops text = ⊎_elim
+    (λ none. inl (trim_end-reverse text ∙ ap reverse none))
+    (λ some. inr (reverse some.1, some.0, trim_end-reverse text ∙ ap reverse some.2 ∙ reverse-append (some.0 ∷ []) some.1, some.3))
+    (front_stops is_blank (reverse text))
 
 -- a text that ends with other bytes than blanks
 pub back_other : (front xs : List ℕ) → AllPass (λ b. not (is_blank b)) xs → 1 ≤ length xs → suffix_len is_blank (front ++ xs) ≡ 0

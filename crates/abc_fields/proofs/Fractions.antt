@@ -11,9 +11,9 @@ use Rattle.std.proofs.lemmas.Bool.Decides.{nat_tests}
 use Rattle.std.proofs.lemmas.Option.{cond_some, same_Some}
 use Rattle.std.proofs.lemmas.List.{append-nil, take-append-drop}
 use Rattle.std.proofs.lemmas.List.Elements.{All-nil, All-cons, All-append, All-weaker, All-head}
-use Rattle.abc_fields.specs.Blank.{is_blank}
+use Rattle.abc_fields.specs.Blank.{is_blank, trim_start, AreBlanks}
 use Rattle.abc_fields.specs.Number.{number_of, IsNumber}
-use Rattle.abc_fields.specs.Cut.{cut_at, trim_start, AreBlanks}
+use Rattle.abc_fields.specs.Cut.{cut_at}
 use Rattle.abc_fields.specs.Tempo.{IsFraction, IsSum, part_of, fraction_of, word_size, first_word, behind_word, added, sum_with, sum_of}
 use Rattle.abc_fields.proofs.Numbers.{number_of-spells, number_of-spelled}
 use Rattle.abc_fields.proofs.Cuts.{front_stops, front_exact, front_none, front_other, take_exact, drop_exact, cut_at-found, cut_at-cuts, trim_start-gap, trim_start-blanks, trim_start-parts, trim_start-some}

@@ -21,6 +21,7 @@ pub mod SumTexts
 pub mod Sums
 pub mod Tempos
 pub mod Tonics
+pub mod Trims
 pub mod Units
 pub mod Voices
 pub mod Words

@@ -1,6 +1,23 @@
--- Blanks.
-use Rattle.std.specs.Prelude.{ℕ, Bool, ◌||◌, ◌==◌}
+-- Blanks, and a text without those at its ends.
+use Rattle.std.specs.Prelude.{ℕ, ◌-◌, Bool, ◌||◌, ◌==◌, List, length, take, drop}
+use Rattle.std.specs.List.{prefix_len, suffix_len, AllPass}
 
 -- A space or a tab. Our own.
 abbrev pub is_blank : ℕ → Bool
 is_blank b = (b == 32) || (b == 9)
+
+-- Blanks, or nothing. Our own.
+abbrev pub AreBlanks : List ℕ → Type 0
+AreBlanks text = AllPass is_blank text
+
+-- A text without the blanks that it begins with. Our own.
+unfoldable pub trim_start : List ℕ → List ℕ
+trim_start text = drop (prefix_len is_blank text) text
+
+-- A text without the blanks that it ends with. Our own.
+unfoldable pub trim_end : List ℕ → List ℕ
+trim_end text = take (length text - suffix_len is_blank text) text
+
+-- A text without the blanks at its ends. Our own.
+unfoldable pub trimmed : List ℕ → List ℕ
+trimmed text = trim_end (trim_start text)

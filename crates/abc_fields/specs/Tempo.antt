@@ -8,9 +8,9 @@ use Rattle.abc_fields.specs.declared.fault.FaultCode.{FaultCode}
 use Rattle.abc_fields.specs.declared.fault.FaultCode.TheVariants.{BadTempo}
 use Rattle.abc_fields.specs.declared.tempo.Tempo.{Tempo}
 use Rattle.abc_fields.specs.declared.tempo.Tempo.TheVariants.{Unset, Units, Beat}
-use Rattle.abc_fields.specs.Blank.{is_blank}
+use Rattle.abc_fields.specs.Blank.{is_blank, trim_start, trim_end, AreBlanks}
 use Rattle.abc_fields.specs.Number.{number_of, IsNumber}
-use Rattle.abc_fields.specs.Cut.{cut_at, trim_start, trim_end, AreBlanks}
+use Rattle.abc_fields.specs.Cut.{cut_at}
 
 -- A fraction of a whole note, as `3/8`, which is so many 512ths. ABC 2.1 section 3.1.8; the limits are our own.
 pub record IsFraction (text : List ℕ) (part : ℕ) : Type 0 where

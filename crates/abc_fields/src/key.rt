@@ -102,7 +102,11 @@ fn without_line(word: &[u8]) -> &[u8]
 fn names_clef(name: &[u8]) -> bool
     ensures { result ≡ names_clef name.now }
 {
-    matches!(name, b"treble" | b"bass" | b"alto" | b"tenor" | b"perc")
+    name == b"treble".as_slice()
+        || name == b"bass".as_slice()
+        || name == b"alto".as_slice()
+        || name == b"tenor".as_slice()
+        || name == b"perc".as_slice()
 }
 
 /// Whether a word is the name of a clef, perhaps with the line that it stands on.
@@ -143,7 +147,8 @@ fn toneless_start(first: &[u8]) -> Option<Key>
 /// The key at the front of a value, and the text whose words complete it.
 #[tactic(auto, unfolding(crate::specs::Key::start_of))]
 fn start_of(value: &[u8]) -> Option<(Key, &[u8])>
-    ensures { MatchOption result (start_of value.now ≡ None) (λ p. start_of value.now ≡ Some (p.0, p.1.now)) }
+    ensures { MatchOption result (start_of value.now ≡ None)
+        (λ p. start_of value.now ≡ Some (p.0, p.1.now)) }
 {
     match tonic_at(value) {
         Some((major, behind)) => {

@@ -22,6 +22,7 @@ mod unit;
 mod voice;
 mod word;
 
+pub use blank::trimmed;
 pub use fault::FaultCode;
 pub use key::{Key, read_key};
 pub use meter::{Meter, read_meter};

@@ -4,8 +4,8 @@ ghost use Rattle.std.specs.Prelude.{◌≡◌, ◌≤◌, ◌↔◌, ◌*◌, ok
 ghost use Rattle.abc_time.specs.Ratio.{IsRatio};
 ghost use Rattle.abc_fields.specs.Tempo.{positive_of, part_of, fraction_of, sum_of, lowest, word_size, first_word, behind_word, bare_tempo, tempo_around, tempo_in, tempo_of, IsTempo, IsInRange};
 
-use crate::blank::is_blank;
-use crate::cut::{cut_at, trim_end, trim_start};
+use crate::blank::{is_blank, trim_end, trim_start};
+use crate::cut::cut_at;
 use crate::fault::FaultCode;
 use crate::number::number_of;
 use abc_time::Ratio;

@@ -20,7 +20,8 @@ pub(crate) enum Basis {
 /// The sharps of the major key on a letter.
 #[tactic(auto, unfolding(crate::specs::Tonic::tonic_sharps))]
 fn tonic_sharps(letter: u8) -> Option<i8>
-    ensures { result ≡ tonic_sharps letter }
+    ensures value { result ≡ tonic_sharps letter }
+    ensures range { IfSome result (λ n. (negsuc 0 ≤ℤ n) × (n ≤ℤ pos 5)) }
 {
     match letter {
         b'F' => Some(-1),
@@ -47,9 +48,9 @@ fn sign_at(text: &[u8]) -> (i8, &[u8])
 }
 
 /// The sharps of the major key on the tonic at the front of a text, and what stands behind it.
-#[tactic(auto, unfolding(crate::specs::Tonic::tonic_sharps))]
 pub(crate) fn tonic_at(text: &[u8]) -> Option<(i8, &[u8])>
-    ensures value { MatchOption result (tonic_at text.now ≡ None) (λ p. tonic_at text.now ≡ Some (p.0, p.1.now)) }
+    ensures value { MatchOption result (tonic_at text.now ≡ None)
+        (λ p. tonic_at text.now ≡ Some (p.0, p.1.now)) }
     ensures range { IfSome result (λ p. IsMajor p.0) }
 {
     let (letter, behind) = text.split_first()?;
@@ -71,7 +72,8 @@ fn letters(text: &[u8]) -> usize
 /// What the signature is made from, by the text behind the tonic, and the words that follow.
 #[tactic(auto, unfolding(crate::specs::Tonic::basis_at))]
 pub(crate) fn basis_at(text: &[u8]) -> Option<(Basis, &[u8])>
-    ensures { MatchOption result (basis_at text.now ≡ None) (λ p. basis_at text.now ≡ Some (p.0, p.1.now)) }
+    ensures { MatchOption result (basis_at text.now ≡ None)
+        (λ p. basis_at text.now ≡ Some (p.0, p.1.now)) }
 {
     let blanks = blanks(text);
     let behind = &text[blanks..];
