@@ -6,6 +6,8 @@ pub mod Feeding
 pub mod InputLines
 pub mod Lookup
 pub mod Melodies
+pub mod Openings
+pub mod Pitches
 pub mod Requests
 pub mod Runs
 pub mod ShortLines

@@ -3,12 +3,13 @@ use Rattle.std.specs.Prelude.{◌≡◌, ◌≢◌, ℕ, ◌==◌, not, if◌the
 use Rattle.std.specs.Option.{option_eq}
 use Rattle.std.specs.Str.{bytes_eq}
 use Rattle.std.specs.List.Sorted.{IsStrictlyIncreasing}
-use Rattle.std.specs.List.{list_all}
+use Rattle.std.specs.List.{list_any}
 use Rattle.abc_time.specs.declared.grains.Grains.{Grains}
+use Rattle.abc2midi_live.specs.Comments.{is_blank_line, without_comment_lines}
 use Rattle.abc2midi_live.specs.declared.melody.TimeToken.{TimeToken}
 use Rattle.abc2midi_live.specs.Melody.{end_of}
 use Rattle.abc2midi_live.specs.Music.{plain_times}
-use Rattle.abc2midi_live.specs.PlainTune.{Heading, has_no_comment, heading_of}
+use Rattle.abc2midi_live.specs.PlainTune.{Heading, heading_of}
 use Rattle.abc2midi_live.specs.Score.{score_of}
 use Rattle.abc2midi_live.specs.Text.{Text}
 use Rattle.smf_bytes.specs.File.{file_bytes}
@@ -30,11 +31,12 @@ file_of_times (Some times) heading = file_until (end_of times) heading times
 -- the file of a tune with this heading; a text without one has none
 abbrev pub file_of_heading : Option Heading → Files
 file_of_heading None = []
-file_of_heading (Some heading) = file_of_times (plain_times heading.unit heading.body) heading
+file_of_heading (Some heading) = file_of_times (plain_times heading.opening heading.body) heading
 
--- The files of a whole text: that of its tune where the text is one plain tune without a comment, else none.
+-- The files of a whole text: that of its tune where the text, its comment lines taken out, is one plain tune and no
+-- blank line stands in it, else none.
 unfoldable pub files_of : Text → Files
-files_of text = if list_all has_no_comment text then file_of_heading (heading_of text) else []
+files_of text = if list_any is_blank_line text then [] else file_of_heading (heading_of (without_comment_lines text))
 
 -- a text without lines has no tune, so no file
 pub files_of-nil : files_of [] ≡ []

@@ -1,6 +1,7 @@
 pub mod Answer
 pub mod Book
 pub mod Command
+pub mod Comments
 pub mod Cut
 pub mod Dialogue
 pub mod Edit
@@ -12,8 +13,10 @@ pub mod Machine
 pub mod Melody
 pub mod Music
 pub mod Number
+pub mod Opening
 pub mod Outcome
 pub mod Piped
+pub mod Pitch
 pub mod PlainTune
 pub mod Score
 pub mod Streams

@@ -1,14 +1,11 @@
 -- What the notes and rests of a plain line play. What is plain is our own.
-use Rattle.std.specs.Prelude.{ℕ, ℤ, pos, negsuc, ◌+ℤ◌, ◌*ℤ◌, ◌+◌, ◌/◌, Bool, true, false, ◌&&◌, if◌then◌else◌, List, [], ◌∷◌, ◌++◌, nat_le, Option, Some, None, is_none}
+use Rattle.std.specs.Prelude.{ℕ, ◌/◌, Bool, true, false, ◌&&◌, if◌then◌else◌, List, [], ◌∷◌, ◌++◌, Option, Some, None, is_none}
 use Rattle.std.specs.List.{list_all, list_any}
 use Rattle.std.specs.Result.{result_unwrap_or}
 use Rattle.abc_scan.specs.Cutting.{tokens_of}
 use Rattle.abc_scan.specs.declared.class.LineClass.{LineClass}
 use Rattle.abc_scan.specs.declared.class.LineClass.TheVariants as classes
 use Rattle.abc_scan.specs.LineClass.{class_of}
-use Rattle.abc_scan.specs.declared.note.Letter.{Letter}
-use Rattle.abc_scan.specs.declared.note.Letter.TheVariants.{C, D, E, F, G, A, B}
-use Rattle.abc_scan.specs.declared.note.Note.{Note}
 use Rattle.abc_scan.specs.declared.token.Token.{Token}
 use Rattle.abc_scan.specs.declared.token.TokenKind.{TokenKind}
 use Rattle.abc_scan.specs.declared.token.TokenKind.TheVariants as kinds
@@ -18,28 +15,10 @@ use Rattle.abc_time.specs.declared.grains.Grains.{Grains}
 use Rattle.abc_time.specs.declared.ratio.Ratio.{Ratio}
 use Rattle.abc_time.specs.Grains.{grains_of_a_whole_note}
 use Rattle.abc_time.specs.Length.{length_of}
+use Rattle.abc2midi_live.specs.Pitch.{midi_key_of}
 use Rattle.abc2midi_live.specs.declared.melody.TimeToken.{TimeToken}
+use Rattle.abc2midi_live.specs.declared.opening.Opening.{Opening}
 use Rattle.abc2midi_live.specs.Text.{Text}
-
--- semitones above C (ABC 2.1 section 4.1)
-abbrev pub semitones : Letter → ℕ
-semitones C = 0
-semitones D = 2
-semitones E = 4
-semitones F = 5
-semitones G = 7
-semitones A = 9
-semitones B = 11
-
--- a key that MIDI has, from 0 to 127 (SMF 1.0)
-abbrev pub midi_key : ℤ → Option ℕ
-midi_key (pos n) = if nat_le n 127 then Some n else None
-midi_key (negsuc n) = None
-
--- A capital C is the middle C, key 60, and an octave has twelve keys (ABC 2.1 section 4.1). A note outside
--- the keys of MIDI is silent, our own.
-abbrev pub key_of : Note → Option ℕ
-key_of note = midi_key (pos (60 + semitones note.letter) +ℤ (pos 12 *ℤ note.octave))
 
 -- how long the unit is, which is a whole number of grains; in grains, our own
 abbrev pub unit_length : Ratio → Grains
@@ -58,13 +37,13 @@ is_plain_kind kinds.Blank = true
 is_plain_kind kinds.Field = false
 is_plain_kind kinds.Other = false
 
--- what a token plays: a note or rest takes time, anything else none
-abbrev pub time_of : Ratio → TokenKind → Option TimeToken
-time_of unit (kinds.Note note) = Some (record { key = key_of note; length = length_by unit note.length })
-time_of unit (kinds.Rest written) = Some (record { key = None; length = length_by unit written })
-time_of unit kinds.Blank = None
-time_of unit kinds.Field = None
-time_of unit kinds.Other = None
+-- what a token of a tune plays: a note or rest takes time, anything else none
+abbrev pub time_of : Opening → TokenKind → Option TimeToken
+time_of opening (kinds.Note note) = Some (record { key = midi_key_of opening.key note; length = length_by opening.unit note.length })
+time_of opening (kinds.Rest written) = Some (record { key = None; length = length_by opening.unit written })
+time_of opening kinds.Blank = None
+time_of opening kinds.Field = None
+time_of opening kinds.Other = None
 
 -- whether a token is a note or a rest
 abbrev pub takes_time : TokenKind → Bool
@@ -80,9 +59,9 @@ before None times = times
 before (Some time) times = time ∷ times
 
 -- what the tokens of a line play, one after another
-abbrev pub times_of : Ratio → List Token → List TimeToken
-times_of unit [] = []
-times_of unit (t ∷ ts) = before (time_of unit t.kind) (times_of unit ts)
+abbrev pub times_of : Opening → List Token → List TimeToken
+times_of opening [] = []
+times_of opening (t ∷ ts) = before (time_of opening t.kind) (times_of opening ts)
 
 -- whether a class is music
 abbrev pub is_music : LineClass → Bool
@@ -100,10 +79,10 @@ abbrev pub is_plain_line : List ℕ → Bool
 is_plain_line line = is_music (class_of line) && are_plain (tokens_of line)
 
 -- what the lines of a body play, one after another
-abbrev pub body_times : Ratio → Text → List TimeToken
-body_times unit [] = []
-body_times unit (line ∷ lines) = times_of unit (tokens_of line) ++ body_times unit lines
+abbrev pub body_times : Opening → Text → List TimeToken
+body_times opening [] = []
+body_times opening (line ∷ lines) = times_of opening (tokens_of line) ++ body_times opening lines
 
 -- the same, if all are plain music
-abbrev pub plain_times : Ratio → Text → Option (List TimeToken)
-plain_times unit lines = if list_all is_plain_line lines then Some (body_times unit lines) else None
+abbrev pub plain_times : Opening → Text → Option (List TimeToken)
+plain_times opening lines = if list_all is_plain_line lines then Some (body_times opening lines) else None

@@ -1,13 +1,10 @@
 //! What a field line says.
 
-ghost use Rattle.std.specs.Prelude.{◌≡◌, ◌≤◌, length, reverse, IfSome, IsTrue};
-ghost use Rattle.abc2midi_live.specs.Field.{without_front_blanks, trimmed, value_of, is_field, is_unit_denominator, unit_of};
+ghost use Rattle.std.specs.Prelude.{◌≡◌, ◌≤◌, length, reverse};
+ghost use Rattle.abc2midi_live.specs.Field.{without_front_blanks, trimmed, value_of, is_field};
 ghost use Rattle.abc_scan.specs.LineClass.{is_blank};
-ghost use Rattle.abc_time.specs.Ratio.{IsRatio};
 
-use crate::number::number_of;
 use abc_scan::{LineClass, class_of, content};
-use abc_time::Ratio;
 
 fn is_blank(byte: u8) -> bool
     ensures { result ≡ is_blank byte }
@@ -63,32 +60,5 @@ pub(crate) fn is_field(letter: u8, line: &[u8]) -> bool
     match class_of(line) {
         LineClass::Field(other) => other == letter,
         LineClass::Blank | LineClass::Comment | LineClass::Music => false,
-    }
-}
-
-fn is_unit_denominator(d: u32) -> bool
-    ensures value { result ≡ is_unit_denominator d }
-    ensures in_range { IsTrue result → (1 ≤ d) × (d ≤ 512) }
-{
-    matches!(d, 1 | 2 | 4 | 8 | 16 | 32 | 64 | 128 | 256 | 512)
-}
-
-/// The unit note length that an `L:` field's value spells: `1`, or `1/d` with a power of two up to
-/// 512 (ABC 2.1 section 3.1.7).
-pub(crate) fn unit_of(value: &[u8]) -> Option<Ratio>
-    ensures value { result ≡ unit_of value.now }
-    ensures ratio { IfSome result IsRatio }
-{
-    match value {
-        [b'1'] => Some(Ratio { num: 1, den: 1 }),
-        [b'1', b'/', digits @ ..] => {
-            let den = number_of(digits)?;
-            if is_unit_denominator(den) {
-                Some(Ratio { num: 1, den })
-            } else {
-                None
-            }
-        }
-        _ => None,
     }
 }

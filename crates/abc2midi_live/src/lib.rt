@@ -5,6 +5,7 @@
 mod answer;
 mod book;
 mod command;
+mod comments;
 mod cut;
 mod dialogue;
 mod edit;
@@ -18,7 +19,10 @@ mod machine;
 mod melody;
 mod music;
 mod number;
+mod opening;
+mod pitch;
 mod reading;
+mod score;
 mod session;
 mod streams;
 mod transcript;

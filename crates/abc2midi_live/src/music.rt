@@ -1,52 +1,24 @@
 //! What the notes and rests of a plain line play.
 
-ghost use Rattle.std.specs.Prelude.{◌≡◌, ◌<◌, ◌≤◌, ◌++◌, All, IfOk, IfSome, OnOk};
+ghost use Rattle.std.specs.Prelude.{◌≡◌, ◌++◌, All, IfOk, IfSome, OnOk};
 ghost use Rattle.abc_time.specs.Ratio.{IsRatio};
 ghost use Rattle.std.specs.List.{list_all, list_any};
 ghost use Rattle.abc_scan.specs.LineClass.{class_of};
 ghost use Rattle.abc_scan.specs.Cutting.{HasLength};
 ghost use Rattle.abc_scan.specs.Length.{HasFactor};
 ghost use Rattle.std.specs.Option.{option_map};
-ghost use Rattle.abc2midi_live.specs.Text.{lines_of};
+ghost use Rattle.abc2midi_live.specs.Comments.{seen_lines};
 ghost use Rattle.abc2midi_live.specs.Melody.{HasMidiKey};
-ghost use Rattle.abc2midi_live.specs.Music.{key_of, semitones, unit_length, length_by, is_plain_kind, time_of, takes_time, times_of, are_plain, is_music, is_plain_line, plain_times};
+ghost use Rattle.abc2midi_live.specs.Opening.{IsOpening};
+ghost use Rattle.abc2midi_live.specs.Music.{unit_length, length_by, is_plain_kind, time_of, takes_time, times_of, are_plain, is_music, is_plain_line, plain_times};
 
 use crate::melody::TimeToken;
+use crate::opening::Opening;
+use crate::pitch::midi_key_of;
 use abc_fold::Work;
-use abc_scan::{Letter, LineClass, Note, Token, TokenKind, WrittenLength, class_of, scan};
+use abc_scan::{LineClass, Token, TokenKind, WrittenLength, class_of, scan};
 use abc_time::{Grains, Ratio, WHOLE_NOTE, length};
 use std::alloc::{AllocError, Global};
-
-fn semitones(letter: Letter) -> u8
-    ensures value { result ≡ semitones letter }
-    ensures within_octave { result < 12 }
-{
-    match letter {
-        Letter::C => 0,
-        Letter::D => 2,
-        Letter::E => 4,
-        Letter::F => 5,
-        Letter::G => 7,
-        Letter::A => 9,
-        Letter::B => 11,
-    }
-}
-
-/// The MIDI key of a note, where MIDI has it: the middle C, 60, is a capital C.
-fn key_of(note: Note) -> Option<u8>
-    ensures value { result ≡ key_of note }
-    ensures in_range { IfSome result (λ key. key ≤ 127) }
-{
-    if note.octave < -5 || note.octave > 5 {
-        return None;
-    }
-    let key = 60 + i64::from(semitones(note.letter)) + 12 * note.octave;
-    match u8::try_from(key) {
-        Ok(key) if key <= 127 => Some(key),
-        Ok(_) => None,
-        Err(_) => None,
-    }
-}
 
 /// How long the unit is.
 #[tactic(auto, unfolding(abc_time::specs::Grains::grains_of_a_whole_note))]
@@ -71,21 +43,21 @@ fn length_by(unit: Ratio, written: WrittenLength) -> Grains
     }
 }
 
-/// What a token plays.
-fn time_of(unit: Ratio, kind: TokenKind) -> Option<TimeToken>
-    requires unit { IsRatio unit }
+/// What a token of a tune plays.
+fn time_of(opening: &Opening, kind: TokenKind) -> Option<TimeToken>
+    requires opening { IsOpening opening.now }
     requires length { HasLength kind }
-    ensures value { result ≡ time_of unit kind }
+    ensures value { result ≡ time_of opening.now kind }
     ensures key { IfSome result HasMidiKey }
 {
     match kind {
         TokenKind::Note(note) => Some(TimeToken {
-            key: key_of(note),
-            length: length_by(unit, note.length),
+            key: midi_key_of(&opening.key, note),
+            length: length_by(opening.unit, note.length),
         }),
         TokenKind::Rest(written) => Some(TimeToken {
             key: None,
-            length: length_by(unit, written),
+            length: length_by(opening.unit, written),
         }),
         TokenKind::Blank | TokenKind::Field | TokenKind::Other => None,
     }
@@ -133,15 +105,19 @@ fn is_music(line: &[u8]) -> bool
 }
 
 /// Appends what the tokens of a line play.
-fn push_times(unit: Ratio, tokens: &[Token], times: &mut Vec<TimeToken>) -> Result<(), AllocError>
-    requires unit { IsRatio unit }
+fn push_times(
+    opening: &Opening,
+    tokens: &[Token],
+    times: &mut Vec<TimeToken>,
+) -> Result<(), AllocError>
+    requires opening { IsOpening opening.now }
     requires lengths { All (λ t. HasLength t.kind) tokens.now }
     requires keys { All HasMidiKey times.old.items }
-    ensures value { OnOk result (times.new.items ≡ times.old.items ++ times_of unit tokens.now) }
+    ensures value { OnOk result (times.new.items ≡ times.old.items ++ times_of opening.now tokens.now) }
     ensures keys { OnOk result (All HasMidiKey times.new.items) }
 {
     for token in tokens {
-        if let Some(time) = time_of(unit, token.kind) {
+        if let Some(time) = time_of(opening, token.kind) {
             times.push(time)?;
         }
     }
@@ -151,12 +127,12 @@ fn push_times(unit: Ratio, tokens: &[Token], times: &mut Vec<TimeToken>) -> Resu
 /// What the lines of a body play, one after another, if all are plain music.
 pub(crate) fn plain_times(
     alloc: Global,
-    unit: Ratio,
-    lines: &[Vec<u8>],
+    opening: &Opening,
+    lines: &[&[u8]],
     work: &mut Work,
 ) -> Result<Option<Vec<TimeToken>>, AllocError>
-    requires { IsRatio unit }
-    ensures value { IfOk result (λ times. option_map (λ v. v.items) times ≡ plain_times unit (lines_of lines.now)) }
+    requires { IsOpening opening.now }
+    ensures value { IfOk result (λ times. option_map (λ v. v.items) times ≡ plain_times opening.now (seen_lines lines.now)) }
     ensures keys { IfOk result (λ times. IfSome times (λ v. All HasMidiKey v.items)) }
 {
     let mut times = Vec::new(alloc);
@@ -165,7 +141,7 @@ pub(crate) fn plain_times(
         if !is_music(line) || !are_plain(&tokens) {
             return Ok(None);
         }
-        push_times(unit, &tokens, &mut times)?;
+        push_times(opening, &tokens, &mut times)?;
     }
     Ok(Some(times))
 }

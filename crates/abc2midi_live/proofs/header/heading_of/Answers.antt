@@ -10,4 +10,4 @@ All-part P lines rest part first n whole front each =
 pub heading_from-requires : goal.heading_from-requires
 heading_from-requires c =
     let whole : c.args.lines.now ≡ c.in_ok-first.first.now ∷ c.in_ok-first.rest.now = search rules in
-    All-part (λ line. length line.items ≤ 65535) _ _ _ _ _ whole c.split_at.ensures.front c.requires
+    All-part (λ line. length line.now ≤ 65535) _ _ _ _ _ whole c.split_at.ensures.front c.requires

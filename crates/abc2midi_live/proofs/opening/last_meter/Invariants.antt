@@ -1,0 +1,10 @@
+use Rattle.std.proofs.Common.{◌≡◌, drop, IfSome}
+use Rattle.abc_fields.specs.Meter.{IsMeterInRange}
+use Rattle.abc2midi_live.specs.Comments.{seen_lines}
+use Rattle.abc2midi_live.specs.Opening.{later_of, last_of, meter_on}
+use Rattle.abc2midi_live.proofs.opening.last_meter.Given as goal
+
+abbrev pub invariant-loop-line : goal.invariant-loop-line
+invariant-loop-line l =
+    (later_of l.last (last_of meter_on (seen_lines (drop l.line-index l.header))) ≡ last_of meter_on (seen_lines l.header))
+    × IfSome l.last IsMeterInRange
