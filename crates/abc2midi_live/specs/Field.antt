@@ -1,18 +1,10 @@
 -- What a field line says (ABC 2.1 section 3).
-use Rattle.std.specs.Prelude.{ℕ, Bool, false, ◌==◌, if◌then◌else◌, List, [], ◌∷◌, drop, reverse}
+use Rattle.std.specs.Prelude.{ℕ, Bool, false, ◌==◌, if◌then◌else◌, List, drop}
+use Rattle.abc_fields.specs.Blank.{trimmed}
 use Rattle.abc_scan.specs.declared.class.LineClass.{LineClass}
 use Rattle.abc_scan.specs.declared.class.LineClass.TheVariants.{Blank, Comment, Field, Music}
-use Rattle.abc_scan.specs.LineClass.{class_of, is_blank}
+use Rattle.abc_scan.specs.LineClass.{class_of}
 use Rattle.abc_scan.specs.Text.{content}
-
--- the bytes from the first that is no blank on
-abbrev pub without_front_blanks : List ℕ → List ℕ
-without_front_blanks [] = []
-without_front_blanks (b ∷ bs) = if is_blank b then without_front_blanks bs else b ∷ bs
-
--- the bytes without the blanks at both ends
-unfoldable pub trimmed : List ℕ → List ℕ
-trimmed text = reverse (without_front_blanks (reverse (without_front_blanks text)))
 
 -- the value of a field: what follows its colon, without comment, blanks cut at both ends
 abbrev pub value_of : List ℕ → List ℕ

@@ -12,7 +12,6 @@ pub mod Heading
 pub mod Machine
 pub mod Melody
 pub mod Music
-pub mod Number
 pub mod Opening
 pub mod Outcome
 pub mod Piped

@@ -9,8 +9,8 @@ ghost use Rattle.abc2midi_live.specs.Opening.{IsOpening};
 ghost use Rattle.abc2midi_live.specs.PlainTune.{reference_in, lines_before_key, is_header_line, title_in, heading_from, heading_of};
 
 use crate::field::{is_field, value_of};
-use crate::number::number_of;
 use crate::opening::{Opening, opening_of};
+use abc_fields::number_of;
 use abc_scan::{LineClass, class_of};
 
 fn reference_in(line: &[u8]) -> Option<u32>

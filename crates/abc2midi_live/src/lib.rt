@@ -18,7 +18,6 @@ mod listener;
 mod machine;
 mod melody;
 mod music;
-mod number;
 mod opening;
 mod pitch;
 mod reading;

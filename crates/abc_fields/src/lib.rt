@@ -26,6 +26,7 @@ pub use blank::trimmed;
 pub use fault::FaultCode;
 pub use key::{Key, read_key};
 pub use meter::{Meter, read_meter};
+pub use number::number_of;
 pub use parts::read_parts;
 pub use shift::Shift;
 pub use signature::{NATURAL, Signature, alteration};

@@ -17,7 +17,7 @@ fn are_digits(text: &[u8]) -> bool
 }
 
 /// The number that one to nine decimal digits spell; zeros may stand in front.
-pub(crate) fn number_of(text: &[u8]) -> Option<u32>
+pub fn number_of(text: &[u8]) -> Option<u32>
     ensures value { result ≡ number_of text.now }
     ensures bounded { IfSome result (λ n. n ≤ 999999999) }
 {

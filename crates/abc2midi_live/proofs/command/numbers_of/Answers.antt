@@ -12,14 +12,14 @@ pub returns-in_err-number-clause-numbers : goal.returns-in_err-number-clause-num
 unfolding words_behind
 returns-in_err-number-clause-numbers c =
     let words : words_behind c.loop-rest.rest ≡ c.cut.result.0.now ∷ words_behind c.cut.result.1 = ap words_behind c.in-Some.is ∙ words_of-cut c.in-Some.text.now c.cut.result.0.now c.cut.result.1 c.cut.ensures in
-    rw c.from_residual.ensures (subst IsUseless c.loop-rest.invariant.spelled (numbers_behind-other (take c.loop-rest.count c.loop-rest.values) (words_behind c.loop-rest.rest) c.cut.result.0.now (words_behind c.cut.result.1) words c.in_err-number.ensures))
+    rw c.from_residual.ensures (subst IsUseless c.loop-rest.invariant.spelled (numbers_behind-other (take c.loop-rest.count c.loop-rest.values) (words_behind c.loop-rest.rest) c.cut.result.0.now (words_behind c.cut.result.1) words c.in_err-number.ensures.value))
 
 pub returns-then-count-eq-MOST_NUMBERS-clause-numbers : goal.returns-then-count-eq-MOST_NUMBERS-clause-numbers
 unfolding words_behind
 returns-then-count-eq-MOST_NUMBERS-clause-numbers c =
     let words : words_behind c.loop-rest.rest ≡ c.cut.result.0.now ∷ words_behind c.cut.result.1 = ap words_behind c.in-Some.is ∙ words_of-cut c.in-Some.text.now c.cut.result.0.now c.cut.result.1 c.cut.ensures in
     let full : 3 ≤ length (take c.loop-rest.count c.loop-rest.values) = let places : length c.loop-rest.values ≡ 3 = c.loop-rest.invariant.places in let taken = length-take-le c.loop-rest.count c.loop-rest.values (omega arith) in omega (arith, taken) in
-    subst IsUseless c.loop-rest.invariant.spelled (numbers_behind-full (take c.loop-rest.count c.loop-rest.values) (words_behind c.loop-rest.rest) c.cut.result.0.now (words_behind c.cut.result.1) c.in_ok-number.number words c.in_ok-number.ensures full)
+    subst IsUseless c.loop-rest.invariant.spelled (numbers_behind-full (take c.loop-rest.count c.loop-rest.values) (words_behind c.loop-rest.rest) c.cut.result.0.now (words_behind c.cut.result.1) c.in_ok-number.number words c.in_ok-number.ensures.value full)
 
 pub loop-rest-smaller : goal.loop-rest-smaller
 unfolding words_behind
@@ -33,7 +33,7 @@ unfolding words_behind
 loop-rest-preserved c =
     let words : words_behind c.loop-rest.rest ≡ c.cut.result.0.now ∷ words_behind c.cut.result.1 = ap words_behind c.in-Some.is ∙ words_of-cut c.in-Some.text.now c.cut.result.0.now c.cut.result.1 c.cut.ensures in
     let room : c.loop-rest.count < length c.loop-rest.values = omega arith in
-    let more = numbers_behind-more (take c.loop-rest.count c.loop-rest.values) (words_behind c.loop-rest.rest) c.cut.result.0.now (words_behind c.cut.result.1) c.in_ok-number.number words c.in_ok-number.ensures in
+    let more = numbers_behind-more (take c.loop-rest.count c.loop-rest.values) (words_behind c.loop-rest.rest) c.cut.result.0.now (words_behind c.cut.result.1) c.in_ok-number.number words c.in_ok-number.ensures.value in
     record {
       spelled = ap (λ numbers. numbers_behind numbers (words_behind c.cut.result.1)) (take_more_set c.loop-rest.values c.loop-rest.count c.in_ok-number.number room) ∙ more ∙ c.loop-rest.invariant.spelled;
       few = omega arith;
