@@ -1,5 +1,6 @@
 -- Values as the worked examples write them: a tick is 484,323,840 grains. Our own.
-use Rattle.std.specs.Prelude.{ℕ, ℤ, ◌*◌, Option, Some, None, Result, Ok, Err, [], ◌∷◌, codes}
+use Rattle.std.specs.Prelude.{ℕ, ℤ, pos, ◌*◌, false, Option, Some, None, Result, Ok, Err, [], ◌∷◌, codes}
+use Rattle.abc_fields.specs.Signature.{natural}
 use Rattle.abc_fields.specs.declared.fault.FaultCode.{FaultCode}
 use Rattle.abc_fields.specs.declared.key.Key.{Key}
 use Rattle.abc_fields.specs.declared.shift.Shift.{Shift}
@@ -61,3 +62,7 @@ sharps_of (Err fault) = None
 abbrev pub shift_in_key : Result Key FaultCode → Option Shift
 shift_in_key (Ok key) = Some key.shift
 shift_in_key (Err fault) = None
+
+-- the key C, without a shift
+abbrev pub key_c : Key
+key_c = record { signature = Some natural; sharps = pos 0; minor = false; shift = shift None None None }

@@ -97,6 +97,7 @@ fn ticks(rt: HostRuntime) -> Result<(), Fail> {
     assert_eq!(rt; tick_of(Grains(484_323_839)), 0);
     assert_eq!(rt; tick_of(TICK), 1);
     assert_eq!(rt; tick_of(WHOLE_NOTE), 1_920);
+    grain_numbers();
     assert_eq!(rt; tick_of(LATEST_END), LAST_TICK);
     assert_eq!(rt; tick_of(LATEST_END), 131_072 * 1_920);
     Ok(())

@@ -194,7 +194,7 @@ fn commands_are_answered(rt: HostRuntime) {
 #[test]
 fn edits_are_reported(rt: HostRuntime) {
     let input =
-        b"insert 1 3\nX:7\nK:C\nC\ninsert 4 1\nD\nreplace 5 5 1\nx\ninsert 5 1\n% no tune\nhex 7\ninsert 1 0\n";
+        b"insert 1 3\nX:7\nK:C\nC\ninsert 4 1\nD\nreplace 5 5 1\nx\ninsert 5 1\nno tune\nhex 7\ninsert 1 0\n";
     let outcome = run_of(&rt, input, 5, 0, 0);
     assert_eq!(rt;
         outcome.written.as_slice(),

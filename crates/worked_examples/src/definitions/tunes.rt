@@ -4,12 +4,14 @@ ghost use Rattle.std.specs.Prelude.{◌≡◌, ◌*◌, [], ◌∷◌, codes, ma
 ghost use Rattle.hex.specs.Hex.{encode_upper};
 ghost use Rattle.abc_scan.specs.Cutting.{tokens_of};
 ghost use Rattle.abc_time.specs.Grains.{tick_at};
+ghost use Rattle.abc_fields.specs.declared.meter.Meter.TheVariants.{Free, Of};
 ghost use Rattle.abc2midi_live.specs.Book.{files_of};
-ghost use Rattle.abc2midi_live.specs.Field.{unit_of, value_of};
+ghost use Rattle.abc2midi_live.specs.Field.{value_of};
 ghost use Rattle.abc2midi_live.specs.Melody.{end_of, notes_from};
 ghost use Rattle.abc2midi_live.specs.Music.{times_of};
+ghost use Rattle.abc2midi_live.specs.Opening.{opening_of};
 ghost use Rattle.abc2midi_live.specs.PlainTune.{heading_of};
-ghost use Rattle.worked_examples.specs.Values.{at_tick, ratio, sounding};
+ghost use Rattle.worked_examples.specs.Values.{at_tick, key_c, ratio, sounding};
 
 /// The value of a field: no comment, and no blanks at its ends. ABC 2.1 section 3.
 pub fn values_of_fields()
@@ -20,31 +22,21 @@ pub fn values_of_fields()
     ensures only_blanks { value_of (codes "T:  ") ≡ [] }
 {}
 
-/// The unit note length: 1, or 1 over a power of two up to 512. Leading zeros are fine behind the slash, and the 1 is that
-/// byte. ABC 2.1 section 3.1.7; the bound and the spelling of numbers are our own.
-pub fn unit_note_lengths()
-    ensures whole { unit_of (codes "1") ≡ Some (ratio 1 1) }
-    ensures eighth { unit_of (codes "1/8") ≡ Some (ratio 1 8) }
-    ensures shortest { unit_of (codes "1/512") ≡ Some (ratio 1 512) }
-    ensures shorter { unit_of (codes "1/1024") ≡ None }
-    ensures no_power_of_two { unit_of (codes "1/12") ≡ None }
-    ensures leading_zeros { unit_of (codes "1/08") ≡ Some (ratio 1 8) }
-    ensures zero_in_front { unit_of (codes "01/8") ≡ None }
-    ensures blank { unit_of (codes "1 /8") ≡ None }
-    ensures no_denominator { unit_of (codes "1/") ≡ None }
-    ensures other_numerator { unit_of (codes "2/8") ≡ None }
-    ensures empty { unit_of [] ≡ None }
-{}
-
-/// The first T: is the title, the last L: is the unit, and without one the unit is an eighth; the number is from 1. ABC
-/// 2.1 sections 3.1.1, 3.1.2 and 3.1.7.
+/// The first T: is the title, the last L: is the unit, and without one the unit is an eighth, or a sixteenth in a meter
+/// below 3/4; the number is from 1. ABC 2.1 sections 3.1.1, 3.1.2 and 3.1.7.
 pub fn headings()
     ensures first_title { heading_of (codes "X:7" ∷ codes "T:A" ∷ codes "T:B" ∷ codes "K:C" ∷ codes "C" ∷ [])
-        ≡ Some (record { number = 7; title = codes "A"; unit = ratio 1 8; body = codes "C" ∷ [] }) }
+        ≡ Some (record { number = 7; title = codes "A"; opening = record { meter = Free; unit = ratio 1 8; tempo = 500000; key = key_c }; body = codes "C" ∷ [] }) }
     ensures last_unit { heading_of (codes "X:007" ∷ codes "L:1/4" ∷ codes "L:1/16" ∷ codes "K:C" ∷ [])
-        ≡ Some (record { number = 7; title = []; unit = ratio 1 16; body = [] }) }
+        ≡ Some (record { number = 7; title = []; opening = record { meter = Free; unit = ratio 1 16; tempo = 500000; key = key_c }; body = [] }) }
     ensures empty_title { heading_of (codes "X:1" ∷ codes "T:" ∷ codes "T:B" ∷ codes "K:C" ∷ [])
-        ≡ Some (record { number = 1; title = []; unit = ratio 1 8; body = [] }) }
+        ≡ Some (record { number = 1; title = []; opening = record { meter = Free; unit = ratio 1 8; tempo = 500000; key = key_c }; body = [] }) }
+    ensures refused_unit { heading_of (codes "X:1" ∷ codes "L:1/4" ∷ codes "L:1/3" ∷ codes "K:C" ∷ [])
+        ≡ Some (record { number = 1; title = []; opening = record { meter = Free; unit = ratio 1 4; tempo = 500000; key = key_c }; body = [] }) }
+    ensures below_three_four { heading_of (codes "X:1" ∷ codes "M:2/4" ∷ codes "K:C" ∷ [])
+        ≡ Some (record { number = 1; title = []; opening = record { meter = Of 2 4; unit = ratio 1 16; tempo = 500000; key = key_c }; body = [] }) }
+    ensures part { heading_of (codes "X:1" ∷ codes "P:A" ∷ codes "K:C" ∷ []) ≡ None }
+    ensures no_key { heading_of (codes "X:1" ∷ codes "T:A" ∷ []) ≡ None }
     ensures number_zero { heading_of (codes "X:0" ∷ codes "K:C" ∷ []) ≡ None }
     ensures ten_digits { heading_of (codes "X:0000000001" ∷ codes "K:C" ∷ []) ≡ None }
     ensures letter { heading_of (codes "X:a" ∷ codes "K:C" ∷ []) ≡ None }
@@ -53,7 +45,7 @@ pub fn headings()
 /// `C3/2 C/ C// C0 C1/17 C` at an eighth. ABC 2.1 section 4.3; that a refused length, and one that is not whole, is the
 /// unit is our own.
 pub fn lengths_of_notes()
-    ensures { notes_from 0 (times_of (ratio 1 8) (tokens_of (codes "C3/2 C/ C// C0 C1/17 C"))) ≡
+    ensures { notes_from 0 (times_of (opening_of [] (codes "K:C")) (tokens_of (codes "C3/2 C/ C// C0 C1/17 C"))) ≡
         sounding 60 0 360 ∷ sounding 60 360 480 ∷ sounding 60 480 540 ∷ sounding 60 540 780
         ∷ sounding 60 780 1020 ∷ sounding 60 1020 1260 ∷ [] }
 {}
@@ -61,36 +53,36 @@ pub fn lengths_of_notes()
 /// `C,,,,, C,,,,,, C`: key 0, a note below it that is silent and takes its time, and the middle C. ABC 2.1 section 4.1;
 /// the silence is our own.
 pub fn notes_below_the_keys()
-    ensures { notes_from 0 (times_of (ratio 1 8) (tokens_of (codes "C,,,,, C,,,,,, C"))) ≡
+    ensures { notes_from 0 (times_of (opening_of [] (codes "K:C")) (tokens_of (codes "C,,,,, C,,,,,, C"))) ≡
         sounding 0 0 240 ∷ sounding 60 480 720 ∷ [] }
 {}
 
 /// `G''''' A'''''`: key 127, and a note above it that is silent. ABC 2.1 section 4.1; the silence is our own.
 pub fn notes_above_the_keys()
-    ensures { notes_from 0 (times_of (ratio 1 8) (tokens_of (codes "G''''' A'''''"))) ≡ sounding 127 0 240 ∷ [] }
+    ensures { notes_from 0 (times_of (opening_of [] (codes "K:C")) (tokens_of (codes "G''''' A'''''"))) ≡ sounding 127 0 240 ∷ [] }
 {}
 
 /// The octave of `C,',` is the one below the middle C. ABC 2.1 section 4.1.
 pub fn an_octave_below()
-    ensures { notes_from 0 (times_of (ratio 1 8) (tokens_of (codes "C,',"))) ≡ sounding 48 0 240 ∷ [] }
+    ensures { notes_from 0 (times_of (opening_of [] (codes "K:C")) (tokens_of (codes "C,',"))) ≡ sounding 48 0 240 ∷ [] }
 {}
 
 /// The keys of two octaves. ABC 2.1 section 4.1.
 pub fn keys()
-    ensures { map (λ note. note.key) (notes_from 0 (times_of (ratio 1 8) (tokens_of (codes "CDEFGABcdefgab")))) ≡
+    ensures { map (λ note. note.key) (notes_from 0 (times_of (opening_of [] (codes "K:C")) (tokens_of (codes "CDEFGABcdefgab")))) ≡
         60 ∷ 62 ∷ 64 ∷ 65 ∷ 67 ∷ 69 ∷ 71 ∷ 72 ∷ 74 ∷ 76 ∷ 77 ∷ 79 ∷ 81 ∷ 83 ∷ [] }
 {}
 
 /// Sevenths of 240 ticks, 34 and two sevenths each: their ends are exact moments rounded down, so the last is 240. ABC
 /// 2.1 section 4.3; the rounding is our own.
 pub fn sevenths_of_a_note()
-    ensures { map (λ note. tick_at note.off.0) (notes_from 0 (times_of (ratio 1 8) (tokens_of (codes "C/7C/7C/7C/7C/7C/7C/7")))) ≡
+    ensures { map (λ note. tick_at note.off.0) (notes_from 0 (times_of (opening_of [] (codes "K:C")) (tokens_of (codes "C/7C/7C/7C/7C/7C/7C/7")))) ≡
         34 ∷ 68 ∷ 102 ∷ 137 ∷ 171 ∷ 205 ∷ 240 ∷ [] }
 {}
 
 /// A rest is silent and takes its time. ABC 2.1 section 4.5.
 pub fn a_rest_between_notes()
-    ensures { notes_from 0 (times_of (ratio 1 4) (tokens_of (codes "C z2 x/ D"))) ≡
+    ensures { notes_from 0 (times_of (opening_of (codes "L:1/4" ∷ []) (codes "K:C")) (tokens_of (codes "C z2 x/ D"))) ≡
         sounding 60 0 480 ∷ sounding 62 1680 2160 ∷ [] }
 {}
 
