@@ -1,5 +1,5 @@
 -- Laws of a machine that is fed pieces of an input.
-use Rattle.std.proofs.Common.{◌≡◌, ℕ, ◌+◌, ◌<◌, ◌≤◌, Bool, true, false, List, [], ◌∷◌, ◌++◌, length, take, Option, Some, None, refl, sym, ap, ◌∙◌, subst, arith, append_assoc, append-nil, if◌then◌else◌, ◌==◌, Result, Ok, Err, MatchResult, option_map}
+use Rattle.std.proofs.Common.{◌≡◌, ℕ, ◌+◌, ◌<◌, ◌≤◌, Bool, true, false, List, [], ◌∷◌, ◌++◌, length, take, Option, Some, None, refl, sym, ap, ◌∙◌, subst, arith, append_assoc, append-nil, length-append, length-take, if◌then◌else◌, ◌==◌, Result, Ok, Err, MatchResult, option_map}
 use Rattle.std.specs.Prelude.{IsErr, IsErrAnd, IfSome}
 use Rattle.std.specs.Borrow.{Bor}
 use Rattle.abc2midi_live.specs.declared.fault.RunFault.TheVariants.{Read, Write, Memory}
@@ -195,28 +195,30 @@ is_empty begun len e h = grind (arith, nat_tests)
 pub not_empty : (begun : List ℕ) (len : ℕ) → len ≡ length begun → (len == 0) ≡ false → 0 < length begun
 not_empty begun len e h = grind (arith, nat_tests)
 
--- What has been read of an input has been served: the bytes, and what was written.
-pub record Heard (before now : Ahead) (input left old new : Option (List ℕ)) : Type 0 where
+-- What has been read of an input has been served: the bytes, at least as many as reads were made, and what was written.
+pub record Heard (made : ℕ) (before now : Ahead) (input left old new : Option (List ℕ)) : Type 0 where
   pub taken : List ℕ
   pub text : List ℕ
+  pub enough : made ≤ length taken
   pub took : Consumes input left taken
   pub wrote : Appends old new text
   pub told : Answers before now taken text true
 
-pub heard_none : (before now : Ahead) (input w : Option (List ℕ)) → now ≡ before → Heard before now input input w w
-heard_none before now input w same = record { taken = []; text = []; took = Consumes-nil input; wrote = Appends-nil w; told = λ ended rest. ap (λ f. f ended rest) (sym same) }
+pub heard_none : (before now : Ahead) (input w : Option (List ℕ)) → now ≡ before → Heard 0 before now input input w w
+heard_none before now input w same = record { taken = []; text = []; enough = omega arith; took = Consumes-nil input; wrote = Appends-nil w; told = λ ended rest. ap (λ f. f ended rest) (sym same) }
 
-pub heard_turn : (before mid after : Ahead) (input left left' old w new : Option (List ℕ)) → Heard before mid input left old w → Turn mid after left left' w new true → Heard before after input left' old new
-heard_turn before mid after input left left' old w new h (taken, text, took, wrote, told) = record {
+pub heard_turn : (made : ℕ) (before mid after : Ahead) (input left left' old w new : Option (List ℕ)) → Heard made before mid input left old w → Turn mid after left left' w new true → Heard (made + 1) before after input left' old new
+heard_turn made before mid after input left left' old w new h (taken, text, some, took, wrote, told) = record {
   taken = h.taken ++ taken;
   text = h.text ++ text;
+  enough = omega (arith, h.enough, some, length-append h.taken taken);
   took = Consumes-trans input left left' h.taken taken h.took took;
   wrote = Appends-trans old w new h.text text h.wrote wrote;
   told = two_steps before mid after h.taken taken h.text text true h.told told;
 }
 
 -- all of the input is answered
-pub heard_end : (before mid after : Ahead) (input left left' old w new : Option (List ℕ)) → Heard before mid input left old w → Turn mid after left left' w new false
+pub heard_end : {made : ℕ} (before mid after : Ahead) (input left left' old w new : Option (List ℕ)) → Heard made before mid input left old w → Turn mid after left left' w new false
     → IfSome input (λ bytes. Appends old new (before true bytes))
 heard_end before mid after None left left' old w new h e = tt
 heard_end before mid after (Some bytes) None left' old w new h e = absurd h.took
@@ -224,7 +226,7 @@ heard_end before mid after (Some bytes) (Some rest) left' old w new h e =
     subst (Appends old new) (sym (ap (before true) h.took ∙ h.told true rest)) (Appends-trans old w new h.text (mid true rest) h.wrote e)
 
 -- a fault leaves what it leaves of the rest
-pub heard_left : (before mid : Ahead) (input left left' old w new : Option (List ℕ)) (fault : RunFault) → Heard before mid input left old w → Leaves (mid false) left left' w new fault
+pub heard_left : {made : ℕ} (before mid : Ahead) (input left left' old w new : Option (List ℕ)) (fault : RunFault) → Heard made before mid input left old w → Leaves (mid false) left left' w new fault
     → Leaves (before false) input left' old new fault
 heard_left before mid input left left' old w new Read h (taken, took, wrote) = (
   h.taken ++ taken,
@@ -240,12 +242,18 @@ heard_left before mid input left left' old w new Memory h (front, behind, took, 
 )
 
 -- so many reads were made
-pub heard_so_far : (before mid : Ahead) (input left old new : Option (List ℕ)) → Heard before mid input left old new → mid false [] ≡ [] → Leaves (before false) input left old new Read
+pub heard_so_far : {made : ℕ} (before mid : Ahead) (input left old new : Option (List ℕ)) → Heard made before mid input left old new → mid false [] ≡ [] → Leaves (before false) input left old new Read
 heard_so_far before mid input left old new h none = (
   h.taken,
   h.took,
   subst (Appends old new) (sym (ap (before false) (sym (append-nil h.taken)) ∙ h.told false [] ∙ ap (λ l. h.text ++ l) none ∙ append-nil h.text)) h.wrote,
 )
+
+-- each of the reads took a byte or more of the input
+pub heard_enough : (made : ℕ) (before now : Ahead) (input left old new : Option (List ℕ)) → Heard made before now input left old new → IfSome input (λ bytes. made ≤ length bytes)
+heard_enough made before now None left old new h = tt
+heard_enough made before now (Some bytes) None old new h = absurd h.took
+heard_enough made before now (Some bytes) (Some rest) old new h = omega (arith, h.enough, ap length h.took, length-append h.taken rest)
 
 -- a read failed
 pub turn_failed : (before : Ahead) (input left w : Option (List ℕ)) → Keeps input left → before false [] ≡ [] → Leaves (before false) input left w w Read
@@ -257,15 +265,19 @@ all_told before piece text None left old new took wrote told = tt
 all_told before piece text (Some bytes) None old new took wrote told = absurd took
 all_told before piece text (Some bytes) (Some rest) old new took wrote told = subst (Appends old new) (sym (ap (before true) took ∙ told rest ∙ append-nil text)) wrote
 
+-- bytes were read
+pub some_read : (count : ℕ) (buffer : List ℕ) → 0 < count → count ≤ length buffer → 0 < length (take count buffer)
+some_read count buffer some within = omega (arith, length-take count buffer)
+
 -- a piece was fed
-pub turn_fed : (r : Result Bool RunFault) (before after : Ahead) (piece : List ℕ) (input left old new : Option (List ℕ)) → Consumes input left piece
+pub turn_fed : (r : Result Bool RunFault) (before after : Ahead) (piece : List ℕ) (input left old new : Option (List ℕ)) → 0 < length piece → Consumes input left piece
     → MatchResult r (λ goes_on. (text : List ℕ) × Appends old new text × Answers before after piece text goes_on) (BrokenOff before piece old new)
     → MatchResult r (Turn before after input left old new) (Leaves (before false) input left old new)
-turn_fed (Ok true) before after piece input left old new took (text, wrote, told) = (piece, text, took, wrote, told)
-turn_fed (Ok false) before after piece input left old new took (text, wrote, told) = all_told before piece text input left old new took wrote (λ rest. told true rest)
-turn_fed (Err Read) before after piece input left old new took h = absurd h
-turn_fed (Err Write) before after piece input left old new took h = tt
-turn_fed (Err Memory) before after piece input left old new took (front, back, e, wrote) = (front, back, subst (Consumes input left) e took, wrote)
+turn_fed (Ok true) before after piece input left old new some took (text, wrote, told) = (piece, text, some, took, wrote, told)
+turn_fed (Ok false) before after piece input left old new some took (text, wrote, told) = all_told before piece text input left old new took wrote (λ rest. told true rest)
+turn_fed (Err Read) before after piece input left old new some took h = absurd h
+turn_fed (Err Write) before after piece input left old new some took h = tt
+turn_fed (Err Memory) before after piece input left old new some took (front, back, e, wrote) = (front, back, subst (Consumes input left) e took, wrote)
 
 -- the end of the input came
 pub turn_ended : (before : Ahead) (input left old new : Option (List ℕ)) → Consumes input left [] → IsAtEnd left → Appends old new (before true []) → IfSome input (λ bytes. Appends old new (before true bytes))
@@ -288,10 +300,10 @@ fault_is (Ok x) fault h = let e = h.0 in cc
 fault_is (Err e) fault h = ap Err h.1
 
 -- what a read's counts say of a run that ends with its fault
-pub reads_exit : (fault : RunFault) (failures failures' calls calls' : ℕ) → failures' ≡ raised failures (read_faults {T = Unit {0}} (Err fault)) → Reads {T = Unit {0}} failures failures' calls calls' (Err fault)
-reads_exit Read failures failures' calls calls' e = Failed e
-reads_exit Write failures failures' calls calls' e = e ∙ raised_none failures
-reads_exit Memory failures failures' calls calls' e = e ∙ raised_none failures
+pub reads_exit : (fault : RunFault) (input : Option (List ℕ)) (failures failures' calls calls' : ℕ) → failures' ≡ raised failures (read_faults {T = Unit {0}} (Err fault)) → Reads {T = Unit {0}} input failures failures' calls calls' (Err fault)
+reads_exit Read input failures failures' calls calls' e = Failed e
+reads_exit Write input failures failures' calls calls' e = e ∙ raised_none failures
+reads_exit Memory input failures failures' calls calls' e = e ∙ raised_none failures
 
 -- one more call
 pub calls_more : (old now new counter : ℕ) → now ≡ raised old counter → new ≡ raised now 1 → new ≡ raised old (counter + 1)

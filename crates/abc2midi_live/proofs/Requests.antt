@@ -2,8 +2,9 @@
 use Rattle.std.proofs.Common.{◌≡◌, ℕ, ◌+◌, ◌-◌, ◌<◌, ◌≤◌, Bool, true, false, cond, leb, List, [], ◌∷◌, ◌++◌, length, take, map, Option, Some, None, Result, Ok, Err, ◌⊎◌, inl, inr, refl, sym, ap, ◌∙◌, subst, arith, append_assoc, append-nil, ◌≢◌, if◌then◌else◌, add-one, length-append}
 use Rattle.std.proofs.lemmas.List.{take_all, take-append-le, map-append}
 use Rattle.std.specs.Global.{Vec}
-use Rattle.std.specs.Prelude.{IfOk, OnOk}
+use Rattle.std.specs.Prelude.{IfOk, IsErr, OnOk, is_ok}
 use Rattle.std.specs.declared.alloc.AllocError.{AllocError}
+use Rattle.std.proofs.lemmas.Bool.{true≢false}
 use Rattle.std.proofs.lemmas.Bool.Decides.{nat_tests}
 use Rattle.std.specs.Result.{result_unwrap_or}
 use Rattle.abc2midi_live.specs.Text.{Text, text_of, edited, Refuses}
@@ -16,7 +17,7 @@ use Rattle.abc2midi_live.specs.Book.{file_at}
 use Rattle.abc2midi_live.specs.declared.command.Command.{Command}
 use Rattle.abc2midi_live.specs.declared.command.Command.TheVariants.{Hex, Quit, Unknown}
 use Rattle.abc2midi_live.specs.declared.command.Command.TheVariants as commands
-use Rattle.abc2midi_live.specs.Dialogue.{change_of, Begun, awaited, Says, Responds}
+use Rattle.abc2midi_live.specs.Dialogue.{change_of, Begun, awaited, is_taken, Says, Responds}
 use Rattle.abc2midi_live.specs.Machine.{Replies}
 use Rattle.abc2midi_live.specs.declared.machine.Reply.{Reply}
 use Rattle.abc2midi_live.specs.declared.machine.Reply.TheVariants.{Nothing, Answer, End}
@@ -74,6 +75,16 @@ edited_answer old new change edit text e t n =
 pub responds_edit : (old new : Text) (request : Request) (change : Change) (edit : Edit) (text : List ℕ) → request ≡ Edits change → change_of edit ≡ change → text ≡ change_answer old (edited old edit)
     → new ≡ result_unwrap_or (edited old edit) old → Answered old new request text
 responds_edit old new request change edit text is e t n = subst (λ r. Answered old new r text) (sym is) (edited_answer old new change edit text e t n)
+
+not_ok : (r : Result Text EditError) → is_ok r ≡ false → IsErr r
+not_ok (Ok text) e = absurd (true≢false e)
+not_ok (Err error) e = refl
+
+-- an edit that the text does not take is refused
+pub untaken : (old : Text) (request : Request) (change : Change) (edit : Edit) → request ≡ Edits change → change_of edit ≡ change → is_taken old request ≡ false → IsErr (edited old edit)
+untaken old request change edit is e none =
+    let refused : is_ok (changed old change) ≡ false = sym (ap (is_taken old) is) ∙ none in
+    subst IsErr (sym (edited-changed old edit ∙ ap (changed old) e)) (not_ok (changed old change) refused)
 
 whole_if : (count n : ℕ) (request : Request) → n ≡ count → (if leb count n then request else CutOff) ≡ request
 whole_if count n request e = ap (λ b. cond b request CutOff) (let b : leb count n ≡ true = grind (arith, nat_tests) in b)

@@ -1,8 +1,8 @@
 -- Commands that come line by line, and what is answered to the lines that still come. Our own.
-use Rattle.std.specs.Prelude.{◌≡◌, ℕ, ◌-◌, Bool, true, false, List, [], ◌∷◌, ◌++◌, length, Option, Some, None}
+use Rattle.std.specs.Prelude.{◌≡◌, ℕ, ◌-◌, Bool, true, false, is_ok, List, [], ◌∷◌, ◌++◌, length, Option, Some, None}
 use Rattle.abc2midi_live.specs.Text.{Text, text_of}
-use Rattle.abc2midi_live.specs.Command.{line_count}
-use Rattle.abc2midi_live.specs.Transcript.{Change, Insertion, Replacement, Deletion, Request, request_of, requests, answers, answer, goes_on, text_after}
+use Rattle.abc2midi_live.specs.Command.{line_count, command_of}
+use Rattle.abc2midi_live.specs.Transcript.{Change, Insertion, Replacement, Deletion, Request, Edits, Shows, Misspelled, CutOff, Ends, changed, request_of, requests, answers, answer, goes_on, text_after}
 use Rattle.abc2midi_live.specs.declared.edit.Edit.{Edit}
 use Rattle.abc2midi_live.specs.declared.edit.Edit.TheVariants.{Insert, Replace, Delete}
 use Rattle.abc2midi_live.specs.declared.command.Command.{Command}
@@ -38,6 +38,19 @@ Responds old new request Nothing = ⊥
 Responds old new request (Answer text) =
     ((ended : Bool) → answer ended old request ≡ text.items) × (goes_on request ≡ true) × (new ≡ text_after old request)
 Responds old new request End = ((ended : Bool) → answer ended old request ≡ []) × (goes_on request ≡ false)
+
+-- whether the text takes what is asked for: nothing else costs any work that is counted
+abbrev pub is_taken : Text → Request → Bool
+is_taken text (Edits change) = is_ok (changed text change)
+is_taken text (Shows number) = false
+is_taken text Misspelled = false
+is_taken text CutOff = false
+is_taken text Ends = false
+
+-- what is asked for by what has begun and one more line
+abbrev pub request_with : Option Begun → List ℕ → Request
+request_with None line = request_of (command_of line) []
+request_with (Some begun) line = request_of begun.command (begun.lines ++ line ∷ [])
 
 -- What is to be answered to a command with the first of its lines and those that come is the reply, and then what is
 -- to be answered to the lines behind it.

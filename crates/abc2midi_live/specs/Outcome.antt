@@ -1,5 +1,5 @@
 -- How a run ends, and what it leaves. Our own.
-use Rattle.std.specs.Prelude.{◌≡◌, ℕ, Bool, true, false, List, ◌++◌, Option, Result, Ok, Err, ⊤, IfSome}
+use Rattle.std.specs.Prelude.{◌≡◌, ℕ, ◌<◌, ◌≤◌, Bool, true, false, List, ◌++◌, length, Option, Result, Ok, Err, ⊤, IfSome}
 use Rattle.std.specs.Io.KnownBytes.{Appends, Consumes, Keeps}
 use Rattle.abc2midi_live.specs.Machine.{Answers}
 use Rattle.abc_fold.specs.Work.{raised}
@@ -37,11 +37,11 @@ Leaves answered input left old new Write = ⊤
 Leaves answered input left old new Memory =
     (before : List ℕ) × (behind : List ℕ) × Consumes input left (before ++ behind) × Appends old new (answered before)
 
--- What one read leads to, from what is to be answered before it to what is after it: where the run goes on, the bytes
--- that it took are answered so far as they can be; else all that there was to read is.
+-- What one read leads to, from what is to be answered before it to what is after it: where the run goes on, it took
+-- bytes, and these are answered so far as they can be; else all that there was to read is.
 abbrev pub Turn : (Bool → List ℕ → List ℕ) → (Bool → List ℕ → List ℕ) → Option (List ℕ) → Option (List ℕ) → Option (List ℕ) → Option (List ℕ) → Bool → Type 0
 Turn before after input left old new true =
-    (taken : List ℕ) × (text : List ℕ) × Consumes input left taken × Appends old new text × Answers before after taken text true
+    (taken : List ℕ) × (text : List ℕ) × (0 < length taken) × Consumes input left taken × Appends old new text × Answers before after taken text true
 Turn before after input left old new false = IfSome input (λ bytes. Appends old new (before true bytes))
 
 -- how many faults of the reader a read tells of
@@ -51,16 +51,17 @@ read_faults (Err Read) = 1
 read_faults (Err Write) = 0
 read_faults (Err Memory) = 0
 
--- why a run says that it cannot read
-pub data ReadCause (failures failures' calls calls' : ℕ) : Type 0 where
+-- why a run says that it cannot read, from what the reader has to give
+pub data ReadCause (input : Option (List ℕ)) (failures failures' calls calls' : ℕ) : Type 0 where
   -- a read failed
-  Failed : failures' ≡ raised failures 1 → ReadCause failures failures' calls calls'
-  -- none failed, but 4,294,967,295 were made
-  Exhausted : failures' ≡ failures → calls' ≡ raised calls 4294967295 → ReadCause failures failures' calls calls'
+  Failed : failures' ≡ raised failures 1 → ReadCause input failures failures' calls calls'
+  -- none failed, but 4,294,967,295 were made, and each took a byte or more
+  Exhausted :
+      failures' ≡ failures → calls' ≡ raised calls 4294967295 → IfSome input (λ bytes. 4294967295 ≤ length bytes) → ReadCause input failures failures' calls calls'
 
 -- what a result says of the reader's counts
-abbrev pub Reads : {T : Type 0} → ℕ → ℕ → ℕ → ℕ → Result T RunFault → Type 0
-Reads failures failures' calls calls' (Ok x) = failures' ≡ failures
-Reads failures failures' calls calls' (Err Read) = ReadCause failures failures' calls calls'
-Reads failures failures' calls calls' (Err Write) = failures' ≡ failures
-Reads failures failures' calls calls' (Err Memory) = failures' ≡ failures
+abbrev pub Reads : {T : Type 0} → Option (List ℕ) → ℕ → ℕ → ℕ → ℕ → Result T RunFault → Type 0
+Reads input failures failures' calls calls' (Ok x) = failures' ≡ failures
+Reads input failures failures' calls calls' (Err Read) = ReadCause input failures failures' calls calls'
+Reads input failures failures' calls calls' (Err Write) = failures' ≡ failures
+Reads input failures failures' calls calls' (Err Memory) = failures' ≡ failures

@@ -1,11 +1,11 @@
 //! Commands, each with the lines that belong to it, carried out on a session.
 
-ghost use Rattle.std.specs.Prelude.{◌≡◌, ◌<◌, ◌≤◌, nat_le, false, ℕ, Bool, List, Option, None, [], length, IfOk};
+ghost use Rattle.std.specs.Prelude.{◌≡◌, ◌<◌, ◌≤◌, nat_le, false, ℕ, Bool, List, Option, None, [], length, IfOk, IsErr, OnOk};
 ghost use Rattle.std.specs.Result.{result_unwrap_or};
 ghost use Rattle.abc2midi_live.specs.Command.{line_count};
 ghost use Rattle.abc2midi_live.specs.Text.{edited, text_of};
 ghost use Rattle.abc2midi_live.specs.Transcript.{change_answer, request_of};
-ghost use Rattle.abc2midi_live.specs.Dialogue.{Responds, Proceeds};
+ghost use Rattle.abc2midi_live.specs.Dialogue.{Responds, Proceeds, is_taken};
 
 use crate::answer::{hex_line, refusal, report_line};
 use crate::command::Command;
@@ -24,6 +24,7 @@ fn edit(
 ) -> Result<Vec<u8>, AllocError>
     ensures answer { IfOk result (λ text. text.items ≡ change_answer session.old (edited session.old edit.now)) }
     ensures text { IfOk result (λ _. session.new ≡ result_unwrap_or (edited session.old edit.now) session.old) }
+    ensures uncounted { OnOk result (IsErr (edited session.old edit.now) → work.new ≡ work.old) }
 {
     match session.apply(edit, work) {
         Ok(report) => report_line(alloc, &report),
@@ -40,7 +41,8 @@ fn respond(
     work: &mut Work,
 ) -> Result<Reply, AllocError>
     requires { length lines.items ≡ line_count command }
-    ensures { IfOk result (Responds session.old session.new (request_of command (text_of lines))) }
+    ensures reply { IfOk result (Responds session.old session.new (request_of command (text_of lines))) }
+    ensures uncounted { OnOk result (is_taken session.old (request_of command (text_of lines)) ≡ false → work.new ≡ work.old) }
 {
     match command {
         Command::Insert { at, .. } => {
@@ -107,7 +109,8 @@ impl Dialogue {
     ) -> Result<Reply, AllocError>
         requires idle { self.old.gathering ≡ None }
         requires few { length lines.items ≤ line_count command }
-        ensures { IfOk result (Proceeds self.old.session command (text_of lines) self.new.session (begun_of self.new.gathering)) }
+        ensures reply { IfOk result (Proceeds self.old.session command (text_of lines) self.new.session (begun_of self.new.gathering)) }
+        ensures uncounted { OnOk result (is_taken self.old.session (request_of command (text_of lines)) ≡ false → work.new ≡ work.old) }
     {
         if lines.len() < command.line_count() {
             self.gathering = Some(Gathering { command, lines });
@@ -118,10 +121,12 @@ impl Dialogue {
 }
 
 impl Machine for Dialogue {
-    ghost use Rattle.abc2midi_live.specs.Dialogue.{awaited};
+    ghost use Rattle.abc2midi_live.specs.Dialogue.{awaited, request_with};
     ghost use Rattle.abc2midi_live.specs.Gathering.{begun_of, dialogue_waits};
 
     ghost future = { λ d. awaited d.session (begun_of d.gathering) };
+
+    ghost costs = { λ d line. is_taken d.session (request_with (begun_of d.gathering) line) };
 
     ghost waits = { λ d. dialogue_waits d.session d.gathering };
 

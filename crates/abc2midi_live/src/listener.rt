@@ -30,6 +30,7 @@ fn serve<M: Machine, W: Sink>(
         × Answers (M.future machine.old) (M.future machine.new) (line.items ∷ []) text goes_on)
         (Unserved (W.contents writer.old) (W.contents writer.new)) }
     ensures fails { W.failures writer.new ≡ raised (W.failures writer.old) (write_faults result) }
+    ensures uncounted { OnOk result (M.costs machine.old line.items ≡ false → work.new ≡ work.old) }
 {
     match machine.take_line(line, work)? {
         Reply::Nothing => Ok(true),

@@ -67,7 +67,7 @@ pub fn listen<M: Machine + Drop, R: Source, W: Sink>(
         (Leaves (λ input. M.future machine false (input_lines false input))
         (R.remaining reader.old) (R.remaining reader.new) (W.contents writer.old) (W.contents writer.new)) }
     ensures calls { (made : ℕ) × (made ≤ 4294967295) × (R.calls reader.new ≡ raised (R.calls reader.old) made) }
-    ensures reads { Reads (R.failures reader.old) (R.failures reader.new) (R.calls reader.old) (R.calls reader.new) result }
+    ensures reads { Reads (R.remaining reader.old) (R.failures reader.old) (R.failures reader.new) (R.calls reader.old) (R.calls reader.new) result }
     ensures writes { W.failures writer.new ≡ raised (W.failures writer.old) (write_faults result) }
 {
     let mut listener = Listener::new(alloc, machine);

@@ -1,13 +1,14 @@
 //! Where commands come from, where answers go to, and where files are kept. Each counts its failures, so that
 //! contracts can say what caused a fault, and may tell its bytes.
 
-ghost use Rattle.std.specs.Prelude.{◌≡◌, ℕ, List, Option, None, OnOk, MatchResult};
+ghost use Rattle.std.specs.Prelude.{◌≡◌, ◌↔◌, ℕ, List, Option, None, IsTrue, OnOk, MatchResult};
 ghost use Rattle.std.specs.Io.{ReadsAtMost};
+ghost use Rattle.std.specs.IoError.{error_kind};
 ghost use Rattle.std.specs.Io.KnownBytes.{Appends, ReadConsumes};
 ghost use Rattle.abc_fold.specs.Work.{raised};
 ghost use Rattle.abc2midi_live.specs.Streams.{faults, Contents, Puts, TakesOut, KeepsOthers};
 
-use std::io::{ErrorKind, Read, Write};
+use std::io::{Error, ErrorKind, Read, Write};
 
 /// A stream failed.
 #[derive(Clone, Copy, Debug, PartialEq, Eq)]
@@ -97,6 +98,13 @@ impl<T> Piped<T> {
     }
 }
 
+/// Whether a signal came in between, so that the call is made again.
+fn is_interrupted(error: &Error) -> bool
+    ensures { IsTrue result ↔ (error_kind error.now ≡ ErrorKind.Interrupted) }
+{
+    error.kind() == ErrorKind::Interrupted
+}
+
 #[tactic(auto, using(crate::proofs::Counts::raised_none, crate::proofs::Counts::raised_within))]
 impl<T: Read> Source for Piped<T> {
     ghost failures = { λ p. p.failures };
@@ -111,7 +119,7 @@ impl<T: Read> Source for Piped<T> {
         for _ in 0..u32::MAX {
             match self.inner.read(buf) {
                 Ok(n) => return Ok(n),
-                Err(e) if e.kind() == ErrorKind::Interrupted => {}
+                Err(e) if is_interrupted(&e) => {}
                 Err(_) => break,
             }
         }

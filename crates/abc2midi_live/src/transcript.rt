@@ -40,7 +40,7 @@ pub fn run<R: Source, W: Sink, S: Store>(
 
     // What the counts of the reader and the writer say.
     ensures calls { (made : ℕ) × (made ≤ 4294967295) × (R.calls reader.new ≡ raised (R.calls reader.old) made) }
-    ensures reads { Reads (R.failures reader.old) (R.failures reader.new) (R.calls reader.old) (R.calls reader.new) result }
+    ensures reads { Reads (R.remaining reader.old) (R.failures reader.old) (R.failures reader.new) (R.calls reader.old) (R.calls reader.new) result }
     ensures writes { W.failures writer.new ≡ raised (W.failures writer.old) (write_faults result) }
 
     ensures store { store.new ≡ store.old }

@@ -1,9 +1,10 @@
-use Rattle.std.proofs.Common.{◌≡◌, ◌+◌, [], sym, ap, ◌∙◌, subst, refl, Bool, false, Err, arith}
+use Rattle.std.proofs.Common.{◌≡◌, ◌≤◌, ◌+◌, length, [], sym, ap, ◌∙◌, subst, refl, Bool, false, Err, arith}
+use Rattle.std.specs.Prelude.{IfSome}
 use Rattle.abc2midi_live.specs.Machine.{ahead}
 use Rattle.abc2midi_live.specs.Outcome.{Leaves, Turn, Exhausted, read_faults}
 use Rattle.abc_fold.specs.Work.{raised}
 use Rattle.abc2midi_live.proofs.Counts.{raised_none}
-use Rattle.abc2midi_live.proofs.Feeding.{heard_none, heard_turn, heard_end, heard_left, heard_so_far, nothing_ahead, fault_exit, fault_is, reads_exit, calls_more}
+use Rattle.abc2midi_live.proofs.Feeding.{heard_none, heard_turn, heard_end, heard_left, heard_so_far, heard_enough, nothing_ahead, fault_exit, fault_is, reads_exit, calls_more}
 use Rattle.abc2midi_live.proofs.reading.listen.Goals as goal
 
 pub reads-init : goal.reads-init
@@ -27,7 +28,7 @@ returns-in_err-turn-clause-calls g c = (c.reads.counter + 1, omega arith, calls_
 pub returns-in_err-turn-clause-reads : goal.returns-in_err-turn-clause-reads
 returns-in_err-turn-clause-reads g c =
     rw (fault_is c.from_residual.result c.in_err-turn.field-0.0 c.from_residual.ensures)
-    (reads_exit c.in_err-turn.field-0.0 _ _ _ _ (c.in_err-turn.ensures.reads ∙ ap (λ f. raised f (read_faults {T = Bool} (Err c.in_err-turn.field-0.0))) c.reads.invariant.reads))
+    (reads_exit c.in_err-turn.field-0.0 (g.R.Source.remaining c.args.reader.now) _ _ _ _ (c.in_err-turn.ensures.reads ∙ ap (λ f. raised f (read_faults {T = Bool} (Err c.in_err-turn.field-0.0))) c.reads.invariant.reads))
 
 pub returns-then-not-branch-clause-answers : goal.returns-then-not-branch-clause-answers
 unfolding ahead
@@ -45,7 +46,7 @@ reads-preserved g c =
     let now = c.reads.listener in
     let after = c.turn.new.listener in
     record {
-      heard = heard_turn (ahead (g.M.Machine.future c.args.machine) []) (ahead (g.M.Machine.future now.machine) now.begun.items) (ahead (g.M.Machine.future after.machine) after.begun.items) (g.R.Source.remaining c.args.reader.now) (g.R.Source.remaining c.reads.reader) (g.R.Source.remaining c.turn.new.reader) (g.W.Sink.contents c.args.writer.now) (g.W.Sink.contents c.reads.writer) (g.W.Sink.contents c.turn.new.writer) c.reads.invariant.heard
+      heard = heard_turn c.reads.counter (ahead (g.M.Machine.future c.args.machine) []) (ahead (g.M.Machine.future now.machine) now.begun.items) (ahead (g.M.Machine.future after.machine) after.begun.items) (g.R.Source.remaining c.args.reader.now) (g.R.Source.remaining c.reads.reader) (g.R.Source.remaining c.turn.new.reader) (g.W.Sink.contents c.args.writer.now) (g.W.Sink.contents c.reads.writer) (g.W.Sink.contents c.turn.new.writer) c.reads.invariant.heard
           (subst (Turn (ahead (g.M.Machine.future now.machine) now.begun.items) (ahead (g.M.Machine.future after.machine) after.begun.items) (g.R.Source.remaining c.reads.reader) (g.R.Source.remaining c.turn.new.reader) (g.W.Sink.contents c.reads.writer) (g.W.Sink.contents c.turn.new.writer)) c.if-not-branch.false c.in_ok-turn.ensures.answers);
       calls = calls_more _ _ _ c.reads.counter c.reads.invariant.calls c.turn.ensures.calls;
       reads = c.in_ok-turn.ensures.reads ∙ raised_none _ ∙ c.reads.invariant.reads;
@@ -65,4 +66,6 @@ returns-clause-calls g c = (c.reads.counter, omega arith, c.reads.invariant.call
 pub returns-clause-reads : goal.returns-clause-reads
 returns-clause-reads g c =
     let all : c.reads.counter ≡ 4294967295 = omega arith in
+    let enough = heard_enough c.reads.counter _ _ (g.R.Source.remaining c.args.reader.now) _ _ _ c.reads.invariant.heard in
     Exhausted c.reads.invariant.reads (c.reads.invariant.calls ∙ ap (raised (g.R.Source.calls c.args.reader.now)) all)
+    (subst (λ made. IfSome (g.R.Source.remaining c.args.reader.now) (λ bytes. made ≤ length bytes)) all enough)

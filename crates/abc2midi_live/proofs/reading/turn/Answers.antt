@@ -1,7 +1,7 @@
 use Rattle.std.proofs.Common.{◌≡◌, ◌<◌, length, false, arith}
 use Rattle.abc2midi_live.specs.Machine.{ahead}
 use Rattle.abc2midi_live.specs.Outcome.{Leaves}
-use Rattle.abc2midi_live.proofs.Feeding.{turn_failed, turn_fed, turn_ended, turn_unserved, nothing_ahead, nothing_read, fault_exit}
+use Rattle.abc2midi_live.proofs.Feeding.{turn_failed, some_read, turn_fed, turn_ended, turn_unserved, nothing_ahead, nothing_read, fault_exit}
 use Rattle.abc2midi_live.proofs.reading.turn.Goals as goal
 
 pub returns-in-Err-clause-answers : goal.returns-in-Err-clause-answers
@@ -14,7 +14,7 @@ pub returns-then-count-gt0-clause-answers : goal.returns-then-count-gt0-clause-a
 returns-then-count-gt0-clause-answers g c =
     let now = c.args.listener.now in
     let after = c.feed.new.self in
-    turn_fed c.feed.result (ahead (g.M.Machine.future now.machine) now.begun.items) (ahead (g.M.Machine.future after.machine) after.begun.items) _ _ _ _ _ c.in-Ok.ensures.bytes.0 c.feed.ensures.answer
+    turn_fed c.feed.result (ahead (g.M.Machine.future now.machine) now.begun.items) (ahead (g.M.Machine.future after.machine) after.begun.items) _ _ _ _ _ (some_read c.in-Ok.count c.read.new.buf c.if-count-gt0.true c.in-Ok.ensures.within.0) c.in-Ok.ensures.bytes.0 c.feed.ensures.answer
 
 pub returns-in_err-finish-clause-answers : goal.returns-in_err-finish-clause-answers
 returns-in_err-finish-clause-answers g c =
