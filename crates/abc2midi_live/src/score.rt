@@ -30,7 +30,7 @@ fn push_at_start(changes: &mut Sequence<Change>, what: ChangeKind) -> Result<(),
 }
 
 /// The tempo, the meter and the key that a tune opens with; free meter is not written.
-#[tactic(auto, using(crate::proofs::Openings::lower_number))]
+#[tactic(auto, using(crate::proofs::Openings::denominator))]
 fn conductor_of(alloc: Global, opening: &Opening) -> Result<Sequence<Change>, AllocError>
     requires { IsOpening opening.now }
     ensures value { IfOk result (λ changes. changes ≡ conductor_of opening.now) }

@@ -9,15 +9,15 @@ use Rattle.smf_bytes.specs.declared.score.ChangeKind.{ChangeKind}
 use Rattle.smf_bytes.specs.declared.score.ChangeKind.TheVariants.{Tempo, Meter, Key}
 use Rattle.smf_bytes.specs.declared.score.Sounding.{Sounding}
 
--- The lower numbers of meters: the powers of two up to 64. Our own.
-abbrev pub is_lower_number : ℕ → Bool
-is_lower_number den = list_any (λ power. power == den) (1 ∷ 2 ∷ 4 ∷ 8 ∷ 16 ∷ 32 ∷ 64 ∷ [])
+-- The denominators of meters: the powers of two up to 64. Our own.
+abbrev pub is_denominator : ℕ → Bool
+is_denominator den = list_any (λ power. power == den) (1 ∷ 2 ∷ 4 ∷ 8 ∷ 16 ∷ 32 ∷ 64 ∷ [])
 
 -- A tempo of one to 2^24 - 1 microseconds to a quarter, a meter over a power of two, a key of at
 -- most seven sharps or flats (SMF 1.0).
 abbrev pub IsWritable : ChangeKind → Type 0
 IsWritable (Tempo micros) = (1 ≤ micros) × (micros < 2 ^ 24)
-IsWritable (Meter num den) = IsTrue (is_lower_number den)
+IsWritable (Meter num den) = IsTrue (is_denominator den)
 IsWritable (Key sharps minor) = (negsuc 6 ≤ℤ sharps) × (sharps ≤ℤ pos 7)
 
 -- A change that comes before the end, or at it. Our own.

@@ -26,7 +26,7 @@ pub struct Change {
 pub enum ChangeKind {
     /// Microseconds to a quarter note, 1 to 16,777,215.
     Tempo(u32),
-    /// The upper number of a meter, and the lower one: a power of two up to 64.
+    /// The numerator of a meter, and its denominator: a power of two up to 64.
     Meter { num: u8, den: u8 },
     /// The sharps of a key, -7 to 7 with flats below 0, and whether it is minor.
     Key { sharps: i8, minor: bool },
