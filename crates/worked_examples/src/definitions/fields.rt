@@ -93,9 +93,9 @@ pub fn keys()
 
 /// Voices: the first word is the identifier, and the last of each property counts.
 pub fn voices()
-    ensures identifier { voice_of (codes " T1 name") ≡ Ok (record { from = 1; to = 3; shift = shift None None None }) }
-    ensures last { voice_of (codes "T1 octave=1 octave=-1") ≡ Ok (record { from = 0; to = 2; shift = shift None (Some (negsuc 0)) None }) }
-    ensures clef { voice_of (codes "T1 foo=x-8") ≡ Ok (record { from = 0; to = 2; shift = shift (Some (negsuc 11)) None None }) }
-    ensures one_quote { voice_of (codes "T1 octave=\"1") ≡ Err BadVoice }
+    ensures identifier { voice_of (codes " Solo name") ≡ Ok (record { from = 1; to = 5; shift = shift None None None }) }
+    ensures last { voice_of (codes "Solo octave=1 octave=-1") ≡ Ok (record { from = 0; to = 4; shift = shift None (Some (negsuc 0)) None }) }
+    ensures clef { voice_of (codes "Solo foo=x-8") ≡ Ok (record { from = 0; to = 4; shift = shift (Some (negsuc 11)) None None }) }
+    ensures one_quote { voice_of (codes "Solo octave=\"1") ≡ Err BadVoice }
     ensures empty { voice_of [] ≡ Err BadVoice }
 {}
