@@ -1,0 +1,24 @@
+-- Blanks, and a text without those at its ends.
+use Rattle.std.specs.Prelude.{ℕ, ◌-◌, Bool, ◌||◌, ◌==◌, List, length, take, drop}
+use Rattle.std.specs.List.{prefix_len, suffix_len, AllPass}
+use Rattle.abc_text.specs.Byte.{space, tab}
+
+-- A space or a tab, and nothing else, is a blank. Our own.
+abbrev pub is_blank : ℕ → Bool
+is_blank b = (b == space) || (b == tab)
+
+-- Blanks, or nothing.
+abbrev pub AreBlanks : List ℕ → Type 0
+AreBlanks text = AllPass is_blank text
+
+-- A text without the blanks that it begins with.
+unfoldable pub trim_start : List ℕ → List ℕ
+trim_start text = drop (prefix_len is_blank text) text
+
+-- A text without the blanks that it ends with.
+unfoldable pub trim_end : List ℕ → List ℕ
+trim_end text = take (length text - suffix_len is_blank text) text
+
+-- A text without the blanks at its ends.
+unfoldable pub trimmed : List ℕ → List ℕ
+trimmed text = trim_end (trim_start text)

@@ -1,0 +1,41 @@
+//! Decimal digits, and the numbers that they write.
+
+ghost use Rattle.std.specs.Prelude.{◌≡◌, ◌≤◌, length, take};
+ghost use Rattle.std.specs.List.{prefix_len, AllPass};
+ghost use Rattle.abc_text.specs.Digit.{is_digit, decimal};
+
+/// How many digits a number has at most.
+pub const LONGEST_NUMBER: usize = 9;
+
+/// The largest number of so many digits.
+pub const LARGEST_NUMBER: u32 = 999_999_999;
+
+/// Whether a byte is a decimal digit.
+pub fn is_digit(byte: u8) -> bool
+    ensures { result ≡ is_digit byte }
+{
+    byte.is_ascii_digit()
+}
+
+/// How many digits a text begins with.
+pub fn digits(text: &[u8]) -> usize
+    ensures value { result ≡ prefix_len is_digit text.now }
+    ensures inside { result ≤ length text.now }
+    ensures digits { AllPass is_digit (take result text.now) }
+{
+    text.iter().take_while(|byte| is_digit(**byte)).count()
+}
+
+/// The number that digits write, at most nine of them; none write 0.
+pub fn decimal(digits: &[u8]) -> u32
+    requires digits { AllPass is_digit digits.now }
+    requires short { length digits.now ≤ LONGEST_NUMBER }
+    ensures value { result ≡ decimal digits.now }
+    ensures bounded { result ≤ LARGEST_NUMBER }
+{
+    let mut number = 0;
+    for digit in digits {
+        number = number * 10 + u32::from(*digit - b'0');
+    }
+    number
+}

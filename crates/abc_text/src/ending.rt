@@ -1,0 +1,17 @@
+//! The end of a line.
+
+ghost use Rattle.std.specs.Prelude.{◌≡◌, ◌≤◌, length};
+ghost use Rattle.abc_text.specs.Ending.{without_return, IsWithoutReturn};
+
+/// The line without the carriage return at its end, of which one is dropped.
+pub fn without_return(line: &[u8]) -> &[u8]
+    ensures value { result.now ≡ without_return line.now }
+    ensures one { IsWithoutReturn line.now result.now }
+    ensures bounded { length result.now ≤ length line.now }
+{
+    if line.ends_with(b"\r") {
+        &line[..line.len() - 1]
+    } else {
+        line
+    }
+}

@@ -1,0 +1,137 @@
+//! A list that contracts see as nothing but its elements.
+ghost use Rattle.std.specs.Prelude.{◌≡◌, ◌==◌, [], ◌∷◌, ◌++◌, length, IfOk, OnOk, OnErr};
+ghost use Rattle.std.specs.Cmp.{on_per, on_equiv, on_po, on_total};
+ghost use Rattle.std.specs.Cmp.Lexicographic.{pointwise, slice_cmp, slice_partial_cmp, lists_per, lists_equiv, lists_po, lists_total, lists_agrees, lists_ties};
+
+use std::alloc::{AllocError, Global};
+use std::cmp::Ordering;
+use std::fmt;
+use std::marker::Model;
+
+/// The elements of a list in order, whatever room and place in memory it has.
+#[derive(Drop)]
+pub struct Sequence<T> {
+    elements: Vec<T>,
+}
+
+impl<T> Model for Sequence<T> {
+    ghost use Rattle.std.specs.Prelude.{List};
+    ghost use Rattle.std.specs.Coded.{coded_list};
+
+    ghost Value = { List T };
+
+    ghost coded = { coded_list T.code };
+
+    ghost view = { λ s. s.elements.items };
+}
+
+impl<T> Sequence<T> {
+    /// No elements yet.
+    pub fn new(alloc: Global) -> Self
+        ensures { result ≡ [] }
+    {
+        Sequence {
+            elements: Vec::new(alloc),
+        }
+    }
+
+    /// A copy of these elements.
+    pub fn from_slice(alloc: Global, elements: &[T]) -> Result<Self, AllocError>
+    where
+        T: Copy,
+        ensures { IfOk result (λ sequence. sequence ≡ elements.now) }
+    {
+        Ok(Sequence {
+            elements: Vec::from_slice(alloc, elements)?,
+        })
+    }
+
+    /// Puts one more element at the end.
+    pub fn push(&mut self, element: T) -> Result<(), AllocError>
+    where
+        T: Drop,
+        ensures ok { OnOk result (self.new ≡ self.old ++ element ∷ []) }
+        ensures err { OnErr result (self.new ≡ self.old) }
+    {
+        self.elements.push(element)?;
+        Ok(())
+    }
+
+    pub fn len(&self) -> usize
+        ensures { result ≡ length self.now }
+    {
+        self.elements.len()
+    }
+
+    pub fn is_empty(&self) -> bool
+        ensures { result ≡ (length self.now == 0) }
+    {
+        self.elements.is_empty()
+    }
+
+    /// The elements in order.
+    pub fn as_slice(&self) -> &[T]
+        ensures { result.now ≡ self.now }
+    {
+        self.elements.as_slice()
+    }
+
+    /// The elements as a vector.
+    pub fn into_vec(self) -> Vec<T>
+        ensures { result.items ≡ self }
+    {
+        self.elements
+    }
+}
+
+impl<T> From<Vec<T>> for Sequence<T> {
+    ghost from_gives = { λ elements sequence. sequence ≡ elements.items };
+
+    fn from(elements: Vec<T>) -> Self {
+        Sequence { elements }
+    }
+}
+
+impl<T: PartialEq> PartialEq for Sequence<T> {
+    ghost eq = { λ v w. pointwise T.eq v w };
+
+    ghost laws = { on_per (λ v. v) (lists_per T.laws) };
+
+    fn eq(&self, other: &Self) -> bool {
+        self.elements == other.elements
+    }
+}
+
+impl<T: Eq> Eq for Sequence<T> {
+    ghost laws = { on_equiv (λ v. v) (lists_equiv T.Eq.laws) };
+}
+
+impl<T: PartialOrd> PartialOrd for Sequence<T> {
+    ghost partial_cmp = { λ v w. slice_partial_cmp T.partial_cmp v w };
+
+    ghost laws = { on_po (λ v. v) (lists_po T.PartialOrd.laws) };
+
+    fn partial_cmp(&self, other: &Self) -> Option<Ordering> {
+        self.elements.partial_cmp(&other.elements)
+    }
+}
+
+impl<T: Ord> Ord for Sequence<T> {
+    ghost cmp = { λ v w. slice_cmp T.cmp v w };
+
+    ghost total = { on_total (λ v. v) (lists_total T.total) };
+
+    ghost matches_partial_cmp = { λ v w. lists_agrees T.matches_partial_cmp v w };
+
+    ghost matches_eq = { λ v w. lists_ties T.cmp T.matches_eq v w };
+
+    fn cmp(&self, other: &Self) -> Ordering {
+        self.elements.cmp(&other.elements)
+    }
+}
+
+impl<T: fmt::Debug> fmt::Debug for Sequence<T> {
+    fn fmt<W: fmt::Write>(&self, f: &mut fmt::Formatter<W>) -> fmt::Result {
+        self.elements.fmt(f)
+    }
+}
