@@ -1,7 +1,10 @@
 pub mod Blanks
+pub mod Cuts
 pub mod Decimals
 pub mod Endings
 pub mod Fronts
 pub mod Letters
 pub mod Numbers
+pub mod Powers
 pub mod Trims
+pub mod Words

@@ -1,7 +1,10 @@
 pub mod Accidental
 pub mod Blank
 pub mod Byte
+pub mod Cut
 pub mod Digit
 pub mod Ending
 pub mod Letter
 pub mod Number
+pub mod Power
+pub mod Word

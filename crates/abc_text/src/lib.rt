@@ -4,16 +4,22 @@
 
 mod accidental;
 mod blank;
+mod cut;
 mod digit;
 mod ending;
 mod letter;
 mod number;
+mod power;
 mod sequence;
+mod word;
 
 pub use accidental::{Accidental, accidental_of};
 pub use blank::{is_blank, trim_end, trim_start, trimmed};
+pub use cut::cut_at;
 pub use digit::{LARGEST_NUMBER, LONGEST_NUMBER, decimal, digits, is_digit};
 pub use ending::without_return;
 pub use letter::{Letter, letter_of};
 pub use number::number_of;
+pub use power::is_power_up_to;
 pub use sequence::Sequence;
+pub use word::{first_word, leading_blanks, next_word};

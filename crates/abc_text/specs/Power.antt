@@ -1,0 +1,13 @@
+-- Powers of two.
+use Rattle.std.specs.Prelude.{ℕ, zero, suc, ◌≡◌, ◌≤◌, ◌^◌, ◌||◌, ◌==◌, Bool}
+
+-- A number is two to a power of at most this.
+pub record IsPowerUpTo (most n : ℕ) : Type 0 where
+  pub power : ℕ
+  pub small : power ≤ most
+  pub value : n ≡ 2 ^ power
+
+-- The powers are tried, the highest first.
+unfoldable pub is_power_up_to : ℕ → ℕ → Bool
+is_power_up_to zero n = n == 1
+is_power_up_to (suc most) n = (n == 2 ^ suc most) || is_power_up_to most n

@@ -1,0 +1,47 @@
+//! The words of a text.
+
+ghost use Rattle.std.specs.Prelude.{◌≡◌, ◌↔◌, ◌<◌, ◌≤◌, ℕ, List, [], ◌∷◌, length, drop, slice_range, MatchOption, IfSome};
+ghost use Rattle.abc_text.specs.Word.{leading_blanks, before_blank, first_word, words_of, AreWords};
+
+use crate::blank::is_blank;
+
+/// How many blanks a text begins with.
+pub fn leading_blanks(text: &[u8]) -> usize
+    ensures value { result ≡ leading_blanks text.now }
+    ensures inside { result ≤ length text.now }
+{
+    text.iter().take_while(|byte| is_blank(**byte)).count()
+}
+
+/// How many bytes stand before the first blank of a text.
+fn before_blank(text: &[u8]) -> usize
+    ensures value { result ≡ before_blank text.now }
+    ensures inside { result ≤ length text.now }
+{
+    text.iter().take_while(|byte| !is_blank(**byte)).count()
+}
+
+/// Where the first word of a text begins and ends.
+#[tactic(auto, unfolding(crate::specs::Word::first_word))]
+pub fn first_word(text: &[u8]) -> Option<(usize, usize)>
+    ensures value { result ≡ first_word text.now }
+    ensures words { MatchOption result (words_of text.now ≡ []) (λ w. words_of text.now ≡ slice_range text.now w.0 w.1 ∷ words_of (drop w.1 text.now)) }
+    ensures some { IfSome result (λ w. w.0 < w.1) }
+    ensures inside { IfSome result (λ w. w.1 ≤ length text.now) }
+{
+    let from = leading_blanks(text);
+    if from == text.len() {
+        return None;
+    }
+    Some((from, from + before_blank(&text[from..])))
+}
+
+/// The first word of a text, and what stands behind it.
+pub fn next_word(text: &[u8]) -> Option<(&[u8], &[u8])>
+    ensures words { MatchOption result (words_of text.now ≡ []) (λ p. words_of text.now ≡ p.0.now ∷ words_of p.1.now) }
+    ensures shorter { IfSome result (λ p. length p.1.now < length text.now) }
+    ensures grammar { (words : List (List ℕ)) → (words_of text.now ≡ words) ↔ AreWords text.now words }
+{
+    let (from, to) = first_word(text)?;
+    Some((&text[from..to], &text[to..]))
+}
