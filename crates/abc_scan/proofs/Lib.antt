@@ -1,3 +1,4 @@
+pub mod Readings
 pub mod ClassLaws
 pub mod Fronts
 pub mod Decimal
@@ -7,3 +8,6 @@ pub mod Notes
 pub mod Laws
 pub mod Spans
 pub mod Comments
+pub mod Closings
+pub mod Delimiters
+pub mod InlineFields

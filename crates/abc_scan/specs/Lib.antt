@@ -4,3 +4,7 @@ pub mod Length
 pub mod Note
 pub mod Token
 pub mod Cutting
+pub mod Closing
+pub mod Delimited
+pub mod Field
+pub mod InlineField

@@ -1,15 +1,22 @@
 //! The lines of an ABC text: which class each is of, and the tokens that a music line is cut into.
 #![tactic(auto)]
 
+mod bytes;
 mod class;
+mod closing;
 mod cutting;
+mod delimited;
+mod field;
+mod inline_field;
 mod length;
 mod note;
 mod text;
 mod token;
 
+pub use bytes::Bytes;
 pub use class::{LineClass, class_of};
 pub use cutting::{one_cutting, scan};
+pub use field::Field;
 pub use length::WrittenLength;
 pub use note::{Accidental, Letter, Note};
 pub use text::{content, part_read, without_return};

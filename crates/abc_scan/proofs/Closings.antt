@@ -1,0 +1,68 @@
+-- The first closing byte of a text, and what is known of a text without one.
+use Rattle.std.proofs.Common.{◌≡◌, ℕ, suc, ◌+◌, ◌<◌, ◌≤◌, true, false, Some, None, List, [], ◌∷◌, ◌++◌, length, take, drop, refl, sym, ap, ◌∙◌, subst, ⊎_elim, arith, append-nil, length-append}
+use Rattle.std.specs.List.{prefix_len}
+use Rattle.std.proofs.lemmas.Bool.{cond-true, cond-false, cases_Bool, cases_lt, lt-ltb, le-ltb, eq-eqb, eqb-true, not-false, not_from_true}
+use Rattle.std.proofs.lemmas.List.Elements.{All-drop}
+use Rattle.abc_scan.specs.declared.closing.Missing.{Missing}
+use Rattle.abc_scan.specs.Closing.{quote, exclamation, closing_brace, closing_bracket, is_other, Lacks, place_of, IsMissing}
+use Rattle.abc_scan.proofs.Fronts.{front_passes, front_append, front_exact, front_none}
+
+-- a text without such a byte has no place of it
+pub place-none : (closing : ℕ) (text : List ℕ) → Lacks closing text → place_of closing text ≡ None
+place-none closing text lacks =
+    let whole : prefix_len (is_other closing) text ≡ length text =
+    sym (ap (prefix_len (is_other closing)) (append-nil text)) ∙ (let e = front_append (is_other closing) text [] lacks in omega (arith, e)) in
+    let past : length text ≤ prefix_len (is_other closing) text = omega (arith, whole) in
+    cond-false _ _ _ (le-ltb _ _ past)
+
+-- the first such byte behind others
+pub place-first : (closing : ℕ) (inside rest : List ℕ) → Lacks closing inside → place_of closing (inside ++ closing ∷ rest) ≡ Some (length inside)
+place-first closing inside rest lacks =
+    let closes : is_other closing closing ≡ false = not_from_true _ (eq-eqb closing closing refl) in
+    let size : prefix_len (is_other closing) (inside ++ closing ∷ rest) ≡ length inside =
+    front_exact (is_other closing) inside (closing ∷ rest) lacks (front_none (is_other closing) closing rest closes) in
+    let within : prefix_len (is_other closing) (inside ++ closing ∷ rest) < length (inside ++ closing ∷ rest) = omega (arith, size, length-append inside (closing ∷ rest)) in
+    cond-true _ _ _ (lt-ltb _ _ within) ∙ ap Some size
+
+one_more : (n : ℕ) → 1 + n ≡ suc n
+one_more n = omega arith
+
+stops : (closing : ℕ) (text : List ℕ) (n : ℕ) → n ≡ prefix_len (is_other closing) text → n < length text → text ≡ take n text ++ closing ∷ drop (suc n) text
+stops closing [] n e h = absurd (omega arith)
+stops closing (x ∷ xs) n e h = ⊎_elim
+    (λ yes.
+    let m = prefix_len (is_other closing) xs in
+    let same : n ≡ suc m = e ∙ cond-true _ _ _ yes ∙ one_more m in
+    subst (λ k. x ∷ xs ≡ take k (x ∷ xs) ++ closing ∷ drop (suc k) (x ∷ xs)) (sym same) (ap (λ l. x ∷ l) (stops closing xs m refl (omega arith))))
+    (λ no.
+    let same : n ≡ 0 = e ∙ cond-false _ _ _ no in
+    subst (λ k. x ∷ xs ≡ take k (x ∷ xs) ++ closing ∷ drop (suc k) (x ∷ xs)) (sym same) (ap (λ b. b ∷ xs) (eqb-true x closing (not-false _ no))))
+    (cases_Bool (is_other closing x))
+
+-- what stands at the place that is found
+pub record IsFirst (closing : ℕ) (text : List ℕ) (place : ℕ) : Type 0 where
+  pub inside : place < length text
+  pub lacks : Lacks closing (take place text)
+  pub cut : text ≡ take place text ++ closing ∷ drop (suc place) text
+
+pub place-sound : (closing : ℕ) (text : List ℕ) (place : ℕ) → place_of closing text ≡ Some place → IsFirst closing text place
+place-sound closing text place e =
+    let size = prefix_len (is_other closing) text in
+    ⊎_elim
+    (λ inside.
+    let same : size ≡ place = (let found : Some size ≡ Some place = sym (cond-true _ _ _ (lt-ltb size (length text) inside)) ∙ e in cc) in
+    subst (IsFirst closing text) same (record { inside = inside; lacks = front_passes (is_other closing) text; cut = stops closing text size refl inside }))
+    (λ past. let none : None ≡ Some place = sym (cond-false _ _ _ (le-ltb size (length text) past)) ∙ e in cc)
+    (cases_lt size (length text))
+
+-- what is missing in a text is missing in every later part of it
+lacks-drop : (n closing : ℕ) (text : List ℕ) → Lacks closing text → Lacks closing (drop n text)
+lacks-drop n closing text lacks = All-drop (λ b. is_other closing b ≡ true) n text lacks
+
+pub missing-drop : (n : ℕ) (missing : Missing) (text : List ℕ) → IsMissing missing text → IsMissing missing (drop n text)
+missing-drop n missing text is = record {
+  no_quote = λ e. lacks-drop n quote text (is.no_quote e);
+  no_exclamation = λ e. lacks-drop n exclamation text (is.no_exclamation e);
+  no_brace = λ e. lacks-drop n closing_brace text (is.no_brace e);
+  no_bracket = λ e. lacks-drop n closing_bracket text (is.no_bracket e);
+}

@@ -1,0 +1,45 @@
+-- Bytes that close what another byte opened, and the memory of searches for them that failed.
+use Rattle.std.specs.Prelude.{◌≡◌, ℕ, Bool, true, not, Option, List, ◌==◌}
+use Rattle.std.specs.List.{position, AllPass}
+use Rattle.abc_scan.specs.declared.closing.Missing.{Missing}
+
+-- The bytes at the ends of quoted text, decorations, grace groups, chords and inline fields.
+abbrev pub quote : ℕ
+quote = 34
+
+abbrev pub exclamation : ℕ
+exclamation = 33
+
+abbrev pub opening_brace : ℕ
+opening_brace = 123
+
+abbrev pub closing_brace : ℕ
+closing_brace = 125
+
+abbrev pub opening_bracket : ℕ
+opening_bracket = 91
+
+abbrev pub closing_bracket : ℕ
+closing_bracket = 93
+
+abbrev pub colon : ℕ
+colon = 58
+
+-- Any byte but this one.
+abbrev pub is_other : ℕ → ℕ → Bool
+is_other closing b = not (b == closing)
+
+-- The byte stands nowhere in the text.
+abbrev pub Lacks : ℕ → List ℕ → Type 0
+Lacks closing text = AllPass (is_other closing) text
+
+-- The place of the first such byte.
+abbrev pub place_of : ℕ → List ℕ → Option ℕ
+place_of closing text = position (λ b. b == closing) text
+
+-- What is said to be missing stands nowhere in the text.
+pub record IsMissing (missing : Missing) (text : List ℕ) : Type 0 where
+  pub no_quote : missing.quote ≡ true → Lacks quote text
+  pub no_exclamation : missing.exclamation ≡ true → Lacks exclamation text
+  pub no_brace : missing.brace ≡ true → Lacks closing_brace text
+  pub no_bracket : missing.bracket ≡ true → Lacks closing_bracket text

@@ -1,0 +1,27 @@
+-- Fields inside a music line, as `[K:G]`. ABC 2.1 section 3.2.
+use Rattle.std.specs.Prelude.{◌≡◌, ℕ, ◌+◌, ◌&&◌, IsTrue, Option, None, List, [], ◌∷◌, ◌++◌, take, if◌then◌else◌, ◌==◌}
+use Rattle.std.specs.Char.{is_ascii_alphabetic}
+use Rattle.std.specs.Option.{option_map}
+use Rattle.abc_text.specs.Blank.{trimmed}
+use Rattle.abc_scan.specs.declared.field.Field.{Field}
+use Rattle.abc_scan.specs.Closing.{opening_bracket, closing_bracket, colon, Lacks, place_of}
+use Rattle.abc_scan.specs.Field.{begins_field, field_of}
+
+-- `[`, a letter, a colon, bytes other than `]`, and `]`. The value is the bytes without the blanks at
+-- their ends.
+pub record IsInlineField (text : List ℕ) (field : Field) : Type 0 where
+  pub behind : List ℕ
+  pub spelling : text ≡ opening_bracket ∷ field.letter ∷ colon ∷ (behind ++ closing_bracket ∷ [])
+  pub letter_is : IsTrue (is_ascii_alphabetic field.letter)
+  pub first_closing : Lacks closing_bracket behind
+  pub value_is : field.value ≡ trimmed behind
+
+-- The field that begins a text and is closed by its first `]`, and how many bytes both brackets and
+-- the field take.
+abbrev pub closed_field : List ℕ → Option (Field × ℕ)
+closed_field inside = option_map (λ place. (field_of (take place inside), place + 2)) (place_of closing_bracket inside)
+
+-- The inline field at the front of a text, and how many bytes it takes.
+unfoldable pub inline_field_at : List ℕ → Option (Field × ℕ)
+inline_field_at [] = None
+inline_field_at (b ∷ inside) = if (b == opening_bracket) && begins_field inside then closed_field inside else None

@@ -1,0 +1,43 @@
+//! Bytes that close what another byte opened, and the memory of searches for them that failed.
+
+ghost use Rattle.std.specs.Prelude.{◌≡◌, ◌<◌, ℕ, List, IfSome, length, true};
+ghost use Rattle.abc_scan.specs.Closing.{place_of, Lacks, IsMissing};
+
+/// Which closing bytes are known not to stand in the rest of a text. With it a search that failed
+/// once is not made again, so that a line of opening bytes alone is read in linear time.
+#[derive(Clone, Copy)]
+pub(crate) struct Missing {
+    pub(crate) quote: bool,
+    pub(crate) exclamation: bool,
+    pub(crate) brace: bool,
+    pub(crate) bracket: bool,
+}
+
+impl Missing {
+    /// Nothing is known yet.
+    pub(crate) fn none() -> Self
+        ensures { (text : List ℕ) → IsMissing result text }
+    {
+        Missing {
+            quote: false,
+            exclamation: false,
+            brace: false,
+            bracket: false,
+        }
+    }
+}
+
+/// The place of the first such byte in a text, unless it is known to be missing there.
+pub(crate) fn find(missing: &mut bool, closing: u8, text: &[u8]) -> Option<usize>
+    requires { missing.old ≡ true → Lacks closing text.now }
+    ensures place { result ≡ place_of closing text.now }
+    ensures inside { IfSome result (λ place. place < length text.now) }
+    ensures kept { missing.new ≡ true → Lacks closing text.now }
+{
+    if *missing {
+        return None;
+    }
+    let place = text.iter().position(|byte| *byte == closing);
+    *missing = place.is_none();
+    place
+}

@@ -1,0 +1,37 @@
+//! Information fields.
+
+ghost use Rattle.std.specs.Prelude.{◌≡◌, IfOk};
+ghost use Rattle.abc_scan.specs.Field.{begins_field, field_of};
+
+use crate::bytes::Bytes;
+use abc_text::trimmed;
+use std::alloc::{AllocError, Global};
+
+/// An information field (ABC 2.1 section 3).
+#[derive(Clone, Debug, Drop, PartialEq, Eq)]
+pub struct Field {
+    /// The letter before the colon, or `+`.
+    pub letter: u8,
+    /// What follows the colon, without the blanks at its ends.
+    pub value: Bytes,
+}
+
+/// Whether a text begins with a letter and a colon.
+pub(crate) fn begins_field(text: &[u8]) -> bool
+    ensures { result ≡ begins_field text.now }
+{
+    match text {
+        [letter, b':', ..] => letter.is_ascii_alphabetic(),
+        _ => false,
+    }
+}
+
+/// The field that a text is: its letter, its colon, and what follows.
+pub(crate) fn field_of(alloc: Global, text: &[u8]) -> Result<Field, AllocError>
+    ensures { IfOk result (λ field. field ≡ field_of text.now) }
+{
+    let letter = text.first().copied().unwrap_or(0);
+    let behind = if text.len() < 2 { &[] } else { &text[2..] };
+    let value = Bytes::from_slice(alloc, trimmed(behind))?;
+    Ok(Field { letter, value })
+}

@@ -1,0 +1,35 @@
+//! Fields inside a music line.
+
+ghost use Rattle.std.specs.Prelude.{◌≡◌, ◌≤◌, ◌<◌, IfOk, IfSome, drop, length};
+ghost use Rattle.abc_scan.specs.Closing.{IsMissing};
+ghost use Rattle.abc_scan.specs.InlineField.{inline_field_at};
+
+use crate::closing::{Missing, find};
+use crate::field::{Field, begins_field, field_of};
+use std::alloc::{AllocError, Global};
+
+/// The inline field at the front of a text, and how many bytes it takes: up to the first `]`
+/// (ABC 2.1 section 3.2).
+#[tactic(auto, unfolding(crate::specs::InlineField::inline_field_at))]
+pub(crate) fn inline_field_at(
+    alloc: Global,
+    text: &[u8],
+    missing: &mut Missing,
+) -> Result<Option<(Field, usize)>, AllocError>
+    requires { IsMissing missing.old (drop 1 text.now) }
+    ensures value { IfOk result (λ reading. reading ≡ inline_field_at text.now) }
+    ensures some { IfOk result (λ reading. IfSome reading (λ r. 0 < r.1)) }
+    ensures inside { IfOk result (λ reading. IfSome reading (λ r. r.1 ≤ length text.now)) }
+    ensures kept { IsMissing missing.new (drop 1 text.now) }
+{
+    match text {
+        [b'[', inside @ ..] if begins_field(inside) => {
+            let Some(place) = find(&mut missing.bracket, b']', inside) else {
+                return Ok(None);
+            };
+            let field = field_of(alloc, &inside[..place])?;
+            Ok(Some((field, place + 2)))
+        }
+        _ => Ok(None),
+    }
+}
