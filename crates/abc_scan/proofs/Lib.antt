@@ -5,6 +5,10 @@ pub mod Decimal
 pub mod Cuttings
 pub mod Lengths
 pub mod Notes
+pub mod Marks
+pub mod Numbers
+pub mod Brokens
+pub mod Bars
 pub mod Laws
 pub mod Spans
 pub mod Comments

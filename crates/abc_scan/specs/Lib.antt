@@ -2,6 +2,9 @@ pub mod Text
 pub mod LineClass
 pub mod Length
 pub mod Note
+pub mod Number
+pub mod Bar
+pub mod Broken
 pub mod Token
 pub mod Cutting
 pub mod Closing

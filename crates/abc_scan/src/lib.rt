@@ -1,6 +1,8 @@
 //! The lines of an ABC text: which class each is of, and the tokens that a music line is cut into.
 #![tactic(auto)]
 
+mod bar;
+mod broken;
 mod bytes;
 mod class;
 mod closing;
@@ -10,9 +12,12 @@ mod field;
 mod inline_field;
 mod length;
 mod note;
+mod number;
 mod text;
 mod token;
 
+pub use bar::BarLine;
+pub use broken::{BrokenRhythm, Direction};
 pub use bytes::Bytes;
 pub use class::{LineClass, class_of};
 pub use cutting::{one_cutting, scan};

@@ -1,0 +1,99 @@
+-- Bar lines. ABC 2.1 section 4.8.
+use Rattle.std.specs.Prelude.{ℕ, ◌≡◌, ◌≤◌, ◌<◌, ◌+◌, ◌-◌, ◌⊎◌, ◌==◌, ◌&&◌, ◌||◌, nat_lt, not, Bool, true, false, if◌then◌else◌, List, [], ◌∷◌, ◌++◌, length, take, drop, replicate, codes, flat_map, Option, Some, None}
+use Rattle.std.specs.List.{prefix_len}
+use Rattle.std.specs.Str.{bytes_eq}
+use Rattle.abc_scan.specs.declared.bar.BarLine.{BarLine}
+
+abbrev pub colon : ℕ
+colon = 58
+
+abbrev pub stroke : ℕ
+stroke = 124
+
+abbrev pub open_bracket : ℕ
+open_bracket = 91
+
+abbrev pub close_bracket : ℕ
+close_bracket = 93
+
+-- Strokes that stand together: a `[` or none, one stroke and any more, a `]` or none.
+pub record Strokes : Type 0 where
+  pub opened : Bool
+  pub more : ℕ
+  pub closed : Bool
+
+-- How they are written.
+abbrev pub strokes_text : Strokes → List ℕ
+strokes_text s =
+    (if s.opened then open_bracket ∷ [] else []) ++ (stroke ∷ replicate s.more stroke ++ (if s.closed then close_bracket ∷ [] else []))
+
+-- The middle of a bar line, between its colons.
+abbrev pub middle_text : List Strokes → List ℕ
+middle_text groups = flat_map strokes_text groups
+
+-- Whether a middle is another one than a single `|`. Our own.
+abbrev pub is_double : List ℕ → Bool
+is_double middle = not (bytes_eq middle (codes "|"))
+
+-- Any colons, which close, one or more groups of strokes, and any colons, which open. ABC 2.1 section 4.8.
+pub record HasStrokes (text : List ℕ) (bar : BarLine) : Type 0 where
+  pub groups : List Strokes
+  pub some : 0 < length groups
+  pub spelling : text ≡ replicate bar.closes colon ++ (middle_text groups ++ replicate bar.opens colon)
+  pub double_is : bar.double ≡ is_double (middle_text groups)
+
+-- Two or more colons alone: each stands for a close and an open repeat, but for one. Our own.
+pub record HasColons (text : List ℕ) (bar : BarLine) : Type 0 where
+  pub count : ℕ
+  pub several : 2 ≤ count
+  pub spelling : text ≡ replicate count colon
+  pub closes_is : bar.closes ≡ count - 1
+  pub opens_is : bar.opens ≡ count - 1
+  pub double_is : bar.double ≡ true
+
+-- A bar line, with the colons before and after its strokes.
+abbrev pub IsBar : List ℕ → BarLine → Type 0
+IsBar text bar = HasStrokes text bar ⊎ HasColons text bar
+
+-- How many colons stand at the front of a text.
+abbrev pub colons : List ℕ → ℕ
+colons text = prefix_len (λ b. b == colon) text
+
+-- Whether a text begins with this byte.
+abbrev pub starts_with : ℕ → List ℕ → Bool
+starts_with byte [] = false
+starts_with byte (b ∷ bs) = b == byte
+
+-- Whether a byte between its neighbours belongs to a middle: a stroke, a `[` before one, a `]` behind one.
+abbrev pub goes_on : ℕ → ℕ → List ℕ → Bool
+goes_on before b rest =
+    (b == stroke) || ((b == open_bracket) && starts_with stroke rest) || ((b == close_bracket) && (before == stroke))
+
+-- How many bytes of a middle stand at the front of a text that follows this byte.
+abbrev pub middle_from : ℕ → List ℕ → ℕ
+middle_from before [] = 0
+middle_from before (b ∷ bs) = if goes_on before b bs then 1 + middle_from b bs else 0
+
+-- How many bytes of a middle stand at the front of a text. Nothing, as good as a blank (32), stands before it.
+abbrev pub middle_size : List ℕ → ℕ
+middle_size text = middle_from 32 text
+
+-- Colons alone: a single one is no bar line.
+abbrev pub colons_alone : ℕ → Option (BarLine × ℕ)
+colons_alone count =
+    if nat_lt count 2 then None else Some (record { closes = count - 1; opens = count - 1; double = true }, count)
+
+-- The bar line of colons, a middle of so many bytes, and what stands behind it, and how many bytes it takes.
+abbrev pub with_middle : ℕ → ℕ → List ℕ → BarLine × ℕ
+with_middle closes middle behind = (
+  record { closes = closes; opens = colons (drop middle behind); double = is_double (take middle behind) },
+  closes + middle + colons (drop middle behind),
+)
+
+-- The bar line of colons and what stands behind them.
+abbrev pub bar_behind : ℕ → List ℕ → Option (BarLine × ℕ)
+bar_behind closes behind = if middle_size behind == 0 then colons_alone closes else Some (with_middle closes (middle_size behind) behind)
+
+-- The longest bar line at the front of a text, and how many bytes it takes.
+unfoldable pub bar_at : List ℕ → Option (BarLine × ℕ)
+bar_at text = bar_behind (colons text) (drop (colons text) text)

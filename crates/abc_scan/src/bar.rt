@@ -1,0 +1,94 @@
+//! Bar lines.
+
+ghost use Rattle.std.specs.Prelude.{◌≡◌, ◌≤◌, ◌<◌, length, IfSome};
+ghost use Rattle.abc_scan.specs.Bar.{colons, starts_with, stroke, goes_on, middle_from, middle_size, is_double, colons_alone, bar_at};
+
+/// A bar line (ABC 2.1 section 4.8).
+#[derive(Clone, Copy, Debug, PartialEq, Eq)]
+pub struct BarLine {
+    /// The colons before its strokes. Of `k` colons alone, `k - 1` close and as many open.
+    pub closes: usize,
+    /// The colons after its strokes.
+    pub opens: usize,
+    /// Whether its strokes and brackets are more than a single `|`, or none.
+    pub double: bool,
+}
+
+/// How many colons a text begins with.
+fn colons(text: &[u8]) -> usize
+    ensures value { result ≡ colons text.now }
+    ensures inside { result ≤ length text.now }
+{
+    text.iter().take_while(|byte| **byte == b':').count()
+}
+
+/// Whether a byte between its neighbours belongs to the middle of a bar line.
+fn goes_on(before: u8, byte: u8, rest: &[u8]) -> bool
+    ensures { result ≡ goes_on before byte rest.now }
+{
+    match byte {
+        b'|' => true,
+        b'[' => rest.starts_with(b"|"),
+        b']' => before == b'|',
+        _ => false,
+    }
+}
+
+/// How many bytes of strokes and brackets a text begins with.
+fn middle_size(text: &[u8]) -> usize
+    ensures value { result ≡ middle_size text.now }
+    ensures inside { result ≤ length text.now }
+{
+    let mut before = b' ';
+    for (at, byte) in text.iter().enumerate() {
+        if !goes_on(before, *byte, &text[at + 1..]) {
+            return at;
+        }
+        before = *byte;
+    }
+    text.len()
+}
+
+/// Whether a middle is another one than a single `|`.
+fn is_double(middle: &[u8]) -> bool
+    ensures { result ≡ is_double middle.now }
+{
+    middle != b"|".as_slice()
+}
+
+/// The bar line of so many colons alone: a single one is none.
+fn colons_alone(count: usize) -> Option<(BarLine, usize)>
+    ensures { result ≡ colons_alone count }
+{
+    if count < 2 {
+        return None;
+    }
+    let bar = BarLine {
+        closes: count - 1,
+        opens: count - 1,
+        double: true,
+    };
+    Some((bar, count))
+}
+
+/// The bar line at the front of a text, and how many bytes it takes.
+#[tactic(auto, unfolding(crate::specs::Bar::bar_at))]
+pub(crate) fn bar_at(text: &[u8]) -> Option<(BarLine, usize)>
+    ensures value { result ≡ bar_at text.now }
+    ensures some { IfSome result (λ r. 0 < r.1) }
+    ensures inside { IfSome result (λ r. r.1 ≤ length text.now) }
+{
+    let closes = colons(text);
+    let behind = &text[closes..];
+    let middle = middle_size(behind);
+    if middle == 0 {
+        return colons_alone(closes);
+    }
+    let opens = colons(&behind[middle..]);
+    let bar = BarLine {
+        closes,
+        opens,
+        double: is_double(&behind[..middle]),
+    };
+    Some((bar, closes + middle + opens))
+}

@@ -1,0 +1,63 @@
+//! Broken rhythm: one note longer, its neighbour shorter by as much.
+
+ghost use Rattle.std.specs.Prelude.{◌≡◌, ◌≤◌, ◌<◌, length, IfSome};
+ghost use Rattle.abc_scan.specs.Broken.{direction_of, marks_at, broken_at};
+
+/// Which of the two notes beside a mark is the longer one.
+#[derive(Clone, Copy, Debug, PartialEq, Eq)]
+pub enum Direction {
+    /// The one before it: `>`.
+    Right,
+    /// The one after it: `<`.
+    Left,
+}
+
+/// Marks between two notes (ABC 2.1 section 4.4).
+#[derive(Clone, Copy, Debug, PartialEq, Eq)]
+pub struct BrokenRhythm {
+    pub direction: Direction,
+    /// How many marks, 1 to 3.
+    pub marks: u8,
+}
+
+/// The direction of a mark.
+fn direction_of(byte: u8) -> Option<Direction>
+    ensures { result ≡ direction_of byte }
+{
+    match byte {
+        b'>' => Some(Direction::Right),
+        b'<' => Some(Direction::Left),
+        _ => None,
+    }
+}
+
+/// How many of the same mark a text begins with, counted up to three.
+fn marks_at(mark: u8, text: &[u8]) -> usize
+    ensures value { result ≡ marks_at mark text.now }
+    ensures few { result ≤ 3 }
+    ensures inside { result ≤ length text.now }
+{
+    text.iter()
+        .take(3)
+        .take_while(|byte| **byte == mark)
+        .count()
+}
+
+/// The marks at the front of a text, and how many bytes they take.
+#[tactic(auto, unfolding(crate::specs::Broken::broken_at))]
+pub(crate) fn broken_at(text: &[u8]) -> Option<(BrokenRhythm, usize)>
+    ensures value { result ≡ broken_at text.now }
+    ensures some { IfSome result (λ r. 0 < r.1) }
+    ensures inside { IfSome result (λ r. r.1 ≤ length text.now) }
+{
+    let [first, ..] = text else {
+        return None;
+    };
+    let direction = direction_of(*first)?;
+    let marks = marks_at(*first, text);
+    let broken = BrokenRhythm {
+        direction,
+        marks: marks as u8,
+    };
+    Some((broken, marks))
+}
