@@ -15,3 +15,4 @@ pub mod Comments
 pub mod Closings
 pub mod Delimiters
 pub mod InlineFields
+pub mod Frames

@@ -3,7 +3,7 @@ use Rattle.std.specs.Prelude.{◌≡◌, ℕ, Bool, true, not, Option, List, ◌
 use Rattle.std.specs.List.{position, AllPass}
 use Rattle.abc_scan.specs.declared.closing.Missing.{Missing}
 
--- The bytes at the ends of quoted text, decorations, grace groups, chords and inline fields.
+-- The bytes at the ends of quoted text, decorations, grace groups, chords, inline fields and bars.
 abbrev pub quote : ℕ
 quote = 34
 
@@ -24,6 +24,9 @@ closing_bracket = 93
 
 abbrev pub colon : ℕ
 colon = 58
+
+abbrev pub bar_stroke : ℕ
+bar_stroke = 124
 
 -- Any byte but this one.
 abbrev pub is_other : ℕ → ℕ → Bool

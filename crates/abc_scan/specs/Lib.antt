@@ -11,3 +11,4 @@ pub mod Closing
 pub mod Delimited
 pub mod Field
 pub mod InlineField
+pub mod Frame

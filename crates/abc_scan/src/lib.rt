@@ -9,6 +9,7 @@ mod closing;
 mod cutting;
 mod delimited;
 mod field;
+mod frame;
 mod inline_field;
 mod length;
 mod note;

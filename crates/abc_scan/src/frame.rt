@@ -1,0 +1,55 @@
+//! The frame of a chord: its brackets and its outer length.
+
+ghost use Rattle.std.specs.Prelude.{◌≡◌, ◌≤◌, ◌<◌, IfSome, length};
+ghost use Rattle.std.specs.List.{prefix_len};
+ghost use Rattle.abc_scan.specs.Frame.{is_inside, frame_at};
+
+use crate::field::begins_field;
+use crate::length::{WrittenLength, length_at};
+
+/// What surrounds the notes of a chord.
+#[derive(Clone, Copy)]
+pub(crate) struct Frame {
+    /// How many bytes stand between the brackets.
+    pub(crate) inside: usize,
+    /// The length behind the brackets.
+    pub(crate) length: WrittenLength,
+}
+
+/// Whether a byte may stand between the brackets of a chord.
+fn is_inside(byte: u8) -> bool
+    ensures { result ≡ is_inside byte }
+{
+    byte != b'[' && byte != b']' && byte != b'|'
+}
+
+/// How many such bytes a text begins with.
+fn inside_size(text: &[u8]) -> usize
+    ensures value { result ≡ prefix_len is_inside text.now }
+    ensures inside { result ≤ length text.now }
+{
+    text.iter().take_while(|byte| is_inside(**byte)).count()
+}
+
+/// The frame of the chord at the front of a text, and how many bytes the chord takes (ABC 2.1
+/// section 4.17).
+#[tactic(auto, unfolding(crate::specs::Frame::frame_at))]
+pub(crate) fn frame_at(text: &[u8]) -> Option<(Frame, usize)>
+    ensures value { result ≡ frame_at text.now }
+    ensures some { IfSome result (λ r. 0 < r.1) }
+    ensures inside { IfSome result (λ r. r.1 ≤ length text.now) }
+{
+    match text {
+        [b'[', rest @ ..] if !begins_field(rest) => {
+            let inside = inside_size(rest);
+            match &rest[inside..] {
+                [b']', behind @ ..] => {
+                    let (length, size) = length_at(behind);
+                    Some((Frame { inside, length }, inside + 2 + size))
+                }
+                _ => None,
+            }
+        }
+        _ => None,
+    }
+}
