@@ -1,6 +1,6 @@
 //! The frame of a chord: its brackets and its outer length.
 
-ghost use Rattle.std.specs.Prelude.{◌≡◌, ◌≤◌, ◌<◌, IfSome, length};
+ghost use Rattle.std.specs.Prelude.{◌≡◌, ◌≤◌, ◌<◌, ◌+◌, IfSome, length};
 ghost use Rattle.std.specs.List.{prefix_len};
 ghost use Rattle.abc_scan.specs.Frame.{is_inside, frame_at};
 
@@ -38,6 +38,7 @@ pub(crate) fn frame_at(text: &[u8]) -> Option<(Frame, usize)>
     ensures value { result ≡ frame_at text.now }
     ensures some { IfSome result (λ r. 0 < r.1) }
     ensures inside { IfSome result (λ r. r.1 ≤ length text.now) }
+    ensures framed { IfSome result (λ r. r.0.inside + 2 ≤ r.1) }
 {
     match text {
         [b'[', rest @ ..] if !begins_field(rest) => {
