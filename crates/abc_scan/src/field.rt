@@ -3,8 +3,7 @@
 ghost use Rattle.std.specs.Prelude.{◌≡◌, IfOk};
 ghost use Rattle.abc_scan.specs.Field.{begins_field, field_of};
 
-use crate::bytes::Bytes;
-use abc_text::trimmed;
+use abc_text::{Sequence, trimmed};
 use std::alloc::{AllocError, Global};
 
 /// An information field (ABC 2.1 section 3).
@@ -13,7 +12,7 @@ pub struct Field {
     /// The letter before the colon, or `+`.
     pub letter: u8,
     /// What follows the colon, without the blanks at its ends.
-    pub value: Bytes,
+    pub value: Sequence<u8>,
 }
 
 /// Whether a text begins with a letter and a colon.
@@ -32,6 +31,6 @@ pub(crate) fn field_of(alloc: Global, text: &[u8]) -> Result<Field, AllocError>
 {
     let letter = text.first().copied().unwrap_or(0);
     let behind = if text.len() < 2 { &[] } else { &text[2..] };
-    let value = Bytes::from_slice(alloc, trimmed(behind))?;
+    let value = Sequence::from_slice(alloc, trimmed(behind))?;
     Ok(Field { letter, value })
 }

@@ -3,7 +3,6 @@
 
 mod bar;
 mod broken;
-mod bytes;
 mod class;
 mod closing;
 mod cutting;
@@ -19,7 +18,6 @@ mod token;
 
 pub use bar::BarLine;
 pub use broken::{BrokenRhythm, Direction};
-pub use bytes::Bytes;
 pub use class::{LineClass, class_of};
 pub use cutting::{one_cutting, scan};
 pub use field::Field;

@@ -1,5 +1,6 @@
 //! A list that contracts see as nothing but its elements.
 ghost use Rattle.std.specs.Prelude.{◌≡◌, ◌==◌, [], ◌∷◌, ◌++◌, length, IfOk, OnOk, OnErr};
+ghost use Rattle.std.specs.List.{AllZip};
 ghost use Rattle.std.specs.Cmp.{on_per, on_equiv, on_po, on_total};
 ghost use Rattle.std.specs.Cmp.Lexicographic.{pointwise, slice_cmp, slice_partial_cmp, lists_per, lists_equiv, lists_po, lists_total, lists_agrees, lists_ties};
 
@@ -89,6 +90,15 @@ impl<T> From<Vec<T>> for Sequence<T> {
 
     fn from(elements: Vec<T>) -> Self {
         Sequence { elements }
+    }
+}
+
+impl<T: Clone> Clone for Sequence<T> {
+    ghost is_clone = { λ v w. AllZip T.is_clone v w };
+
+    fn clone(&self) -> Result<Self, AllocError> {
+        let elements = self.elements.clone()?;
+        Ok(Sequence { elements })
     }
 }
 
