@@ -1,5 +1,6 @@
 //! What the crates above share about bytes, words and lists: blanks, digits and numbers, the letters
-//! and accidentals of notes, and a list that contracts see as its elements.
+//! and accidentals of notes, a list that contracts see as its elements, and a note of a value that
+//! contracts alone see.
 #![tactic(auto)]
 
 mod accidental;
@@ -10,6 +11,7 @@ mod ending;
 mod letter;
 mod number;
 mod power;
+mod seen;
 mod sequence;
 mod word;
 
@@ -21,5 +23,6 @@ pub use ending::without_return;
 pub use letter::{Letter, letter_of};
 pub use number::number_of;
 pub use power::is_power_up_to;
+pub use seen::Seen;
 pub use sequence::Sequence;
 pub use word::{first_word, leading_blanks, next_word};

@@ -1,0 +1,4 @@
+pub mod EditError
+pub mod Edits
+pub mod Lines
+pub mod Text

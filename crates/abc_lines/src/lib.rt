@@ -1,0 +1,13 @@
+//! The lines of a tune book's text, and how a run of them is replaced in two steps: one that needs memory and changes
+//! nothing, and one that needs none and changes the text.
+#![tactic(auto)]
+
+mod edit_error;
+mod limits;
+mod line;
+mod lines;
+mod moves;
+
+pub use edit_error::EditError;
+pub use limits::{LONGEST_LINE, MOST_LINES};
+pub use lines::{LineBuffer, LinePatch};
