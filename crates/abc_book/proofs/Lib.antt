@@ -1,0 +1,5 @@
+pub mod OnePass
+pub mod Cuts
+pub mod Cases
+pub mod Rising
+pub mod Lying

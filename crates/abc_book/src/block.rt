@@ -1,0 +1,21 @@
+//! A block of a text.
+
+/// What a block of a text is (ABC 2.1 section 2.2).
+#[derive(Clone, Copy, Debug, PartialEq, Eq)]
+pub enum BlockKind {
+    /// Fields before the first tune, which set defaults for all tunes.
+    FileHeader,
+    /// A tune, which an X: line begins.
+    Tune,
+    /// Text outside tunes, which has no effect.
+    Free,
+}
+
+/// The lines of a block, from its first to its last line that is no comment: `from` and on, but not
+/// `to`, counted from 0.
+#[derive(Clone, Copy, Debug, PartialEq, Eq)]
+pub struct Block {
+    pub kind: BlockKind,
+    pub from: usize,
+    pub to: usize,
+}

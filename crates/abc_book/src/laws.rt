@@ -1,0 +1,26 @@
+//! What holds of the blocks of every text. Each function has no body: its contract is the law.
+
+ghost use Rattle.abc_book.specs.Laws.{OnePass, EachLineInOneBlock, NoBlankInABlock, AnXLineCuts, BlocksRise, XLinesBeginTunes};
+
+/// One pass over the lines finds the blocks that the rules tell.
+pub fn one_pass()
+    ensures { OnePass }
+{}
+
+/// Every line that is neither a comment nor blank lies in exactly one block, and a blank line in none.
+pub fn each_line_in_one_block()
+    ensures one { EachLineInOneBlock }
+    ensures none { NoBlankInABlock }
+{}
+
+/// An X: line cuts a text in two: what stands before it and what follows it do not touch each other.
+pub fn an_x_line_cuts()
+    ensures { AnXLineCuts }
+{}
+
+/// Blocks follow one another within the text, each of at least one line, and the first line of a block
+/// is an X: line where the block is a tune and nowhere else.
+pub fn blocks_rise()
+    ensures rise { BlocksRise }
+    ensures tunes { XLinesBeginTunes }
+{}

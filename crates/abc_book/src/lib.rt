@@ -1,0 +1,10 @@
+//! The blocks of an ABC text by the classes of its lines: the file header, the tunes, and free text.
+#![tactic(auto)]
+
+mod block;
+mod laws;
+mod pass;
+
+pub use block::{Block, BlockKind};
+pub use laws::{an_x_line_cuts, blocks_rise, each_line_in_one_block, one_pass};
+pub use pass::blocks;
