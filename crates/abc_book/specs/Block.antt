@@ -43,7 +43,7 @@ abbrev pub numbered : ℕ → List LineClass → List Line
 numbered number [] = []
 numbered number (class ∷ classes) = line_at number class ∷ numbered (number + 1) classes
 
--- The lines that are left where the comments are taken out. ABC 2.1 section 2.2.3.
+-- The lines that are left where the comments are taken out. ABC 2.1 section 2.2.
 abbrev pub without_comments : List Line → List Line
 without_comments lines = filter (λ line. not (is_comment line.class)) lines
 

@@ -65,7 +65,7 @@ fn after_line(before: Before, at: usize, class: LineClass) -> Before
     }
 }
 
-/// The block that goes on no further.
+/// The block that is open at the end of a text.
 fn last_block(before: Before) -> Option<Block>
     ensures { option_to_list result ≡ last_block before }
 {
