@@ -1,10 +1,11 @@
 -- The first closing byte of a text, and what is known of a text without one.
-use Rattle.std.proofs.Common.{◌≡◌, ℕ, suc, ◌+◌, ◌<◌, ◌≤◌, true, false, Some, None, List, [], ◌∷◌, ◌++◌, length, take, drop, refl, sym, ap, ◌∙◌, subst, ⊎_elim, arith, append-nil, length-append}
+use Rattle.std.proofs.Common.{◌≡◌, ℕ, suc, ◌+◌, ◌<◌, ◌≤◌, true, false, Option, Some, None, is_some, List, [], ◌∷◌, ◌++◌, length, take, drop, refl, sym, ap, ◌∙◌, subst, ⊎_elim, arith, append-nil, length-append}
 use Rattle.std.specs.List.{prefix_len}
-use Rattle.std.proofs.lemmas.Bool.{cond-true, cond-false, cases_Bool, cases_lt, lt-ltb, le-ltb, eq-eqb, eqb-true, not-false, not_from_true}
+use Rattle.std.proofs.lemmas.Bool.{cond-true, cond-false, cases_Bool, cases_lt, lt-ltb, le-ltb, eq-eqb, eqb-true, not-false, not_from_true, false≢true}
+use Rattle.std.proofs.lemmas.List.{take_all}
 use Rattle.std.proofs.lemmas.List.Elements.{All-drop}
 use Rattle.abc_scan.specs.declared.closing.Missing.{Missing}
-use Rattle.abc_scan.specs.Closing.{quote, exclamation, closing_brace, closing_bracket, is_other, Lacks, place_of, IsMissing}
+use Rattle.abc_scan.specs.Closing.{closing_brace, closing_bracket, is_other, Lacks, place_of, IsMissing}
 use Rattle.abc_scan.proofs.Fronts.{front_passes, front_append, front_exact, front_none}
 
 -- a text without such a byte has no place of it
@@ -55,14 +56,22 @@ place-sound closing text place e =
     (λ past. let none : None ≡ Some place = sym (cond-false _ _ _ (le-ltb size (length text) past)) ∙ e in cc)
     (cases_lt size (length text))
 
+-- a text that has no place of it is without it
+pub place-lacks : (closing : ℕ) (text : List ℕ) (place : Option ℕ) → place ≡ place_of closing text → is_some place ≡ false → Lacks closing text
+place-lacks closing text (Some place) e none = absurd (false≢true (sym none))
+place-lacks closing text None e none =
+    let size = prefix_len (is_other closing) text in
+    ⊎_elim
+    (λ inside. let found : None ≡ Some size = e ∙ cond-true _ _ _ (lt-ltb size (length text) inside) in cc)
+    (λ past. subst (Lacks closing) (take_all size text past) (front_passes (is_other closing) text))
+    (cases_lt size (length text))
+
 -- what is missing in a text is missing in every later part of it
 lacks-drop : (n closing : ℕ) (text : List ℕ) → Lacks closing text → Lacks closing (drop n text)
 lacks-drop n closing text lacks = All-drop (λ b. is_other closing b ≡ true) n text lacks
 
 pub missing-drop : (n : ℕ) (missing : Missing) (text : List ℕ) → IsMissing missing text → IsMissing missing (drop n text)
 missing-drop n missing text is = record {
-  no_quote = λ e. lacks-drop n quote text (is.no_quote e);
-  no_exclamation = λ e. lacks-drop n exclamation text (is.no_exclamation e);
   no_brace = λ e. lacks-drop n closing_brace text (is.no_brace e);
   no_bracket = λ e. lacks-drop n closing_bracket text (is.no_bracket e);
 }

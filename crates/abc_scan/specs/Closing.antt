@@ -42,7 +42,5 @@ place_of closing text = position (λ b. b == closing) text
 
 -- What is said to be missing stands nowhere in the text.
 pub record IsMissing (missing : Missing) (text : List ℕ) : Type 0 where
-  pub no_quote : missing.quote ≡ true → Lacks quote text
-  pub no_exclamation : missing.exclamation ≡ true → Lacks exclamation text
   pub no_brace : missing.brace ≡ true → Lacks closing_brace text
   pub no_bracket : missing.bracket ≡ true → Lacks closing_bracket text

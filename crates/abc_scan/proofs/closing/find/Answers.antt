@@ -1,6 +1,10 @@
-use Rattle.std.proofs.Common.{sym}
-use Rattle.abc_scan.proofs.Closings.{place-none}
+use Rattle.std.proofs.Common.{sym, ap, ◌∙◌}
+use Rattle.std.specs.Prelude.{not}
+use Rattle.abc_scan.proofs.Closings.{place-lacks, place-none}
 use Rattle.abc_scan.proofs.closing.find.Goals as goal
 
-pub returns-then-missing-clause-place : goal.returns-then-missing-clause-place
-returns-then-missing-clause-place c = sym (place-none c.args.closing c.args.text.now (c.requires c.if-missing.true))
+pub returns-then-missing-clause-value : goal.returns-then-missing-clause-value
+returns-then-missing-clause-value c = sym (place-none c.args.closing c.args.text.now (c.requires c.if-missing.true))
+
+pub returns-clause-kept : goal.returns-clause-kept
+returns-clause-kept c = λ e. place-lacks c.args.closing c.args.text.now c.place_of-place.result c.place_of-place.ensures.value (c.is_none.ensures ∙ ap not e)
