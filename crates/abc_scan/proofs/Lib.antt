@@ -9,6 +9,10 @@ pub mod Marks
 pub mod Numbers
 pub mod Brokens
 pub mod Bars
+pub mod Tuplets
+pub mod Ranges
+pub mod Endings
+pub mod Passes
 pub mod Laws
 pub mod Spans
 pub mod Comments

@@ -5,6 +5,8 @@ pub mod Note
 pub mod Number
 pub mod Bar
 pub mod Broken
+pub mod Tuplet
+pub mod Ending
 pub mod Token
 pub mod Cutting
 pub mod Closing

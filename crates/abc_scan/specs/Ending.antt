@@ -1,0 +1,129 @@
+-- First and second endings. ABC 2.1 section 4.9.
+use Rattle.std.specs.Prelude.{ℕ, zero, suc, ◌≡◌, ◌+◌, ◌-◌, ◌^◌, ◌⊎◌, ◌==◌, ◌&&◌, nat_le, bit_or, fold, Bool, true, if◌then◌else◌, List, [], ◌∷◌, ◌++◌, drop, Option, Some, None}
+use Rattle.std.specs.Option.{option_map}
+use Rattle.abc_text.specs.Number.{IsNumber}
+use Rattle.abc_scan.specs.declared.ending.PassRange.{PassRange}
+use Rattle.abc_scan.specs.Number.{number_at}
+
+-- One number, the only pass of its range.
+pub record IsOnePass (text : List ℕ) (range : PassRange) : Type 0 where
+  pub first_is : IsNumber text range.first
+  pub last_is : range.last ≡ range.first
+
+-- Two numbers with a dash (45) between. ABC 2.1 section 4.10.
+pub record IsFromTo (text : List ℕ) (range : PassRange) : Type 0 where
+  pub first_text : List ℕ
+  pub last_text : List ℕ
+  pub spelling : text ≡ first_text ++ 45 ∷ last_text
+  pub first_is : IsNumber first_text range.first
+  pub last_is : IsNumber last_text range.last
+
+-- A number or a range of numbers. ABC 2.1 section 4.10.
+abbrev pub IsRange : List ℕ → PassRange → Type 0
+IsRange text range = IsOnePass text range ⊎ IsFromTo text range
+
+-- Numbers and ranges with a comma (44) between each two. ABC 2.1 section 4.10.
+abbrev pub IsRanges : List ℕ → List PassRange → Type 0
+IsRanges text [] = ⊥
+IsRanges text (range ∷ []) = IsRange text range
+IsRanges text (range ∷ next ∷ more) =
+    (front : List ℕ) × (rest : List ℕ) × (text ≡ front ++ 44 ∷ rest) × IsRange front range × IsRanges rest (next ∷ more)
+
+-- Passes are counted from 1 to 32, and a range does not fall. Our own.
+abbrev pub is_accepted : PassRange → Bool
+is_accepted range = nat_le 1 range.first && nat_le range.first range.last && nat_le range.last 32
+
+-- The passes of a range, bit i - 1 for pass i: the bits from the first pass up to the last.
+abbrev pub range_bits : PassRange → ℕ
+range_bits range = 2 ^ range.last - 2 ^ (range.first - 1)
+
+-- Passes and those of a range more, or none where the range is refused.
+abbrev pub with_range : Option ℕ → PassRange → Option ℕ
+with_range None range = None
+with_range (Some passes) range = if is_accepted range then Some (bit_or passes (range_bits range)) else None
+
+-- The passes of all ranges, bit i - 1 for pass i. One bad range makes the whole mark refused. Our own.
+abbrev pub passes_of : List PassRange → Option ℕ
+passes_of ranges = fold with_range (Some 0) ranges
+
+-- An ending mark: a `[` (91), which may be left out directly behind a bar line, and ranges.
+-- ABC 2.1 section 4.9.
+pub record IsEnding (after_bar : Bool) (text : List ℕ) (passes : Option ℕ) : Type 0 where
+  pub bracket : List ℕ
+  pub written : List ℕ
+  pub ranges : List PassRange
+  pub spelling : text ≡ bracket ++ written
+  pub bracket_is : (bracket ≡ 91 ∷ []) ⊎ ((bracket ≡ []) × (after_bar ≡ true))
+  pub ranges_are : IsRanges written ranges
+  pub passes_are : passes ≡ passes_of ranges
+
+-- The number behind a dash at the front of a text, and how many bytes it takes without the dash.
+abbrev pub last_at : List ℕ → Option (ℕ × ℕ)
+last_at [] = None
+last_at (b ∷ bs) = if b == 45 then number_at bs else None
+
+-- The longest range of its first number and, perhaps, its last, and how many bytes it takes.
+abbrev pub range_of : ℕ → ℕ → Option (ℕ × ℕ) → PassRange × ℕ
+range_of first size None = (record { first = first; last = first }, size)
+range_of first size (Some last) = (record { first = first; last = last.0 }, size + 1 + last.1)
+
+-- The longest range at the front of a text that begins with its first number.
+abbrev pub range_behind : List ℕ → ℕ × ℕ → PassRange × ℕ
+range_behind text first = range_of first.0 first.1 (last_at (drop first.1 text))
+
+-- The longest range at the front of a text, and how many bytes it takes.
+unfoldable pub range_at : List ℕ → Option (PassRange × ℕ)
+range_at text = option_map (range_behind text) (number_at text)
+
+-- Behind a comma, one byte more.
+abbrev pub with_comma : PassRange × ℕ → PassRange × ℕ
+with_comma range = (range.0, 1 + range.1)
+
+-- A comma and the longest range behind it at the front of a text, and how many bytes both take.
+abbrev pub next_range : List ℕ → Option (PassRange × ℕ)
+next_range [] = None
+next_range (b ∷ bs) = if b == 44 then option_map with_comma (range_at bs) else None
+
+-- How many bytes a range takes, if there is one.
+abbrev pub range_size : Option (PassRange × ℕ) → ℕ
+range_size None = 0
+range_size (Some range) = range.1
+
+-- A range, if there is one, and those behind it.
+abbrev pub and_more : Option (PassRange × ℕ) → List PassRange × ℕ → List PassRange × ℕ
+and_more None more = ([], 0)
+and_more (Some range) more = (range.0 ∷ more.0, range.1 + more.1)
+
+-- The ranges with their commas that stand at the front of a text, whose first `inside` bytes belong to
+-- the range before them, and how many bytes they take.
+abbrev pub more_from : ℕ → List ℕ → List PassRange × ℕ
+more_from inside [] = ([], 0)
+more_from zero (b ∷ bs) = and_more (next_range (b ∷ bs)) (more_from (range_size (next_range (b ∷ bs)) - 1) bs)
+more_from (suc inside) (b ∷ bs) = more_from inside bs
+
+-- The longest list of ranges at the front of a text that begins with this one.
+abbrev pub ranges_behind : List ℕ → PassRange × ℕ → List PassRange × ℕ
+ranges_behind text first =
+    let more = more_from 0 (drop first.1 text) in (first.0 ∷ more.0, first.1 + more.1)
+
+-- The longest list of ranges at the front of a text, and how many bytes it takes.
+unfoldable pub ranges_at : List ℕ → Option (List PassRange × ℕ)
+ranges_at text = option_map (ranges_behind text) (range_at text)
+
+-- Ranges as passes.
+abbrev pub as_passes : List PassRange × ℕ → Option ℕ × ℕ
+as_passes ranges = (passes_of ranges.0, ranges.1)
+
+-- The longest ranges at the front of a text as passes, and how many bytes they take.
+unfoldable pub passes_at : List ℕ → Option (Option ℕ × ℕ)
+passes_at text = option_map as_passes (ranges_at text)
+
+-- Behind a `[`, one byte more.
+abbrev pub with_bracket : Option ℕ × ℕ → Option ℕ × ℕ
+with_bracket ending = (ending.0, 1 + ending.1)
+
+-- The longest ending mark at the front of a text, and how many bytes it takes.
+unfoldable pub ending_at : Bool → List ℕ → Option (Option ℕ × ℕ)
+ending_at after_bar [] = None
+ending_at after_bar (b ∷ bs) =
+    if b == 91 then option_map with_bracket (passes_at bs) else (if after_bar then passes_at (b ∷ bs) else None)

@@ -1,0 +1,117 @@
+//! First and second endings.
+
+ghost use Rattle.std.specs.Prelude.{◌≡◌, ◌≤◌, ◌<◌, ◌+◌, IsTrue, length, IfSome};
+ghost use Rattle.abc_scan.specs.Ending.{is_accepted, range_bits, with_range, last_at, range_at, next_range, passes_at, ending_at};
+
+use crate::number::number_at;
+
+/// Passes from the first to the last, as they are written.
+#[derive(Clone, Copy)]
+struct PassRange {
+    first: u32,
+    last: u32,
+}
+
+/// The pass with the greatest number that an ending can have.
+const LAST_PASS: u32 = 32;
+
+/// Whether a range names passes in order, of those that there can be.
+fn is_accepted(range: PassRange) -> bool
+    ensures { result ≡ is_accepted range }
+{
+    1 <= range.first && range.first <= range.last && range.last <= LAST_PASS
+}
+
+/// The passes of a range, bit `i - 1` for pass `i`.
+fn range_bits(range: PassRange) -> u32
+    requires { IsTrue (is_accepted range) }
+    ensures { result ≡ range_bits range }
+{
+    ((1u64 << range.last) - (1u64 << (range.first - 1))) as u32
+}
+
+/// Passes and those of one range more, if it is accepted.
+fn with_range(passes: Option<u32>, range: PassRange) -> Option<u32>
+    ensures { result ≡ with_range passes range }
+{
+    let passes = passes?;
+    if is_accepted(range) {
+        Some(passes | range_bits(range))
+    } else {
+        None
+    }
+}
+
+/// The number behind a dash at the front of a text, and how many bytes it takes without the dash.
+fn last_at(text: &[u8]) -> Option<(u32, usize)>
+    ensures value { result ≡ last_at text.now }
+    ensures inside { IfSome result (λ r. 1 + r.1 ≤ length text.now) }
+{
+    match text {
+        [b'-', behind @ ..] => number_at(behind),
+        _ => None,
+    }
+}
+
+/// The number or the range at the front of a text, and how many bytes it takes.
+#[tactic(auto, unfolding(crate::specs::Ending::range_at))]
+fn range_at(text: &[u8]) -> Option<(PassRange, usize)>
+    ensures value { result ≡ range_at text.now }
+    ensures some { IfSome result (λ r. 0 < r.1) }
+    ensures inside { IfSome result (λ r. r.1 ≤ length text.now) }
+{
+    let (first, size) = number_at(text)?;
+    match last_at(&text[size..]) {
+        Some((last, more)) => Some((PassRange { first, last }, size + 1 + more)),
+        None => Some((PassRange { first, last: first }, size)),
+    }
+}
+
+/// The range behind a comma at the front of a text, and how many bytes both take.
+fn next_range(text: &[u8]) -> Option<(PassRange, usize)>
+    ensures value { result ≡ next_range text.now }
+    ensures some { IfSome result (λ r. 0 < r.1) }
+    ensures inside { IfSome result (λ r. r.1 ≤ length text.now) }
+{
+    match text {
+        [b',', behind @ ..] => {
+            let (range, size) = range_at(behind)?;
+            Some((range, 1 + size))
+        }
+        _ => None,
+    }
+}
+
+/// The ranges at the front of a text as passes, and how many bytes they take.
+fn passes_at(text: &[u8]) -> Option<(Option<u32>, usize)>
+    ensures value { result ≡ passes_at text.now }
+    ensures some { IfSome result (λ r. 0 < r.1) }
+    ensures inside { IfSome result (λ r. r.1 ≤ length text.now) }
+{
+    let (first, mut size) = range_at(text)?;
+    let mut passes = with_range(Some(0), first);
+    while let Some((range, more)) = next_range(&text[size..]) {
+        passes = with_range(passes, range);
+        size += more;
+    }
+    Some((passes, size))
+}
+
+/// The ending mark at the front of a text, and how many bytes it takes. Directly behind a bar line its
+/// `[` may be left out. The passes that it names are bit `i - 1` for pass `i`, or None where it names one
+/// that there cannot be.
+#[tactic(auto, unfolding(crate::specs::Ending::ending_at))]
+pub(crate) fn ending_at(after_bar: bool, text: &[u8]) -> Option<(Option<u32>, usize)>
+    ensures value { result ≡ ending_at after_bar text.now }
+    ensures some { IfSome result (λ r. 0 < r.1) }
+    ensures inside { IfSome result (λ r. r.1 ≤ length text.now) }
+{
+    match text {
+        [b'[', behind @ ..] => {
+            let (passes, size) = passes_at(behind)?;
+            Some((passes, 1 + size))
+        }
+        [_, ..] if after_bar => passes_at(text),
+        _ => None,
+    }
+}

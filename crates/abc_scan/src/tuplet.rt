@@ -1,0 +1,50 @@
+//! Tuplet marks.
+
+ghost use Rattle.std.specs.Prelude.{◌≡◌, ◌≤◌, ◌<◌, length, IfSome};
+ghost use Rattle.abc_scan.specs.Tuplet.{further_at, tuplet_at};
+
+use crate::number::{number_at, optional_number_at};
+
+/// A tuplet mark as it is written (ABC 2.1 section 4.13): the next `r` notes in the time of `q` for each
+/// `p` of them. The numbers may be 0; whether they make a tuplet is judged by who reads the mark.
+#[derive(Clone, Copy, Debug, PartialEq, Eq)]
+pub struct Tuplet {
+    pub p: u32,
+    /// None where it is empty or not written.
+    pub q: Option<u32>,
+    /// None where it is empty or not written.
+    pub r: Option<u32>,
+}
+
+/// The number behind a colon at the front of a text, and how many bytes both take.
+fn further_at(text: &[u8]) -> (Option<u32>, usize)
+    ensures value { result ≡ further_at text.now }
+    ensures inside { result.1 ≤ length text.now }
+{
+    match text {
+        [b':', behind @ ..] => {
+            let (number, size) = optional_number_at(behind);
+            (number, 1 + size)
+        }
+        _ => (None, 0),
+    }
+}
+
+/// The tuplet mark at the front of a text, and how many bytes it takes.
+#[tactic(auto, unfolding(crate::specs::Tuplet::tuplet_at))]
+pub(crate) fn tuplet_at(text: &[u8]) -> Option<(Tuplet, usize)>
+    ensures value { result ≡ tuplet_at text.now }
+    ensures some { IfSome result (λ r. 0 < r.1) }
+    ensures inside { IfSome result (λ r. r.1 ≤ length text.now) }
+{
+    match text {
+        [b'(', rest @ ..] => {
+            let (p, p_size) = number_at(rest)?;
+            let behind = &rest[p_size..];
+            let (q, q_size) = further_at(behind);
+            let (r, r_size) = further_at(&behind[q_size..]);
+            Some((Tuplet { p, q, r }, 1 + p_size + q_size + r_size))
+        }
+        _ => None,
+    }
+}
