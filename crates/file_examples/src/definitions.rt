@@ -1,0 +1,172 @@
+//! Worked examples by the definitions of `smf_bytes`: number texts, events, tracks and files. A body here does nothing;
+//! its contract is the example.
+#![tactic(auto, unfolding(abc_time::specs::Grains::grains_of_a_tick, abc_time::specs::Grains::grains_of_the_latest_end, crate::specs::Words::count_trailing_zeros, smf_bytes::specs::File::file_bytes, smf_bytes::specs::File::header, smf_bytes::specs::Number::number_text, smf_bytes::specs::Number::reading, smf_bytes::specs::Track::track, smf_bytes::specs::Track::track_body, hex::specs::Hex::encode_with))]
+
+ghost use Rattle.std.specs.Prelude.{◌≡◌, pos, negsuc, true, false, [], ◌∷◌, ◌++◌, codes, replicate};
+ghost use Rattle.std.specs.List.{concat, list_all, list_any};
+ghost use Rattle.hex.specs.Hex.{encode_upper};
+ghost use Rattle.smf_bytes.specs.declared.number.NumberFault.TheVariants.{Padded, TooLong, Truncated};
+ghost use Rattle.smf_bytes.specs.declared.score.ChangeKind.TheVariants.{Tempo, Meter, Key};
+ghost use Rattle.smf_bytes.specs.Event.{change_bytes, end_event, note_events, note_off, note_on, title_events};
+ghost use Rattle.smf_bytes.specs.File.{file_bytes};
+ghost use Rattle.smf_bytes.specs.Limits.{is_denominator};
+ghost use Rattle.smf_bytes.specs.Number.{number_text, reading};
+ghost use Rattle.smf_bytes.specs.Order.{in_order};
+ghost use Rattle.smf_bytes.specs.Track.{channel_of, conductor_events, track, track_body, voice_events};
+ghost use Rattle.file_examples.specs.Values.{at_tick, change_at, seventh, sounding};
+
+/// Variable-length quantities, the first and the last of each count of bytes, and 240. SMF 1.0.
+pub fn number_texts()
+    ensures zero { number_text 0 ≡ 0 ∷ [] }
+    ensures one_byte { number_text 127 ≡ 0x7F ∷ [] }
+    ensures two_bytes { number_text 128 ≡ 0x81 ∷ 0 ∷ [] }
+    ensures an_eighth { number_text 240 ≡ 0x81 ∷ 0x70 ∷ [] }
+    ensures last_of_two_bytes { number_text 16383 ≡ 0xFF ∷ 0x7F ∷ [] }
+    ensures three_bytes { number_text 16384 ≡ 0x81 ∷ 0x80 ∷ 0 ∷ [] }
+    ensures last_of_three_bytes { number_text 2097151 ≡ 0xFF ∷ 0xFF ∷ 0x7F ∷ [] }
+    ensures four_bytes { number_text 2097152 ≡ 0x81 ∷ 0x80 ∷ 0x80 ∷ 0 ∷ [] }
+    ensures greatest { number_text 268435455 ≡ 0xFF ∷ 0xFF ∷ 0xFF ∷ 0x7F ∷ [] }
+{}
+
+/// What is read of bytes: a number and how many bytes it has (SMF 1.0), or what is wrong with it, our own.
+pub fn readings()
+    ensures padded { reading (0x80 ∷ 1 ∷ []) ≡ Err Padded }
+    ensures padded_alone { reading (0x80 ∷ []) ≡ Err Padded }
+    ensures truncated { reading (0x81 ∷ []) ≡ Err Truncated }
+    ensures empty { reading [] ≡ Err Truncated }
+    ensures too_long { reading (0xFF ∷ 0xFF ∷ 0xFF ∷ 0xFF ∷ []) ≡ Err TooLong }
+    ensures one_byte { reading (0x7F ∷ 0x81 ∷ []) ≡ Ok (127, 1) }
+    ensures greatest { reading (0xFF ∷ 0xFF ∷ 0xFF ∷ 0x7F ∷ []) ≡ Ok (268435455, 4) }
+{}
+
+/// What comes first of two refusals: padded before too long, too long before truncated. Our own.
+pub fn refusals_of_numbers()
+    ensures padded { reading (0x80 ∷ 0x80 ∷ 0x80 ∷ 0x80 ∷ []) ≡ Err Padded }
+    ensures too_long { reading (0x81 ∷ 0x80 ∷ 0x80 ∷ 0x80 ∷ 0 ∷ []) ≡ Err TooLong }
+    ensures truncated { reading (0x81 ∷ 0x80 ∷ 0x80 ∷ []) ≡ Err Truncated }
+{}
+
+/// The bytes of tempos, meters and keys: 500,000, 300,000 and 1,000,000 microseconds to a quarter; 2/4 and 3/4; no
+/// sharps, two sharps, and one flat and seven as bytes in two's complement. SMF 1.0.
+pub fn changes()
+    ensures tempo { encode_upper (change_bytes (Tempo 500000)) ≡ codes "FF510307A120" }
+    ensures faster { encode_upper (change_bytes (Tempo 300000)) ≡ codes "FF51030493E0" }
+    ensures slower { encode_upper (change_bytes (Tempo 1000000)) ≡ codes "FF51030F4240" }
+    ensures two_quarters { encode_upper (change_bytes (Meter 2 4)) ≡ codes "FF580402021808" }
+    ensures three_quarters { encode_upper (change_bytes (Meter 3 4)) ≡ codes "FF580403021808" }
+    ensures no_sharps { encode_upper (change_bytes (Key (pos 0) false)) ≡ codes "FF59020000" }
+    ensures two_sharps { encode_upper (change_bytes (Key (pos 2) false)) ≡ codes "FF59020200" }
+    ensures one_flat { encode_upper (change_bytes (Key (negsuc 0) false)) ≡ codes "FF5902FF00" }
+    ensures seven_flats { encode_upper (change_bytes (Key (negsuc 6) false)) ≡ codes "FF5902F900" }
+{}
+
+/// The denominators of meters: powers of two, from 1 to 64. SMF 1.0; the bound is our own.
+pub fn denominators()
+    ensures accepted { list_all is_denominator (1 ∷ 2 ∷ 4 ∷ 8 ∷ 16 ∷ 32 ∷ 64 ∷ []) ≡ true }
+    ensures refused { list_any is_denominator (0 ∷ 3 ∷ 6 ∷ 12 ∷ 63 ∷ 65 ∷ 128 ∷ []) ≡ false }
+{}
+
+/// At one tick offs come before ons, and each by key; the end comes last. Our own.
+pub fn the_order_at_a_tick()
+    ensures { in_order (end_event 240 ∷ note_on 0 62 240 ∷ note_off 0 64 240 ∷ note_on 0 60 240 ∷ note_off 0 60 240 ∷ note_on 0 64 0 ∷ [])
+        ≡ note_on 0 64 0 ∷ note_off 0 60 240 ∷ note_off 0 64 240 ∷ note_on 0 60 240 ∷ note_on 0 62 240 ∷ end_event 240 ∷ [] }
+{}
+
+/// At tick 0 the title comes before the tempo, and the tempo before the meter and the key, in whatever order they are
+/// given. Our own.
+pub fn the_order_of_an_opening()
+    ensures { encode_upper (track_body 0 (conductor_events (codes "A")
+        (change_at 0 (Key (pos 0) false) ∷ change_at 0 (Meter 3 4) ∷ change_at 0 (Tempo 500000) ∷ [])))
+        ≡ codes "00FF03014100FF510307A12000FF58040302180800FF5902000000FF2F00" }
+{}
+
+/// Two notes of 240 ticks, one behind the other: the first ends before the second begins. SMF 1.0; the order is our
+/// own.
+pub fn notes_in_turn()
+    ensures { encode_upper (track_body 480 (voice_events 0 (sounding 60 0 240 ∷ sounding 62 240 480 ∷ [])))
+        ≡ codes "00903C508170803C4000903E508170803E4000FF2F00" }
+{}
+
+/// A note whose on and off fall on one tick is not written, also where its moments differ. Our own.
+pub fn a_note_within_a_tick()
+    ensures same_moment { note_events 0 (sounding 60 240 240) ≡ [] }
+    ensures later_grain { note_events 0 (record { key = 60; on = record { 0 = 484323840 }; off = record { 0 = 968647679 } }) ≡ [] }
+{}
+
+/// The ninth voice has channel 8 and the tenth channel 10, since the tenth channel is for percussion. General MIDI.
+pub fn channels()
+    ensures first { channel_of 0 ≡ 0 }
+    ensures ninth { channel_of 8 ≡ 8 }
+    ensures tenth { channel_of 9 ≡ 10 }
+    ensures fifteenth { channel_of 14 ≡ 15 }
+    ensures ninth_on { (note_on (channel_of 8) 60 0).bytes ≡ 0x98 ∷ 0x3C ∷ 0x50 ∷ [] }
+    ensures tenth_on { (note_on (channel_of 9) 60 0).bytes ≡ 0x9A ∷ 0x3C ∷ 0x50 ∷ [] }
+{}
+
+/// No title, no event. Our own.
+pub fn an_empty_title()
+    ensures { title_events [] ≡ [] }
+{}
+
+/// The track of a tempo that changes at tick 240 of 480. SMF 1.0.
+pub fn a_conductor_track()
+    ensures { encode_upper (track 480 (conductor_events []
+        (change_at 0 (Tempo 500000) ∷ change_at 0 (Key (pos 0) false) ∷ change_at 240 (Tempo 1000000) ∷ [])))
+        ≡ codes "4D54726B0000001A00FF510307A12000FF590200008170FF51030F42408170FF2F00" }
+{}
+
+/// The whole file of a tune with the title `A`, in C, of the one note C, an eighth. SMF 1.0.
+pub fn the_first_file()
+    ensures { encode_upper (file_bytes (record {
+      title = codes "A";
+      end = record { 0 = 116237721600 };
+      conductor = change_at 0 (Tempo 500000) ∷ change_at 0 (Key (pos 0) false) ∷ [];
+      voices = (sounding 60 0 240 ∷ []) ∷ [];
+    }))
+        ≡ codes "4D546864000000060001000201E04D54726B0000001700FF03014100FF510307A12000FF590200008170FF2F004D54726B0000000D00903C508170803C4000FF2F00" }
+{}
+
+/// Seven notes in the time of four: each moment is rounded down by itself, so that they last 137 ticks, and the last one
+/// 138. The bytes are those of a second compiler.
+pub fn moments_rounded_down()
+    ensures { encode_upper (track 960 (voice_events 0 (
+        seventh 60 0 ∷ seventh 62 1 ∷ seventh 64 2 ∷ seventh 65 3 ∷ seventh 67 4 ∷ seventh 69 5 ∷ seventh 71 6 ∷ [])))
+        ≡ codes "4D54726B0000004300903C508109803C4000903E508109803E4000904050810980404000904150810980414000904350810980434000904550810980454000904750810A80474000FF2F00" }
+{}
+
+/// Changes in no order, several at one tick: the greater tempo of two comes later. The bytes are those of a second
+/// compiler.
+pub fn changes_at_one_tick()
+    ensures { encode_upper (track 960 (conductor_events [] (
+        change_at 0 (Key (negsuc 6) true) ∷ change_at 0 (Meter 6 8) ∷ change_at 0 (Tempo 500000)
+        ∷ change_at 480 (Tempo 1) ∷ change_at 480 (Meter 255 64) ∷ change_at 480 (Key (pos 7) false)
+        ∷ change_at 480 (Tempo 16777215) ∷ [])))
+        ≡ codes "4D54726B0000003700FF510307A12000FF58040603180800FF5902F9018360FF510300000100FF5103FFFFFF00FF5804FF06180800FF590207008360FF2F00" }
+{}
+
+/// Notes in no order, several at one tick, and two that begin and end within one tick. The bytes are those of a second
+/// compiler.
+pub fn notes_at_one_tick()
+    ensures { encode_upper (track 960 (voice_events 0 (
+        sounding 64 0 480 ∷ sounding 60 0 480 ∷ sounding 67 480 960 ∷ sounding 60 480 481 ∷ sounding 61 480 480
+        ∷ sounding 127 960 960 ∷ sounding 0 0 960 ∷ [])))
+        ≡ codes "4D54726B0000002E0090005000903C50009040508360803C400080404000903C500090435001803C40835F8000400080434000FF2F00" }
+{}
+
+/// The latest end, 131,072 whole notes, with a delta time of four bytes. The bytes are those of a second compiler.
+pub fn the_latest_end()
+    ensures { encode_upper (file_bytes (record {
+      title = [];
+      end = at_tick 251658240;
+      conductor = change_at 251658240 (Meter 2 1) ∷ [];
+      voices = (sounding 60 0 251658240 ∷ []) ∷ [];
+    }))
+        ≡ codes "4D546864000000060001000201E04D54726B0000000FF8808000FF58040200180800FF2F004D54726B0000000F00903C50F8808000803C4000FF2F00" }
+{}
+
+/// The header of fifteen voices, the most, counts sixteen tracks; a voice without notes has a track of its end alone.
+/// SMF 1.0.
+pub fn fifteen_voices()
+    ensures { encode_upper (file_bytes (record { title = []; end = at_tick 0; conductor = []; voices = replicate 15 [] }))
+        ≡ codes "4D546864000000060001001001E0" ++ concat (replicate 16 (codes "4D54726B0000000400FF2F00")) }
+{}

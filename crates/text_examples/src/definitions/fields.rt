@@ -1,0 +1,144 @@
+//! Values of fields, by the definitions of what each says (ABC 2.1 section 3.1; bounds and refusals are our own).
+#![tactic(auto, unfolding(abc_fields::specs::Accidental::alteration_of, abc_fields::specs::Accidental::changes_of, abc_fields::specs::Cut::cut_at, abc_fields::specs::Blank::trim_start, abc_fields::specs::Blank::trim_end, abc_fields::specs::Key::key_with, abc_fields::specs::Key::names_clef, abc_fields::specs::Key::without_line, abc_fields::specs::Key::start_of, abc_fields::specs::Key::completed, abc_fields::specs::Key::key_in, abc_fields::specs::Letters::play_on, abc_fields::specs::Listed::with_accidentals, abc_fields::specs::Meter::sum_of, abc_fields::specs::Meter::fraction_of, abc_fields::specs::Meter::symbol_or_fraction, abc_fields::specs::Mode::mode_named, abc_fields::specs::Mode::mode_of, abc_fields::specs::Number::number_of, abc_fields::specs::Parts::next, abc_fields::specs::Property::unquoted, abc_fields::specs::Property::signed_number, abc_fields::specs::Property::mark_of, abc_fields::specs::Property::property_of, abc_fields::specs::Shift::shift_of, abc_fields::specs::Signature::alteration, abc_fields::specs::Signature::altered, abc_fields::specs::Signature::signature_of, abc_fields::specs::Tempo::positive_of, abc_fields::specs::Tempo::part_of, abc_fields::specs::Tempo::fraction_of, abc_fields::specs::Tempo::first_word, abc_fields::specs::Tempo::behind_word, abc_fields::specs::Tempo::sum_of, abc_fields::specs::Tempo::halved, abc_fields::specs::Tempo::bare_tempo, abc_fields::specs::Tempo::tempo_around, abc_fields::specs::Tempo::tempo_in, abc_fields::specs::Tempo::tempo_of, abc_fields::specs::Tonic::tonic_sharps, abc_fields::specs::Tonic::basis_at, abc_fields::specs::Voice::voice_in, abc_fields::specs::Voice::voice_of, abc_fields::specs::Word::words_of, abc_fields::specs::Word::first_word, abc_time::specs::Tempo::quarter_of))]
+
+ghost use Rattle.std.specs.Prelude.{◌≡◌, pos, negsuc, true, false, [], ◌∷◌, codes, map, replicate, Some, None, Ok, Err};
+ghost use Rattle.abc_fields.specs.Key.{key_of};
+ghost use Rattle.abc_fields.specs.Letters.{letters_of};
+ghost use Rattle.abc_fields.specs.Meter.{meter_of};
+ghost use Rattle.abc_fields.specs.Parts.{parts_of};
+ghost use Rattle.abc_fields.specs.Tempo.{tempo_of};
+ghost use Rattle.abc_fields.specs.Unit.{unit_of};
+ghost use Rattle.abc_fields.specs.Voice.{voice_of};
+ghost use Rattle.abc_fields.specs.declared.fault.FaultCode.TheVariants.{BadKey, BadMeter, BadOrder, BadTempo, BadUnit, BadVoice};
+ghost use Rattle.abc_fields.specs.declared.meter.Meter.TheVariants.{Free, Of};
+ghost use Rattle.abc_fields.specs.declared.tempo.Tempo.TheVariants.{Beat, Units, Unset};
+ghost use Rattle.abc_time.specs.Tempo.{quarter_micros_of};
+ghost use Rattle.text_examples.specs.Values.{ratio, sharps_of, shift, shift_in_key, voice};
+
+/// The meter: symbols, fractions and sums.
+pub fn meters()
+    ensures empty { meter_of [] ≡ Ok Free }
+    ensures none { meter_of (codes "none") ≡ Ok Free }
+    ensures common { meter_of (codes "C") ≡ Ok (Of 4 4) }
+    ensures cut { meter_of (codes "C|") ≡ Ok (Of 2 2) }
+    ensures two_quarters { meter_of (codes "2/4") ≡ Ok (Of 2 4) }
+    ensures sum { meter_of (codes "2+3+2/8") ≡ Ok (Of 7 8) }
+    ensures in_parentheses { meter_of (codes "(2+3)/8") ≡ Ok (Of 5 8) }
+    ensures summand_of_zero { meter_of (codes "0+3/4") ≡ Ok (Of 3 4) }
+    ensures no_sum { meter_of (codes "(4)/4") ≡ Err BadMeter }
+    ensures third { meter_of (codes "2/3") ≡ Err BadMeter }
+    ensures too_many { meter_of (codes "256/64") ≡ Err BadMeter }
+    ensures small { meter_of (codes "c") ≡ Err BadMeter }
+{}
+
+/// The unit note length.
+pub fn units()
+    ensures whole { unit_of (codes "1") ≡ Ok (ratio 1 1) }
+    ensures eighth { unit_of (codes "1/8") ≡ Ok (ratio 1 8) }
+    ensures smallest { unit_of (codes "1/512") ≡ Ok (ratio 1 512) }
+    ensures leading_zero { unit_of (codes "1/08") ≡ Ok (ratio 1 8) }
+    ensures zero_before_one { unit_of (codes "01/8") ≡ Err BadUnit }
+    ensures third { unit_of (codes "1/3") ≡ Err BadUnit }
+    ensures empty { unit_of [] ≡ Err BadUnit }
+{}
+
+/// The tempo: beats that are added, unit notes, texts.
+pub fn tempos()
+    ensures sum { tempo_of (codes "1/4 3/8 1/4 3/8=40") ≡ Ok (Beat (ratio 5 4) 40) }
+    ensures units { tempo_of (codes "120") ≡ Ok (Units 120) }
+    ensures text_before { tempo_of (codes "\"Allegro\" 1/4 = 120") ≡ Ok (Beat (ratio 1 4) 120) }
+    ensures text_behind { tempo_of (codes "120\"a\"") ≡ Ok (Units 120) }
+    ensures text_alone { tempo_of (codes "\"Allegro\"") ≡ Ok Unset }
+    ensures empty { tempo_of [] ≡ Ok Unset }
+    ensures two_texts { tempo_of (codes "\"a\"120\"b\"") ≡ Err BadTempo }
+    ensures no_beat { tempo_of (codes "=60") ≡ Err BadTempo }
+    ensures zero { tempo_of (codes "0") ≡ Err BadTempo }
+    ensures inner_blank { tempo_of (codes "1 /4=60") ≡ Err BadTempo }
+{}
+
+/// Microseconds of a quarter note: what a file can say has three bytes, and is not 0.
+pub fn quarter_notes()
+    ensures sum { quarter_micros_of (ratio 5 4) 40 ≡ Some 300000 }
+    ensures eighths { quarter_micros_of (ratio 1 8) 120 ≡ Some 1000000 }
+    ensures rounded_down { quarter_micros_of (ratio 1 4) 7 ≡ Some 8571428 }
+    ensures too_slow { quarter_micros_of (ratio 1 4) 1 ≡ None }
+    ensures fastest { quarter_micros_of (ratio 1 4) 60000000 ≡ Some 1 }
+    ensures too_fast { quarter_micros_of (ratio 1 4) 60000001 ≡ None }
+{}
+
+/// The order of parts, and what it plays.
+pub fn orders()
+    ensures nested { letters_of (codes "((AB)3.(CD)3)2") ≡ codes "ABABABCDCDCDABABABCDCDCD" }
+    ensures blank_in_a_count { letters_of (codes "A1 2B") ≡ codes "AAAAAAAAAAAAB" }
+    ensures good { parts_of (codes "(AB)2.C") ≡ Ok tt }
+    ensures empty { parts_of [] ≡ Err BadOrder }
+    ensures never { parts_of (codes "A0") ≡ Err BadOrder }
+    ensures open { parts_of (codes "(A") ≡ Err BadOrder }
+    ensures empty_group { parts_of (codes "()") ≡ Err BadOrder }
+{}
+
+/// Orders that are accepted: blanks and dots are left out, counts are from 1, groups stand up to 32 deep.
+pub fn accepted_orders()
+    ensures letters { map parts_of (codes "A" ∷ codes "AB" ∷ codes "Z" ∷ codes "A.B" ∷ codes " A B " ∷ codes "A\tB" ∷ []) ≡ replicate 6 (Ok tt) }
+    ensures counts { map parts_of (codes "A1" ∷ codes "A01" ∷ codes "A1.2" ∷ codes "A99B" ∷ codes "A999999999" ∷ []) ≡ replicate 5 (Ok tt) }
+    ensures groups { map parts_of (codes "(A)" ∷ codes "(A)(B)" ∷ codes "A(B)C" ∷ codes "(A3)" ∷ codes "(A)2(B)3C" ∷ codes "(A99)99" ∷ []) ≡ replicate 6 (Ok tt) }
+    ensures deepest { parts_of (codes "((((((((((((((((((((((((((((((((A))))))))))))))))))))))))))))))))") ≡ Ok tt }
+{}
+
+/// Orders that are refused: nothing to play, other bytes, counts of none or of ten digits, groups that do not close.
+pub fn refused_orders()
+    ensures nothing { map parts_of ([] ∷ codes "." ∷ codes "()" ∷ codes "A()B" ∷ []) ≡ replicate 4 (Err BadOrder) }
+    ensures other_bytes { map parts_of (codes "a" ∷ codes "[" ∷ codes "@" ∷ codes "A-B" ∷ codes "A,B" ∷ (65 ∷ 0 ∷ []) ∷ (0xC3 ∷ 0x84 ∷ []) ∷ []) ≡ replicate 7 (Err BadOrder) }
+    ensures counts { map parts_of (codes "A0" ∷ codes "A00" ∷ codes "(A)0" ∷ codes "A0000000001" ∷ codes "A1234567890" ∷ codes "3A" ∷ codes "(3A)" ∷ []) ≡ replicate 7 (Err BadOrder) }
+    ensures groups { map parts_of (codes "(A" ∷ codes "A)" ∷ codes ")(" ∷ codes "((((((((((((((((((((((((((((((((A)))))))))))))))))))))))))))))))" ∷ []) ≡ replicate 4 (Err BadOrder) }
+    ensures too_deep { parts_of (codes "(((((((((((((((((((((((((((((((((A)))))))))))))))))))))))))))))))))") ≡ Err BadOrder }
+{}
+
+/// Keys: the tonic and the mode make the sharps; words behind them list accidentals and properties.
+pub fn keys()
+    ensures phrygian { sharps_of (key_of (codes "F# Phrygian")) ≡ Some (pos 2) }
+    ensures locrian { sharps_of (key_of (codes "E loc")) ≡ Some (negsuc 0) }
+    ensures minor { sharps_of (key_of (codes "C m=B")) ≡ Some (negsuc 2) }
+    ensures explicit { sharps_of (key_of (codes "G# exp ^f")) ≡ Some (pos 0) }
+    ensures eight_sharps { key_of (codes "G# major") ≡ Err BadKey }
+    ensures capital_m { key_of (codes "CM") ≡ Err BadKey }
+    ensures none_and_more { key_of (codes "none clef=bass") ≡ Err BadKey }
+    ensures malformed { key_of (codes "C octave=x") ≡ Err BadKey }
+    ensures shifted { shift_in_key (key_of (codes "C transpose=-2 treble-8")) ≡ Some (shift (Some (negsuc 11)) None (Some (negsuc 1))) }
+    ensures properties { key_of (codes "alto1") ≡ Ok (record { signature = None; sharps = pos 0; minor = false; shift = shift None None None }) }
+{}
+
+/// Voices: the first word is the identifier, whatever its bytes are, and words without effect may follow.
+pub fn voices()
+    ensures number { voice_of (codes "1 2 3 4") ≡ Ok (voice 0 1 None None None) }
+    ensures blanks { voice_of (codes "  Solo  transpose=0 ") ≡ Ok (voice 2 6 None None (Some (pos 0))) }
+    ensures any_bytes { voice_of (0xC3 ∷ 0xA4 ∷ codes " clef=treble+8") ≡ Ok (voice 0 2 (Some (pos 12)) None None) }
+    ensures not_a_property { voice_of (codes "octave=x octave=2") ≡ Ok (voice 0 8 None (Some (pos 2)) None) }
+    ensures not_a_clef { voice_of (codes "-8") ≡ Ok (voice 0 2 None None None) }
+    ensures unknown { voice_of (codes "Solo name=\"a b\"") ≡ Ok (voice 0 4 None None None) }
+    ensures accidentals { voice_of (codes "Solo =e^F") ≡ Ok (voice 0 4 None None None) }
+    ensures no_sign { voice_of (codes "Solo 8") ≡ Ok (voice 0 4 None None None) }
+{}
+
+/// The properties of a voice: the last of each counts, a word that ends in `-8` or `+8` is a clef, and quotes count only
+/// round the whole value.
+pub fn properties_of_voices()
+    ensures last { voice_of (codes "Solo octave=1 octave=-1") ≡ Ok (voice 0 4 None (Some (negsuc 0)) None) }
+    ensures both { voice_of (codes "Solo octave=-1 transpose=3") ≡ Ok (voice 0 4 None (Some (negsuc 0)) (Some (pos 3))) }
+    ensures nine_digits { voice_of (codes "Solo transpose=-000000007") ≡ Ok (voice 0 4 None None (Some (negsuc 6))) }
+    ensures quoted { voice_of (codes "Solo octave=\"1\"") ≡ Ok (voice 0 4 None (Some (pos 1)) None) }
+    ensures clef { voice_of (codes "Solo clef=bass") ≡ Ok (voice 0 4 (Some (pos 0)) None None) }
+    ensures octave_clef { voice_of (codes "Solo clef=\"+8\"") ≡ Ok (voice 0 4 (Some (pos 12)) None None) }
+    ensures other_word { voice_of (codes "Solo foo=x-8") ≡ Ok (voice 0 4 (Some (negsuc 11)) None None) }
+    ensures accidental { voice_of (codes "Solo ^c-8") ≡ Ok (voice 0 4 (Some (negsuc 11)) None None) }
+    ensures kept { voice_of (codes "Solo treble-8 treble") ≡ Ok (voice 0 4 (Some (negsuc 11)) None None) }
+    ensures taken_back { voice_of (codes "Solo treble-8 clef=bass") ≡ Ok (voice 0 4 (Some (pos 0)) None None) }
+{}
+
+/// No identifier, or a number that is none.
+pub fn refused_voices()
+    ensures no_identifier { map voice_of ([] ∷ codes " " ∷ []) ≡ replicate 2 (Err BadVoice) }
+    ensures no_number { map voice_of (codes "Solo octave=" ∷ codes "Solo octave=x" ∷ codes "Solo octave=1.5" ∷ codes "Solo octave=--1" ∷ codes "Solo transpose=+" ∷ []) ≡ replicate 5 (Err BadVoice) }
+    ensures one_quote { map voice_of (codes "Solo octave=\"1" ∷ codes "Solo name=\"a octave=2\"" ∷ []) ≡ replicate 2 (Err BadVoice) }
+    ensures ten_digits { map voice_of (codes "Solo transpose=12345678901" ∷ codes "Solo transpose=-0000000007" ∷ []) ≡ replicate 2 (Err BadVoice) }
+{}

@@ -1,0 +1,66 @@
+//! Lengths and ticks, by the definitions of `abc_time`.
+#![tactic(auto, unfolding(abc_time::specs::Grains::grains_of_a_tick, abc_time::specs::Grains::grains_of_a_whole_note, abc_time::specs::Grains::grains_of_the_latest_end, abc_time::specs::Grains::grains_of_the_longest_length, abc_time::specs::Length::length_of, abc_time::specs::Length::quotient_of))]
+
+ghost use Rattle.std.specs.Prelude.{◌≡◌, ◌*◌, ◌^◌, ◌+◌, [], ◌∷◌};
+ghost use Rattle.abc_time.specs.Grains.{grains_of_a_whole_note, grains_of_a_tick, grains_of_the_longest_length, grains_of_the_latest_end, tick_at};
+ghost use Rattle.abc_time.specs.Length.{IsLength, length_of, quotient_of};
+ghost use Rattle.abc_time.specs.declared.lengths.LengthFault.TheVariants.{NotWhole, TooLong};
+ghost use Rattle.text_examples.specs.Values.{ratio, at_tick};
+
+/// A whole note is `2^16 * 3^4 * 5^2 * 7^2 * 11 * 13` grains and 1,920 ticks. Our own.
+pub fn grains_and_ticks()
+    ensures whole_note { grains_of_a_whole_note ≡ 2 ^ 16 * 3 ^ 4 * 5 ^ 2 * 7 ^ 2 * 11 * 13 }
+    ensures ticks { 1920 * grains_of_a_tick ≡ grains_of_a_whole_note }
+    ensures longest_length { grains_of_the_longest_length ≡ 1024 * 929901772800 }
+    ensures latest_end { grains_of_the_latest_end ≡ 131072 * 929901772800 }
+{}
+
+/// The lengths `C3/2 C/ C// C1/17 C` at a unit of an eighth, 240 ticks; a seventeenth of it is not whole. ABC 2.1
+/// section 4.3; the grains are our own.
+pub fn lengths_of_notes()
+    ensures three_halves { length_of (ratio 1 8) (ratio 3 2 ∷ []) ≡ Ok (at_tick 360) }
+    ensures half { length_of (ratio 1 8) (ratio 1 2 ∷ []) ≡ Ok (at_tick 120) }
+    ensures quarter { length_of (ratio 1 8) (ratio 1 4 ∷ []) ≡ Ok (at_tick 60) }
+    ensures seventeenth { length_of (ratio 1 8) (ratio 1 17 ∷ []) ≡ Err NotWhole }
+    ensures plain { length_of (ratio 1 8) [] ≡ Ok (at_tick 240) }
+{}
+
+/// `A>>>B` at a unit of an eighth: 450 ticks and 30. ABC 2.1 section 4.4.
+pub fn broken_rhythm()
+    ensures longer { length_of (ratio 1 8) (ratio 15 8 ∷ []) ≡ Ok (at_tick 450) }
+    ensures shorter { length_of (ratio 1 8) (ratio 1 8 ∷ []) ≡ Ok (at_tick 30) }
+{}
+
+/// Seven eighths in the time of four: ticks are rounded down from moments, so the seventh ends at tick 960 and each note
+/// begins within one tick of its moment. ABC 2.1 section 4.13; the rounding is our own.
+pub fn seven_in_the_time_of_four()
+    ensures length { length_of (ratio 1 8) (ratio 4 7 ∷ []) ≡ Ok (record { 0 = 66421555200 }) }
+    ensures exact { IsLength (ratio 1 8) (ratio 4 7 ∷ []) 66421555200 }
+    ensures first { tick_at 66421555200 ≡ 137 }
+    ensures second { tick_at (2 * 66421555200) ≡ 274 }
+    ensures third { tick_at (3 * 66421555200) ≡ 411 }
+    ensures fourth { tick_at (4 * 66421555200) ≡ 548 }
+    ensures fifth { tick_at (5 * 66421555200) ≡ 685 }
+    ensures sixth { tick_at (6 * 66421555200) ≡ 822 }
+    ensures seventh { tick_at (7 * 66421555200) ≡ 960 }
+{}
+
+/// One grain is a length and half of one is not; 1,024 whole notes are one, and a grain or a note more is not. What is not
+/// whole comes first. Our own.
+pub fn limits_of_lengths()
+    ensures one_grain { length_of (ratio 1 132710400) (ratio 1 7007 ∷ []) ≡ Ok (record { 0 = 1 }) }
+    ensures half_a_grain { length_of (ratio 1 132710400) (ratio 1 7007 ∷ ratio 1 2 ∷ []) ≡ Err NotWhole }
+    ensures longest { length_of (ratio 1 1) (ratio 1024 1 ∷ []) ≡ Ok (record { 0 = 1024 * 929901772800 }) }
+    ensures longer { length_of (ratio 1 1) (ratio 1025 1 ∷ []) ≡ Err TooLong }
+    ensures longer_by_a_grain { quotient_of (1024 * 929901772800 + 1) 1 ≡ Err TooLong }
+    ensures longer_and_not_whole { length_of (ratio 999999999 1) (ratio 999999999 17 ∷ []) ≡ Err NotWhole }
+{}
+
+/// The tick of a moment: the first, a grain before and at the next, a whole note, the latest end. Our own.
+pub fn ticks()
+    ensures first { tick_at 0 ≡ 0 }
+    ensures before { tick_at 484323839 ≡ 0 }
+    ensures at { tick_at 484323840 ≡ 1 }
+    ensures whole_note { tick_at 929901772800 ≡ 1920 }
+    ensures latest_end { tick_at (131072 * 929901772800) ≡ 251658240 }
+{}

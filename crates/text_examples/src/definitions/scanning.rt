@@ -1,0 +1,128 @@
+//! Line classes, what is read of a line, and its tokens, by the definitions of `abc_scan`.
+#![tactic(auto, unfolding(abc_scan::specs::Cutting::tokens_of, abc_scan::specs::Length::length_at, abc_scan::specs::Length::length_size, abc_scan::specs::Note::accidental_at, abc_scan::specs::Note::letter_of, abc_scan::specs::Note::note_at, abc_scan::specs::Note::rest_at))]
+
+ghost use Rattle.std.specs.Prelude.{◌≡◌, pos, negsuc, [], ◌∷◌, codes, replicate};
+ghost use Rattle.abc_scan.specs.declared.class.LineClass.TheVariants.{Blank, Comment, Field, Music};
+ghost use Rattle.abc_scan.specs.declared.length.WrittenLength.TheVariants.{Factor, Refused};
+ghost use Rattle.abc_scan.specs.declared.note.Accidental.TheVariants.{DoubleSharp};
+ghost use Rattle.abc_scan.specs.declared.note.Letter.TheVariants.{C};
+ghost use Rattle.abc_scan.specs.declared.token.TokenKind.TheVariants as kinds;
+ghost use Rattle.abc_scan.specs.Cutting.{tokens_of};
+ghost use Rattle.abc_scan.specs.Length.{length_at};
+ghost use Rattle.abc_scan.specs.LineClass.{class_of};
+ghost use Rattle.abc_scan.specs.Note.{octave};
+ghost use Rattle.abc_scan.specs.Text.{content};
+ghost use Rattle.text_examples.specs.Values.{note, plain, token};
+
+/// Blank lines and comments. ABC 2.1 section 2.2; that only spaces and tabs are blanks, and that one carriage return is
+/// dropped at the end, is our own.
+pub fn blanks_and_comments()
+    ensures empty { class_of [] ≡ Blank }
+    ensures blanks { class_of (codes " \t") ≡ Blank }
+    ensures one_return { class_of (codes "\r") ≡ Blank }
+    ensures two_returns { class_of (codes "\r\r") ≡ Music }
+    ensures comment { class_of (codes "% C") ≡ Comment }
+    ensures comment_behind_blanks { class_of (codes "\t % C") ≡ Comment }
+    ensures directive { class_of (codes "%%MIDI program 1") ≡ Comment }
+    ensures escaped { class_of (codes "\\% C") ≡ Music }
+{}
+
+/// Fields begin at column 1 with a letter or `+` and a colon. ABC 2.1 sections 3 and 3.3.
+pub fn fields()
+    ensures reference { class_of (codes "X:1") ≡ Field 88 }
+    ensures small_letter { class_of (codes "w:la") ≡ Field 119 }
+    ensures continued { class_of (codes "+:more") ≡ Field 43 }
+    ensures behind_a_blank { class_of (codes " X:1") ≡ Music }
+    ensures digit { class_of (codes "1:") ≡ Music }
+    ensures colon_alone { class_of (codes "C:") ≡ Field 67 }
+    ensures no_colon { class_of (codes "C D") ≡ Music }
+{}
+
+/// A letter of a note or of a rest before a repeat bar is music; the class looks at the comment too. Our own.
+pub fn notes_before_repeat_bars()
+    ensures note { class_of (codes "C:|") ≡ Music }
+    ensures small_note { class_of (codes "g::") ≡ Music }
+    ensures rest { class_of (codes "z:|") ≡ Music }
+    ensures invisible_rest { class_of (codes "x::") ≡ Music }
+    ensures bar_rest { class_of (codes "Z:|") ≡ Field 90 }
+    ensures reference { class_of (codes "X:|") ≡ Field 88 }
+    ensures no_note { class_of (codes "H:|") ≡ Field 72 }
+    ensures no_bar { class_of (codes "C:1D") ≡ Field 67 }
+    ensures comment { class_of (codes "C:%|") ≡ Field 67 }
+{}
+
+/// What is read of a line: all but one carriage return at its end, and then all before its comment. A `%` behind a
+/// backslash begins none, also behind two. ABC 2.1 section 2.2; that backslashes do not pair up is our own.
+pub fn what_is_read()
+    ensures comment { content (codes "C D % E\r") ≡ codes "C D " }
+    ensures comment_alone { content (codes "%") ≡ [] }
+    ensures escaped { content (codes "T:a \\% b % c") ≡ codes "T:a \\% b " }
+    ensures two_backslashes { content (codes "\\\\% a") ≡ codes "\\\\% a" }
+    ensures escaped_and_not { content (codes "\\%% a") ≡ codes "\\%" }
+    ensures inside_quotes { content (codes "\"a%b\"C") ≡ codes "\"a" }
+    ensures two_returns { content (codes "C\r\r") ≡ codes "C\r" }
+{}
+
+/// Lengths as written: 3/2, a half, a quarter. ABC 2.1 section 4.3; that zero and ten digits are refused, in either
+/// place, and thirty slashes is our own.
+pub fn written_lengths()
+    ensures plain { length_at [] ≡ Factor 1 1 }
+    ensures three_halves { length_at (codes "3/2") ≡ Factor 3 2 }
+    ensures half { length_at (codes "/") ≡ Factor 1 2 }
+    ensures quarter { length_at (codes "//") ≡ Factor 1 4 }
+    ensures third { length_at (codes "/3") ≡ Factor 1 3 }
+    ensures three_quarters { length_at (codes "3//") ≡ Factor 3 4 }
+    ensures zero { length_at (codes "0") ≡ Refused }
+    ensures over_zero { length_at (codes "1/0") ≡ Refused }
+    ensures nine_digits { length_at (codes "000000002") ≡ Factor 2 1 }
+    ensures ten_digits { length_at (codes "0000000002") ≡ Refused }
+    ensures over_ten_digits { length_at (codes "1/0000000001") ≡ Refused }
+    ensures most_slashes { length_at (replicate 29 47) ≡ Factor 1 536870912 }
+    ensures more_slashes { length_at (replicate 30 47) ≡ Refused }
+{}
+
+/// The octaves of `C,',`, `C,,,,,` and `C,,,,,,`; `c` and `C'` are one. ABC 2.1 section 4.1.
+pub fn octaves()
+    ensures capital { octave 67 [] ≡ pos 0 }
+    ensures down_up_down { octave 67 (codes ",',") ≡ negsuc 0 }
+    ensures five_down { octave 67 (codes ",,,,,") ≡ negsuc 4 }
+    ensures six_down { octave 67 (codes ",,,,,,") ≡ negsuc 5 }
+    ensures small { octave 99 [] ≡ pos 1 }
+    ensures capital_up { octave 67 (codes "'") ≡ pos 1 }
+{}
+
+/// The tokens of `C3/2 C/ C// C0 C1/17 C`: notes, and a blank between each two. ABC 2.1 section 4.3.
+pub fn tokens_of_lengths()
+    ensures { tokens_of (codes "C3/2 C/ C// C0 C1/17 C") ≡
+        token (note C (pos 0) (Factor 3 2)) 0 4 ∷ token kinds.Blank 4 5
+        ∷ token (note C (pos 0) (Factor 1 2)) 5 7 ∷ token kinds.Blank 7 8
+        ∷ token (note C (pos 0) (Factor 1 4)) 8 11 ∷ token kinds.Blank 11 12
+        ∷ token (note C (pos 0) Refused) 12 14 ∷ token kinds.Blank 14 15
+        ∷ token (note C (pos 0) (Factor 1 17)) 15 20 ∷ token kinds.Blank 20 21
+        ∷ token (note C (pos 0) plain) 21 22 ∷ [] }
+{}
+
+/// The tokens of `C,,,,, C,,,,,, C`. ABC 2.1 section 4.1.
+pub fn tokens_of_low_notes()
+    ensures { tokens_of (codes "C,,,,, C,,,,,, C") ≡
+        token (note C (negsuc 4) plain) 0 6 ∷ token kinds.Blank 6 7
+        ∷ token (note C (negsuc 5) plain) 7 14 ∷ token kinds.Blank 14 15
+        ∷ token (note C (pos 0) plain) 15 16 ∷ [] }
+{}
+
+/// The longest token is taken: `C//2` is `C//` and a byte that begins no token, and of three signs the first is none.
+/// ABC 2.1 sections 4.2, 4.3 and 4.5; a byte that begins no token stands alone, our own.
+pub fn longest_tokens()
+    ensures slashes { tokens_of (codes "C//2") ≡ token (note C (pos 0) (Factor 1 4)) 0 3 ∷ token kinds.Other 3 4 ∷ [] }
+    ensures signs { tokens_of (codes "^^^c") ≡ token kinds.Other 0 1
+        ∷ token (kinds.Note (record { accidental = Some DoubleSharp; letter = C; octave = pos 1; length = plain })) 1 4 ∷ [] }
+    ensures rest { tokens_of (codes "z3/2") ≡ token (kinds.Rest (Factor 3 2)) 0 4 ∷ [] }
+    ensures bar { tokens_of (codes "C|") ≡ token (note C (pos 0) plain) 0 1 ∷ token kinds.Other 1 2 ∷ [] }
+{}
+
+/// A field line is one token, without its comment; a blank line and a comment have none. Our own.
+pub fn lines_without_music()
+    ensures field { tokens_of (codes "T:a % b") ≡ token kinds.Field 0 4 ∷ [] }
+    ensures blank { tokens_of (codes " \r") ≡ [] }
+    ensures comment { tokens_of (codes " % C") ≡ [] }
+{}

@@ -1,0 +1,14 @@
+//! Worked examples of lengths, lines, tokens and fields. `definitions` has them by the definitions alone, each proved;
+//! the tests call each public function of these crates once with ample memory. Expected values are worked by hand from
+//! the rules in `docs/profile.md`; each example says where it is not our own.
+#![tactic(auto)]
+
+#[cfg(test)]
+mod counters;
+pub mod definitions;
+#[cfg(test)]
+mod fields;
+#[cfg(test)]
+mod lengths;
+#[cfg(test)]
+mod scanning;

@@ -1,3 +1,0 @@
--- The words of std that the worked examples unfold.
-pub use Rattle.std.specs.Fmt.{digits}
-pub use Rattle.std.specs.Int.Count.{count_trailing_zeros}
