@@ -51,6 +51,6 @@ fn lengths_and_ticks(rt: HostRuntime) -> Result<(), Fail> {
     assert_eq!(rt; tick_of(LATEST_END), LAST_TICK);
     assert_eq!(rt; LONGEST_LENGTH.0, 1_024 * WHOLE_NOTE.0);
     assert_eq!(rt; quarter_micros(EIGHTH, 120), Some(1_000_000));
-    assert_eq!(rt; quarter_micros(EIGHTH, 60_000_001), None);
+    assert_eq!(rt; quarter_micros(EIGHTH, 120_000_001), None);
     Ok(())
 }
