@@ -9,9 +9,10 @@ use Rattle.std.proofs.lemmas.List.Elements.{All-head, All-append, All-cons, All-
 use Rattle.abc_text.specs.Digit.{is_digit}
 use Rattle.abc_text.specs.Number.{IsNumber}
 use Rattle.abc_scan.specs.declared.ending.PassRange.{PassRange}
-use Rattle.abc_scan.specs.Ending.{IsOnePass, IsFromTo, IsRange, IsRanges, with_range, passes_of, IsEnding, range_behind, range_at, next_range, and_more, more_from, ranges_behind, ranges_at, as_passes, passes_at, with_bracket, ending_at}
+use Rattle.abc_scan.specs.Ending.{IsOnePass, IsFromTo, IsRange, IsRanges, ArePasses, with_range, passes_of, IsEnding, range_behind, range_at, next_range, and_more, more_from, ranges_behind, ranges_at, as_passes, passes_at, with_bracket, ending_at}
 use Rattle.abc_scan.proofs.Readings.{Finds, IsFront}
 use Rattle.abc_scan.proofs.Numbers.{number_none}
+use Rattle.abc_scan.proofs.Passes.{passes_are, one_outcome}
 use Rattle.abc_scan.proofs.Ranges.{more_at, ranges_from, ranges_longest, ranges_sound}
 
 -- the loop over the ranges: the first one, one more, and none at all
@@ -135,20 +136,20 @@ ending_longest after_bar text front rest passes cut is =
     let (digit, more, first, digit_is) = ending_begins after_bar front passes is in
     let parts : text ≡ is.bracket ++ (is.written ++ rest) = cut ∙ ap (λ l. l ++ rest) is.spelling ∙ append_assoc is.bracket is.written rest in
     let found = passes_longest (is.written ++ rest) is.written rest is.ranges refl is.ranges_are in
-    let same : Finds (passes_at (is.written ++ rest)) is.written passes = subst (Finds (passes_at (is.written ++ rest)) is.written) (sym is.passes_are) found in
+    let same : Finds (passes_at (is.written ++ rest)) is.written passes = subst (Finds (passes_at (is.written ++ rest)) is.written) (one_outcome is.ranges (passes_of is.ranges) passes (passes_are is.ranges) is.passes_are) found in
     let whole = ending_by after_bar is.bracket is.written rest passes is.bracket_is same (omega (arith, ap length first)) in
     subst (λ l. Finds (ending_at after_bar l) front passes) (sym parts) (subst (λ l. Finds (ending_at after_bar (is.bracket ++ (is.written ++ rest))) l passes) (sym is.spelling) whole)
 
 -- and it is one
 abbrev Passes : List ℕ → Option ℕ × ℕ → Type 0
-Passes text ending = IsFront text ending.1 × ((ranges : List PassRange) × IsRanges (take ending.1 text) ranges × (ending.0 ≡ passes_of ranges))
+Passes text ending = IsFront text ending.1 × ((ranges : List PassRange) × IsRanges (take ending.1 text) ranges × ArePasses ranges ending.0)
 
 passes_known : (text : List ℕ) (o : Option (List PassRange × ℕ)) (ending : Option ℕ × ℕ) → ranges_at text ≡ o → option_map as_passes o ≡ Some ending → Passes text ending
 passes_known text None ending read e = cc
 passes_known text (Some ranges) ending read e =
     let same : as_passes ranges ≡ ending = cc in
     let sound = ranges_sound text ranges.0 ranges.1 read in
-    subst (Passes text) same (sound.0, (ranges.0, sound.1, refl))
+    subst (Passes text) same (sound.0, (ranges.0, sound.1, passes_are ranges.0))
 
 passes_sound : (text : List ℕ) (ending : Option ℕ × ℕ) → passes_at text ≡ Some ending → Passes text ending
 unfolding passes_at
@@ -161,7 +162,7 @@ bracket_known : (after_bar : Bool) (bs : List ℕ) (o : Option (Option ℕ × �
 bracket_known after_bar bs None ending read e = cc
 bracket_known after_bar bs (Some passes) ending read e =
     let same : with_bracket passes ≡ ending = cc in
-    let (front, (ranges, ranges_are, passes_are)) = passes_sound bs passes read in
+    let (front, (ranges, ranges_are, named)) = passes_sound bs passes read in
     let sum : 1 + passes.1 ≡ suc passes.1 = omega arith in
     subst (Sound after_bar (91 ∷ bs)) same (
       record { some = omega arith; inside = omega (arith, front.inside) },
@@ -172,14 +173,14 @@ bracket_known after_bar bs (Some passes) ending read e =
         spelling = ap (λ n. take n (91 ∷ bs)) sum;
         bracket_is = inl refl;
         ranges_are = ranges_are;
-        passes_are = passes_are;
+        passes_are = named;
       },
     )
 
 bare_known : (after_bar : Bool) (text : List ℕ) (ending : Option ℕ × ℕ) → after_bar ≡ true → passes_at text ≡ Some ending → Sound after_bar text ending
 bare_known after_bar text ending after e =
-    let (front, (ranges, ranges_are, passes_are)) = passes_sound text ending e in
-    (front, record { bracket = []; written = take ending.1 text; ranges = ranges; spelling = refl; bracket_is = inr (refl, after); ranges_are = ranges_are; passes_are = passes_are })
+    let (front, (ranges, ranges_are, named)) = passes_sound text ending e in
+    (front, record { bracket = []; written = take ending.1 text; ranges = ranges; spelling = refl; bracket_is = inr (refl, after); ranges_are = ranges_are; passes_are = named })
 
 sound_by : (after_bar : Bool) (text : List ℕ) (ending : Option ℕ × ℕ) → ending_at after_bar text ≡ Some ending → Sound after_bar text ending
 unfolding ending_at

@@ -11,8 +11,8 @@ pub mod Brokens
 pub mod Bars
 pub mod Tuplets
 pub mod Ranges
-pub mod Endings
 pub mod Passes
+pub mod Endings
 pub mod Laws
 pub mod Spans
 pub mod Comments

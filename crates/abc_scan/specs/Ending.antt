@@ -1,5 +1,6 @@
 -- First and second endings. ABC 2.1 section 4.9.
-use Rattle.std.specs.Prelude.{ℕ, zero, suc, ◌≡◌, ◌+◌, ◌-◌, ◌^◌, ◌⊎◌, ◌==◌, ◌&&◌, nat_le, bit_or, fold, Bool, true, if◌then◌else◌, List, [], ◌∷◌, ◌++◌, drop, Option, Some, None}
+use Rattle.std.specs.Prelude.{ℕ, zero, suc, ◌≡◌, ◌≤◌, ◌<◌, ◌↔◌, All, IsTrue, ◌+◌, ◌-◌, ◌^◌, ◌⊎◌, ◌==◌, ◌&&◌, nat_le, bit_or, fold, Bool, true, if◌then◌else◌, List, [], ◌∷◌, ◌++◌, drop, Option, Some, None}
+use Rattle.std.specs.Int.{bit_at}
 use Rattle.std.specs.Option.{option_map}
 use Rattle.abc_text.specs.Number.{IsNumber}
 use Rattle.abc_scan.specs.declared.ending.PassRange.{PassRange}
@@ -33,18 +34,29 @@ IsRanges text (range ∷ next ∷ more) =
 abbrev pub is_accepted : PassRange → Bool
 is_accepted range = nat_le 1 range.first && nat_le range.first range.last && nat_le range.last 32
 
--- The passes of a range, bit i - 1 for pass i: the bits from the first pass up to the last.
-abbrev pub range_bits : PassRange → ℕ
-range_bits range = 2 ^ range.last - 2 ^ (range.first - 1)
+-- A range names the passes from its first to its last.
+abbrev pub Names : PassRange → ℕ → Type 0
+Names range pass = (range.first ≤ pass) × (pass ≤ range.last)
 
--- Passes and those of a range more, or none where the range is refused.
-abbrev pub with_range : Option ℕ → PassRange → Option ℕ
-with_range None range = None
-with_range (Some passes) range = if is_accepted range then Some (bit_or passes (range_bits range)) else None
+-- One of the ranges names the pass.
+abbrev pub AreNaming : List PassRange → ℕ → Type 0
+AreNaming [] pass = ⊥
+AreNaming (range ∷ more) pass = Names range pass ⊎ AreNaming more pass
 
--- The passes of all ranges, bit i - 1 for pass i. One bad range makes the whole mark refused. Our own.
-abbrev pub passes_of : List PassRange → Option ℕ
-passes_of ranges = fold with_range (Some 0) ranges
+-- Each of the ranges is accepted.
+abbrev pub AreAccepted : List PassRange → Type 0
+AreAccepted ranges = All (λ range. IsTrue (is_accepted range)) ranges
+
+-- Of 32 bits, bit i - 1 is set exactly where this holds of pass i.
+pub record AreBits (IsPass : ℕ → Type 0) (bits : ℕ) : Type 0 where
+  pub bounded : bits < 2 ^ 32
+  pub set : (pass : ℕ) → 1 ≤ pass → (bit_at bits (pass - 1) ≡ 1) ↔ IsPass pass
+
+-- The passes that ranges name, as bits, where all are accepted. One bad range makes the whole mark
+-- refused. Our own.
+abbrev pub ArePasses : List PassRange → Option ℕ → Type 0
+ArePasses ranges None = ¬ AreAccepted ranges
+ArePasses ranges (Some bits) = AreAccepted ranges × AreBits (AreNaming ranges) bits
 
 -- An ending mark: a `[` (91), which may be left out directly behind a bar line, and ranges.
 -- ABC 2.1 section 4.9.
@@ -55,7 +67,20 @@ pub record IsEnding (after_bar : Bool) (text : List ℕ) (passes : Option ℕ) :
   pub spelling : text ≡ bracket ++ written
   pub bracket_is : (bracket ≡ 91 ∷ []) ⊎ ((bracket ≡ []) × (after_bar ≡ true))
   pub ranges_are : IsRanges written ranges
-  pub passes_are : passes ≡ passes_of ranges
+  pub passes_are : ArePasses ranges passes
+
+-- The passes of a range, bit i - 1 for pass i: the bits from the first pass up to the last.
+abbrev pub range_bits : PassRange → ℕ
+range_bits range = 2 ^ range.last - 2 ^ (range.first - 1)
+
+-- Passes and those of a range more, or none where the range is refused.
+abbrev pub with_range : Option ℕ → PassRange → Option ℕ
+with_range None range = None
+with_range (Some passes) range = if is_accepted range then Some (bit_or passes (range_bits range)) else None
+
+-- The passes of all ranges, if all are accepted.
+abbrev pub passes_of : List PassRange → Option ℕ
+passes_of ranges = fold with_range (Some 0) ranges
 
 -- The number behind a dash at the front of a text, and how many bytes it takes without the dash.
 abbrev pub last_at : List ℕ → Option (ℕ × ℕ)
