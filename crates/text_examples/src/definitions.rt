@@ -1,6 +1,7 @@
 //! Worked examples by the definitions themselves: what each definition gives for an input whose answer was worked by
 //! hand. A body here does nothing; its contract is the example. Each module lists the definitions that it unfolds.
 
+pub mod blocks;
 pub mod counters;
 pub mod fields;
 pub mod lengths;

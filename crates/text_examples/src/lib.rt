@@ -1,8 +1,10 @@
-//! Worked examples of lengths, lines, tokens and fields. `definitions` has them by the definitions alone, each proved;
-//! the tests call each public function of these crates once with ample memory. Expected values are worked by hand from
-//! the rules in `docs/profile.md`; each example says where it is not our own.
+//! Worked examples of lengths, lines, blocks, tokens and fields. `definitions` has them by the definitions alone, each
+//! proved; the tests call each public function of these crates once with ample memory. Expected values are worked by
+//! hand from the rules in `docs/profile.md`; each example says where it is not our own.
 #![tactic(auto)]
 
+#[cfg(test)]
+mod blocks;
 #[cfg(test)]
 mod counters;
 pub mod definitions;
