@@ -3,6 +3,19 @@
 use clap::{Arg, Command};
 use std::alloc::{AllocError, Global};
 
+/// The commands in a line each, and what is answered.
+const COMMANDS: &str = "\
+Commands, one on a line of standard input:
+  insert L K     puts the K lines that follow before line L; lines are counted from 1
+  replace L M K  puts the K lines that follow in the place of the lines L to M
+  delete L M     takes the lines L to M out
+  hex N          shows the MIDI file of tune N in hexadecimal, or 'none'
+  quit           ends the run, as the end of the input does
+
+An edit is answered 'ok written' and the tunes whose files are new or changed, then 'removed' and those
+that have no file any more; or 'error' and why it was refused. A line that is no command is answered
+'error command'. Each answer is a line of standard output, there before the next command is read.";
+
 /// What the program takes from its command line.
 pub(crate) fn command<'a>(alloc: Global) -> Result<Command<'a>, AllocError> {
     let dir = Arg::new(alloc, "dir")
@@ -12,8 +25,8 @@ pub(crate) fn command<'a>(alloc: Global) -> Result<Command<'a>, AllocError> {
         .help("The folder for the MIDI files; tune number N has the file N.mid");
     Command::new(alloc, "abc2midi_live")
         .bin_name("abc2midi_live")?
-        .about(
-            "Compiles tunes in ABC notation to MIDI files while they are edited. Commands come from standard input, answers go to standard output.",
-        )
+        .version("0.1.0")
+        .about("Compiles tunes in ABC notation to MIDI files while they are edited.")
+        .after_help(COMMANDS)
         .arg(dir)
 }

@@ -5,6 +5,15 @@ use std::fs;
 use std::io::{self, ErrorKind};
 use std::rt::Files;
 
+/// What stands under a name.
+#[derive(Clone, Copy)]
+pub(crate) enum Place {
+    Folder,
+    /// A file, or something else that is no folder.
+    NoFolder,
+    Nothing,
+}
+
 /// Files by their names in one folder.
 #[derive(Drop)]
 pub(crate) struct Directory<'a, R: Files + AllocGlobal> {
@@ -22,11 +31,12 @@ impl<'a, R: Files + AllocGlobal> Directory<'a, R> {
         }
     }
 
-    /// Whether there is such a folder.
-    pub(crate) fn is_there(&self) -> bool {
+    /// What stands under the folder's name.
+    pub(crate) fn place(&self) -> Place {
         match fs::metadata(self.rt, self.path) {
-            Ok(metadata) => metadata.is_dir(),
-            Err(_) => false,
+            Ok(metadata) if metadata.is_dir() => Place::Folder,
+            Ok(_) => Place::NoFolder,
+            Err(_) => Place::Nothing,
         }
     }
 

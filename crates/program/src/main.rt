@@ -8,7 +8,7 @@ use abc_fold::Work;
 use abc2midi_live::{Piped, RunFault, run};
 use arguments::command;
 use clap::error::ErrorKind;
-use directory::Directory;
+use directory::{Directory, Place};
 use std::alloc::AllocError;
 use std::process::ExitCode;
 use std::rt::Runtime;
@@ -19,8 +19,10 @@ use std::{env, io};
 enum Failure {
     /// A stream failed, or memory ran out.
     Run(RunFault),
-    /// The arguments are wrong, or help was asked for.
+    /// The arguments are wrong, or help or the version was asked for.
     Arguments(clap::Error),
+    /// An argument is not UTF-8.
+    NotText,
 }
 
 impl From<RunFault> for Failure {
@@ -55,6 +57,12 @@ fn main(rt: HostRuntime) -> ExitCode {
             let _ = eprint!(rt; "{error}");
             ExitCode::from(2)
         }
+        Err(Failure::NotText) => {
+            let _ = eprintln!(rt;
+                "error: an argument is not UTF-8 text\n\nFor more information, try '--help'."
+            );
+            ExitCode::from(2)
+        }
     }
 }
 
@@ -65,20 +73,40 @@ fn status_of(fault: RunFault) -> u8 {
     }
 }
 
+/// The words of the command line.
+fn words_of<R: Runtime + AllocGlobal>(rt: &R) -> Result<Vec<String>, Failure> {
+    match env::args(rt) {
+        Ok(words) => Ok(words.collect(rt.alloc())?),
+        Err(error) if error.kind() == io::ErrorKind::InvalidData => Err(Failure::NotText),
+        Err(_) => Err(Failure::Run(RunFault::Memory)),
+    }
+}
+
+/// Says on standard error where no MIDI file can be stored. The run goes on.
+fn warn<R: Runtime + AllocGlobal>(rt: &R, dir: &str, place: Place) {
+    let _ = match place {
+        Place::Folder => Ok(()),
+        Place::NoFolder => {
+            eprintln!(rt; "warning: '{dir}' is no folder, so no MIDI file can be stored in it")
+        }
+        Place::Nothing => {
+            eprintln!(rt;
+                "warning: there is no folder '{dir}', so no MIDI file can be stored in it"
+            )
+        }
+    };
+}
+
 /// Reads the arguments, then the commands on standard input, and answers them on standard output.
 fn converse<R: Runtime + AllocGlobal>(rt: &R) -> Result<(), Failure> {
     let alloc = rt.alloc();
-    let words: Vec<String> = env::args(rt).map_err(|_| RunFault::Memory)?.collect(alloc)?;
+    let words = words_of(rt)?;
     let matches = command(alloc)?.try_get_matches_from(words.as_slice())?;
     let dir = matches.get_str("dir").unwrap_or(".");
     let mut reader = Piped::new(rt.reader());
     let mut writer = Piped::new(io::writer(rt));
     let mut store = Directory::new(rt, dir);
-    if !store.is_there() {
-        let _ = eprintln!(rt;
-            "warning: there is no folder '{dir}', so no MIDI file can be stored in it"
-        );
-    }
+    warn(rt, dir, store.place());
     let mut work = Work::mint(rt);
     run(alloc, None, &mut reader, &mut writer, &mut store, &mut work)?;
     Ok(())

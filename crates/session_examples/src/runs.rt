@@ -83,13 +83,11 @@ impl Store for Failing {
     }
 }
 
-/// What a run answers, how it ends, and how many reads and writes it made.
+/// What a run answers, and how it ends.
 #[derive(Drop)]
 struct Outcome {
     written: Vec<u8>,
     ended: Result<(), RunFault>,
-    reads: u64,
-    writes: u64,
 }
 
 /// A run over an input that comes in pieces of at most `most` bytes; the reader and the writer fail at a call.
@@ -126,8 +124,6 @@ fn run_of(
     Outcome {
         written: writer.bytes,
         ended,
-        reads: reader.calls,
-        writes: writer.calls,
     }
 }
 
@@ -138,42 +134,30 @@ const TUNE: &[u8] = b"insert 1 4\nX:1\nT:A\nK:C\nC\nhex 1\nquit\nhex 1\n";
 const TUNE_ANSWERS: &[u8] =
     b"ok written 1 removed\n4D546864000000060001000201E04D54726B0000001700FF03014100FF510307A12000FF590200008170FF2F004D54726B0000000D00903C508170803C4000FF2F00\n";
 
-// However the input comes in pieces, the answers are the same, and nothing is read behind `quit`.
-#[test]
-fn an_input_in_pieces(rt: HostRuntime) {
-    for (most, reads) in [(1, 36), (7, 6), (1_000, 1)] {
-        let outcome = run_of(&rt, TUNE, most, 0, 0);
-        assert!(rt; outcome.ended.is_ok());
-        assert_eq!(rt; outcome.written.as_slice(), TUNE_ANSWERS);
-        assert_eq!(rt; outcome.reads, reads);
-    }
-}
+const EDIT_ANSWER: &[u8] = b"ok written 1 removed\n";
 
-// Where a read fails, the commands wholly read are answered: `insert` with its lines takes 25 bytes, `hex` 6 more.
-#[test]
-fn a_failing_reader(rt: HostRuntime) {
-    let (edit, _) = TUNE_ANSWERS.split_at(21);
-    for (fails_at, answered) in [
-        (1, b"".as_slice()),
-        (25, b"".as_slice()),
-        (26, edit),
-        (31, edit),
-        (32, TUNE_ANSWERS),
-        (36, TUNE_ANSWERS),
-    ] {
-        let outcome = run_of(&rt, TUNE, 1, fails_at, 0);
-        assert!(rt; matches!(outcome.ended, Err(RunFault::Read)));
-        assert_eq!(rt; outcome.written.as_slice(), answered);
-    }
-}
+/// At most so many bytes a read, the read that fails, the write that fails, and what the run answers and how it ends. The
+/// commands up to `insert` and its lines take 25 bytes, `hex` 6 more.
+const RUNS: [(usize, u64, u64, &[u8], Option<RunFault>); 9] = [
+    (1_000, 0, 0, TUNE_ANSWERS, None),
+    (7, 0, 0, TUNE_ANSWERS, None),
+    // nothing is read behind `quit`: a 37th read would fail
+    (1, 37, 0, TUNE_ANSWERS, None),
+    (1, 36, 0, TUNE_ANSWERS, Some(RunFault::Read)),
+    (1, 32, 0, TUNE_ANSWERS, Some(RunFault::Read)),
+    (1, 31, 0, EDIT_ANSWER, Some(RunFault::Read)),
+    (1, 25, 0, b"", Some(RunFault::Read)),
+    (1, 0, 2, EDIT_ANSWER, Some(RunFault::Write)),
+    (1, 0, 1, b"", Some(RunFault::Write)),
+];
 
-// Where a write fails, the run ends there.
+// However the input comes in pieces the answers are the same, and where a stream fails those before it were given.
 #[test]
-fn a_failing_writer(rt: HostRuntime) {
-    for fails_at in [1, 2] {
-        let outcome = run_of(&rt, TUNE, 1, 0, fails_at);
-        assert!(rt; matches!(outcome.ended, Err(RunFault::Write)));
-        assert_eq!(rt; outcome.writes, fails_at);
+fn pieces_and_failing_streams(rt: HostRuntime) {
+    for (most, read_fails_at, write_fails_at, answered, fault) in RUNS.iter() {
+        let outcome = run_of(&rt, TUNE, *most, *read_fails_at, *write_fails_at);
+        assert_eq!(rt; outcome.written.as_slice(), *answered);
+        assert!(rt; outcome.ended.err() == *fault);
     }
 }
 

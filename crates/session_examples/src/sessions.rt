@@ -45,28 +45,14 @@ fn edits_are_reported(rt: HostRuntime) -> Result<(), Fail> {
     Ok(())
 }
 
-// The name of a refusal and its reason.
+// The names of refusals, which answers tell, and the reason of one.
 #[test]
 fn refusals_have_names_and_reasons(rt: HostRuntime) -> Result<(), Fail> {
-    let rows = [
-        (
-            EditError::BadRange,
-            "BadRange: the range is not in the text",
-        ),
-        (
-            EditError::BadLine,
-            "BadLine: a line holds a line feed or has more than 65,535 bytes",
-        ),
-        (
-            EditError::TooLarge,
-            "TooLarge: the text would have more than 1,048,576 lines",
-        ),
-        (EditError::OutOfMemory, "OutOfMemory: out of memory"),
-    ];
-    for (refused, expected) in rows {
-        let name = refused.name();
-        let printed = format!(in rt.alloc(); "{name}: {refused}")?;
-        assert_eq!(rt; printed.as_str(), expected);
-    }
+    assert_eq!(rt; EditError::BadRange.name(), "BadRange");
+    assert_eq!(rt; EditError::BadLine.name(), "BadLine");
+    assert_eq!(rt; EditError::TooLarge.name(), "TooLarge");
+    assert_eq!(rt; EditError::OutOfMemory.name(), "OutOfMemory");
+    let printed = format!(in rt.alloc(); "{}", EditError::BadRange)?;
+    assert_eq!(rt; printed.as_str(), "the range is not in the text");
     Ok(())
 }
