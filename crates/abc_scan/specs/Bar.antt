@@ -1,20 +1,11 @@
 -- Bar lines. ABC 2.1 section 4.8.
-use Rattle.std.specs.Prelude.{ℕ, ◌≡◌, ◌≤◌, ◌<◌, ◌+◌, ◌-◌, ◌⊎◌, ◌==◌, ◌&&◌, ◌||◌, nat_lt, not, Bool, true, false, if◌then◌else◌, List, [], ◌∷◌, ◌++◌, length, take, drop, replicate, codes, flat_map, Option, Some, None}
+use Rattle.std.specs.Prelude.{ℕ, ◌≡◌, ◌≤◌, ◌<◌, ◌+◌, ◌-◌, ◌⊎◌, ◌==◌, ◌&&◌, ◌||◌, nat_lt, not, Bool, true, if◌then◌else◌, List, [], ◌∷◌, ◌++◌, length, take, drop, replicate, codes, flat_map, Option, Some, None}
 use Rattle.std.specs.List.{prefix_len}
 use Rattle.std.specs.Str.{bytes_eq}
+use Rattle.abc_text.specs.Byte.{space}
 use Rattle.abc_scan.specs.declared.bar.BarLine.{BarLine}
-
-abbrev pub colon : ℕ
-colon = 58
-
-abbrev pub stroke : ℕ
-stroke = 124
-
-abbrev pub open_bracket : ℕ
-open_bracket = 91
-
-abbrev pub close_bracket : ℕ
-close_bracket = 93
+use Rattle.abc_scan.specs.Closing.{opening_bracket, closing_bracket, colon, bar_stroke}
+use Rattle.abc_scan.specs.Note.{begins_with}
 
 -- Strokes that stand together: a `[` or none, one stroke and any more, a `]` or none.
 pub record Strokes : Type 0 where
@@ -25,7 +16,7 @@ pub record Strokes : Type 0 where
 -- How they are written.
 abbrev pub strokes_text : Strokes → List ℕ
 strokes_text s =
-    (if s.opened then open_bracket ∷ [] else []) ++ (stroke ∷ replicate s.more stroke ++ (if s.closed then close_bracket ∷ [] else []))
+    (if s.opened then opening_bracket ∷ [] else []) ++ (bar_stroke ∷ replicate s.more bar_stroke ++ (if s.closed then closing_bracket ∷ [] else []))
 
 -- The middle of a bar line, between its colons.
 abbrev pub middle_text : List Strokes → List ℕ
@@ -59,24 +50,19 @@ IsBar text bar = HasStrokes text bar ⊎ HasColons text bar
 abbrev pub colons : List ℕ → ℕ
 colons text = prefix_len (λ b. b == colon) text
 
--- Whether a text begins with this byte.
-abbrev pub starts_with : ℕ → List ℕ → Bool
-starts_with byte [] = false
-starts_with byte (b ∷ bs) = b == byte
-
 -- Whether a byte between its neighbours belongs to a middle: a stroke, a `[` before one, a `]` behind one.
 abbrev pub goes_on : ℕ → ℕ → List ℕ → Bool
 goes_on before b rest =
-    (b == stroke) || ((b == open_bracket) && starts_with stroke rest) || ((b == close_bracket) && (before == stroke))
+    (b == bar_stroke) || ((b == opening_bracket) && begins_with bar_stroke rest) || ((b == closing_bracket) && (before == bar_stroke))
 
 -- How many bytes of a middle stand at the front of a text that follows this byte.
 abbrev pub middle_from : ℕ → List ℕ → ℕ
 middle_from before [] = 0
 middle_from before (b ∷ bs) = if goes_on before b bs then 1 + middle_from b bs else 0
 
--- How many bytes of a middle stand at the front of a text. Nothing, as good as a blank (32), stands before it.
+-- How many bytes of a middle stand at the front of a text. Nothing, as good as a space, stands before it.
 abbrev pub middle_size : List ℕ → ℕ
-middle_size text = middle_from 32 text
+middle_size text = middle_from space text
 
 -- Colons alone: a single one is no bar line.
 abbrev pub colons_alone : ℕ → Option (BarLine × ℕ)

@@ -6,10 +6,17 @@ use Rattle.abc_scan.specs.declared.broken.BrokenRhythm.{BrokenRhythm}
 use Rattle.abc_scan.specs.declared.broken.Direction.{Direction}
 use Rattle.abc_scan.specs.declared.broken.Direction.TheVariants.{Right, Left}
 
--- The mark of a direction: `>` (62) or `<` (60).
+-- The marks, `>` and `<`.
+abbrev pub right_mark : ℕ
+right_mark = 62
+
+abbrev pub left_mark : ℕ
+left_mark = 60
+
+-- The mark of a direction.
 abbrev pub mark_of : Direction → ℕ
-mark_of Right = 62
-mark_of Left = 60
+mark_of Right = right_mark
+mark_of Left = left_mark
 
 -- One to three marks of one direction. ABC 2.1 section 4.4; that there are at most three is our own.
 pub record IsBroken (text : List ℕ) (value : BrokenRhythm) : Type 0 where
@@ -19,7 +26,7 @@ pub record IsBroken (text : List ℕ) (value : BrokenRhythm) : Type 0 where
 
 -- The direction of a mark.
 abbrev pub direction_of : ℕ → Option Direction
-direction_of b = if b == 62 then Some Right else (if b == 60 then Some Left else None)
+direction_of b = if b == right_mark then Some Right else (if b == left_mark then Some Left else None)
 
 -- How many of the same mark stand at the front of a text: the fourth belongs to another token.
 abbrev pub marks_at : ℕ → List ℕ → ℕ

@@ -4,18 +4,26 @@ use Rattle.std.specs.Int.{bit_at}
 use Rattle.std.specs.Option.{option_map}
 use Rattle.abc_text.specs.Number.{IsNumber}
 use Rattle.abc_scan.specs.declared.ending.PassRange.{PassRange}
+use Rattle.abc_scan.specs.declared.ending.TheConstants.{LAST_PASS}
+use Rattle.abc_scan.specs.Closing.{opening_bracket}
 use Rattle.abc_scan.specs.Number.{number_at}
+
+abbrev pub dash : ℕ
+dash = 45
+
+abbrev pub comma : ℕ
+comma = 44
 
 -- One number, the only pass of its range.
 pub record IsOnePass (text : List ℕ) (range : PassRange) : Type 0 where
   pub first_is : IsNumber text range.first
   pub last_is : range.last ≡ range.first
 
--- Two numbers with a dash (45) between. ABC 2.1 section 4.10.
+-- Two numbers with a dash between. ABC 2.1 section 4.10.
 pub record IsFromTo (text : List ℕ) (range : PassRange) : Type 0 where
   pub first_text : List ℕ
   pub last_text : List ℕ
-  pub spelling : text ≡ first_text ++ 45 ∷ last_text
+  pub spelling : text ≡ first_text ++ dash ∷ last_text
   pub first_is : IsNumber first_text range.first
   pub last_is : IsNumber last_text range.last
 
@@ -23,16 +31,16 @@ pub record IsFromTo (text : List ℕ) (range : PassRange) : Type 0 where
 abbrev pub IsRange : List ℕ → PassRange → Type 0
 IsRange text range = IsOnePass text range ⊎ IsFromTo text range
 
--- Numbers and ranges with a comma (44) between each two. ABC 2.1 section 4.10.
+-- Numbers and ranges with a comma between each two. ABC 2.1 section 4.10.
 abbrev pub IsRanges : List ℕ → List PassRange → Type 0
 IsRanges text [] = ⊥
 IsRanges text (range ∷ []) = IsRange text range
 IsRanges text (range ∷ next ∷ more) =
-    (front : List ℕ) × (rest : List ℕ) × (text ≡ front ++ 44 ∷ rest) × IsRange front range × IsRanges rest (next ∷ more)
+    (front : List ℕ) × (rest : List ℕ) × (text ≡ front ++ comma ∷ rest) × IsRange front range × IsRanges rest (next ∷ more)
 
--- Passes are counted from 1 to 32, and a range does not fall. Our own.
+-- Passes are counted from 1 up to a limit, and a range does not fall. Our own.
 abbrev pub is_accepted : PassRange → Bool
-is_accepted range = nat_le 1 range.first && nat_le range.first range.last && nat_le range.last 32
+is_accepted range = nat_le 1 range.first && nat_le range.first range.last && nat_le range.last LAST_PASS
 
 -- A range names the passes from its first to its last.
 abbrev pub Names : PassRange → ℕ → Type 0
@@ -58,14 +66,14 @@ abbrev pub ArePasses : List PassRange → Option ℕ → Type 0
 ArePasses ranges None = ¬ AreAccepted ranges
 ArePasses ranges (Some bits) = AreAccepted ranges × AreBits (AreNaming ranges) bits
 
--- An ending mark: a `[` (91), which may be left out directly behind a bar line, and ranges.
+-- An ending mark: a `[`, which may be left out directly behind a bar line, and ranges.
 -- ABC 2.1 section 4.9.
 pub record IsEnding (after_bar : Bool) (text : List ℕ) (passes : Option ℕ) : Type 0 where
   pub bracket : List ℕ
   pub written : List ℕ
   pub ranges : List PassRange
   pub spelling : text ≡ bracket ++ written
-  pub bracket_is : (bracket ≡ 91 ∷ []) ⊎ ((bracket ≡ []) × (after_bar ≡ true))
+  pub bracket_is : (bracket ≡ opening_bracket ∷ []) ⊎ ((bracket ≡ []) × (after_bar ≡ true))
   pub ranges_are : IsRanges written ranges
   pub passes_are : ArePasses ranges passes
 
@@ -85,7 +93,7 @@ passes_of ranges = fold with_range (Some 0) ranges
 -- The number behind a dash at the front of a text, and how many bytes it takes without the dash.
 abbrev pub last_at : List ℕ → Option (ℕ × ℕ)
 last_at [] = None
-last_at (b ∷ bs) = if b == 45 then number_at bs else None
+last_at (b ∷ bs) = if b == dash then number_at bs else None
 
 -- The longest range of its first number and, perhaps, its last, and how many bytes it takes.
 abbrev pub range_of : ℕ → ℕ → Option (ℕ × ℕ) → PassRange × ℕ
@@ -107,7 +115,7 @@ with_comma range = (range.0, 1 + range.1)
 -- A comma and the longest range behind it at the front of a text, and how many bytes both take.
 abbrev pub next_range : List ℕ → Option (PassRange × ℕ)
 next_range [] = None
-next_range (b ∷ bs) = if b == 44 then option_map with_comma (range_at bs) else None
+next_range (b ∷ bs) = if b == comma then option_map with_comma (range_at bs) else None
 
 -- How many bytes a range takes, if there is one.
 abbrev pub range_size : Option (PassRange × ℕ) → ℕ
@@ -151,4 +159,4 @@ with_bracket ending = (ending.0, 1 + ending.1)
 unfoldable pub ending_at : Bool → List ℕ → Option (Option ℕ × ℕ)
 ending_at after_bar [] = None
 ending_at after_bar (b ∷ bs) =
-    if b == 91 then option_map with_bracket (passes_at bs) else (if after_bar then passes_at (b ∷ bs) else None)
+    if b == opening_bracket then option_map with_bracket (passes_at bs) else (if after_bar then passes_at (b ∷ bs) else None)

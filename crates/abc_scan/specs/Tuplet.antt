@@ -3,25 +3,29 @@ use Rattle.std.specs.Prelude.{ℕ, ◌≡◌, ◌+◌, ◌⊎◌, ◌==◌, if�
 use Rattle.std.specs.Option.{option_map}
 use Rattle.abc_text.specs.Number.{IsNumber}
 use Rattle.abc_scan.specs.declared.tuplet.Tuplet.{Tuplet}
+use Rattle.abc_scan.specs.Closing.{colon}
 use Rattle.abc_scan.specs.Number.{IsOptionalNumber, number_at, optional_number_at}
 
--- A colon (58), and a number or none.
+abbrev pub parenthesis : ℕ
+parenthesis = 40
+
+-- A colon, and a number or none.
 pub record HasColon (text : List ℕ) (value : Option ℕ) : Type 0 where
   pub written : List ℕ
-  pub spelling : text ≡ 58 ∷ written
+  pub spelling : text ≡ colon ∷ written
   pub value_is : IsOptionalNumber written value
 
 -- A further number of a mark, with its colon, or nothing.
 abbrev pub IsFurther : List ℕ → Option ℕ → Type 0
 IsFurther text value = ((text ≡ []) × (value ≡ None)) ⊎ HasColon text value
 
--- A tuplet mark: a parenthesis (40) and p, and behind colons q and r, each of which may be empty or
+-- A tuplet mark: a parenthesis and p, and behind colons q and r, each of which may be empty or
 -- wanting. ABC 2.1 section 4.13.
 pub record IsTuplet (text : List ℕ) (tuplet : Tuplet) : Type 0 where
   pub p_text : List ℕ
   pub q_text : List ℕ
   pub r_text : List ℕ
-  pub spelling : text ≡ 40 ∷ (p_text ++ (q_text ++ r_text))
+  pub spelling : text ≡ parenthesis ∷ (p_text ++ (q_text ++ r_text))
   pub p_is : IsNumber p_text tuplet.p
   pub q_is : IsFurther q_text tuplet.q
   pub r_is : IsFurther r_text tuplet.r
@@ -31,7 +35,7 @@ pub record IsTuplet (text : List ℕ) (tuplet : Tuplet) : Type 0 where
 abbrev pub further_at : List ℕ → Option ℕ × ℕ
 further_at [] = (None, 0)
 further_at (b ∷ bs) =
-    if b == 58 then ((optional_number_at bs).0, 1 + (optional_number_at bs).1) else (None, 0)
+    if b == colon then ((optional_number_at bs).0, 1 + (optional_number_at bs).1) else (None, 0)
 
 -- The longest mark of p and what stands behind it, and how many bytes it takes.
 abbrev pub tuplet_of : ℕ → ℕ → List ℕ → Tuplet × ℕ
@@ -47,4 +51,4 @@ tuplet_behind rest p = tuplet_of p.0 p.1 (drop p.1 rest)
 -- The longest tuplet mark at the front of a text, and how many bytes it takes.
 unfoldable pub tuplet_at : List ℕ → Option (Tuplet × ℕ)
 tuplet_at [] = None
-tuplet_at (b ∷ rest) = if b == 40 then option_map (tuplet_behind rest) (number_at rest) else None
+tuplet_at (b ∷ rest) = if b == parenthesis then option_map (tuplet_behind rest) (number_at rest) else None

@@ -1,7 +1,7 @@
 //! Bar lines.
 
 ghost use Rattle.std.specs.Prelude.{◌≡◌, ◌≤◌, ◌<◌, length, IfSome};
-ghost use Rattle.abc_scan.specs.Bar.{colons, starts_with, stroke, goes_on, middle_from, middle_size, is_double, colons_alone, bar_at};
+ghost use Rattle.abc_scan.specs.Bar.{colons, goes_on, middle_from, middle_size, is_double, colons_alone, bar_at};
 
 /// A bar line (ABC 2.1 section 4.8).
 #[derive(Clone, Copy, Debug, PartialEq, Eq)]
