@@ -1,5 +1,5 @@
 -- Fields inside a music line, as `[K:G]`. ABC 2.1 section 3.2.
-use Rattle.std.specs.Prelude.{◌≡◌, ℕ, ◌+◌, ◌&&◌, IsTrue, Option, None, List, [], ◌∷◌, ◌++◌, take, if◌then◌else◌, ◌==◌}
+use Rattle.std.specs.Prelude.{◌≡◌, ℕ, ◌+◌, Bool, false, ◌&&◌, IsTrue, Option, None, List, [], ◌∷◌, ◌++◌, take, if◌then◌else◌, ◌==◌}
 use Rattle.std.specs.Char.{is_ascii_alphabetic}
 use Rattle.std.specs.Option.{option_map}
 use Rattle.abc_text.specs.Blank.{trimmed}
@@ -15,6 +15,11 @@ pub record IsInlineField (text : List ℕ) (field : Field) : Type 0 where
   pub letter_is : IsTrue (is_ascii_alphabetic field.letter)
   pub first_closing : Lacks closing_bracket behind
   pub value_is : field.value ≡ trimmed behind
+
+-- The text begins with a bracket, a letter and a colon.
+abbrev pub opens_field : List ℕ → Bool
+opens_field [] = false
+opens_field (b ∷ inside) = (b == opening_bracket) && begins_field inside
 
 -- The field that begins a text and is closed by its first `]`, and how many bytes both brackets and
 -- the field take.

@@ -1,13 +1,15 @@
 //! Tokens between delimiters.
 
-ghost use Rattle.std.specs.Prelude.{◌≡◌, ◌≤◌, ◌<◌, length, drop, IfSome};
-ghost use Rattle.abc_scan.specs.Closing.{IsMissing};
+ghost use Rattle.std.specs.Prelude.{◌≡◌, ◌≤◌, ◌<◌, length, drop, true, IfSome};
+ghost use Rattle.abc_scan.specs.Closing.{opening_brace, IsMissing};
 ghost use Rattle.abc_scan.specs.Delimited.{delimited_at};
+ghost use Rattle.abc_scan.specs.Note.{begins_with};
 
 use crate::closing::{Missing, find, place_of};
 
 /// How many bytes the quoted text, decoration or grace group at the front of a text takes: up to
-/// the first closing byte (ABC 2.1 sections 4.12, 4.14, 4.18 and 4.19).
+/// the first closing byte (ABC 2.1 sections 4.12, 4.14, 4.18 and 4.19). A grace group that nothing
+/// closes is remembered.
 #[tactic(auto, unfolding(crate::specs::Delimited::delimited_at))]
 pub(crate) fn delimited_at(text: &[u8], missing: &mut Missing) -> Option<usize>
     requires { IsMissing missing.old (drop 1 text.now) }
@@ -15,6 +17,7 @@ pub(crate) fn delimited_at(text: &[u8], missing: &mut Missing) -> Option<usize>
     ensures some { IfSome result (λ size. 0 < size) }
     ensures inside { IfSome result (λ size. size ≤ length text.now) }
     ensures kept { IsMissing missing.new (drop 1 text.now) }
+    ensures remembered { result ≡ None → begins_with opening_brace text.now ≡ true → missing.new.brace ≡ true }
 {
     let place = match text {
         [b'"', rest @ ..] => place_of(b'"', rest)?,

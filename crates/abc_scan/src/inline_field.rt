@@ -1,15 +1,15 @@
 //! Fields inside a music line.
 
-ghost use Rattle.std.specs.Prelude.{◌≡◌, ◌≤◌, ◌<◌, IfOk, IfSome, drop, length};
+ghost use Rattle.std.specs.Prelude.{◌≡◌, ◌≤◌, ◌<◌, IfOk, IfSome, drop, length, true};
 ghost use Rattle.abc_scan.specs.Closing.{IsMissing};
-ghost use Rattle.abc_scan.specs.InlineField.{inline_field_at};
+ghost use Rattle.abc_scan.specs.InlineField.{opens_field, inline_field_at};
 
 use crate::closing::{Missing, find};
 use crate::field::{Field, begins_field, field_of};
 use std::alloc::{AllocError, Global};
 
 /// The inline field at the front of a text, and how many bytes it takes: up to the first `]`
-/// (ABC 2.1 section 3.2).
+/// (ABC 2.1 section 3.2). A field that nothing closes is remembered.
 #[tactic(auto, unfolding(crate::specs::InlineField::inline_field_at))]
 pub(crate) fn inline_field_at(
     alloc: Global,
@@ -21,6 +21,7 @@ pub(crate) fn inline_field_at(
     ensures some { IfOk result (λ reading. IfSome reading (λ r. 0 < r.1)) }
     ensures inside { IfOk result (λ reading. IfSome reading (λ r. r.1 ≤ length text.now)) }
     ensures kept { IsMissing missing.new (drop 1 text.now) }
+    ensures remembered { IfOk result (λ reading. reading ≡ None → opens_field text.now ≡ true → missing.new.bracket ≡ true) }
 {
     match text {
         [b'[', inside @ ..] if begins_field(inside) => {
