@@ -1,0 +1,12 @@
+pub mod Cuts
+pub mod Existence
+pub mod Greatest
+pub mod Lying
+pub mod Numbers
+pub mod Passes
+pub mod Places
+pub mod Readings
+pub mod Rests
+pub mod Rounds
+pub mod Runs
+pub mod Sizes

@@ -1,0 +1,76 @@
+-- The marks of a voice in a section. ABC 2.1 sections 4.8 and 4.9.
+use Rattle.std.specs.Prelude.{ℕ, zero, suc, ◌+◌, ◌-◌, ◌==◌, Bool, true, false, not, ◌&&◌, ◌||◌, nat_lt, nat_le, if◌then◌else◌}
+use Rattle.std.specs.Int.{bit_at}
+use Rattle.abc_repeat.specs.declared.mark.Mark.{Mark}
+use Rattle.abc_repeat.specs.declared.mark.Mark.TheVariants as marks
+
+-- A note, chord, rest, bar rest or field.
+abbrev pub is_play : Mark → Bool
+is_play marks.Play = true
+is_play (marks.Bar closes opens double) = false
+is_play (marks.Ending numbers) = false
+
+-- The beginning of a first, second or later ending. ABC 2.1 section 4.9.
+abbrev pub is_ending : Mark → Bool
+is_ending marks.Play = false
+is_ending (marks.Bar closes opens double) = false
+is_ending (marks.Ending numbers) = true
+
+-- A bar line with colons on either side. ABC 2.1 section 4.8.
+abbrev pub is_repeat : Mark → Bool
+is_repeat marks.Play = false
+is_repeat (marks.Bar closes opens double) = nat_lt 0 closes || nat_lt 0 opens
+is_repeat (marks.Ending numbers) = false
+
+-- A bar line of more than one thin line. ABC 2.1 section 4.8.
+abbrev pub is_double : Mark → Bool
+is_double marks.Play = false
+is_double (marks.Bar closes opens double) = double
+is_double (marks.Ending numbers) = false
+
+-- A bar line that is neither.
+abbrev pub is_single : Mark → Bool
+is_single marks.Play = false
+is_single (marks.Bar closes opens double) = (closes == 0) && (opens == 0) && not double
+is_single (marks.Ending numbers) = false
+
+-- A repeat bar with colons behind it opens the strain that follows. ABC 2.1 section 4.8.
+abbrev pub opens_next : Mark → Bool
+opens_next marks.Play = false
+opens_next (marks.Bar closes opens double) = nat_lt 0 opens
+opens_next (marks.Ending numbers) = false
+
+-- The common part of a strain runs to a repeat bar or, where the strain is not opened, a double bar. Our own.
+abbrev pub closes_common : Bool → Mark → Bool
+closes_common opened m = is_repeat m || (is_double m && not opened)
+
+-- An ending runs to a repeat bar or a double bar. Our own.
+abbrev pub closes_ending : Mark → Bool
+closes_ending m = is_repeat m || is_double m
+
+-- Whether an ending with these numbers is for a pass: bit i - 1 is pass i. ABC 2.1 section 4.10; that
+-- there are 32 is our own.
+unfoldable pub names : ℕ → ℕ → Bool
+names numbers pass = nat_le pass 32 && (bit_at numbers (pass - 1) == 1)
+
+-- The greatest of the numbers up to one that an ending has, 0 where it has none.
+unfoldable pub greatest_to : ℕ → ℕ → ℕ
+greatest_to numbers zero = 0
+greatest_to numbers (suc n) = if names numbers (suc n) then suc n else greatest_to numbers n
+
+-- The greatest number of an ending.
+unfoldable pub greatest : ℕ → ℕ
+greatest numbers = greatest_to numbers 32
+
+-- How many passes a mark asks for: a repeat bar one more than it has colons before it, an ending its
+-- greatest number. Our own.
+abbrev pub passes_of : Mark → ℕ
+passes_of marks.Play = 1
+passes_of (marks.Bar closes opens double) = 1 + closes
+passes_of (marks.Ending numbers) = greatest numbers
+
+-- A mark that begins an ending for a pass.
+abbrev pub is_for : ℕ → Mark → Bool
+is_for pass marks.Play = false
+is_for pass (marks.Bar closes opens double) = false
+is_for pass (marks.Ending numbers) = names numbers pass

@@ -1,0 +1,65 @@
+-- The play of a section. ABC 2.1 sections 4.8 to 4.10.
+use Rattle.std.specs.Prelude.{◌≡◌, ℕ, zero, suc, ◌+◌, ◌<◌, min, max, ◌==◌, if◌then◌else◌, List, [], ◌∷◌, ◌++◌, length, Some, slice_get}
+use Rattle.std.specs.List.{flat_map, range_with_len}
+use Rattle.abc_repeat.specs.declared.mark.Mark.{Mark}
+use Rattle.abc_repeat.specs.declared.mark.Mark.TheVariants as marks
+use Rattle.abc_repeat.specs.Mark.{is_play, is_for, names, passes_of}
+use Rattle.abc_repeat.specs.Strain.{Ending, Strain, text_of, strains_of}
+
+-- The places of what is played of some marks, of which the first stands at this place.
+abbrev pub places_from : ℕ → List Mark → List ℕ
+places_from at [] = []
+places_from at (m ∷ ms) = if is_play m then at ∷ places_from (at + 1) ms else places_from (at + 1) ms
+
+-- What a pass plays of endings that begin at this place: the first that is for it. ABC 2.1 section 4.9.
+abbrev pub first_ending : ℕ → ℕ → List Ending → List ℕ
+first_ending pass at [] = []
+first_ending pass at (ending ∷ endings) =
+    if names ending.numbers pass then places_from (at + 1) ending.run
+    else first_ending pass (at + 1 + length ending.run) endings
+
+-- The ending of a pass, of a strain that begins at this place.
+abbrev pub ending_of : ℕ → Strain → ℕ → List ℕ
+ending_of at strain pass = first_ending pass (at + length strain.common) strain.endings
+
+-- What a pass plays of a strain that begins at this place: its common part, then the ending.
+abbrev pub pass_of : ℕ → Strain → ℕ → List ℕ
+pass_of at strain pass = places_from at strain.common ++ ending_of at strain pass
+
+-- Where the run of the first ending for a pass begins; behind all marks if there is none.
+abbrev pub run_start : ℕ → List Mark → ℕ
+run_start pass [] = 0
+run_start pass (m ∷ ms) = if is_for pass m then 1 else 1 + run_start pass ms
+
+-- How often marks are passed: as often as the mark that asks for most passes says, once where none does. Our own.
+abbrev pub most_passes : List Mark → ℕ
+most_passes [] = 1
+most_passes (m ∷ ms) = max (passes_of m) (most_passes ms)
+
+-- How many places the endings of a strain play in this many passes.
+unfoldable pub endings_size : Strain → ℕ → ℕ
+endings_size strain zero = 0
+endings_size strain (suc passes) =
+    endings_size strain passes + length (first_ending (suc passes) (length strain.common) strain.endings)
+
+-- How many of its passes a strain is played through, whose common part plays so many places: where it
+-- plays none, passes beyond the 32nd play nothing.
+abbrev pub rounds_of : ℕ → ℕ → ℕ
+rounds_of common passes = if common == 0 then min passes 32 else passes
+
+-- The play of a strain that begins at this place: its passes, counted from 1.
+unfoldable pub strain_play : ℕ → Strain → List ℕ
+strain_play at strain = flat_map (pass_of at strain) (range_with_len 1 (most_passes (text_of strain)))
+
+-- The play of strains that begin at this place: one after another.
+abbrev pub plays_from : ℕ → List Strain → List ℕ
+plays_from at [] = []
+plays_from at (strain ∷ strains) = strain_play at strain ++ plays_from (at + length (text_of strain)) strains
+
+-- The play of a section: the places of its notes, chords, rests and fields in order of play.
+unfoldable pub play_of : List Mark → List ℕ
+play_of ms = plays_from 0 (strains_of ms)
+
+-- At this place of a section stands something that is played.
+abbrev pub IsPlayed : List Mark → ℕ → Type 0
+IsPlayed ms at = (at < length ms) × (slice_get ms at ≡ Some marks.Play)

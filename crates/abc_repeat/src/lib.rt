@@ -1,0 +1,15 @@
+//! The play of a voice's section by its repeat bars and endings, and the order in which sections are
+//! played.
+#![tactic(auto)]
+
+mod fault;
+mod mark;
+mod pass;
+mod play;
+mod size;
+mod strain;
+
+pub use fault::RepeatFault;
+pub use mark::Mark;
+pub use play::{MOST_PLACES, expand};
+pub use strain::one_reading;

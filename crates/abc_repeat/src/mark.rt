@@ -1,0 +1,120 @@
+//! The marks of a voice in a section.
+
+ghost use Rattle.std.specs.Prelude.{◌≡◌, ◌-◌, ◌^◌, ◌<◌, ◌≤◌, min};
+ghost use Rattle.abc_repeat.specs.Mark.{is_play, is_ending, is_single, opens_next, closes_common, closes_ending, names, greatest, passes_of, is_for};
+
+/// The greatest number of an ending.
+pub(crate) const GREATEST_ENDING: u64 = 32;
+
+/// A mark of one voice in one section, which says how it is played (ABC 2.1 sections 4.8 to 4.10).
+#[derive(Clone, Copy, Debug, PartialEq, Eq)]
+pub enum Mark {
+    /// What takes its turn in the play: a note, a chord, a rest, a bar rest or a field.
+    Play,
+    /// A bar line with so many colons before and behind it; double where it is more than one thin line.
+    Bar {
+        closes: usize,
+        opens: usize,
+        double: bool,
+    },
+    /// The beginning of an ending, as `[1` or `[2,4`: bit `i - 1` is set where it is for pass `i`, of 32.
+    Ending(u32),
+}
+
+/// Whether an ending with these numbers is for a pass, counted from 1.
+#[tactic(auto, unfolding(crate::specs::Mark::names))]
+fn names(numbers: u32, pass: u64) -> bool
+    requires { 0 < pass }
+    ensures { result ≡ names numbers pass }
+{
+    pass <= GREATEST_ENDING && (numbers >> (pass - 1)) & 1 == 1
+}
+
+/// The greatest of an ending's numbers, 0 where it has none.
+fn greatest(numbers: u32) -> u32
+    ensures { result ≡ greatest numbers }
+{
+    u32::BITS - numbers.leading_zeros()
+}
+
+impl Mark {
+    /// Whether it takes its turn in the play.
+    pub(crate) fn is_play(self) -> bool
+        ensures { result ≡ is_play self }
+    {
+        matches!(self, Mark::Play)
+    }
+
+    pub(crate) fn is_ending(self) -> bool
+        ensures { result ≡ is_ending self }
+    {
+        matches!(self, Mark::Ending(_))
+    }
+
+    /// Whether it is a bar line that neither repeats nor is double.
+    pub(crate) fn is_single(self) -> bool
+        ensures { result ≡ is_single self }
+    {
+        match self {
+            Mark::Bar {
+                closes,
+                opens,
+                double,
+            } => closes == 0 && opens == 0 && !double,
+            _ => false,
+        }
+    }
+
+    /// Whether it is a repeat bar that opens the strain behind it.
+    pub(crate) fn opens_next(self) -> bool
+        ensures { result ≡ opens_next self }
+    {
+        match self {
+            Mark::Bar { opens, .. } => opens > 0,
+            _ => false,
+        }
+    }
+
+    /// Whether it ends the common part of a strain, which is opened or not.
+    pub(crate) fn closes_common(self, opened: bool) -> bool
+        ensures { result ≡ closes_common opened self }
+    {
+        match self {
+            Mark::Bar {
+                closes,
+                opens,
+                double,
+            } => closes > 0 || opens > 0 || (double && !opened),
+            _ => false,
+        }
+    }
+
+    /// Whether it is a bar line that ends an ending.
+    pub(crate) fn closes_ending(self) -> bool
+        ensures { result ≡ closes_ending self }
+    {
+        self.closes_common(false)
+    }
+
+    /// How many passes it asks for; of 2^64 it says 2^64 - 1.
+    pub(crate) fn passes(self) -> u64
+        ensures { result ≡ min (passes_of self) (2 ^ 64 - 1) }
+    {
+        match self {
+            Mark::Play => 1,
+            Mark::Bar { closes, .. } => (closes as u64).saturating_add(1),
+            Mark::Ending(numbers) => greatest(numbers) as u64,
+        }
+    }
+
+    /// Whether it begins an ending that is for a pass, counted from 1.
+    pub(crate) fn is_for(self, pass: u64) -> bool
+        requires { 0 < pass }
+        ensures { result ≡ is_for pass self }
+    {
+        match self {
+            Mark::Ending(numbers) => names(numbers, pass),
+            _ => false,
+        }
+    }
+}

@@ -1,0 +1,112 @@
+//! The play of a section.
+
+ghost use Rattle.std.specs.Prelude.{◌≡◌, ◌+◌, ◌^◌, ◌<◌, ◌↔◌, All, IfOk, OnOk, ◌++◌, length};
+ghost use Rattle.abc_repeat.specs.Play.{places_from, ending_of, rounds_of, strain_play, play_of, IsPlayed};
+ghost use Rattle.abc_repeat.specs.Strain.{strain_of};
+
+use crate::fault::RepeatFault;
+use crate::mark::{GREATEST_ENDING, Mark};
+use crate::pass::{most_passes, run_start};
+use crate::size::play_size;
+use crate::strain::{first_strain, opens_behind, up_to_ending};
+use std::alloc::{AllocError, Global};
+
+/// How many places are played at most.
+pub const MOST_PLACES: u64 = 1_000_000;
+
+/// Puts the places of what is played of some marks, of which the first stands at `from`.
+fn put_places(play: &mut Vec<usize>, marks: &[Mark], from: usize) -> Result<(), AllocError>
+    requires { from + length marks.now < 2 ^ 64 }
+    ensures { OnOk result (play.new.items ≡ play.old.items ++ places_from from marks.now) }
+{
+    for (at, mark) in marks.iter().enumerate() {
+        if mark.is_play() {
+            play.push(from + at)?;
+        }
+    }
+    Ok(())
+}
+
+/// Puts what a pass plays of the endings of a strain that begins at `from`.
+fn put_ending(
+    play: &mut Vec<usize>,
+    text: &[Mark],
+    from: usize,
+    pass: u64,
+) -> Result<(), AllocError>
+    requires counted { 0 < pass }
+    requires placed { from + length text.now < 2 ^ 64 }
+    ensures { OnOk result (play.new.items ≡ play.old.items ++ ending_of from (strain_of text.now) pass) }
+{
+    if pass > GREATEST_ENDING {
+        return Ok(());
+    }
+    let start = run_start(text, pass);
+    put_places(play, up_to_ending(&text[start..]), from + start)
+}
+
+/// How many of its passes a strain is played through: those that play nothing are left out.
+fn rounds(common: &[usize], passes: u64) -> u64
+    ensures { result ≡ rounds_of (length common.now) passes }
+{
+    if common.is_empty() {
+        passes.min(GREATEST_ENDING)
+    } else {
+        passes
+    }
+}
+
+/// Puts the play of a strain that begins at `from`. Passes that play nothing take no time.
+fn put_strain(
+    alloc: Global,
+    play: &mut Vec<usize>,
+    text: &[Mark],
+    from: usize,
+) -> Result<(), AllocError>
+    requires placed { from + length text.now < 2 ^ 64 }
+    requires short { length (strain_play from (strain_of text.now)) < 2 ^ 64 }
+    ensures { OnOk result (play.new.items ≡ play.old.items ++ strain_play from (strain_of text.now)) }
+{
+    let mut common = Vec::new(alloc);
+    put_places(&mut common, up_to_ending(text), from)?;
+    let passes = most_passes(text);
+    for earlier in 0..rounds(&common, passes) {
+        play.extend_from_slice(&common)?;
+        put_ending(play, text, from, earlier + 1)?;
+    }
+    Ok(())
+}
+
+/// Puts the play of a section.
+fn put_play(alloc: Global, play: &mut Vec<usize>, marks: &[Mark]) -> Result<(), AllocError>
+    requires { length (play_of marks.now) < 2 ^ 64 }
+    ensures { OnOk result (play.new.items ≡ play.old.items ++ play_of marks.now) }
+{
+    let mut at = 0;
+    let mut opened = false;
+    while at < marks.len() {
+        let text = first_strain(&marks[at..], opened);
+        put_strain(alloc, play, text, at)?;
+        at += text.len();
+        opened = opens_behind(text);
+    }
+    Ok(())
+}
+
+/// The places of what is played, in order of play (ABC 2.1 sections 4.8 to 4.10). Fields that are played
+/// with an ending are to stand behind its sign.
+///
+/// Takes time for the marks and for the places that are played, and for nothing else.
+pub fn expand(alloc: Global, marks: &[Mark]) -> Result<Vec<usize>, RepeatFault>
+    ensures value { IfOk result (λ places. places.items ≡ play_of marks.now) }
+    ensures played { IfOk result (λ places. All (IsPlayed marks.now) places.items) }
+    ensures too_long { (result ≡ Err RepeatFault.TooLong) ↔ (MOST_PLACES < length (play_of marks.now)) }
+{
+    let size = play_size(marks);
+    if size > MOST_PLACES {
+        return Err(RepeatFault::TooLong);
+    }
+    let mut play = Vec::with_capacity(alloc, size as usize)?;
+    put_play(alloc, &mut play, marks)?;
+    Ok(play)
+}

@@ -1,0 +1,73 @@
+//! Strains: where each begins and ends.
+
+ghost use Rattle.std.specs.Prelude.{◌≡◌, false, ◌<◌, ◌≤◌, length};
+ghost use Rattle.abc_repeat.specs.Strain.{leads_to_ending, ends_strain, strain_of, first_text, opens_behind, HasStrains, HasOneReading};
+
+use crate::mark::Mark;
+
+/// Whether the next ending's sign comes behind nothing but single bars.
+fn leads_to_ending(marks: &[Mark]) -> bool
+    ensures { result ≡ leads_to_ending marks.now }
+{
+    for mark in marks {
+        if !mark.is_single() {
+            return mark.is_ending();
+        }
+    }
+    false
+}
+
+/// Whether a mark ends its strain, in its common part or inside an ending, with the rest behind it.
+fn ends_strain(opened: bool, inside: bool, mark: Mark, rest: &[Mark]) -> bool
+    ensures { result ≡ ends_strain opened inside mark rest.now }
+{
+    if inside {
+        mark.closes_ending() && (mark.opens_next() || !leads_to_ending(rest))
+    } else {
+        mark.closes_common(opened)
+    }
+}
+
+/// The marks of the first strain, which is opened or not.
+#[tactic(auto, unfolding(crate::specs::Strain::first_text))]
+pub(crate) fn first_strain(marks: &[Mark], opened: bool) -> &[Mark]
+    ensures value { result.now ≡ first_text opened marks.now }
+    ensures bounded { length result.now ≤ length marks.now }
+    ensures some { 0 < length marks.now → 0 < length result.now }
+{
+    let mut inside = false;
+    for (at, mark) in marks.iter().enumerate() {
+        if ends_strain(opened, inside, *mark, &marks[at + 1..]) {
+            return &marks[..at + 1];
+        }
+        inside = inside || mark.is_ending();
+    }
+    marks
+}
+
+/// Whether the strain behind some marks is opened: their last one says so.
+pub(crate) fn opens_behind(marks: &[Mark]) -> bool
+    ensures { result ≡ opens_behind false marks.now }
+{
+    !marks.is_empty() && marks[marks.len() - 1].opens_next()
+}
+
+/// The common part of a strain's marks, or the run of an ending: what stands in front of the next
+/// ending's sign.
+pub(crate) fn up_to_ending(text: &[Mark]) -> &[Mark]
+    ensures value { result.now ≡ (strain_of text.now).common }
+    ensures bounded { length result.now ≤ length text.now }
+{
+    for (at, mark) in text.iter().enumerate() {
+        if mark.is_ending() {
+            return &text[..at];
+        }
+    }
+    text
+}
+
+/// The marks of a voice in a section are a list of strains in one way only.
+pub fn one_reading()
+    ensures exists { HasStrains }
+    ensures once { HasOneReading }
+{}
