@@ -5,4 +5,5 @@ pub mod blocks;
 pub mod counters;
 pub mod fields;
 pub mod lengths;
+pub mod repeats;
 pub mod scanning;

@@ -1,4 +1,4 @@
-//! Worked examples of lengths, lines, blocks, tokens and fields. `definitions` has them by the definitions alone, each
+//! Worked examples of lengths, lines, blocks, tokens, fields and plays. `definitions` has them by the definitions alone, each
 //! proved; the tests call each public function of these crates once with ample memory. Expected values are worked by
 //! hand from the rules in `docs/profile.md`; each example says where it is not our own.
 #![tactic(auto)]
@@ -12,5 +12,7 @@ pub mod definitions;
 mod fields;
 #[cfg(test)]
 mod lengths;
+#[cfg(test)]
+mod repeats;
 #[cfg(test)]
 mod scanning;

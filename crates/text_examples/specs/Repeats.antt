@@ -1,0 +1,44 @@
+-- Marks in examples of plays.
+use Rattle.std.specs.Prelude.{ℕ, true, false}
+use Rattle.abc_repeat.specs.declared.mark.Mark.{Mark}
+use Rattle.abc_repeat.specs.declared.mark.Mark.TheVariants as marks
+
+-- A note.
+abbrev pub note : Mark
+note = marks.Play
+
+-- The bar line `|`.
+abbrev pub single : Mark
+single = marks.Bar 0 0 false
+
+-- The bar line `||`.
+abbrev pub double : Mark
+double = marks.Bar 0 0 true
+
+-- The repeat bar `|:` with so many colons.
+abbrev pub opening : ℕ → Mark
+opening colons = marks.Bar 0 colons false
+
+-- The repeat bar `:|` with so many colons.
+abbrev pub closing : ℕ → Mark
+closing colons = marks.Bar colons 0 false
+
+-- So many colons on both sides of nothing: `::` has one on each.
+abbrev pub between : ℕ → Mark
+between colons = marks.Bar colons colons true
+
+-- The first, second and third ending, and two that are for two passes each.
+abbrev pub first : Mark
+first = marks.Ending 1
+
+abbrev pub second : Mark
+second = marks.Ending 2
+
+abbrev pub third : Mark
+third = marks.Ending 4
+
+abbrev pub first_and_second : Mark
+first_and_second = marks.Ending 3
+
+abbrev pub first_and_third : Mark
+first_and_third = marks.Ending 5
