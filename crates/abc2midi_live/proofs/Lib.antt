@@ -6,7 +6,6 @@ pub mod Feeding
 pub mod InputLines
 pub mod Lookup
 pub mod Melodies
-pub mod Openings
 pub mod Pitches
 pub mod Requests
 pub mod Runs

@@ -11,7 +11,7 @@ use Rattle.std.proofs.lemmas.Bool.Decides.{nat_tests}
 use Rattle.std.proofs.lemmas.Bool.{cases_Bool}
 use Rattle.std.proofs.lemmas.Slice.Eq.{bytes_eq-Decides}
 use Rattle.abc2midi_live.specs.Cut.{IsCut}
-use Rattle.abc_fields.specs.Number.{number_of}
+use Rattle.abc_text.specs.Number.{number_of}
 use Rattle.abc2midi_live.specs.Command.{numbers_of, both, with_numbers, words_of, words_behind, command_named, command_of_words, command_of, IsUseless, insertion, replacement, deletion, hex_dump, quitting}
 use Rattle.abc2midi_live.specs.declared.command.Command.TheVariants.{Unknown}
 

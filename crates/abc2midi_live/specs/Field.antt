@@ -1,6 +1,6 @@
 -- What a field line says (ABC 2.1 section 3).
 use Rattle.std.specs.Prelude.{ℕ, Bool, false, ◌==◌, List, drop}
-use Rattle.abc_fields.specs.Blank.{trimmed}
+use Rattle.abc_text.specs.Blank.{trimmed}
 use Rattle.abc_scan.specs.declared.class.LineClass.{LineClass}
 use Rattle.abc_scan.specs.declared.class.LineClass.TheVariants.{Blank, Comment, Field, Music}
 use Rattle.abc_scan.specs.LineClass.{class_of}

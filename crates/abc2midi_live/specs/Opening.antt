@@ -1,7 +1,7 @@
 -- What a tune opens with.
 use Rattle.std.specs.Prelude.{ℕ, ◌*◌, pos, false, nat_lt, if◌then◌else◌, List, [], ◌∷◌, Option, Some, None, option_and_then, unwrap_or, Result}
 use Rattle.std.specs.Result.{result_ok, result_unwrap_or}
-use Rattle.abc_fields.specs.Key.{key_of}
+use Rattle.abc_fields.specs.Key.{key_of, key_or_empty}
 use Rattle.abc_fields.specs.Meter.{meter_of, IsMeterInRange}
 use Rattle.abc_fields.specs.Signature.{IsSharps}
 use Rattle.abc_fields.specs.Tempo.{tempo_of}
@@ -77,13 +77,9 @@ micros_by unit (Beat beat n) = quarter_micros_of beat n
 abbrev pub tempo_in : Text → ℕ
 tempo_in header = unwrap_or (option_and_then (micros_by (unit_in header)) (last_of tempo_on header)) 500000
 
--- no signature, no sharps, no shift
-abbrev pub no_key : Key
-no_key = record { signature = None; sharps = pos 0; minor = false; shift = record { clef = None; octave = None; transpose = None } }
-
--- The key of a K: line (ABC 2.1 section 3.1.14); one that is refused sets no signature and no shift, our own.
+-- The key of a K: line (ABC 2.1 section 3.1.14); one that is refused sets an empty signature and no shift, our own.
 abbrev pub key_on : List ℕ → Key
-key_on line = result_unwrap_or (key_of (value_of line)) no_key
+key_on line = key_or_empty (key_of (value_of line))
 
 -- by the lines of the header before its K:, and that line
 abbrev pub opening_of : Text → List ℕ → Opening

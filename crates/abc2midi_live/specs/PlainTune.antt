@@ -6,7 +6,7 @@ use Rattle.abc_scan.specs.LineClass.{class_of}
 use Rattle.abc_scan.specs.declared.class.LineClass.{LineClass}
 use Rattle.abc_scan.specs.declared.class.LineClass.TheVariants.{Blank, Comment, Field, Music}
 use Rattle.abc2midi_live.specs.Field.{is_field, value_of}
-use Rattle.abc_fields.specs.Number.{number_of}
+use Rattle.abc_text.specs.Number.{number_of}
 use Rattle.abc2midi_live.specs.Opening.{opening_of}
 use Rattle.abc2midi_live.specs.Text.{Text}
 use Rattle.abc2midi_live.specs.declared.opening.Opening.{Opening}

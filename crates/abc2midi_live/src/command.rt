@@ -2,11 +2,11 @@
 
 ghost use Rattle.std.specs.Prelude.{◌≡◌, ◌≤◌, take, Some, MatchOption, IfSome};
 ghost use Rattle.std.specs.Str.Lines.{strip_carriage_return};
-ghost use Rattle.abc_fields.specs.Number.{number_of};
+ghost use Rattle.abc_text.specs.Number.{number_of};
 ghost use Rattle.abc2midi_live.specs.Command.{insertion, replacement, deletion, hex_dump, quitting, if_few, command_named, command_of, command_of_words, numbers_of, words_behind, IsUseless, words_of, line_count};
 
 use crate::cut::cut;
-use abc_fields::number_of;
+use abc_text::number_of;
 use std::str;
 
 /// How many lines a command takes at most.

@@ -6,7 +6,8 @@ ghost use Rattle.abc2midi_live.specs.Melody.{total, notes_from, end_of, HasMidiK
 ghost use Rattle.smf_bytes.specs.Limits.{IsSoundingWithin};
 
 use abc_time::{Grains, LATEST_END};
-use smf_bytes::{Sequence, Sounding};
+use abc_text::Sequence;
+use smf_bytes::Sounding;
 use std::alloc::{AllocError, Global};
 
 /// A note or rest as it is played: its key, where it sounds one, and its length.

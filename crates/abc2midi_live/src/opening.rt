@@ -10,7 +10,7 @@ ghost use Rattle.abc2midi_live.specs.Comments.{seen_lines};
 ghost use Rattle.abc2midi_live.specs.Opening.{key_on, last_of, meter_in, meter_on, micros_by, opening_of, tempo_in, tempo_on, unit_by, unit_in, unit_on, IsOpening};
 
 use crate::field::{is_field, value_of};
-use abc_fields::{Key, Meter, Shift, Tempo, read_key, read_meter, read_tempo, read_unit};
+use abc_fields::{Key, Meter, Tempo, key_set_by, read_meter, read_tempo, read_unit};
 use abc_time::{Ratio, quarter_micros};
 
 /// What a tune opens with.
@@ -26,18 +26,6 @@ pub(crate) struct Opening {
 
 /// Microseconds of a quarter note at 120 a minute.
 const USUAL_TEMPO: u32 = 500_000;
-
-/// The key without signature and shift.
-const NO_KEY: Key = Key {
-    signature: None,
-    sharps: 0,
-    minor: false,
-    shift: Shift {
-        clef: None,
-        octave: None,
-        transpose: None,
-    },
-};
 
 fn meter_on(line: &[u8]) -> Option<Meter>
     ensures value { result ≡ meter_on line.now }
@@ -175,7 +163,7 @@ fn key_on(line: &[u8]) -> Key
     ensures value { result ≡ key_on line.now }
     ensures sharps { IsSharps result.sharps }
 {
-    read_key(value_of(line)).unwrap_or(NO_KEY)
+    key_set_by(value_of(line))
 }
 
 /// What a tune opens with, by the lines of its header before the `K:` line, and that line.

@@ -13,7 +13,8 @@ use crate::melody::{TimeToken, notes_of};
 use crate::opening::Opening;
 use abc_fields::{Key, Meter};
 use abc_time::Grains;
-use smf_bytes::{Change, ChangeKind, Score, Sequence, Sounding};
+use abc_text::Sequence;
+use smf_bytes::{Change, ChangeKind, Score, Sounding};
 use std::alloc::{AllocError, Global};
 
 /// Puts a change at the tune's start behind others.
@@ -30,7 +31,6 @@ fn push_at_start(changes: &mut Sequence<Change>, what: ChangeKind) -> Result<(),
 }
 
 /// The tempo, the meter and the key that a tune opens with; free meter is not written.
-#[tactic(auto, using(crate::proofs::Openings::denominator))]
 fn conductor_of(alloc: Global, opening: &Opening) -> Result<Sequence<Change>, AllocError>
     requires { IsOpening opening.now }
     ensures value { IfOk result (λ changes. changes ≡ conductor_of opening.now) }

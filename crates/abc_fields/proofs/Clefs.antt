@@ -9,7 +9,8 @@ use Rattle.std.proofs.lemmas.List.{take-append-drop, drop_all}
 use Rattle.std.proofs.lemmas.List.Elements.{All-nil, All-cons, All-contains}
 use Rattle.std.proofs.lemmas.List.Folds.{list_any_at}
 use Rattle.std.proofs.lemmas.Slice.Eq.{bytes_eq-Decides}
-use Rattle.abc_fields.specs.Key.{BeginsAccidental, EndsInOctave, clef_names, IsClefName, SetsProperties, ends_in_octave, names_clef, without_line, is_clef_name, sets_properties, begins_accidental}
+use Rattle.abc_fields.specs.Key.{ends_in_octave, names_clef, without_line, is_clef_name, sets_properties, begins_accidental}
+use Rattle.abc_fields.specs.Spelling.Key.{BeginsAccidental, EndsInOctave, clef_names, IsClefName, SetsProperties}
 use Rattle.abc_fields.proofs.Properties.{ends_true, ends_from}
 
 -- accidentals

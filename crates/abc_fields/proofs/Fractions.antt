@@ -1,60 +1,31 @@
 -- Laws of fractions and of their sums.
-use Rattle.std.proofs.Common.{◌≡◌, ℕ, zero, suc, ◌+◌, ◌*◌, ◌/◌, ◌%◌, ◌^◌, ◌<◌, ◌≤◌, ◌||◌, Bool, true, false, List, [], ◌∷◌, ◌++◌, length, take, drop, Option, Some, None, refl, sym, ap, ◌∙◌, subst, ◌⊎◌, inl, inr, ⊎_elim, arith, length-append, append_assoc}
+use Rattle.std.proofs.Common.{◌≡◌, ℕ, zero, suc, ◌+◌, ◌*◌, ◌/◌, ◌%◌, ◌^◌, ◌<◌, ◌≤◌, Bool, true, false, List, [], ◌∷◌, ◌++◌, length, take, drop, Option, Some, None, refl, sym, ap, ◌∙◌, subst, ◌⊎◌, inl, inr, ⊎_elim, arith, length-append, append_assoc}
 use Rattle.std.specs.Prelude.{◌==◌, not, nat_le, option_and_then}
 use Rattle.std.specs.Char.{is_ascii_digit}
 use Rattle.std.specs.List.{prefix_len, AllPass}
 use Rattle.std.proofs.Math.Nat.{le-mul_of_pos_right, eq_of_mul-eq-mul_right, dvd_of_mod-eq-zero, div-mul_cancel}
 use Rattle.std.proofs.lemmas.Nat.{pow_pos}
-use Rattle.std.proofs.lemmas.Nat.Gcd.{le_of_dvd}
-use Rattle.std.proofs.lemmas.Bool.{cond-true, eqb-true, eq-eqb, leb-true, le-leb, and_parts, and_from, or_cases, not_from_true, agree_below_at}
+use Rattle.std.proofs.lemmas.Bool.{cond-true, eqb-true, leb-true, le-leb, and_parts, and_from, not_from_true, agree_below_at}
 use Rattle.std.proofs.lemmas.Bool.Decides.{nat_tests}
 use Rattle.std.proofs.lemmas.Option.{cond_some, same_Some}
 use Rattle.std.proofs.lemmas.List.{append-nil, take-append-drop}
 use Rattle.std.proofs.lemmas.List.Elements.{All-nil, All-cons, All-append, All-weaker, All-head}
-use Rattle.abc_fields.specs.Blank.{is_blank, trim_start, AreBlanks}
-use Rattle.abc_fields.specs.Number.{number_of, IsNumber}
-use Rattle.abc_fields.specs.Cut.{cut_at}
-use Rattle.abc_fields.specs.Tempo.{IsFraction, IsSum, part_of, fraction_of, word_size, first_word, behind_word, added, sum_with, sum_of}
-use Rattle.abc_fields.proofs.Numbers.{number_of-spells, number_of-spelled}
-use Rattle.abc_fields.proofs.Cuts.{front_stops, front_exact, front_none, front_other, take_exact, drop_exact, cut_at-found, cut_at-cuts, trim_start-gap, trim_start-blanks, trim_start-parts, trim_start-some}
+use Rattle.abc_text.specs.Blank.{is_blank, trim_start, AreBlanks}
+use Rattle.abc_text.specs.Number.{number_of, IsNumber}
+use Rattle.abc_text.specs.Cut.{cut_at}
+use Rattle.abc_text.specs.Power.{IsPowerUpTo}
+use Rattle.abc_fields.specs.Tempo.{part_of, fraction_of, word_size, first_word, behind_word, added, sum_with, sum_of}
+use Rattle.abc_fields.specs.Spelling.Tempo.{IsFraction, IsSum}
+use Rattle.abc_text.proofs.Powers.{power_from, power_to}
+use Rattle.abc_fields.proofs.Readings.{bound}
+use Rattle.abc_text.proofs.Numbers.{number_of-spells, number_of-spelled}
+use Rattle.abc_text.proofs.Fronts.{front_stops, front_exact, front_none, front_other, take_exact, drop_exact}
+use Rattle.abc_text.proofs.Cuts.{cut_at-found, cut_at-cuts}
+use Rattle.abc_text.proofs.Blanks.{trim_start-gap, trim_start-blanks, trim_start-parts, trim_start-some}
 
--- a step that goes on has a value
-pub bound : {A B : Type 0} (f : A → Option B) (o : Option A) (y : B) → option_and_then f o ≡ Some y → (x : A) × (o ≡ Some x) × (f x ≡ Some y)
-bound f None y e = cc
-bound f (Some x) y e = (x, refl, e)
-
--- the divisors of 512 are the powers of two up to it
-any_power : ℕ → ℕ → Bool
-any_power zero b = false
-any_power (suc k) b = (2 ^ k == b) || any_power k b
-
-some_power : (n b : ℕ) → any_power n b ≡ true → (k : ℕ) × (k < n) × (2 ^ k ≡ b)
-unfolding any_power
-some_power zero b e = cc
-some_power (suc n) b e = ⊎_elim
-    (λ here. (n, omega arith, eqb-true (2 ^ n) b here))
-    (λ below. let p = some_power n b below in let less : p.0 < n = p.1 in (p.0, omega (arith, less), p.2))
-    (or_cases _ _ e)
-
-divisors : (b : ℕ) → b < 513 → (not (512 % b == 0) || any_power 10 b) ≡ true
-unfolding any_power
-divisors b h = agree_below_at (λ n. not (512 % n == 0) || any_power 10 n) (λ _. true) 513 b refl h
-
+-- the powers of two up to 512 divide it
 powers : (k : ℕ) → k < 10 → (512 % 2 ^ k == 0) ≡ true
 powers k h = agree_below_at (λ n. 512 % 2 ^ n == 0) (λ _. true) 10 k refl h
-
-power_of_divisor : (b : ℕ) → 512 % b ≡ 0 → (k : ℕ) × (k < 10) × (2 ^ k ≡ b)
-power_of_divisor b e =
-    let divides = dvd_of_mod-eq-zero b e in
-    let small : b ≤ 512 = le_of_dvd (omega arith) divides in
-    ⊎_elim
-    (λ other. absurd (not_both (512 % b == 0) (eq-eqb (512 % b) 0 e) other))
-    (λ is. some_power 10 b is)
-    (or_cases _ _ (divisors b (omega (arith, small))))
-  where
-    not_both : (t : Bool) → t ≡ true → not t ≡ true → ⊥
-    not_both true e f = cc
-    not_both false e f = cc
 
 -- a part of 512ths
 pub part_of-Some : (above below part : ℕ) → part_of above below ≡ Some part
@@ -63,15 +34,15 @@ unfolding part_of
 part_of-Some above below part e =
     let found = cond_some _ _ _ e in
     let outer = and_parts _ _ found.0 in
-    let middle = and_parts _ _ outer.0 in
-    let inner = and_parts _ _ middle.0 in
-    let whole : 512 % below ≡ 0 = eqb-true _ 0 outer.1 in
-    let p = power_of_divisor below whole in
-    let less : p.0 < 10 = p.1 in
+    let inner = and_parts _ _ outer.0 in
+    let is = power_from 9 below outer.1 in
+    let few : is.power ≤ 9 = is.small in
+    let same : 2 ^ is.power ≡ below = sym is.value in
+    let whole : 512 % below ≡ 0 = eqb-true _ 0 (subst (λ b. (512 % b == 0) ≡ true) same (powers is.power (omega arith))) in
     let times : 512 / below * below ≡ 512 = div-mul_cancel below (dvd_of_mod-eq-zero below whole) in
     let value : above * (512 / below) ≡ part = found.1 in
     let total : part * below ≡ above * 512 = multiplied above below (512 / below) part times value in
-    (p.0, omega (arith, less), p.2, leb-true 1 above inner.0, leb-true above 512 inner.1, subst (λ b. part * b ≡ above * 512) (sym p.2) total)
+    (is.power, few, same, leb-true 1 above inner.0, leb-true above 512 inner.1, subst (λ b. part * b ≡ above * 512) (sym same) total)
   where
     multiplied : (a b q s : ℕ) → q * b ≡ 512 → a * q ≡ s → s * b ≡ a * 512
     multiplied a b q s e f = omega (arith, ap (λ x. a * x) e, ap (λ x. x * b) f)
@@ -84,7 +55,8 @@ part_of-is above below part k few e least most value =
     let some : 1 ≤ below = subst (λ b. 1 ≤ b) e (pow_pos k) in
     let same : above * (512 / below) ≡ part = eq_of_mul-eq-mul_right _ some _ _ (multiplied above below (512 / below) part times (subst (λ b. part * b ≡ above * 512) e value)) in
     let small : nat_le above 512 ≡ true = le-leb above 512 most in
-    cond-true _ _ _ (and_from _ _ (and_from _ _ (and_from _ _ (le-leb 1 above least) small) (le-leb 1 below some)) whole) ∙ ap Some same
+    let is : IsPowerUpTo 9 below = record { power = k; small = few; value = sym e } in
+    cond-true _ _ _ (and_from _ _ (and_from _ _ (le-leb 1 above least) small) (power_to 9 below is)) ∙ ap Some same
   where
     multiplied : (a b q s : ℕ) → q * b ≡ 512 → s * b ≡ a * 512 → a * q * b ≡ s * b
     multiplied a b q s e f = omega (arith, ap (λ x. a * x) e, f)

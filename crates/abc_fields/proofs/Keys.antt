@@ -15,14 +15,19 @@ use Rattle.abc_fields.specs.declared.tonic.Basis.{Basis}
 use Rattle.abc_fields.specs.declared.tonic.Basis.TheVariants.{Named, Explicit}
 use Rattle.abc_fields.specs.Listed.{with_accidentals}
 use Rattle.abc_fields.specs.Mode.{added_sharps, is_minor}
-use Rattle.abc_fields.specs.Shift.{IsShift, IsSmallShift, no_shift, shift_of}
+use Rattle.abc_fields.specs.Shift.{IsSmallShift, no_shift, shift_of}
+use Rattle.abc_fields.specs.Spelling.Shift.{IsShift}
 use Rattle.abc_fields.specs.Signature.{IsSharps, IsSignature, signature_of}
-use Rattle.abc_fields.specs.Tonic.{IsTonic, tonic_sharps, tonic_at, basis_at}
-use Rattle.abc_fields.specs.Word.{IsFirstWord, words_of}
-use Rattle.abc_fields.specs.Key.{no_key, no_signature, IsKeyOn, HasNoTonic, IsStart, IsCompleted, IsSpelled, IsKey, IsInRange, key_with, key_on, names_clef, without_line, sets_properties, begins_accidental, toneless_start, tonal_start, start_by_words, start_by, start_of, key_after, completed, spelled_key, key_in, key_of}
-use Rattle.abc_fields.specs.Key.IsStart.{tonal, listed, properties}
-use Rattle.abc_fields.specs.Key.IsKey.{nothing, spelled}
-use Rattle.abc_fields.proofs.Words.{words_exact}
+use Rattle.abc_fields.specs.Tonic.{tonic_at, basis_at}
+use Rattle.abc_fields.specs.Spelling.Tonic.{IsTonic}
+use Rattle.abc_text.specs.Letter.{letter_of}
+use Rattle.abc_text.specs.Word.{IsFirstWord, words_of}
+use Rattle.abc_fields.specs.Key.{empty_signature, unchanged_signature, IsInRange, key_with, key_on, names_clef, without_line, sets_properties, begins_accidental, toneless_start, tonal_start, start_by_words, start_by, start_of, key_after, completed, spelled_key, key_in, key_of}
+use Rattle.abc_fields.specs.Spelling.Key.{IsKeyOn, HasNoTonic, IsStart, IsCompleted, IsSpelled, IsKey}
+use Rattle.abc_fields.specs.Spelling.Key.IsStart.{tonal, listed, properties}
+use Rattle.abc_fields.specs.Spelling.Key.IsKey.{nothing, spelled}
+use Rattle.abc_text.proofs.Fronts.{empty_list}
+use Rattle.abc_text.proofs.Words.{words_exact}
 use Rattle.abc_fields.proofs.Shifts.{shift_exact, shift_small}
 use Rattle.abc_fields.proofs.Tonics.{tonic_from, tonic_to, basis_from, basis_to}
 use Rattle.abc_fields.proofs.Clefs.{begins_from, begins_to, sets_from, sets_to}
@@ -82,15 +87,15 @@ toneless_from : (value first behind : List ℕ) (found : Key × List ℕ) → Ha
     → option_map {T = Key} {U = Key × List ℕ} (λ key. (key, value)) (toneless_start first) ≡ Some found → IsStart value found.0 found.1
 toneless_from value first behind found toneless is e = ⊎_elim
     (λ t.
-    let known : Some (no_key, value) ≡ Some found = sym (ap (option_map {T = Key} {U = Key × List ℕ} (λ key. (key, value))) (cond-true (begins_accidental first) _ _ t)) ∙ e in
-    let same : (no_key, value) ≡ found = cc in
+    let known : Some (empty_signature, value) ≡ Some found = sym (ap (option_map {T = Key} {U = Key × List ℕ} (λ key. (key, value))) (cond-true (begins_accidental first) _ _ t)) ∙ e in
+    let same : (empty_signature, value) ≡ found = cc in
     subst (λ (p : Key × List ℕ). IsStart value p.0 p.1) same (listed first behind toneless is (begins_from first t) refl refl))
     (λ t.
     let later = sym (ap (option_map {T = Key} {U = Key × List ℕ} (λ key. (key, value))) (cond-false (begins_accidental first) _ _ t)) ∙ e in
     ⊎_elim
     (λ u.
-    let known : Some (no_signature, value) ≡ Some found = sym (ap (option_map {T = Key} {U = Key × List ℕ} (λ key. (key, value))) (cond-true (sets_properties first) _ _ u)) ∙ later in
-    let same : (no_signature, value) ≡ found = cc in
+    let known : Some (unchanged_signature, value) ≡ Some found = sym (ap (option_map {T = Key} {U = Key × List ℕ} (λ key. (key, value))) (cond-true (sets_properties first) _ _ u)) ∙ later in
+    let same : (unchanged_signature, value) ≡ found = cc in
     subst (λ (p : Key × List ℕ). IsStart value p.0 p.1) same
     (properties first behind toneless is (λ begins. both_ways (begins_accidental first) t (begins_to first begins)) (sets_from first u) refl refl))
     (λ u. let none : None ≡ Some found = sym (ap (option_map {T = Key} {U = Key × List ℕ} (λ key. (key, value))) (cond-false (sets_properties first) _ _ u)) ∙ later in cc)
@@ -134,9 +139,9 @@ start_to value start text (tonal major behind basis is b k) =
     ∙ ap (tonal_start major) (basis_to behind basis text b)
     ∙ ap (option_map {T = Key} {U = Key × List ℕ} (λ key. (key, text))) (key_on_to major basis start k)
 start_to value start text (listed first behind toneless is begins s t) =
-    toneless_to value first behind no_key toneless is (cond-true (begins_accidental first) _ _ (begins_to first begins)) ∙ (λ i. Some (sym s i, sym t i))
+    toneless_to value first behind empty_signature toneless is (cond-true (begins_accidental first) _ _ (begins_to first begins)) ∙ (λ i. Some (sym s i, sym t i))
 start_to value start text (properties first behind toneless is other sets s t) =
-    toneless_to value first behind no_signature toneless is
+    toneless_to value first behind unchanged_signature toneless is
     (cond-false (begins_accidental first) _ _ (false_from_ne_true (begins_accidental first) (λ b. other (begins_from first b))) ∙ cond-true (sets_properties first) _ _ (sets_to first sets))
     ∙ (λ i. Some (sym s i, sym t i))
 
@@ -179,8 +184,7 @@ completed_to start words key h =
 
 -- the value
 no_length : (value : List ℕ) → (length value == 0) ≡ true → value ≡ []
-no_length [] t = refl
-no_length (b ∷ bs) t = absurd (let e : length (b ∷ bs) ≡ 0 = eqb-true (length (b ∷ bs)) 0 t in omega (arith, e))
+no_length value t = empty_list value (eqb-true (length value) 0 t)
 
 nothing_from : (value : List ℕ) → ((length value == 0) || bytes_eq value (codes "none")) ≡ true → (value ≡ []) ⊎ (value ≡ codes "none")
 nothing_from value t = ⊎_elim
@@ -195,7 +199,7 @@ nothing_to value h = ⊎_elim
     h
 
 no_start : (value : List ℕ) → (value ≡ []) ⊎ (value ≡ codes "none") → start_of value ≡ None
-unfolding start_of tonic_sharps words_of without_line names_clef
+unfolding start_of letter_of words_of without_line names_clef
 no_start value h = ⊎_elim (λ e. ap start_of e) (λ e. ap start_of e) h
 
 by_start : (value : List ℕ) (key : Key) (o : Option (Key × List ℕ)) → start_of value ≡ o → spelled_key o ≡ Some key → IsSpelled value key
@@ -219,22 +223,22 @@ key_in_from : (value : List ℕ) (key : Key) → key_in value ≡ Some key → I
 unfolding key_in
 key_in_from value key e = ⊎_elim
     (λ t.
-    let known : Some no_key ≡ Some key = sym (cond-true _ (Some no_key) (spelled_key (start_of value)) t) ∙ e in
-    let same : key ≡ no_key = cc in
+    let known : Some empty_signature ≡ Some key = sym (cond-true _ (Some empty_signature) (spelled_key (start_of value)) t) ∙ e in
+    let same : key ≡ empty_signature = cc in
     nothing (nothing_from value t) same)
-    (λ t. spelled (by_start value key (start_of value) refl (sym (cond-false _ (Some no_key) (spelled_key (start_of value)) t) ∙ e)))
+    (λ t. spelled (by_start value key (start_of value) refl (sym (cond-false _ (Some empty_signature) (spelled_key (start_of value)) t) ∙ e)))
     (cases_Bool ((length value == 0) || bytes_eq value (codes "none")))
 
 key_in_to : (value : List ℕ) (key : Key) → IsKey value key → key_in value ≡ Some key
 unfolding key_in
-key_in_to value key (nothing is e) = cond-true _ (Some no_key) (spelled_key (start_of value)) (nothing_to value is) ∙ ap Some (sym e)
+key_in_to value key (nothing is e) = cond-true _ (Some empty_signature) (spelled_key (start_of value)) (nothing_to value is) ∙ ap Some (sym e)
 key_in_to value key (spelled h) =
     let begins = start_to value h.start h.text h.begins in
     let something : ((length value == 0) || bytes_eq value (codes "none")) ≡ false = false_from_ne_true _ (λ t.
     let none : ◌≡◌ {A = Option (Key × List ℕ)} None (Some (h.start, h.text)) = sym (no_start value (nothing_from value t)) ∙ begins in cc) in
     let words : words_of h.text ≡ h.words = (words_exact h.text h.words).1 h.are_words in
     let done : completed h.start h.words ≡ Some key = completed_to h.start h.words key (record { signature = h.signature; sharps = h.sharps; minor = h.minor; shift = h.shift }) in
-    cond-false _ (Some no_key) (spelled_key (start_of value)) something
+    cond-false _ (Some empty_signature) (spelled_key (start_of value)) something
     ∙ ap spelled_key begins
     ∙ ap (completed h.start) words
     ∙ done
@@ -259,7 +263,7 @@ no_sharps = (omega (arith, ints), omega (arith, ints))
 no_shift_small : IsSmallShift no_shift
 no_shift_small = record { clef = tt; octave = tt; transpose = tt }
 
-no_key_range : IsInRange no_key
+no_key_range : IsInRange empty_signature
 no_key_range = record { sharps = no_sharps; signature = natural_range; shift = no_shift_small }
 
 key_on_range : (major : ℤ) (basis : Basis) (key : Key) → IsKeyOn major basis key → IsInRange key

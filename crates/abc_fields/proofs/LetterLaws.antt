@@ -1,15 +1,15 @@
 -- An order plays the letters that its grammar says.
-use Rattle.std.proofs.Common.{◌≡◌, ℕ, suc, zero, ◌+◌, ◌*◌, ◌==◌, true, false, List, [], ◌∷◌, ◌++◌, replicate, Some, refl, sym, ap, ◌∙◌, arith, append_assoc, zero-add}
+use Rattle.std.proofs.Common.{◌≡◌, ℕ, suc, zero, ◌+◌, ◌-◌, ◌*◌, ◌==◌, true, false, List, [], ◌∷◌, ◌++◌, replicate, Some, refl, sym, ap, ◌∙◌, arith, append_assoc, zero-add}
 use Rattle.std.specs.List.{AllPass, fold, concat}
-use Rattle.std.specs.Char.{is_ascii_digit, is_ascii_uppercase, digit_value}
-use Rattle.std.specs.Str.Parse.{digits_value_after}
+use Rattle.std.specs.Char.{is_ascii_digit, is_ascii_uppercase}
 use Rattle.std.proofs.lemmas.Bool.{ne_eqb}
 use Rattle.std.proofs.lemmas.List.Sums.{fold-append}
 use Rattle.std.proofs.lemmas.List.Elements.{All-head, All-tail}
-use Rattle.abc_fields.specs.Number.{IsNumber}
-use Rattle.abc_fields.specs.Parts.{IsCount, once, times, IsOrder, part, group, behind, IsParts}
+use Rattle.abc_text.specs.Number.{IsNumber}
+use Rattle.abc_text.proofs.Decimals.{digit_range}
+use Rattle.abc_fields.specs.Spelling.Parts.{IsCount, once, times, IsOrder, part, group, behind, IsParts}
 use Rattle.abc_fields.specs.Letters.{Played, nothing_played, letters_so_far, with_item, close_group, count_on, play_on, letters_of}
-use Rattle.abc_fields.proofs.Orders.{digit_range, below_upper}
+use Rattle.abc_fields.proofs.Orders.{below_upper, number_after}
 
 -- the four kinds of bytes
 plays_letter : (played : Played) (letter : ℕ) → is_ascii_uppercase letter ≡ true → play_on played letter ≡ with_item played.around (letters_so_far played) (letter ∷ [])
@@ -38,11 +38,11 @@ abbrev counted : List (List ℕ) → List ℕ → List ℕ → ℕ → Played
 counted around before item n = record { around = around; before = before; item = item; count = Some n }
 
 plays_digits : (digits : List ℕ) (around : List (List ℕ)) (before item : List ℕ) (n : ℕ) → AllPass is_ascii_digit digits
-    → fold play_on (counted around before item n) digits ≡ counted around before item (digits_value_after 10 n digits)
+    → fold play_on (counted around before item n) digits ≡ counted around before item (number_after n digits)
 plays_digits [] around before item n all = refl
 plays_digits (b ∷ digits) around before item n all =
     let digit : is_ascii_digit b ≡ true = All-head (λ y. is_ascii_digit y ≡ true) b digits all in
-    let rest = plays_digits digits around before item (n * 10 + digit_value b) (All-tail (λ y. is_ascii_digit y ≡ true) b digits all) in
+    let rest = plays_digits digits around before item (n * 10 + (b - 48)) (All-tail (λ y. is_ascii_digit y ≡ true) b digits all) in
     ap (λ played. fold play_on played digits) (plays_digit (counted around before item n) b digit) ∙ rest
 
 plays_number : (text : List ℕ) (n : ℕ) (around : List (List ℕ)) (before item : List ℕ) → IsNumber text n
@@ -50,8 +50,8 @@ plays_number : (text : List ℕ) (n : ℕ) (around : List (List ℕ)) (before it
 plays_number [] n around before item number = absurd (omega (arith, number.some))
 plays_number (b ∷ digits) n around before item number =
     let digit : is_ascii_digit b ≡ true = All-head (λ y. is_ascii_digit y ≡ true) b digits number.digits in
-    let rest = plays_digits digits around before item (digit_value b) (All-tail (λ y. is_ascii_digit y ≡ true) b digits number.digits) in
-    let value : digits_value_after 10 (digit_value b) digits ≡ n = ap (λ m. digits_value_after 10 m digits) (sym (zero-add (digit_value b))) ∙ sym number.value in
+    let rest = plays_digits digits around before item (b - 48) (All-tail (λ y. is_ascii_digit y ≡ true) b digits number.digits) in
+    let value : number_after (b - 48) digits ≡ n = ap (λ m. number_after m digits) (sym (zero-add (b - 48))) ∙ sym number.value in
     ap (λ played. fold play_on played digits) (plays_digit (with_item around before item) b digit) ∙ rest ∙ ap (counted around before item) value
 
 plays_count : {count : List ℕ} {n : ℕ} → IsCount count n → (around : List (List ℕ)) (before item : List ℕ)

@@ -1,18 +1,15 @@
 pub mod Accidentals
 pub mod BeatSums
 pub mod Clefs
-pub mod Cuts
+pub mod Faults
 pub mod Fractions
 pub mod Keys
 pub mod LetterLaws
 pub mod Listings
 pub mod LowestTerms
 pub mod MeterTexts
-pub mod Meters
 pub mod Modes
-pub mod Numbers
 pub mod Orders
-pub mod Powers
 pub mod Properties
 pub mod Readings
 pub mod Shifts
@@ -21,7 +18,5 @@ pub mod SumTexts
 pub mod Sums
 pub mod Tempos
 pub mod Tonics
-pub mod Trims
 pub mod Units
 pub mod Voices
-pub mod Words

@@ -1,23 +1,28 @@
 -- Changes one after another.
-use Rattle.std.proofs.Common.{◌≡◌, ◌==◌, ℕ, ℤ, true, length, List, [], ◌∷◌, Option, Some, None, refl, sym, ap, ◌∙◌, inl, inr, ⊎_elim, arith}
+use Rattle.std.proofs.Common.{◌≡◌, ◌==◌, ℕ, true, length, List, [], ◌∷◌, Option, Some, None, refl, sym, ap, ◌∙◌, inl, inr, ⊎_elim, arith}
 use Rattle.std.proofs.lemmas.Bool.{eqb-true}
 use Rattle.std.proofs.lemmas.Int.{ints}
 use Rattle.std.specs.Option.{option_map}
+use Rattle.abc_text.specs.declared.accidental.Accidental.{Accidental}
+use Rattle.abc_text.specs.declared.accidental.Accidental.TheVariants.{DoubleFlat, Flat, Natural, Sharp, DoubleSharp}
+use Rattle.abc_text.specs.Accidental.{alteration}
 use Rattle.abc_fields.specs.declared.accidental.Change.{Change}
 use Rattle.abc_fields.specs.declared.signature.Signature.{Signature}
-use Rattle.abc_fields.specs.Accidental.{AreChanges, IsAccidental, changes_of}
-use Rattle.abc_fields.specs.Signature.{altered, IsSignature, IsAlteration}
-use Rattle.abc_fields.specs.Listed.{IsChanged, AreListed, with_changes, changed_or, with_word, with_accidentals}
+use Rattle.abc_fields.specs.Accidental.{changes_of}
+use Rattle.abc_fields.specs.Spelling.Accidental.{AreChanges}
+use Rattle.abc_fields.specs.Signature.{IsSignature, IsAlteration}
+use Rattle.abc_fields.specs.Listed.{with_change, with_changes, changed_or, with_word, with_accidentals}
+use Rattle.abc_fields.specs.Spelling.Listed.{IsChanged, AreListed}
 use Rattle.abc_fields.proofs.Accidentals.{changes_exact}
 use Rattle.abc_fields.proofs.Signatures.{altered_range}
 
 -- one more change
-changed_more : (other signature : Signature) (change : Change) (more : Option (List Change)) → changed_or other signature (option_map (λ cs. change ∷ cs) more) ≡ changed_or other (altered signature change.letter change.alteration) more
+changed_more : (other signature : Signature) (change : Change) (more : Option (List Change)) → changed_or other signature (option_map (λ cs. change ∷ cs) more) ≡ changed_or other (with_change signature change) more
 changed_more other signature change None = refl
 changed_more other signature change (Some cs) = refl
 
 pub changed_step : (other signature : Signature) (change : Change) (text rest : List ℕ) → changes_of text ≡ option_map (λ cs. change ∷ cs) (changes_of rest)
-    → changed_or other signature (changes_of text) ≡ changed_or other (altered signature change.letter change.alteration) (changes_of rest)
+    → changed_or other signature (changes_of text) ≡ changed_or other (with_change signature change) (changes_of rest)
 changed_step other signature change text rest e = ap (changed_or other signature) e ∙ changed_more other signature change (changes_of rest)
 
 -- no more changes
@@ -65,14 +70,18 @@ listed_to (word ∷ words) signature changed h =
     listed_to words h.0 changed h.2 ∙ ap (λ s. with_accidentals s words) next
 
 -- changes keep the bounds
-alteration_range : (marks : List ℕ) (n : ℤ) → IsAccidental marks n → IsAlteration n
-alteration_range marks n h = (omega (arith, ints, h), omega (arith, ints, h))
+alteration_range : (accidental : Accidental) → IsAlteration (alteration accidental)
+alteration_range DoubleFlat = (omega (arith, ints), omega (arith, ints))
+alteration_range Flat = (omega (arith, ints), omega (arith, ints))
+alteration_range Natural = (omega (arith, ints), omega (arith, ints))
+alteration_range Sharp = (omega (arith, ints), omega (arith, ints))
+alteration_range DoubleSharp = (omega (arith, ints), omega (arith, ints))
 
 changes_range : (changes : List Change) (word : List ℕ) (signature : Signature) → AreChanges word changes → IsSignature signature → IsSignature (with_changes signature changes)
 changes_range [] word signature are h = h
 changes_range (change ∷ changes) word signature are h =
-    changes_range changes are.0 (altered signature change.letter change.alteration) are.2
-    (altered_range signature change.letter change.alteration h (alteration_range are.1.marks change.alteration are.1.accidental))
+    changes_range changes are.0 (with_change signature change) are.2
+    (altered_range signature change.letter (alteration change.accidental) h (alteration_range change.accidental))
 
 word_range : (signature : Signature) (word : List ℕ) (o : Option (List Change)) → changes_of word ≡ o → IsSignature signature → IsSignature (changed_or signature signature o)
 word_range signature word None e h = h

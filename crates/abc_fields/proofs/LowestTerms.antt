@@ -5,7 +5,8 @@ use Rattle.std.proofs.lemmas.Nat.{pow_pos}
 use Rattle.std.proofs.Math.Nat.{mul-one, one-mul, mul_assoc, dvd-mul_left, dvd-mul_right, dvd-mul_left_of_dvd, dvd-add_iff_right, eq-one_of_dvd-one, div-mul_cancel, eq_of_mul-eq-mul_right}
 use Rattle.std.specs.Int.{◌∣◌}
 use Rattle.abc_time.specs.declared.ratio.Ratio.{Ratio}
-use Rattle.abc_fields.specs.Tempo.{halved, lowest, IsLowest}
+use Rattle.abc_fields.specs.Tempo.{halved, lowest}
+use Rattle.abc_fields.specs.Spelling.Tempo.{IsLowest}
 
 abbrev pub ratio : ℕ → ℕ → Ratio
 ratio n d = record { num = n; den = d }

@@ -1,24 +1,27 @@
 -- A text is a meter exactly where it is read.
-use Rattle.std.proofs.Common.{◌≡◌, ℕ, ◌+◌, ◌-◌, ◌≤◌, ◌<◌, ◌^◌, ◌&&◌, ◌||◌, ◌==◌, ◌↔◌, Bool, true, false, cond, leb, List, [], ◌∷◌, ◌++◌, length, get_or, take, drop, sum, codes, bytes_eq, Option, Some, None, Result, Ok, Err, ok_or, refl, sym, ap, ◌∙◌, subst, inl, inr, ⊎_elim, arith, All, IfOk, suc}
-use Rattle.std.specs.List.{before_first, after_first, position_or_len}
-use Rattle.std.proofs.Math.Seq.{take-append_seam, get_or-append_seam, drop-append-add, drop-cons}
-use Rattle.std.proofs.Math.ListN.{get_or-append}
-use Rattle.std.proofs.lemmas.Bool.{eqb-true, and_parts, and_from, and_left, cases_Bool, cond-true, cond-false, or_cases, or_from, false_from_ne_true, cases_lt}
+use Rattle.std.proofs.Common.{◌≡◌, ℕ, ◌-◌, ◌≤◌, ◌<◌, ◌^◌, ◌&&◌, ◌||◌, ◌==◌, ◌↔◌, Bool, true, false, cond, List, [], ◌∷◌, ◌++◌, length, get_or, take, drop, sum, codes, bytes_eq, Option, Some, None, Result, Ok, Err, ok_or, refl, sym, ap, ◌∙◌, subst, inl, inr, ⊎_elim, arith, IfOk, suc}
+use Rattle.std.specs.Prelude.{not}
+use Rattle.std.specs.Option.{option_and_then}
+use Rattle.std.proofs.Math.Seq.{take-append_seam, get_or-append_seam, drop-cons}
+use Rattle.std.proofs.lemmas.Bool.{eqb-true, and_parts, and_from, and_left, cases_Bool, not_from_false, cond-true, cond-false, or_cases, or_from, false_from_ne_true}
 use Rattle.std.proofs.lemmas.Bool.Decides.{nat_tests}
 use Rattle.std.proofs.lemmas.List.{drop_all, take-append-drop, length-append}
 use Rattle.std.proofs.lemmas.List.Elements.{All-nil, All-cons, All-head, All-same, All-append, All-weaker}
-use Rattle.std.proofs.lemmas.List.Sums.{split_at_first, passes_at_first, position_or_len_is}
 use Rattle.std.proofs.lemmas.Slice.Eq.{bytes_eq-Decides}
 use Rattle.abc_fields.specs.declared.fault.FaultCode.{FaultCode}
 use Rattle.abc_fields.specs.declared.fault.FaultCode.TheVariants.{BadMeter}
 use Rattle.abc_fields.specs.declared.meter.Meter.{Meter}
 use Rattle.abc_fields.specs.declared.meter.Meter.TheVariants.{Free, Of}
-use Rattle.abc_fields.specs.Number.{number_of}
-use Rattle.abc_fields.specs.Power.{IsPowerUpTo, is_power}
-use Rattle.abc_fields.specs.Meter.{IsSum, IsAbove, IsFraction, IsMeter, IsMeterInRange, has_plus, sum_of, closes_a_sum, above_of, power_up_to_64, meter_by, fraction_of, symbol_or_fraction, meter_of}
-use Rattle.abc_fields.proofs.Numbers.{number_of-spells, number_of-spelled}
-use Rattle.abc_fields.proofs.Powers.{low_power_from, low_power_to, low_power_least, low_power_most}
-use Rattle.abc_fields.proofs.Readings.{refused_from}
+use Rattle.abc_text.specs.Byte.{slash}
+use Rattle.abc_text.specs.Cut.{Without, cut_at}
+use Rattle.abc_text.specs.Number.{number_of}
+use Rattle.abc_text.specs.Power.{IsPowerUpTo, is_power_up_to}
+use Rattle.abc_fields.specs.Meter.{IsMeterInRange, has_plus, sum_of, closes_a_sum, above_of, power_up_to_64, meter_by, meter_of_parts, fraction_of, symbol_or_fraction, meter_of}
+use Rattle.abc_fields.specs.Spelling.Meter.{IsSum, IsAbove, IsFraction, IsMeter}
+use Rattle.abc_text.proofs.Cuts.{cut_at-found, cut_at-cuts}
+use Rattle.abc_text.proofs.Numbers.{number_of-spells, number_of-spelled}
+use Rattle.abc_text.proofs.Powers.{power_from, power_to, power_least, power_most}
+use Rattle.abc_fields.proofs.Readings.{bound, refused_from}
 use Rattle.abc_fields.proofs.SumTexts.{sum_of-from, sum_of-to, has_plus-from, has_plus-to, IsSumByte, sum_bytes}
 
 -- a list ends with its last element
@@ -87,30 +90,27 @@ above_to text n h small =
     (λ p. ap above_of p.spelling ∙ closed_to p.inner h.numbers p.summed p.several ∙ sum_of-to p.inner h.numbers p.summed within ∙ ap Some (sym total))
     h.spelling
 
-abbrev HasNoStroke : List ℕ → Type 0
-HasNoStroke text = All (λ b. (b == 47) ≡ false) text
+sum_Without : (text numbers : List ℕ) → IsSum text numbers → Without slash text
+sum_Without text numbers h = All-weaker IsSumByte (λ b. not (b == slash) ≡ true) (λ b k. not_from_false (b == slash) k.no_stroke) text (sum_bytes text numbers h)
 
-sum_HasNoStroke : (text numbers : List ℕ) → IsSum text numbers → HasNoStroke text
-sum_HasNoStroke text numbers h = All-weaker IsSumByte (λ b. (b == 47) ≡ false) (λ b k. k.no_stroke) text (sum_bytes text numbers h)
-
-above_HasNoStroke : (text : List ℕ) (n : ℕ) → IsAbove text n → HasNoStroke text
-above_HasNoStroke text n h = ⊎_elim
-    (λ k. sum_HasNoStroke text h.numbers k)
-    (λ p. let clean = λ (b : ℕ). (b == 47) ≡ false in
-    All-same clean text (40 ∷ p.inner ++ 41 ∷ []) p.spelling (All-cons clean 40 (p.inner ++ 41 ∷ []) refl (All-append clean p.inner (41 ∷ []) (sum_HasNoStroke p.inner h.numbers p.summed) (All-cons clean 41 [] refl (All-nil clean)))))
+above_Without : (text : List ℕ) (n : ℕ) → IsAbove text n → Without slash text
+above_Without text n h = ⊎_elim
+    (λ k. sum_Without text h.numbers k)
+    (λ p. let clean = λ (b : ℕ). not (b == slash) ≡ true in
+    All-same clean text (40 ∷ p.inner ++ 41 ∷ []) p.spelling (All-cons clean 40 (p.inner ++ 41 ∷ []) refl (All-append clean p.inner (41 ∷ []) (sum_Without p.inner h.numbers p.summed) (All-cons clean 41 [] refl (All-nil clean)))))
     h.spelling
 
 -- what stands below
-low_at : (n d : ℕ) (t : Bool) → t ≡ (is_power n && leb n 64) → cond t (Some n) None ≡ Some d → (n ≡ d) × IsPowerUpTo 6 d
-low_at n d true e h = let same : n ≡ d = cc in (same, subst (IsPowerUpTo 6) same (low_power_from n (sym e)))
+low_at : (n d : ℕ) (t : Bool) → t ≡ is_power_up_to 6 n → cond t (Some n) None ≡ Some d → (n ≡ d) × IsPowerUpTo 6 d
+low_at n d true e h = let same : n ≡ d = cc in (same, subst (IsPowerUpTo 6) same (power_from 6 n (sym e)))
 low_at n d false e h = cc
 
 low_from : (o : Option ℕ) (d : ℕ) → power_up_to_64 o ≡ Some d → (o ≡ Some d) × IsPowerUpTo 6 d
 low_from None d h = cc
-low_from (Some n) d h = let k = low_at n d (is_power n && leb n 64) refl h in (ap Some k.0, k.1)
+low_from (Some n) d h = let k = low_at n d (is_power_up_to 6 n) refl h in (ap Some k.0, k.1)
 
 low_to : (o : Option ℕ) (d : ℕ) → o ≡ Some d → IsPowerUpTo 6 d → power_up_to_64 o ≡ Some d
-low_to o d e h = ap power_up_to_64 e ∙ cond-true _ _ _ (low_power_to d h)
+low_to o d e h = ap power_up_to_64 e ∙ cond-true _ _ _ (power_to 6 d h)
 
 -- a fraction
 record Parts (o p : Option ℕ) (m : Meter) : Type 0 where
@@ -130,25 +130,6 @@ parts None p m h = cc
 parts (Some n) None m h = cc
 parts (Some n) (Some d) m h = parts_at n d m (n == 0) refl h
 
-abbrev is_stroke : ℕ → Bool
-is_stroke b = b == 47
-
-number_of_nothing : (d : ℕ) → number_of [] ≡ Some d → ⊥
-unfolding number_of
-number_of_nothing d e = cc
-
--- a number stands behind a stroke
-has_stroke : (text : List ℕ) (d : ℕ) → number_of (after_first is_stroke text) ≡ Some d → position_or_len is_stroke text < length text
-has_stroke text d e = ⊎_elim
-    (λ inside. inside)
-    (λ over. absurd (number_of_nothing d (sym (ap number_of (drop_all (position_or_len is_stroke text + 1) text (omega arith))) ∙ e)))
-    (cases_lt (position_or_len is_stroke text) (length text))
-
-cut : (text : List ℕ) → position_or_len is_stroke text < length text → text ≡ before_first is_stroke text ++ 47 ∷ after_first is_stroke text
-cut text inside =
-    split_at_first is_stroke text 0 inside
-    ∙ ap (λ b. before_first is_stroke text ++ b ∷ after_first is_stroke text) (eqb-true (get_or text (position_or_len is_stroke text) 0) 47 (passes_at_first is_stroke text 0 inside))
-
 record FractionRead (text : List ℕ) (m : Meter) : Type 0 where
   num : ℕ
   den : ℕ
@@ -158,43 +139,35 @@ record FractionRead (text : List ℕ) (m : Meter) : Type 0 where
 fraction_from : (text : List ℕ) (m : Meter) → fraction_of text ≡ Some m → FractionRead text m
 unfolding fraction_of
 fraction_from text m e =
-    let p = parts (above_of (before_first is_stroke text)) (power_up_to_64 (number_of (after_first is_stroke text))) m e in
-    let above = above_from (before_first is_stroke text) p.num p.num_is in
-    let below = low_from (number_of (after_first is_stroke text)) p.den p.den_is in
+    let cut = bound meter_of_parts (cut_at slash text) m e in
+    let is = cut_at-cuts slash text cut.0 cut.1 in
+    let p = parts (above_of cut.0.0) (power_up_to_64 (number_of cut.0.1)) m cut.2 in
+    let above = above_from cut.0.0 p.num p.num_is in
+    let below = low_from (number_of cut.0.1) p.den p.den_is in
     record {
       num = p.num;
       den = p.den;
       meter = p.meter;
       fraction = record {
-        above = before_first is_stroke text;
-        below = after_first is_stroke text;
-        spelling = cut text (has_stroke text p.den below.0);
+        above = cut.0.0;
+        below = cut.0.1;
+        spelling = is.spelling;
         num_is = above.above;
-        den_is = number_of-spells (after_first is_stroke text) p.den below.0;
+        den_is = number_of-spells cut.0.1 p.den below.0;
         num_least = p.some;
         num_most = above.small;
         den_power = below.1;
       };
     }
 
-stroke_at : (above below : List ℕ) → HasNoStroke above → position_or_len is_stroke (above ++ 47 ∷ below) ≡ length above
-stroke_at above below clean =
-    position_or_len_is is_stroke (above ++ 47 ∷ below) (length above) 0 (omega (arith, length-append above (47 ∷ below)))
-    (λ k l. ap is_stroke (get_or-append above (47 ∷ below) 0 k l) ∙ clean k 0 l)
-    (λ l. ap is_stroke (get_or-append_seam above 47 below 0))
-
-fraction_cut : (above below : List ℕ) → HasNoStroke above → fraction_of (above ++ 47 ∷ below) ≡ meter_by (above_of above) (power_up_to_64 (number_of below))
+fraction_cut : (above below : List ℕ) → Without slash above → fraction_of (above ++ slash ∷ below) ≡ meter_by (above_of above) (power_up_to_64 (number_of below))
 unfolding fraction_of
-fraction_cut above below clean =
-    let text = above ++ 47 ∷ below in
-    ap (λ i. meter_by (above_of (take i text)) (power_up_to_64 (number_of (drop (i + 1) text)))) (stroke_at above below clean)
-    ∙ ap (λ t. meter_by (above_of t) (power_up_to_64 (number_of (drop (length above + 1) text)))) (take-append_seam above (47 ∷ below))
-    ∙ ap (λ t. meter_by (above_of above) (power_up_to_64 (number_of t))) (drop-append-add above (47 ∷ below) 1)
+fraction_cut above below clean = ap (option_and_then meter_of_parts) (cut_at-found slash above below clean)
 
 fraction_to : (text : List ℕ) (num den : ℕ) → IsFraction text num den → fraction_of text ≡ Some (Of num den)
 fraction_to text num den h =
     let some : 1 ≤ num = h.num_least in
-    ap fraction_of h.spelling ∙ fraction_cut h.above h.below (above_HasNoStroke h.above num h.num_is)
+    ap fraction_of h.spelling ∙ fraction_cut h.above h.below (above_Without h.above num h.num_is)
     ∙ ap (λ o. meter_by o (power_up_to_64 (number_of h.below))) (above_to h.above num h.num_is h.num_most)
     ∙ ap (meter_by (Some num)) (low_to (number_of h.below) den (number_of-spelled h.below den h.den_is) h.den_power)
     ∙ cond-false (num == 0) _ _ (grind (arith, nat_tests))
@@ -236,26 +209,19 @@ fraction_is text m e empty none common cut =
     ∙ cond-false (bytes_eq text (codes "C|")) _ _ (differs text (codes "C|") m e cut)
     ∙ e
 
-no_fraction : (word : List ℕ) → number_of (after_first is_stroke word) ≡ None → fraction_of word ≡ None
+no_fraction : (word : List ℕ) → cut_at slash word ≡ None → fraction_of word ≡ None
 unfolding fraction_of
-no_fraction word e = ap (λ o. meter_by (above_of (before_first is_stroke word)) (power_up_to_64 o)) e ∙ without (above_of (before_first is_stroke word)) where
-  without : (num : Option ℕ) → meter_by num None ≡ None
-  without None = refl
-  without (Some n) = refl
-
-nothing : number_of [] ≡ None
-unfolding number_of
-nothing = refl
+no_fraction word e = ap (option_and_then meter_of_parts) e
 
 read_to : (text : List ℕ) (m : Meter) → IsMeter text m → symbol_or_fraction text ≡ Some m
-unfolding symbol_or_fraction
+unfolding symbol_or_fraction cut_at
 read_to text Free h = ⊎_elim (λ e. ap symbol_or_fraction e) (λ e. ap symbol_or_fraction e) h
 read_to text (Of num den) h = ⊎_elim
     (λ symbol. ⊎_elim
     (λ k. ap symbol_or_fraction k.0 ∙ ap (λ n. Some (Of n 4)) (sym k.1) ∙ ap (λ d. Some (Of num d)) (sym k.2))
     (λ k. ap symbol_or_fraction k.0 ∙ ap (λ n. Some (Of n 2)) (sym k.1) ∙ ap (λ d. Some (Of num d)) (sym k.2))
     symbol)
-    (λ k. fraction_is text (Of num den) (fraction_to text num den k) (no_fraction [] nothing) (no_fraction (codes "none") nothing) (no_fraction (codes "C") nothing) (no_fraction (codes "C|") nothing))
+    (λ k. fraction_is text (Of num den) (fraction_to text num den k) (no_fraction [] refl) (no_fraction (codes "none") refl) (no_fraction (codes "C") refl) (no_fraction (codes "C|") refl))
     h
 
 -- and its parts are in range
@@ -269,7 +235,7 @@ meter_range text (Of num den) h = ⊎_elim
     (λ k. let n = k.1 in let d = k.2 in record { num_least = omega arith; num_most = omega arith; den_least = omega arith; den_most = omega arith; den_power = two_power 2 den (omega arith) d })
     (λ k. let n = k.1 in let d = k.2 in record { num_least = omega arith; num_most = omega arith; den_least = omega arith; den_most = omega arith; den_power = two_power 1 den (omega arith) d })
     symbol)
-    (λ k. record { num_least = k.num_least; num_most = k.num_most; den_least = low_power_least den k.den_power; den_most = low_power_most den k.den_power; den_power = k.den_power })
+    (λ k. record { num_least = k.num_least; num_most = k.num_most; den_least = power_least 6 den k.den_power; den_most = power_most 6 den k.den_power; den_power = k.den_power })
     h
 
 pub record Laws (text : List ℕ) (r : Result Meter FaultCode) : Type 0 where

@@ -9,7 +9,8 @@ use Rattle.std.proofs.lemmas.Slice.Eq.{bytes_eq-Decides}
 use Rattle.std.proofs.lemmas.Bool.{and_right, or_cases, cond-true, cond-false, cases_Bool, false_from_ne_true}
 use Rattle.abc_fields.specs.declared.mode.Mode.{Mode}
 use Rattle.abc_fields.specs.declared.mode.Mode.TheVariants.{Lydian, Ionian, Mixolydian, Dorian, Aeolian, Phrygian, Locrian}
-use Rattle.abc_fields.specs.Mode.{names_of, front_of, IsMode, mode_named, mode_of}
+use Rattle.abc_fields.specs.Mode.{front_of, mode_named, mode_of}
+use Rattle.abc_fields.specs.Spelling.Mode.{names_of, IsMode}
 
 -- fewer than three letters name nothing
 short_name : (name : List ℕ) → length name < 3 → mode_named name ≡ None

@@ -1,21 +1,22 @@
 -- Laws of orders of parts: the places of an order, and its grammar.
 use Rattle.std.proofs.Common.{◌≡◌, ℕ, suc, ◌+◌, ◌-◌, ◌*◌, ◌<◌, ◌≤◌, ◌⊎◌, ◌↔◌, Bool, true, false, not, ◌&&◌, ◌||◌, ◌==◌, cond, ltb, List, [], ◌∷◌, ◌++◌, length, length-append, append-nil, drop, get_or, replicate, Option, Some, None, Result, Ok, Err, refl, sym, ap, ◌∙◌, subst, inl, inr, ⊎_elim, arith, append_assoc, add-one, add-zero, drop-cons}
 use Rattle.std.specs.List.{AllPass, fold, concat}
-use Rattle.std.specs.Char.{is_ascii_digit, is_ascii_uppercase, digit_value}
-use Rattle.std.specs.Str.Parse.{digits_value, digits_value_after}
-use Rattle.std.proofs.lemmas.Bool.{both_ways, false_from_ne_true, and_parts, or_cases, or_right, ne_eqb, leb-true, ltb-true, lt-ltb, eqb-true}
+use Rattle.std.specs.Char.{is_ascii_digit, is_ascii_uppercase}
+use Rattle.std.proofs.lemmas.Bool.{both_ways, false_from_ne_true, and_parts, or_cases, or_right, ne_eqb, ltb-true, lt-ltb, eqb-true}
 use Rattle.std.proofs.lemmas.Bool.Decides.{nat_tests}
 use Rattle.std.proofs.lemmas.List.Sums.{fold-append}
 use Rattle.std.proofs.lemmas.List.Folds.{fold_stays}
 use Rattle.std.proofs.lemmas.List.Elements.{All-head, All-tail, All-append, All-cons, All-nil}
-use Rattle.std.proofs.lemmas.Int.Digits.{digits_value_push}
-use Rattle.abc_fields.specs.Number.{IsNumber}
+use Rattle.abc_text.specs.Digit.{decimal}
+use Rattle.abc_text.specs.Number.{IsNumber}
+use Rattle.abc_text.proofs.Decimals.{digit_range}
 use Rattle.abc_fields.specs.declared.fault.FaultCode.{FaultCode}
 use Rattle.abc_fields.specs.declared.fault.FaultCode.TheVariants.{BadOrder}
 use Rattle.abc_fields.specs.declared.parts.Before.{Before}
 use Rattle.abc_fields.specs.declared.parts.Before.TheVariants.{Nothing, Item}
 use Rattle.abc_fields.specs.declared.parts.Place.{Place}
-use Rattle.abc_fields.specs.Parts.{is_ignored, order_bytes, IsCount, once, times, IsOrder, part, group, behind, ends_item, begins_item, with_digit, at, behind_digit, next, next_of, is_whole, place_behind, ends_order, is_order, parts_of, IsParts}
+use Rattle.abc_fields.specs.Parts.{is_ignored, order_bytes, ends_item, begins_item, with_digit, at, behind_digit, next, next_of, is_whole, place_behind, ends_order, is_order, parts_of}
+use Rattle.abc_fields.specs.Spelling.Parts.{IsCount, once, times, IsOrder, part, group, behind, IsParts}
 
 -- the place behind a text, from this place on
 abbrev read : Option Place → List ℕ → Option Place
@@ -36,9 +37,6 @@ close_next depth before ends =
     let some : ltb 0 (depth + 1) ≡ true = lt-ltb 0 (depth + 1) (omega arith) in
     let same : (depth + 1) - 1 ≡ depth = omega arith in
     rw (ends, some, same) refl
-
-pub digit_range : (b : ℕ) → is_ascii_digit b ≡ true → (48 ≤ b) × (b ≤ 57)
-digit_range b h = let parts = and_parts _ _ h in (leb-true 48 b parts.0, leb-true b 57 parts.1)
 
 pub below_upper : (b : ℕ) → b ≤ 57 → is_ascii_uppercase b ≡ false
 below_upper b h = grind (arith, nat_tests)
@@ -78,35 +76,31 @@ begins_too : (before : Before) → ends_item before ≡ true → begins_item bef
 begins_too Nothing h = cc
 begins_too (Item digits positive) h = h
 
-digit_is : (b : ℕ) → 48 ≤ b → b ≤ 57 → digit_value b ≡ b - 48
-digit_is b low high = grind (arith, nat_tests)
+positive_step : (b n : ℕ) → 48 ≤ b → (ltb 0 n || not (b == 48)) ≡ ltb 0 (n * 10 + (b - 48))
+positive_step b n low = grind (arith, nat_tests)
 
-nought_or : (b n : ℕ) → 48 ≤ b → (ltb 0 n || not (b == 48)) ≡ ltb 0 (n * 10 + (b - 48))
-nought_or b n low = grind (arith, nat_tests)
-
-positive_step : (b n : ℕ) → 48 ≤ b → b ≤ 57 → (ltb 0 n || not (b == 48)) ≡ ltb 0 (n * 10 + digit_value b)
-positive_step b n low high =
-    let value : digit_value b ≡ b - 48 = digit_is b low high in
-    rw value (nought_or b n low)
+-- the number that digits write behind this one
+abbrev pub number_after : ℕ → List ℕ → ℕ
+number_after n digits = fold (λ n d. n * 10 + (d - 48)) n digits
 
 count_places : (text : List ℕ) (depth digits n : ℕ) → AllPass is_ascii_digit text → digits + length text ≤ 9
-    → read (Some (at depth (Item digits (ltb 0 n)))) text ≡ Some (at depth (Item (digits + length text) (ltb 0 (digits_value_after 10 n text))))
+    → read (Some (at depth (Item digits (ltb 0 n)))) text ≡ Some (at depth (Item (digits + length text) (ltb 0 (number_after n text))))
 count_places [] depth digits n all few = rw add-zero refl
 count_places (b ∷ text) depth digits n all few =
     let digit : is_ascii_digit b ≡ true = All-head (λ y. is_ascii_digit y ≡ true) b text all in
     let range = digit_range b digit in
-    let behind = count_places text depth (digits + 1) (n * 10 + digit_value b) (All-tail (λ y. is_ascii_digit y ≡ true) b text all) (omega arith) in
+    let behind = count_places text depth (digits + 1) (n * 10 + (b - 48)) (All-tail (λ y. is_ascii_digit y ≡ true) b text all) (omega arith) in
     let one = digit_next depth b digits (ltb 0 n) digit (omega arith) in
-    let positive = ap (λ p. Some (at depth (Item (digits + 1) p))) (positive_step b n range.0 range.1) in
+    let positive = ap (λ p. Some (at depth (Item (digits + 1) p))) (positive_step b n range.0) in
     let long : (digits + 1) + length text ≡ digits + length (b ∷ text) = omega arith in
-    ap (λ place. read place text) (one ∙ positive) ∙ behind ∙ ap (λ k. Some (at depth (Item k (ltb 0 (digits_value_after 10 (n * 10 + digit_value b) text))))) long
+    ap (λ place. read place text) (one ∙ positive) ∙ behind ∙ ap (λ k. Some (at depth (Item k (ltb 0 (number_after (n * 10 + (b - 48)) text))))) long
 
 count_ends : {count : List ℕ} {n : ℕ} → IsCount count n → (depth : ℕ) → Ends depth (read (Some (at depth (Item 0 false))) count)
 count_ends once depth = (Item 0 false, refl, refl)
 count_ends (times {text} {n} number positive) depth = (
-  Item (0 + length text) (ltb 0 (digits_value_after 10 0 text)),
+  Item (0 + length text) (ltb 0 (decimal text)),
   count_places text depth 0 0 number.digits (omega (arith, number.few)),
-  or_right (0 + length text == 0) _ (lt-ltb 0 (digits_value_after 10 0 text) (subst (λ v. 0 < v) number.value positive)),
+  or_right (0 + length text == 0) _ (lt-ltb 0 (decimal text) (subst (λ v. 0 < v) number.value positive)),
 )
 
 order_ends : {depth : ℕ} {text letters : List ℕ} → IsOrder depth text letters → (before : Before) → begins_item before ≡ true → Ends depth (read (Some (at depth before)) text)
@@ -144,7 +138,7 @@ record IsBegun (count : List ℕ) (digits : ℕ) (positive : Bool) : Type 0 wher
   long : digits ≡ length count
   few : digits ≤ 9
   all : AllPass is_ascii_digit count
-  value : positive ≡ ltb 0 (digits_value 10 count)
+  value : positive ≡ ltb 0 (decimal count)
 
 data Reached : ℕ → Before → List ℕ → Type 0 where
   at_front : {depth : ℕ} {text : List ℕ} → Opened depth text → Reached depth Nothing text
@@ -181,8 +175,8 @@ settled (b ∷ count) digits positive begun ends =
     let long : digits ≡ length (b ∷ count) = begun.long in
     let few : digits ≤ 9 = begun.few in
     let sure : positive ≡ true = ⊎_elim (λ none. absurd (some_digits digits (length count) long none)) (λ yes. yes) (or_cases (digits == 0) positive ends) in
-    let number : IsNumber (b ∷ count) (digits_value 10 (b ∷ count)) = record { some = omega arith; few = omega arith; digits = begun.all; value = refl } in
-    (digits_value 10 (b ∷ count), times number (ltb-true 0 (digits_value 10 (b ∷ count)) (sym begun.value ∙ sure)))
+    let number : IsNumber (b ∷ count) (decimal (b ∷ count)) = record { some = omega arith; few = omega arith; digits = begun.all; value = refl } in
+    (decimal (b ∷ count), times number (ltb-true 0 (decimal (b ∷ count)) (sym begun.value ∙ sure)))
 
 finishes : {depth : ℕ} {before : Before} {text : List ℕ} → Reached depth before text → ends_item before ≡ true → Finishes depth text
 finishes (at_front opened) ends = cc
@@ -265,7 +259,7 @@ begun_more count digits positive b begun digit few =
       long = ap (λ n. n + 1) begun.long ∙ sym (length-append count (b ∷ []));
       few = omega arith;
       all = All-append (λ y. is_ascii_digit y ≡ true) count (b ∷ []) begun.all (All-cons (λ y. is_ascii_digit y ≡ true) b [] digit (All-nil (λ y. is_ascii_digit y ≡ true)));
-      value = ap (λ p. p || not (b == 48)) begun.value ∙ positive_step b (digits_value 10 count) range.0 range.1 ∙ ap (ltb 0) (sym (digits_value_push 10 count b));
+      value = ap (λ p. p || not (b == 48)) begun.value ∙ positive_step b (decimal count) range.0 ∙ ap (ltb 0) (sym (fold-append (λ n d. n * 10 + (d - 48)) 0 count (b ∷ [])));
     }
 
 digit_spelling : (outer inner bare count : List ℕ) (b : ℕ) → (outer ++ (inner ++ (bare ++ count))) ++ b ∷ [] ≡ outer ++ (inner ++ (bare ++ (count ++ b ∷ [])))

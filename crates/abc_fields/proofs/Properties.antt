@@ -11,11 +11,12 @@ use Rattle.std.proofs.lemmas.List.Elements.{All-head}
 use Rattle.std.proofs.lemmas.List.Prefix.{end_rest}
 use Rattle.std.proofs.lemmas.Slice.Eq.{bytes_eq-Decides, ends_is}
 use Rattle.std.specs.Char.{is_ascii_digit}
-use Rattle.abc_fields.specs.Number.{IsNumber, number_of}
+use Rattle.abc_text.specs.Number.{IsNumber, number_of}
 use Rattle.abc_fields.specs.declared.property.Property.{Property}
 use Rattle.abc_fields.specs.declared.property.Property.TheVariants.{Clef, Octave, Transpose, Other}
-use Rattle.abc_fields.specs.Property.{IsUnquoted, IsSignedNumber, EndsIn, HasMark, HasNoMark, IsClef, Gives, clef_name, octave_name, transpose_name, BeginsWith, HasNoName, IsProperty, is_quoted, unquoted, signed_number, mark_of, clef_of, begins_with, property_of}
-use Rattle.abc_fields.proofs.Numbers.{number_of-spells, number_of-spelled}
+use Rattle.abc_fields.specs.Property.{clef_name, octave_name, transpose_name, is_quoted, unquoted, signed_number, mark_of, clef_of, begins_with, property_of}
+use Rattle.abc_fields.specs.Spelling.Property.{IsUnquoted, IsSignedNumber, EndsIn, HasMark, HasNoMark, IsClef, Gives, BeginsWith, HasNoName, IsProperty}
+use Rattle.abc_text.proofs.Numbers.{number_of-spells, number_of-spelled}
 
 -- quotes
 quoted_of : (text value : List ℕ) → text ≡ 34 ∷ (value ++ 34 ∷ []) → (is_quoted text ≡ true) × (slice_range text 1 (length text - 1) ≡ value)

@@ -7,9 +7,11 @@ use Rattle.std.specs.Option.{option_and_then, option_or}
 use Rattle.abc_fields.specs.declared.property.Property.{Property}
 use Rattle.abc_fields.specs.declared.property.Property.TheVariants.{Clef, Octave, Transpose, Other}
 use Rattle.abc_fields.specs.declared.shift.Shift.{Shift}
-use Rattle.abc_fields.specs.Property.{HasMark, IsClef, IsProperty, IsSignedNumber, property_of}
-use Rattle.abc_fields.specs.Shift.{IsWithin, IsSmallShift, clef_in, octave_in, transpose_in, last_said, IsShift, with_property, shift_after, no_shift, shift_of}
-use Rattle.abc_fields.proofs.Numbers.{number_small}
+use Rattle.abc_fields.specs.Property.{property_of}
+use Rattle.abc_fields.specs.Spelling.Property.{HasMark, IsClef, IsProperty, IsSignedNumber}
+use Rattle.abc_fields.specs.Shift.{IsWithin, IsSmallShift, with_property, shift_after, no_shift, shift_of}
+use Rattle.abc_fields.specs.Spelling.Shift.{clef_in, octave_in, transpose_in, last_said, IsShift}
+use Rattle.abc_text.proofs.Numbers.{number_small}
 use Rattle.abc_fields.proofs.Properties.{property_read, property_known}
 
 or_or : (a b c : Option ℤ) → option_or a (option_or b c) ≡ option_or (option_or a b) c

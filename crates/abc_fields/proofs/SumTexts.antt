@@ -8,9 +8,10 @@ use Rattle.std.proofs.lemmas.List.Elements.{All-cons, All-same, All-append, All-
 use Rattle.std.proofs.lemmas.List.Folds.{list_any-append, list_any_none}
 use Rattle.std.proofs.lemmas.List.Sums.{sum_by-cons}
 use Rattle.std.proofs.lemmas.List.Splits.{slice_split_none, slice_split_at, length-slice_split, join_with_byte-slice_split}
-use Rattle.abc_fields.specs.Number.{IsNumber, number_of}
-use Rattle.abc_fields.specs.Meter.{IsSum, added, sum_of_words, at_most_255, sum_of, has_plus}
-use Rattle.abc_fields.proofs.Numbers.{number_of-spells, number_of-spelled}
+use Rattle.abc_text.specs.Number.{IsNumber, number_of}
+use Rattle.abc_fields.specs.Meter.{added, sum_of_words, at_most_255, sum_of, has_plus}
+use Rattle.abc_fields.specs.Spelling.Meter.{IsSum}
+use Rattle.abc_text.proofs.Numbers.{number_of-spells, number_of-spelled}
 
 abbrev is_plus : ℕ → Bool
 is_plus b = b == 43

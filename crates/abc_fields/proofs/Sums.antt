@@ -5,7 +5,7 @@ use Rattle.std.specs.Prelude.{◌==◌}
 use Rattle.std.proofs.lemmas.Bool.{cond-true, cond-false}
 use Rattle.std.proofs.lemmas.Bool.Decides.{nat_tests}
 use Rattle.std.proofs.lemmas.Iterator.{YieldsList}
-use Rattle.abc_fields.specs.Number.{number_of}
+use Rattle.abc_text.specs.Number.{number_of}
 use Rattle.abc_fields.specs.Meter.{added, sum_of_words, at_most_255, plus, sum_of}
 
 none_tested : (total n : ℕ) (t : Bool) → t ≡ leb (total + n) 255 → cond t (Some (total + n)) None ≡ None → 255 < total + n

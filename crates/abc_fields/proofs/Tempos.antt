@@ -13,14 +13,19 @@ use Rattle.abc_fields.specs.declared.fault.FaultCode.{FaultCode}
 use Rattle.abc_fields.specs.declared.fault.FaultCode.TheVariants.{BadTempo}
 use Rattle.abc_fields.specs.declared.tempo.Tempo.{Tempo}
 use Rattle.abc_fields.specs.declared.tempo.Tempo.TheVariants.{Unset, Units, Beat}
-use Rattle.abc_fields.specs.Blank.{is_blank, trim_start, trim_end}
-use Rattle.abc_fields.specs.Number.{number_of, IsNumber}
-use Rattle.abc_fields.specs.Cut.{cut_at}
-use Rattle.abc_fields.specs.Tempo.{IsSum, IsBeats, IsBareTempo, IsQuoted, IsBehindText, IsBeforeText, IsTempo, empty, text_alone, without_text, behind_text, before_text, positive, positive_of, sum_of, lowest, beats, bare_by, bare_tempo, tempo_around, tempo_by, tempo_in, tempo_of, IsInRange}
-use Rattle.abc_fields.proofs.Numbers.{number_of-spells, number_of-spelled, number_small}
-use Rattle.abc_fields.proofs.Cuts.{front_other, back_other, Without, IsCut, cut_at-found, cut_at-none, cut_at-cuts, trim_start-gap, trim_start-parts, trim_end-gap, trim_end-parts}
+use Rattle.abc_text.specs.Blank.{is_blank, trim_start, trim_end}
+use Rattle.abc_text.specs.Number.{number_of, IsNumber}
+use Rattle.abc_text.specs.Cut.{cut_at}
+use Rattle.abc_fields.specs.Tempo.{positive, positive_of, sum_of, lowest, beats, bare_by, bare_tempo, tempo_around, tempo_by, tempo_in, tempo_of, IsInRange}
+use Rattle.abc_fields.specs.Spelling.Tempo.{empty, text_alone, without_text, behind_text, before_text, IsSum, IsBeats, IsBareTempo, IsQuoted, IsBehindText, IsBeforeText, IsTempo}
+use Rattle.abc_text.proofs.Numbers.{number_of-spells, number_of-spelled, number_small}
+use Rattle.abc_text.specs.Cut.{Without, IsCut}
+use Rattle.abc_text.proofs.Fronts.{front_other}
+use Rattle.abc_text.proofs.Cuts.{cut_at-found, cut_at-none, cut_at-cuts}
+use Rattle.abc_text.proofs.Blanks.{back_other, trim_start-gap, trim_start-parts, trim_end-gap, trim_end-parts}
 use Rattle.abc_fields.proofs.LowestTerms.{IsHalved, lowest_is, IsLowest-halved, lowest-one}
-use Rattle.abc_fields.proofs.Fractions.{bound, number_bytes, sum_bytes, digit_visible, digit_other, sum_begins, sum_of-Some, sum_of-is, IsWithin, sum_within}
+use Rattle.abc_fields.proofs.Fractions.{number_bytes, sum_bytes, digit_visible, digit_other, sum_begins, sum_of-Some, sum_of-is, IsWithin, sum_within}
+use Rattle.abc_fields.proofs.Readings.{bound}
 
 -- numbers from 1
 pub record IsPositive (text : List ℕ) (n : ℕ) : Type 0 where

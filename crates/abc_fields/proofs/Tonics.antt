@@ -1,61 +1,45 @@
 -- The front of a key is read as its grammar says.
-use Rattle.std.proofs.Common.{◌≡◌, ℕ, zero, suc, ◌+◌, ◌<◌, ℤ, pos, negsuc, ◌+ℤ◌, ◌-ℤ◌, Bool, true, false, cond, List, [], ◌∷◌, ◌++◌, length, take, drop, Option, Some, None, codes, refl, sym, ap, ◌∙◌, subst, inl, inr, ⊎_elim, arith}
-use Rattle.std.specs.Prelude.{◌==◌, ◌≢◌, slice_get}
+use Rattle.std.proofs.Common.{◌≡◌, ℕ, suc, ◌+◌, ◌<◌, ℤ, pos, negsuc, ◌+ℤ◌, Bool, true, false, cond, List, [], ◌∷◌, ◌++◌, length, take, drop, Option, Some, None, codes, refl, sym, ap, ◌∙◌, subst, inl, inr, ⊎_elim, arith}
+use Rattle.std.specs.Prelude.{◌==◌, ◌≢◌}
 use Rattle.std.specs.List.{AllPass, prefix_len}
-use Rattle.std.specs.Option.{option_map}
+use Rattle.std.specs.Option.{option_map, option_and_then}
 use Rattle.std.specs.Str.{bytes_eq}
 use Rattle.std.specs.Char.{is_ascii_alphabetic}
 use Rattle.std.proofs.Math.Seq.{take-append_seam, drop-append_seam}
-use Rattle.std.proofs.lemmas.Bool.{cond-true, cond-false, cond_both, cases_Bool, eqb-true, eqb-false, ne_eqb, false_from_ne_true}
+use Rattle.std.proofs.lemmas.Bool.{cond-true, cond-false, cond_both, cases_Bool, eqb-true, eqb-false, eq-eqb, ne_eqb, false_from_ne_true}
 use Rattle.std.proofs.lemmas.List.{take-append-drop}
+use Rattle.std.proofs.lemmas.Option.{cond_some}
 use Rattle.std.proofs.lemmas.List.Elements.{All-nil, All-cons, All-head, All-tail}
 use Rattle.std.proofs.lemmas.Slice.Eq.{bytes_eq-Decides}
 use Rattle.abc_fields.specs.declared.mode.Mode.{Mode}
 use Rattle.abc_fields.specs.declared.mode.Mode.TheVariants.{Ionian}
 use Rattle.abc_fields.specs.declared.tonic.Basis.{Basis}
 use Rattle.abc_fields.specs.declared.tonic.Basis.TheVariants.{Named, Explicit}
-use Rattle.abc_fields.specs.Blank.{is_blank}
-use Rattle.abc_fields.specs.Mode.{IsMode, mode_named, mode_of}
-use Rattle.abc_fields.specs.Tonic.{IsTonicLetter, HasNoSign, IsSign, IsTonic, StopsAt, IsRun, IsBasis, tonic_sharps, sign_at, tonic_at, basis_by, basis_at}
-use Rattle.abc_fields.specs.Tonic.IsSign.{sharp, flat, none}
-use Rattle.abc_fields.specs.Tonic.IsBasis.{named, explicit, major}
+use Rattle.abc_text.specs.declared.letter.Letter.{Letter}
+use Rattle.abc_text.specs.Blank.{is_blank}
+use Rattle.abc_text.specs.Letter.{capital, letter_of}
+use Rattle.abc_text.proofs.Fronts.{empty_list, front_exact, front_none, front_passes, front_stops}
+use Rattle.abc_text.proofs.Letters.{letter_of-capital}
+use Rattle.abc_fields.proofs.Readings.{bound}
+use Rattle.abc_fields.specs.Mode.{mode_named, mode_of}
+use Rattle.abc_fields.specs.Spelling.Mode.{IsMode}
+use Rattle.abc_fields.specs.Tonic.{if_capital, tonic_letter, major_sharps, sign_at, tonic_at, basis_by, basis_at}
+use Rattle.abc_fields.specs.Spelling.Tonic.{HasNoSign, IsSign, IsTonic, StopsAt, IsRun, IsBasis}
+use Rattle.abc_fields.specs.Spelling.Tonic.IsSign.{sharp, flat, none}
+use Rattle.abc_fields.specs.Spelling.Tonic.IsBasis.{named, explicit, major}
 use Rattle.abc_fields.proofs.Modes.{mode_from, mode_to}
 
 -- the letter of a tonic
-letter_case : (letter known fifths : ℕ) (rest : Option ℤ) (s : ℤ) → cond (letter == known) (Some (pos fifths -ℤ pos 1)) rest ≡ Some s
-    → slice_get (codes "FCGDAEB") fifths ≡ Some known → (rest ≡ Some s → IsTonicLetter letter s) → IsTonicLetter letter s
-letter_case letter known fifths rest s e at later = ⊎_elim
-    (λ t.
-    let same : Some (pos fifths -ℤ pos 1) ≡ Some s = sym (cond-true (letter == known) (Some (pos fifths -ℤ pos 1)) rest t) ∙ e in
-    let sharps : s ≡ pos fifths -ℤ pos 1 = cc in
-    (fifths, at ∙ ap Some (sym (eqb-true letter known t)), sharps))
-    (λ t. later (sym (cond-false (letter == known) (Some (pos fifths -ℤ pos 1)) rest t) ∙ e))
-    (cases_Bool (letter == known))
+if_capital-is : (b : ℕ) (known letter : Letter) → if_capital b known ≡ Some letter → b ≡ capital letter
+if_capital-is b known letter e =
+    let found = cond_some _ _ _ e in
+    sym (eqb-true (capital known) b found.0) ∙ ap capital found.1
 
-letter_from : (letter : ℕ) (s : ℤ) → tonic_sharps letter ≡ Some s → IsTonicLetter letter s
-unfolding tonic_sharps
-letter_from letter s e =
-    letter_case letter 70 0 _ s e refl (λ e.
-    letter_case letter 67 1 _ s e refl (λ e.
-    letter_case letter 71 2 _ s e refl (λ e.
-    letter_case letter 68 3 _ s e refl (λ e.
-    letter_case letter 65 4 _ s e refl (λ e.
-    letter_case letter 69 5 _ s e refl (λ e.
-    letter_case letter 66 6 _ s e refl (λ e. cc)))))))
+tonic_letter-is : (b : ℕ) (letter : Letter) → tonic_letter b ≡ Some letter → b ≡ capital letter
+tonic_letter-is b letter e = let known = bound (if_capital b) (letter_of b) letter e in if_capital-is b known.0 letter known.2
 
-letter_is : (known letter : ℕ) → Some known ≡ Some letter → letter ≡ known
-letter_is known letter e = cc
-
-letter_to : (letter : ℕ) (s : ℤ) (fifths : ℕ) → slice_get (codes "FCGDAEB") fifths ≡ Some letter → s ≡ pos fifths -ℤ pos 1 → tonic_sharps letter ≡ Some s
-unfolding tonic_sharps
-letter_to letter s zero e h = ap tonic_sharps (letter_is 70 letter e) ∙ ap Some (sym h)
-letter_to letter s (suc zero) e h = ap tonic_sharps (letter_is 67 letter e) ∙ ap Some (sym h)
-letter_to letter s (suc (suc zero)) e h = ap tonic_sharps (letter_is 71 letter e) ∙ ap Some (sym h)
-letter_to letter s (suc (suc (suc zero))) e h = ap tonic_sharps (letter_is 68 letter e) ∙ ap Some (sym h)
-letter_to letter s (suc (suc (suc (suc zero)))) e h = ap tonic_sharps (letter_is 65 letter e) ∙ ap Some (sym h)
-letter_to letter s (suc (suc (suc (suc (suc zero))))) e h = ap tonic_sharps (letter_is 69 letter e) ∙ ap Some (sym h)
-letter_to letter s (suc (suc (suc (suc (suc (suc zero)))))) e h = ap tonic_sharps (letter_is 66 letter e) ∙ ap Some (sym h)
-letter_to letter s (suc (suc (suc (suc (suc (suc (suc k))))))) e h = cc
+tonic_letter-capital : (letter : Letter) → tonic_letter (capital letter) ≡ Some letter
+tonic_letter-capital letter = ap (option_and_then (if_capital (capital letter))) (letter_of-capital letter) ∙ cond-true _ _ _ (eq-eqb (capital letter) (capital letter) refl)
 
 -- the sign behind it
 sign_from : (text : List ℕ) → IsSign text (sign_at text).0 (sign_at text).1
@@ -77,20 +61,18 @@ sign_to text added rest (flat e h) = ap sign_at e ∙ (λ i. (sym h i, rest))
 sign_to text added rest (none unsigned e h) = no_sign text unsigned ∙ (λ i. (sym h i, e i))
 
 -- the tonic
-abbrev with_sign : List ℕ → ℤ → ℤ × List ℕ
-with_sign behind n = (n +ℤ (sign_at behind).0, (sign_at behind).1)
+abbrev with_sign : List ℕ → Letter → ℤ × List ℕ
+with_sign behind letter = (major_sharps letter +ℤ (sign_at behind).0, (sign_at behind).1)
 
-tonic_by : (letter : ℕ) (behind : List ℕ) (s : ℤ) (rest : List ℕ) (o : Option ℤ) → tonic_sharps letter ≡ o
-    → option_map (with_sign behind) o ≡ Some (s, rest) → IsTonic (letter ∷ behind) s rest
-tonic_by letter behind s rest None o e = cc
-tonic_by letter behind s rest (Some n) o e =
-    let same : with_sign behind n ≡ (s, rest) = cc in
-    subst (λ (p : ℤ × List ℕ). IsTonic (letter ∷ behind) p.0 p.1) same (record {
+tonic_by : (b : ℕ) (behind : List ℕ) (s : ℤ) (rest : List ℕ) (o : Option Letter) → tonic_letter b ≡ o
+    → option_map (with_sign behind) o ≡ Some (s, rest) → IsTonic (b ∷ behind) s rest
+tonic_by b behind s rest None o e = cc
+tonic_by b behind s rest (Some letter) o e =
+    let same : with_sign behind letter ≡ (s, rest) = cc in
+    subst (λ (p : ℤ × List ℕ). IsTonic (b ∷ behind) p.0 p.1) same (record {
       letter = letter;
       behind = behind;
-      spelling = refl;
-      natural = n;
-      letter_sharps = letter_from letter n o;
+      spelling = ap (λ x. x ∷ behind) (tonic_letter-is b letter o);
       added = (sign_at behind).0;
       sign = sign_from behind;
       sharps_are = refl;
@@ -98,41 +80,29 @@ tonic_by letter behind s rest (Some n) o e =
 
 pub tonic_from : (text : List ℕ) (s : ℤ) (rest : List ℕ) → tonic_at text ≡ Some (s, rest) → IsTonic text s rest
 tonic_from [] s rest e = cc
-tonic_from (letter ∷ behind) s rest e = tonic_by letter behind s rest (tonic_sharps letter) refl e
+tonic_from (b ∷ behind) s rest e = tonic_by b behind s rest (tonic_letter b) refl e
 
 pub tonic_to : (text : List ℕ) (s : ℤ) (rest : List ℕ) → IsTonic text s rest → tonic_at text ≡ Some (s, rest)
 tonic_to text s rest h =
     let sign = sign_to h.behind h.added rest h.sign in
-    let letter = letter_to h.letter h.natural h.letter_sharps.0 h.letter_sharps.1 h.letter_sharps.2 in
     ap tonic_at h.spelling
-    ∙ ap (option_map (with_sign h.behind)) letter
-    ∙ (λ i. Some (h.natural +ℤ (sign i).0, (sign i).1))
+    ∙ ap (option_map (with_sign h.behind)) (tonic_letter-capital h.letter)
+    ∙ (λ i. Some (major_sharps h.letter +ℤ (sign i).0, (sign i).1))
     ∙ (λ i. Some (sym h.sharps_are i, rest))
 
 -- the longest front that passes a test
+stopped : (test : ℕ → Bool) (rest : List ℕ) → StopsAt test rest → prefix_len test rest ≡ 0
+stopped test [] stops = refl
+stopped test (b ∷ bs) stops = front_none test b bs (stops b bs refl)
+
 front_len : (test : ℕ → Bool) (front rest : List ℕ) → AllPass test front → StopsAt test rest → prefix_len test (front ++ rest) ≡ length front
-front_len test [] [] pass stops = refl
-front_len test [] (b ∷ bs) pass stops = cond-false (test b) (1 + prefix_len test bs) 0 (stops b bs refl)
-front_len test (f ∷ fs) rest pass stops =
-    let more = front_len test fs rest (All-tail (λ x. test x ≡ true) f fs pass) stops in
-    cond-true (test f) (1 + prefix_len test (fs ++ rest)) 0 (All-head (λ x. test x ≡ true) f fs pass) ∙ omega (arith, more)
+front_len test front rest pass stops = front_exact test front rest pass (stopped test rest stops)
 
-one_longer : (test : ℕ → Bool) (b : ℕ) (bs : List ℕ) → test b ≡ true → prefix_len test (b ∷ bs) ≡ suc (prefix_len test bs)
-one_longer test b bs t = cond-true (test b) (1 + prefix_len test bs) 0 t ∙ omega arith
-
-front_passes : (test : ℕ → Bool) (text : List ℕ) → AllPass test (take (prefix_len test text) text)
-front_passes test [] = All-nil _
-front_passes test (b ∷ bs) = ⊎_elim
-    (λ t. subst (λ n. AllPass test (take n (b ∷ bs))) (sym (one_longer test b bs t)) (All-cons (λ x. test x ≡ true) b (take (prefix_len test bs) bs) t (front_passes test bs)))
-    (λ t. subst (λ n. AllPass test (take n (b ∷ bs))) (sym (cond-false (test b) (1 + prefix_len test bs) 0 t)) (All-nil _))
-    (cases_Bool (test b))
-
-front_stops : (test : ℕ → Bool) (text : List ℕ) → StopsAt test (drop (prefix_len test text) text)
-front_stops test [] = λ b rest e. cc
-front_stops test (b ∷ bs) = ⊎_elim
-    (λ t. subst (λ n. StopsAt test (drop n (b ∷ bs))) (sym (one_longer test b bs t)) (front_stops test bs))
-    (λ t. subst (λ n. StopsAt test (drop n (b ∷ bs))) (sym (cond-false (test b) (1 + prefix_len test bs) 0 t)) (λ c rest e. let same : b ≡ c = cc in subst (λ x. test x ≡ false) same t))
-    (cases_Bool (test b))
+stops_behind : (test : ℕ → Bool) (text : List ℕ) → StopsAt test (drop (prefix_len test text) text)
+stops_behind test text b rest e = ⊎_elim
+    (λ none. let no : b ∷ rest ≡ [] = sym e ∙ none in cc)
+    (λ some. let same : b ∷ rest ≡ some.0 ∷ some.1 = sym e ∙ some.2 in let head : some.0 ≡ b = cc in subst (λ x. test x ≡ false) head some.3)
+    (front_stops test text)
 
 -- the run of letters
 run_of : (text : List ℕ) →
@@ -146,9 +116,9 @@ run_of text =
     record {
       spelling = sym (ap (λ l. take n text ++ l) whole ∙ take-append-drop n text);
       are_blanks = front_passes is_blank text;
-      no_more_blanks = subst (StopsAt is_blank) (sym whole) (front_stops is_blank text);
+      no_more_blanks = subst (StopsAt is_blank) (sym whole) (stops_behind is_blank text);
       are_letters = front_passes is_ascii_alphabetic behind;
-      no_more_letters = front_stops is_ascii_alphabetic behind;
+      no_more_letters = stops_behind is_ascii_alphabetic behind;
     }
 
 run_read : (text blanks run rest : List ℕ) → IsRun text blanks run rest → basis_at text ≡ basis_by (mode_of run) (length blanks) run text rest
@@ -171,8 +141,7 @@ unfolding mode_of mode_named
 exp_is_no_mode = refl
 
 no_length : (text : List ℕ) → (length text == 0) ≡ true → text ≡ []
-no_length [] t = refl
-no_length (b ∷ bs) t = absurd (let e : length (b ∷ bs) ≡ 0 = eqb-true (length (b ∷ bs)) 0 t in omega (arith, e))
+no_length text t = empty_list text (eqb-true (length text) 0 t)
 
 some_length : (text : List ℕ) → 0 < length text → (length text == 0) ≡ false
 some_length text some = ne_eqb (length text) 0 (λ e. omega (arith, e, some))

@@ -6,24 +6,25 @@ use Rattle.abc_time.specs.declared.ratio.Ratio.{Ratio}
 use Rattle.abc_time.specs.Ratio.{IsRatio}
 use Rattle.abc_fields.specs.declared.fault.FaultCode.{FaultCode}
 use Rattle.abc_fields.specs.declared.fault.FaultCode.TheVariants.{BadUnit}
-use Rattle.abc_fields.specs.Number.{number_of}
-use Rattle.abc_fields.specs.Power.{IsPowerUpTo, is_power}
-use Rattle.abc_fields.specs.Unit.{IsPartOfWhole, IsUnit, power_of, part_after_one, part_of, unit_by, unit_of}
-use Rattle.abc_fields.proofs.Numbers.{number_of-spells, number_of-spelled}
-use Rattle.abc_fields.proofs.Powers.{power_from, power_to, power_least, power_most}
+use Rattle.abc_text.specs.Number.{number_of}
+use Rattle.abc_text.specs.Power.{IsPowerUpTo, is_power_up_to}
+use Rattle.abc_fields.specs.Unit.{power_of, part_after_one, part_of, unit_by, unit_of}
+use Rattle.abc_fields.specs.Spelling.Unit.{IsPartOfWhole, IsUnit}
+use Rattle.abc_text.proofs.Numbers.{number_of-spells, number_of-spelled}
+use Rattle.abc_text.proofs.Powers.{power_from, power_to, power_least, power_most}
 use Rattle.abc_fields.proofs.Readings.{refused_from}
 
 same_ratio : (u : Ratio) (n d : ℕ) → u.num ≡ n → u.den ≡ d → u ≡ record { num = n; den = d }
 same_ratio u n d e f = ap (λ x. record { num = x; den = u.den }) e ∙ ap (λ x. record { num = n; den = x }) f
 
 -- the powers of two
-power_at : (n m : ℕ) (t : Bool) → t ≡ is_power n → cond t (Some n) None ≡ Some m → (n ≡ m) × IsPowerUpTo 9 m
-power_at n m true e h = let same : n ≡ m = cc in (same, subst (IsPowerUpTo 9) same (power_from n (sym e)))
+power_at : (n m : ℕ) (t : Bool) → t ≡ is_power_up_to 9 n → cond t (Some n) None ≡ Some m → (n ≡ m) × IsPowerUpTo 9 m
+power_at n m true e h = let same : n ≡ m = cc in (same, subst (IsPowerUpTo 9) same (power_from 9 n (sym e)))
 power_at n m false e h = cc
 
 power : (o : Option ℕ) (m : ℕ) → power_of o ≡ Some m → (o ≡ Some m) × IsPowerUpTo 9 m
 power None m h = cc
-power (Some n) m h = let p = power_at n m (is_power n) refl h in (ap Some p.0, p.1)
+power (Some n) m h = let p = power_at n m (is_power_up_to 9 n) refl h in (ap Some p.0, p.1)
 
 -- what is read is a part of a whole note
 abbrev IsPart : List ℕ → ℕ → Type 0
@@ -46,7 +47,7 @@ part_from (b ∷ rest) n e = ⊎_elim
 part_to : (text : List ℕ) (n : ℕ) → IsPart text n → part_of text ≡ Some n
 part_to text n h = ⊎_elim
     (λ whole. ap part_of whole.0 ∙ ap Some (sym whole.1))
-    (λ p. ap part_of p.spelling ∙ ap power_of (number_of-spelled p.below n p.number) ∙ cond-true _ _ _ (power_to n p.power))
+    (λ p. ap part_of p.spelling ∙ ap power_of (number_of-spelled p.below n p.number) ∙ cond-true _ _ _ (power_to 9 n p.power))
     h
 
 -- and the unit is that part
@@ -66,7 +67,7 @@ bad (Some n) e h = cc
 unit_IsRatio : (text : List ℕ) (u : Ratio) → IsUnit text u → IsRatio u
 unit_IsRatio text u h = ⊎_elim
     (λ whole. let one = h.one in let den = whole.1 in record { num_least = omega arith; num_most = omega arith; den_least = omega arith; den_most = omega arith })
-    (λ p. let one = h.one in let least = power_least u.den p.power in let most = power_most u.den p.power in record { num_least = omega arith; num_most = omega arith; den_least = omega arith; den_most = omega arith })
+    (λ p. let one = h.one in let least = power_least 9 u.den p.power in let most = power_most 9 u.den p.power in record { num_least = omega arith; num_most = omega arith; den_least = omega arith; den_most = omega arith })
     h.part
 
 pub record Laws (text : List ℕ) (r : Result Ratio FaultCode) : Type 0 where

@@ -7,11 +7,12 @@ use Rattle.abc_fields.specs.declared.fault.FaultCode.{FaultCode}
 use Rattle.abc_fields.specs.declared.fault.FaultCode.TheVariants.{BadVoice}
 use Rattle.abc_fields.specs.declared.shift.Shift.{Shift}
 use Rattle.abc_fields.specs.declared.voice.Voice.{Voice}
-use Rattle.abc_fields.specs.Word.{first_word, words_of}
+use Rattle.abc_text.specs.Word.{first_word, words_of}
 use Rattle.abc_fields.specs.Shift.{shift_of}
-use Rattle.abc_fields.specs.Voice.{IsVoice, voice_at, voice_in, voice_of}
+use Rattle.abc_fields.specs.Voice.{voice_at, voice_in, voice_of}
+use Rattle.abc_fields.specs.Spelling.Voice.{IsVoice}
 use Rattle.abc_fields.proofs.Shifts.{shift_exact}
-use Rattle.abc_fields.proofs.Words.{first_at, first_known}
+use Rattle.abc_text.proofs.Words.{first_at, first_known}
 
 with_shift : (text : List ℕ) (from to : ℕ) (shift : Option Shift) (voice : Voice) → Some (from, to) ≡ first_word text → shift_of (words_of (drop to text)) ≡ shift
     → option_map (λ (s : Shift). record { from = from; to = to; shift = s }) shift ≡ Some voice → IsVoice text voice

@@ -1,9 +1,9 @@
--- The names of faults. Our own.
+-- The names and numbers of faults.
 use Rattle.std.specs.Prelude.{ℕ, List, codes}
 use Rattle.abc_fields.specs.declared.fault.FaultCode.{FaultCode}
 use Rattle.abc_fields.specs.declared.fault.FaultCode.TheVariants.{BadReference, BadMeter, BadUnit, BadTempo, BadKey, BadOrder, BadPart, BadVoice, TooManyVoices, BadByte, Unclosed, BadLength, BadTuplet, NestedTuplet, BadBroken, LooseTie, EmptyChord, BigChord, BadEnding, FreeBarRest, KeyRange, MissingKey, TempoRange, UnknownPart, UnevenVoices, TuneTooLong}
 
--- the name that the list of faults prints
+-- The name that the list of faults prints.
 abbrev pub name_of : FaultCode → List ℕ
 name_of BadReference = codes "BadReference"
 name_of BadMeter = codes "BadMeter"
@@ -31,3 +31,32 @@ name_of TempoRange = codes "TempoRange"
 name_of UnknownPart = codes "UnknownPart"
 name_of UnevenVoices = codes "UnevenVoices"
 name_of TuneTooLong = codes "TuneTooLong"
+
+-- Its number: faults at one place are listed in the order of their numbers.
+abbrev pub number_of : FaultCode → ℕ
+number_of BadReference = 1
+number_of BadMeter = 2
+number_of BadUnit = 3
+number_of BadTempo = 4
+number_of BadKey = 5
+number_of BadOrder = 6
+number_of BadPart = 7
+number_of BadVoice = 8
+number_of TooManyVoices = 9
+number_of BadByte = 10
+number_of Unclosed = 11
+number_of BadLength = 12
+number_of BadTuplet = 13
+number_of NestedTuplet = 14
+number_of BadBroken = 15
+number_of LooseTie = 16
+number_of EmptyChord = 17
+number_of BigChord = 18
+number_of BadEnding = 19
+number_of FreeBarRest = 20
+number_of KeyRange = 21
+number_of MissingKey = 22
+number_of TempoRange = 23
+number_of UnknownPart = 24
+number_of UnevenVoices = 25
+number_of TuneTooLong = 26

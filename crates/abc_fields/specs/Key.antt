@@ -1,104 +1,29 @@
 -- Keys. ABC 2.1 section 3.1.14.
-use Rattle.std.specs.Prelude.{ℕ, ◌≤◌, ◌⊎◌, ◌++◌, IfSome, ◌≡◌, ◌-◌, ◌==◌, ◌&&◌, ◌||◌, nat_le, nat_eq, Bool, false, ℤ, pos, negsuc, ◌+ℤ◌, int_lt, if◌then◌else◌, List, [], ◌∷◌, length, take, slice_index, codes, Option, Some, None, Result}
-use Rattle.std.specs.List.{Contains, list_any, ends_with}
+use Rattle.std.specs.Prelude.{ℕ, ◌+◌, IfSome, ◌-◌, ◌==◌, ◌&&◌, ◌||◌, nat_le, nat_eq, Bool, false, ℤ, pos, negsuc, ◌+ℤ◌, int_lt, if◌then◌else◌, List, [], ◌∷◌, length, take, slice_index, codes, Option, Some, None, Result, Ok, Err}
+use Rattle.std.specs.List.{list_any, ends_with}
 use Rattle.std.specs.Option.{option_map, ok_or}
 use Rattle.std.specs.Str.{bytes_eq}
 use Rattle.abc_fields.specs.declared.fault.FaultCode.{FaultCode}
 use Rattle.abc_fields.specs.declared.fault.FaultCode.TheVariants.{BadKey}
 use Rattle.abc_fields.specs.declared.key.Key.{Key}
 use Rattle.abc_fields.specs.declared.shift.Shift.{Shift}
-use Rattle.abc_fields.specs.declared.signature.Signature.{Signature}
 use Rattle.abc_fields.specs.declared.tonic.Basis.{Basis}
 use Rattle.abc_fields.specs.declared.tonic.Basis.TheVariants.{Named, Explicit}
-use Rattle.abc_fields.specs.Listed.{AreListed, with_accidentals}
+use Rattle.abc_fields.specs.Listed.{with_accidentals}
 use Rattle.abc_fields.specs.Mode.{added_sharps, is_minor}
-use Rattle.abc_fields.specs.Property.{EndsIn}
-use Rattle.abc_fields.specs.Shift.{IsShift, IsSmallShift, no_shift, shift_of}
+use Rattle.abc_fields.specs.Shift.{IsSmallShift, no_shift, shift_of}
 use Rattle.abc_fields.specs.Signature.{IsSharps, IsSignature, natural, signature_of}
-use Rattle.abc_fields.specs.Tonic.{IsTonic, IsBasis, tonic_at, basis_at}
-use Rattle.abc_fields.specs.Word.{AreWords, IsFirstWord, words_of}
+use Rattle.abc_fields.specs.Tonic.{tonic_at, basis_at}
+use Rattle.abc_text.specs.Word.{words_of}
+use Rattle.abc_text.specs.Byte.{digit_zero, equals_sign, caret, underscore}
 
--- No key: a signature without sharps and flats.
-abbrev pub no_key : Key
-no_key = record { signature = Some natural; sharps = pos 0; minor = false; shift = no_shift }
+-- An empty signature: it has no sharps and flats.
+abbrev pub empty_signature : Key
+empty_signature = record { signature = Some natural; sharps = pos 0; minor = false; shift = no_shift }
 
--- No signature at all.
-abbrev pub no_signature : Key
-no_signature = record { signature = None; sharps = pos 0; minor = false; shift = no_shift }
-
--- The key of a basis on the tonic whose major key has these sharps: tonic and mode have at most seven
--- sharps or flats together.
-abbrev pub IsKeyOn : ℤ → Basis → Key → Type 0
-IsKeyOn major Explicit key = key ≡ no_key
-IsKeyOn major (Named mode) key =
-    let sharps = major +ℤ added_sharps mode in
-    IsSharps sharps × (key ≡ record { signature = Some (signature_of sharps); sharps = sharps; minor = is_minor mode; shift = no_shift })
-
--- A value begins with no tonic.
-abbrev pub HasNoTonic : List ℕ → Type 0
-HasNoTonic value = (sharps : ℤ) (rest : List ℕ) → ¬ IsTonic value sharps rest
-
--- A word begins with an accidental: `^` (94), `_` (95) or `=` (61). ABC 2.1 section 4.2.
-abbrev pub BeginsAccidental : List ℕ → Type 0
-BeginsAccidental word = (b : ℕ) × (rest : List ℕ) × (word ≡ b ∷ rest) × ((b ≡ 94) ⊎ ((b ≡ 95) ⊎ (b ≡ 61)))
-
--- A word ends in `+8` or `-8`.
-abbrev pub EndsInOctave : List ℕ → Type 0
-EndsInOctave word = EndsIn word (codes "+8") ⊎ EndsIn word (codes "-8")
-
--- The names of clefs. ABC 2.1 section 4.6.
-abbrev pub clef_names : List (List ℕ)
-clef_names = codes "treble" ∷ codes "bass" ∷ codes "alto" ∷ codes "tenor" ∷ codes "perc" ∷ []
-
--- The line of a clef: nothing, or one digit 1 (49) to 5 (53).
-abbrev pub IsClefLine : List ℕ → Type 0
-IsClefLine line = (line ≡ []) ⊎ ((digit : ℕ) × (49 ≤ digit) × (digit ≤ 53) × (line ≡ digit ∷ []))
-
--- A word is the name of a clef, perhaps with the line that it stands on.
-pub record IsClefName (word : List ℕ) : Type 0 where
-  pub name : List ℕ
-  pub line : List ℕ
-  pub spelling : word ≡ name ++ line
-  pub is_name : Contains clef_names name
-  pub is_line : IsClefLine line
-
--- A word sets properties, where it stands first: it has a `=` (61), or ends in `+8` or `-8`, or is the
--- name of a clef. Our own.
-abbrev pub SetsProperties : List ℕ → Type 0
-SetsProperties word = Contains word 61 ⊎ (EndsInOctave word ⊎ IsClefName word)
-
--- What a value begins with, and the text whose words complete it: a tonic and what it is the basis of;
--- without a tonic, no key where accidentals are listed, and no signature where properties stand alone,
--- which is our own.
-pub data IsStart (value : List ℕ) (start : Key) (text : List ℕ) : Type 0 where
-  tonal : (major : ℤ) (behind : List ℕ) (basis : Basis) → IsTonic value major behind → IsBasis behind basis text
-      → IsKeyOn major basis start → IsStart value start text
-  listed : (first behind : List ℕ) → HasNoTonic value → IsFirstWord value first behind → BeginsAccidental first
-      → start ≡ no_key → text ≡ value → IsStart value start text
-  properties : (first behind : List ℕ) → HasNoTonic value → IsFirstWord value first behind → ¬ BeginsAccidental first
-      → SetsProperties first → start ≡ no_signature → text ≡ value → IsStart value start text
-
--- The accidentals among words complete a signature, if there is one.
-abbrev pub IsCompleted : Option Signature → List (List ℕ) → Option Signature → Type 0
-IsCompleted None words completed = completed ≡ None
-IsCompleted (Some signature) words completed = (changed : Signature) × AreListed signature words changed × (completed ≡ Some changed)
-
--- What begins a value, completed by words.
-pub record IsSpelled (value : List ℕ) (key : Key) : Type 0 where
-  pub start : Key
-  pub text : List ℕ
-  pub words : List (List ℕ)
-  pub begins : IsStart value start text
-  pub are_words : AreWords text words
-  pub signature : IsCompleted start.signature words key.signature
-  pub sharps : key.sharps ≡ start.sharps
-  pub minor : key.minor ≡ start.minor
-  pub shift : IsShift words key.shift
-
--- The value of a field K:. It is empty or `none`, or begins with a key that its words complete.
-pub data IsKey (value : List ℕ) (key : Key) : Type 0 where
-  nothing : (value ≡ []) ⊎ (value ≡ codes "none") → key ≡ no_key → IsKey value key
-  spelled : IsSpelled value key → IsKey value key
+-- The signature stays as it is.
+abbrev pub unchanged_signature : Key
+unchanged_signature = record { signature = None; sharps = pos 0; minor = false; shift = no_shift }
 
 -- The sharps of a key, the alterations of its signature and the parts of its shift lie within their
 -- bounds.
@@ -115,7 +40,7 @@ key_with sharps minor =
 
 -- The key of a basis on the tonic whose major key has these sharps.
 abbrev pub key_on : ℤ → Basis → Option Key
-key_on major Explicit = Some no_key
+key_on major Explicit = Some empty_signature
 key_on major (Named mode) = key_with (major +ℤ added_sharps mode) (is_minor mode)
 
 -- A word ends in `+8` or `-8`.
@@ -132,27 +57,27 @@ names_clef name =
 unfoldable pub without_line : List ℕ → List ℕ
 without_line word =
     let front = length word - 1 in
-    if nat_le 49 (slice_index word front) && nat_le (slice_index word front) 53 then take front word else word
+    if nat_le (digit_zero + 1) (slice_index word front) && nat_le (slice_index word front) (digit_zero + 5) then take front word else word
 
 -- A word is the name of a clef, perhaps with the line that it stands on.
 abbrev pub is_clef_name : List ℕ → Bool
 is_clef_name word = names_clef (without_line word)
 
--- A word sets properties, where it stands first: it has a `=` (61), or ends in `+8` or `-8`, or is the
--- name of a clef. Our own.
+-- A word sets properties, where it stands first: it has a `=`, or ends in `+8` or `-8`, or is the
+-- name of a clef.
 abbrev pub sets_properties : List ℕ → Bool
-sets_properties word = list_any (λ b. b == 61) word || ends_in_octave word || is_clef_name word
+sets_properties word = list_any (λ b. b == equals_sign) word || ends_in_octave word || is_clef_name word
 
 -- A word begins with `^`, `_` or `=`.
 abbrev pub begins_accidental : List ℕ → Bool
 begins_accidental [] = false
-begins_accidental (b ∷ rest) = (b == 94) || (b == 95) || (b == 61)
+begins_accidental (b ∷ rest) = (b == caret) || (b == underscore) || (b == equals_sign)
 
--- What a key without a tonic begins with, by its first word. Our own.
+-- What a key without a tonic begins with, by its first word.
 abbrev pub toneless_start : List ℕ → Option Key
 toneless_start first =
-    if begins_accidental first then Some no_key
-    else (if sets_properties first then Some no_signature
+    if begins_accidental first then Some empty_signature
+    else (if sets_properties first then Some unchanged_signature
     else None)
 
 -- What a key on a tonic begins with, and the text whose words complete it.
@@ -165,6 +90,7 @@ abbrev pub start_by_words : List ℕ → List (List ℕ) → Option (Key × List
 start_by_words value [] = None
 start_by_words value (first ∷ rest) = option_map (λ key. (key, value)) (toneless_start first)
 
+-- What a value begins with, where its tonic and what stands behind it are known, or that it has none.
 abbrev pub start_by : List ℕ → Option (ℤ × List ℕ) → Option (Key × List ℕ)
 start_by value None = start_by_words value (words_of value)
 start_by value (Some tonic) = tonal_start tonic.0 (basis_at tonic.1)
@@ -192,9 +118,15 @@ spelled_key (Some start) = completed start.0 (words_of start.1)
 -- The key that a value says, if it is accepted: without a signature where it is empty or `none`.
 unfoldable pub key_in : List ℕ → Option Key
 key_in value =
-    if (length value == 0) || bytes_eq value (codes "none") then Some no_key
+    if (length value == 0) || bytes_eq value (codes "none") then Some empty_signature
     else spelled_key (start_of value)
 
 -- The key that a value says, or its fault.
 abbrev pub key_of : List ℕ → Result Key FaultCode
 key_of value = ok_or (key_in value) BadKey
+
+-- The key that a field K: sets, where reading it gives this: what it says, or an empty signature where
+-- it is refused. Our own.
+abbrev pub key_or_empty : Result Key FaultCode → Key
+key_or_empty (Ok key) = key
+key_or_empty (Err fault) = empty_signature

@@ -1,8 +1,9 @@
 -- The letters of the parts that an order plays. ABC 2.1 section 3.1.9.
-use Rattle.std.specs.Prelude.{ℕ, ◌+◌, ◌*◌, ◌==◌, if◌then◌else◌, List, [], ◌∷◌, ◌++◌, fold, replicate, Option, Some, None}
+use Rattle.std.specs.Prelude.{ℕ, ◌+◌, ◌-◌, ◌*◌, ◌==◌, if◌then◌else◌, List, [], ◌∷◌, ◌++◌, fold, replicate, Option, Some, None}
 use Rattle.std.specs.List.{concat}
-use Rattle.std.specs.Char.{is_ascii_uppercase, digit_value}
+use Rattle.std.specs.Char.{is_ascii_uppercase}
 use Rattle.abc_fields.specs.Parts.{order_bytes}
+use Rattle.abc_text.specs.Byte.{open_parenthesis, close_parenthesis, digit_zero}
 
 -- What the front of an order plays: for each open group, the innermost first, the letters in front of
 -- it in the group around it; in the innermost group the letters in front of its last item, those of
@@ -13,6 +14,7 @@ pub record Played : Type 0 where
   pub item : List ℕ
   pub count : Option ℕ
 
+-- Nothing stands in front.
 abbrev pub nothing_played : Played
 nothing_played = record { around = []; before = []; item = []; count = None }
 
@@ -36,15 +38,15 @@ close_group (before ∷ around) item = with_item around before item
 
 -- A count with one digit more.
 abbrev pub count_on : Option ℕ → ℕ → ℕ
-count_on None digit = digit_value digit
-count_on (Some n) digit = n * 10 + digit_value digit
+count_on None digit = digit - digit_zero
+count_on (Some n) digit = n * 10 + (digit - digit_zero)
 
--- With one byte more: a letter, a parenthesis (40 and 41) or a digit.
+-- With one byte more: a letter, a parenthesis or a digit.
 unfoldable pub play_on : Played → ℕ → Played
 play_on played b =
     if is_ascii_uppercase b then with_item played.around (letters_so_far played) (b ∷ [])
-    else (if b == 40 then with_item (letters_so_far played ∷ played.around) [] []
-    else (if b == 41 then close_group played.around (letters_so_far played)
+    else (if b == open_parenthesis then with_item (letters_so_far played ∷ played.around) [] []
+    else (if b == close_parenthesis then close_group played.around (letters_so_far played)
     else record played { count = Some (count_on played.count b) }))
 
 -- The letters of the parts that an order plays; of another text it says nothing.

@@ -1,26 +1,20 @@
 -- Signatures with listed accidentals. ABC 2.1 section 3.1.14.
-use Rattle.std.specs.Prelude.{ℕ, ◌≡◌, ◌⊎◌, List, [], ◌∷◌, fold, Option, Some, None}
+use Rattle.std.specs.Prelude.{ℕ, List, fold, Option, Some, None}
+use Rattle.abc_text.specs.Accidental.{alteration}
 use Rattle.abc_fields.specs.declared.accidental.Change.{Change}
 use Rattle.abc_fields.specs.declared.signature.Signature.{Signature}
-use Rattle.abc_fields.specs.Accidental.{AreChanges, changes_of}
+use Rattle.abc_fields.specs.Accidental.{changes_of}
 use Rattle.abc_fields.specs.Signature.{altered}
+
+-- A signature after a change.
+abbrev pub with_change : Signature → Change → Signature
+with_change signature change = altered signature change.letter (alteration change.accidental)
 
 -- A signature after changes, of which the later ones count.
 abbrev pub with_changes : Signature → List Change → Signature
-with_changes signature changes = fold (λ s c. altered s c.letter c.alteration) signature changes
+with_changes signature changes = fold with_change signature changes
 
--- A word changes a signature, if it is accidentals; else it leaves it as it is.
-abbrev pub IsChanged : Signature → List ℕ → Signature → Type 0
-IsChanged signature word changed =
-    ((changes : List Change) × AreChanges word changes × (changed ≡ with_changes signature changes))
-    ⊎ (((changes : List Change) → ¬ AreChanges word changes) × (changed ≡ signature))
-
--- Words change a signature, one word after another.
-abbrev pub AreListed : Signature → List (List ℕ) → Signature → Type 0
-AreListed signature [] changed = changed ≡ signature
-AreListed signature (word ∷ words) changed = (next : Signature) × IsChanged signature word next × AreListed next words changed
-
--- A signature after the changes of a word, or as it was where the word lists none.
+-- A signature after the changes of a word, or another where the word lists none.
 abbrev pub changed_or : Signature → Signature → Option (List Change) → Signature
 changed_or other signature None = other
 changed_or other signature (Some changes) = with_changes signature changes

@@ -1,6 +1,5 @@
 -- The modes of keys. ABC 2.1 section 3.1.14.
-use Rattle.std.specs.Prelude.{ℕ, ◌≡◌, ◌⊎◌, ◌||◌, Bool, true, false, ℤ, pos, negsuc, if◌then◌else◌, List, [], ◌∷◌, take, map, codes, Option, Some, None}
-use Rattle.std.specs.List.{Contains}
+use Rattle.std.specs.Prelude.{ℕ, ◌||◌, Bool, true, false, ℤ, pos, negsuc, if◌then◌else◌, List, take, map, codes, Option, Some, None}
 use Rattle.std.specs.Str.{bytes_eq}
 use Rattle.std.specs.Char.{to_ascii_lowercase}
 use Rattle.abc_fields.specs.declared.mode.Mode.{Mode}
@@ -26,24 +25,9 @@ is_minor Aeolian = true
 is_minor Phrygian = false
 is_minor Locrian = false
 
--- The first three letters of a mode's names; major is Ionian, and minor is Aeolian.
-abbrev pub names_of : Mode → List (List ℕ)
-names_of Lydian = codes "lyd" ∷ []
-names_of Ionian = codes "maj" ∷ codes "ion" ∷ []
-names_of Mixolydian = codes "mix" ∷ []
-names_of Dorian = codes "dor" ∷ []
-names_of Aeolian = codes "min" ∷ codes "aeo" ∷ []
-names_of Phrygian = codes "phr" ∷ []
-names_of Locrian = codes "loc" ∷ []
-
 -- The first three letters of a text, small.
 abbrev pub front_of : List ℕ → List ℕ
 front_of run = map to_ascii_lowercase (take 3 run)
-
--- A run of letters names a mode: it is `m`, or its first three letters, capitals or not, are those of
--- one of the mode's names.
-abbrev pub IsMode : List ℕ → Mode → Type 0
-IsMode run mode = ((run ≡ codes "m") × (mode ≡ Aeolian)) ⊎ Contains (names_of mode) (front_of run)
 
 -- The mode that three small letters name.
 unfoldable pub mode_named : List ℕ → Option Mode

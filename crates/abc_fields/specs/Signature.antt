@@ -1,60 +1,60 @@
 -- Key signatures. ABC 2.1 section 3.1.14.
-use Rattle.std.specs.Prelude.{ℕ, Bool, ◌+◌, ◌==◌, ℤ, pos, negsuc, ◌≤ℤ◌, if◌then◌else◌, List, take, codes}
-use Rattle.std.specs.List.{list_any}
-use Rattle.std.specs.Char.{to_ascii_uppercase}
+use Rattle.std.specs.Prelude.{ℕ, ◌-◌, nat_le, nat_lt, ℤ, pos, negsuc, ◌≤ℤ◌, if◌then◌else◌}
+use Rattle.abc_text.specs.declared.letter.Letter.{Letter}
+use Rattle.abc_text.specs.declared.letter.Letter.TheVariants.{C, D, E, F, G, A, B}
 use Rattle.abc_fields.specs.declared.signature.Signature.{Signature}
 
 -- The signature without sharps and flats.
 abbrev pub natural : Signature
 natural = record { a = pos 0; b = pos 0; c = pos 0; d = pos 0; e = pos 0; f = pos 0; g = pos 0 }
 
--- By how many semitones a signature alters a letter, capital or small.
-unfoldable pub alteration : Signature → ℕ → ℤ
-alteration signature letter =
-    let capital = to_ascii_uppercase letter in
-    if capital == 65 then signature.a
-    else (if capital == 66 then signature.b
-    else (if capital == 67 then signature.c
-    else (if capital == 68 then signature.d
-    else (if capital == 69 then signature.e
-    else (if capital == 70 then signature.f
-    else (if capital == 71 then signature.g
-    else pos 0))))))
+-- By how many semitones a signature alters a letter.
+abbrev pub alteration : Signature → Letter → ℤ
+alteration signature A = signature.a
+alteration signature B = signature.b
+alteration signature C = signature.c
+alteration signature D = signature.d
+alteration signature E = signature.e
+alteration signature F = signature.f
+alteration signature G = signature.g
 
--- The signature with another alteration of a letter, capital or small.
-unfoldable pub altered : Signature → ℕ → ℤ → Signature
-altered signature letter by =
-    let capital = to_ascii_uppercase letter in
-    record {
-      a = if capital == 65 then by else signature.a;
-      b = if capital == 66 then by else signature.b;
-      c = if capital == 67 then by else signature.c;
-      d = if capital == 68 then by else signature.d;
-      e = if capital == 69 then by else signature.e;
-      f = if capital == 70 then by else signature.f;
-      g = if capital == 71 then by else signature.g;
-    }
+-- The signature with another alteration of a letter.
+abbrev pub altered : Signature → Letter → ℤ → Signature
+altered signature A by = record signature { a = by }
+altered signature B by = record signature { b = by }
+altered signature C by = record signature { c = by }
+altered signature D by = record signature { d = by }
+altered signature E by = record signature { e = by }
+altered signature F by = record signature { f = by }
+altered signature G by = record signature { g = by }
 
--- A letter is among the first letters of an order.
-abbrev pub is_among_first : ℕ → List ℕ → ℕ → Bool
-is_among_first count order letter = list_any (λ l. l == letter) (take count order)
+-- How many fifths a letter lies above F: sharps fall on F C G D A E B in this order, and flats on
+-- B E A D G C F.
+abbrev pub fifths : Letter → ℕ
+fifths F = 0
+fifths C = 1
+fifths G = 2
+fifths D = 3
+fifths A = 4
+fifths E = 5
+fifths B = 6
 
--- How the signature of a count of sharps, or of flats where it is negative, alters a capital letter:
--- sharps fall on F C G D A E B in this order, flats on B E A D G C F.
-abbrev pub by_fifths : ℤ → ℕ → ℤ
-by_fifths (pos sharps) letter = if is_among_first sharps (codes "FCGDAEB") letter then pos 1 else pos 0
-by_fifths (negsuc flats) letter = if is_among_first (flats + 1) (codes "BEADGCF") letter then negsuc 0 else pos 0
+-- How the signature of a count of sharps, or of flats where it is negative, alters a letter: sharps
+-- are counted from F upwards, flats from B downwards, the first being `negsuc 0`.
+abbrev pub by_fifths : ℤ → Letter → ℤ
+by_fifths (pos sharps) letter = if nat_lt (fifths letter) sharps then pos 1 else pos 0
+by_fifths (negsuc flats) letter = if nat_le (6 - fifths letter) flats then negsuc 0 else pos 0
 
 -- The signature of a count of sharps, or of flats where it is negative.
 unfoldable pub signature_of : ℤ → Signature
 signature_of sharps = record {
-  a = by_fifths sharps 65;
-  b = by_fifths sharps 66;
-  c = by_fifths sharps 67;
-  d = by_fifths sharps 68;
-  e = by_fifths sharps 69;
-  f = by_fifths sharps 70;
-  g = by_fifths sharps 71;
+  a = by_fifths sharps A;
+  b = by_fifths sharps B;
+  c = by_fifths sharps C;
+  d = by_fifths sharps D;
+  e = by_fifths sharps E;
+  f = by_fifths sharps F;
+  g = by_fifths sharps G;
 }
 
 -- A count of sharps, or of flats where it is negative, of which a signature has at most seven.

@@ -1,29 +1,21 @@
--- The field V:. ABC 2.1 section 7.1.
-use Rattle.std.specs.Prelude.{◌≡◌, ℕ, ◌+◌, Option, Result, List, length, drop}
+-- The voice of a field V:. ABC 2.1 section 7.1.
+use Rattle.std.specs.Prelude.{ℕ, Option, Result, List, drop}
 use Rattle.std.specs.Option.{ok_or, option_and_then, option_map}
 use Rattle.abc_fields.specs.declared.fault.FaultCode.{FaultCode}
 use Rattle.abc_fields.specs.declared.fault.FaultCode.TheVariants.{BadVoice}
 use Rattle.abc_fields.specs.declared.voice.Voice.{Voice}
-use Rattle.abc_fields.specs.Word.{IsFirstWord, first_word, words_of}
-use Rattle.abc_fields.specs.Shift.{IsShift, shift_of}
+use Rattle.abc_text.specs.Word.{first_word, words_of}
+use Rattle.abc_fields.specs.Shift.{shift_of}
 
--- A voice: its identifier is the first word, and the words behind that say its shift.
-pub record IsVoice (text : List ℕ) (voice : Voice) : Type 0 where
-  pub identifier : List ℕ
-  pub behind : List ℕ
-  pub first : IsFirstWord text identifier behind
-  pub from : voice.from ≡ length first.blanks
-  pub to : voice.to ≡ voice.from + length identifier
-  pub shift : IsShift (words_of behind) voice.shift
-
--- the voice that stands at a place of a text, if the words behind it say a shift
+-- The voice that stands at a place of a text, if the words behind it say a shift.
 abbrev pub voice_at : List ℕ → ℕ × ℕ → Option Voice
 voice_at text place =
     option_map (λ shift. record { from = place.0; to = place.1; shift = shift }) (shift_of (words_of (drop place.1 text)))
 
--- the voice that a text spells
+-- The voice that a text spells.
 unfoldable pub voice_in : List ℕ → Option Voice
 voice_in text = option_and_then (voice_at text) (first_word text)
 
+-- The voice that a text spells, or its fault.
 unfoldable pub voice_of : List ℕ → Result Voice FaultCode
 voice_of text = ok_or (voice_in text) BadVoice

@@ -1,44 +1,33 @@
 //! Accidentals of a field, as `^f_B`.
 
-ghost use Rattle.std.specs.Prelude.{◌≡◌, ◌↔◌, ◌⊎◌, ◌<◌, ◌∷◌, [], List, ℤ, length, position, MatchOption, IfSome, Some, None};
+ghost use Rattle.std.specs.Prelude.{◌≡◌, ◌↔◌, ◌⊎◌, ◌<◌, ◌∷◌, [], List, length, position, MatchOption, IfSome, Some, None};
 ghost use Rattle.std.specs.Option.{option_map};
 ghost use Rattle.abc_fields.specs.declared.accidental.Change.{Change};
-ghost use Rattle.abc_fields.specs.Accidental.{is_letter, alteration_of, changes_of, AreChanges, IsAccidental};
+ghost use Rattle.abc_fields.specs.Accidental.{is_letter, changes_of};
+ghost use Rattle.abc_fields.specs.Spelling.Accidental.{AreChanges};
 
-/// What an accidental and a letter change in a signature.
+use abc_text::{Accidental, Letter, accidental_of, letter_of};
+
+/// What an accidental in front of a letter changes in a signature.
 #[derive(Clone, Copy, Debug, PartialEq, Eq)]
 pub(crate) struct Change {
-    /// A to G or a to g, as it is written.
-    pub(crate) letter: u8,
-    /// From -2 to 2.
-    pub(crate) alteration: i8,
+    pub(crate) accidental: Accidental,
+    pub(crate) letter: Letter,
 }
 
+/// Whether a byte is a letter of a note.
 fn is_letter(byte: u8) -> bool
     ensures { result ≡ is_letter byte }
 {
-    matches!(byte, b'A'..=b'G' | b'a'..=b'g')
+    letter_of(byte).is_some()
 }
 
+/// Where the first letter of a text stands.
 fn first_letter(text: &[u8]) -> Option<usize>
-    ensures { result ≡ position is_letter text.now }
+    ensures value { result ≡ position is_letter text.now }
+    ensures inside { IfSome result (λ at. at < length text.now) }
 {
     text.iter().position(|byte| is_letter(*byte))
-}
-
-/// The semitones of a sign (ABC 2.1 section 4.2).
-#[tactic(auto, unfolding(crate::specs::Accidental::alteration_of))]
-fn alteration_of(marks: &[u8]) -> Option<i8>
-    ensures { result ≡ alteration_of marks.now }
-{
-    match marks {
-        [b'^'] => Some(1),
-        [b'^', b'^'] => Some(2),
-        [b'_'] => Some(-1),
-        [b'_', b'_'] => Some(-2),
-        [b'='] => Some(0),
-        _ => None,
-    }
 }
 
 /// The first change of a text, and what stands behind it.
@@ -48,10 +37,7 @@ pub(crate) fn next_change(text: &[u8]) -> Option<(Change, &[u8])>
     ensures grammar { (changes : List Change) → (changes_of text.now ≡ Some changes) ↔ AreChanges text.now changes }
 {
     let at = first_letter(text)?;
-    let alteration = alteration_of(&text[..at])?;
-    let change = Change {
-        letter: text[at],
-        alteration,
-    };
-    Some((change, &text[at + 1..]))
+    let accidental = accidental_of(&text[..at])?;
+    let letter = letter_of(text[at])?;
+    Some((Change { accidental, letter }, &text[at + 1..]))
 }

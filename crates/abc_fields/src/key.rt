@@ -2,10 +2,11 @@
 
 ghost use Rattle.std.specs.Prelude.{◌≡◌, ◌↔◌, ◌+ℤ◌, Some, None, Ok, Err, MatchOption, IfOk};
 ghost use Rattle.abc_fields.specs.declared.key.Key.{Key};
-ghost use Rattle.abc_fields.specs.Word.{words_of};
+ghost use Rattle.abc_text.specs.Word.{words_of};
 ghost use Rattle.abc_fields.specs.Mode.{added_sharps};
 ghost use Rattle.abc_fields.specs.Tonic.{IsMajor};
-ghost use Rattle.abc_fields.specs.Key.{completed, key_with, key_on, without_line, names_clef, ends_in_octave, is_clef_name, begins_accidental, sets_properties, toneless_start, start_of, key_in, key_of, IsKey, IsInRange};
+ghost use Rattle.abc_fields.specs.Key.{completed, key_with, key_on, without_line, names_clef, ends_in_octave, is_clef_name, begins_accidental, sets_properties, toneless_start, start_of, key_in, key_of, key_or_empty, IsInRange};
+ghost use Rattle.abc_fields.specs.Spelling.Key.{IsKey};
 
 use crate::fault::FaultCode;
 use crate::listed::with_accidentals;
@@ -13,7 +14,7 @@ use crate::mode::Mode;
 use crate::shift::{NO_SHIFT, Shift, shift_in};
 use crate::signature::{NATURAL, Signature, signature_of};
 use crate::tonic::{Basis, basis_at, tonic_at};
-use crate::word::next_word;
+use abc_text::next_word;
 
 /// A key, with what its value says beside it (ABC 2.1 section 3.1.14).
 #[derive(Clone, Copy, Debug, PartialEq, Eq)]
@@ -28,16 +29,17 @@ pub struct Key {
     pub shift: Shift,
 }
 
-/// No key: a signature without sharps and flats.
-const NO_KEY: Key = Key {
+/// An empty signature, of no sharps and flats: what an empty value and `none` say, and what a refused
+/// value leaves.
+pub const EMPTY_SIGNATURE: Key = Key {
     signature: Some(NATURAL),
     sharps: 0,
     minor: false,
     shift: NO_SHIFT,
 };
 
-/// No signature at all.
-const NO_SIGNATURE: Key = Key {
+/// The signature stays as it is, since the value sets properties alone.
+const UNCHANGED_SIGNATURE: Key = Key {
     signature: None,
     sharps: 0,
     minor: false,
@@ -75,7 +77,7 @@ fn key_on(major: i8, basis: Basis) -> Option<Key>
 {
     match basis {
         Basis::Named(mode) => key_with(sharps_in(major, mode), mode.is_minor()),
-        Basis::Explicit => Some(NO_KEY),
+        Basis::Explicit => Some(EMPTY_SIGNATURE),
     }
 }
 
@@ -130,15 +132,15 @@ fn begins_accidental(word: &[u8]) -> bool
     matches!(word, [b'^' | b'_' | b'=', ..])
 }
 
-/// What a key without a tonic begins with, by its first word: no key, to which accidentals are
-/// listed, or no signature.
+/// What a key without a tonic begins with, by its first word: an empty signature, to which
+/// accidentals are listed, or no signature.
 fn toneless_start(first: &[u8]) -> Option<Key>
     ensures { result ≡ toneless_start first.now }
 {
     if begins_accidental(first) {
-        Some(NO_KEY)
+        Some(EMPTY_SIGNATURE)
     } else if sets_properties(first) {
-        Some(NO_SIGNATURE)
+        Some(UNCHANGED_SIGNATURE)
     } else {
         None
     }
@@ -181,7 +183,7 @@ fn key_in(value: &[u8]) -> Option<Key>
     ensures { result ≡ key_in value.now }
 {
     if value.is_empty() || value == b"none".as_slice() {
-        return Some(NO_KEY);
+        return Some(EMPTY_SIGNATURE);
     }
     let (start, text) = start_of(value)?;
     completed(start, text)
@@ -195,4 +197,12 @@ pub fn read_key(value: &[u8]) -> Result<Key, FaultCode>
     ensures range { IfOk result IsInRange }
 {
     key_in(value).ok_or(FaultCode::BadKey)
+}
+
+/// The key that a field K: sets: what its value says, or an empty signature where it is refused.
+pub fn key_set_by(value: &[u8]) -> Key
+    ensures value { result ≡ key_or_empty (key_of value.now) }
+    ensures range { IsInRange result }
+{
+    read_key(value).unwrap_or(EMPTY_SIGNATURE)
 }

@@ -3,16 +3,12 @@
 #![tactic(auto)]
 
 mod accidental;
-mod blank;
-mod cut;
 mod fault;
 mod key;
 mod listed;
 mod meter;
 mod mode;
-mod number;
 mod parts;
-mod power;
 mod property;
 mod shift;
 mod signature;
@@ -20,13 +16,10 @@ mod tempo;
 mod tonic;
 mod unit;
 mod voice;
-mod word;
 
-pub use blank::trimmed;
 pub use fault::FaultCode;
-pub use key::{Key, read_key};
+pub use key::{EMPTY_SIGNATURE, Key, key_set_by, read_key};
 pub use meter::{Meter, read_meter};
-pub use number::number_of;
 pub use parts::read_parts;
 pub use shift::Shift;
 pub use signature::{NATURAL, Signature, alteration};

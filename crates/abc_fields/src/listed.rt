@@ -1,12 +1,12 @@
 //! Signatures with listed accidentals.
 
 ghost use Rattle.std.specs.Prelude.{◌≡◌};
-ghost use Rattle.abc_fields.specs.Word.{words_of};
+ghost use Rattle.abc_text.specs.Word.{words_of};
 ghost use Rattle.abc_fields.specs.Listed.{with_word, with_accidentals};
 
 use crate::accidental::next_change;
 use crate::signature::{Signature, altered};
-use crate::word::next_word;
+use abc_text::next_word;
 
 /// A signature with the changes that a word lists. A word that is anything else changes nothing.
 #[tactic(auto, using(crate::proofs::Listings::changed_all))]
@@ -16,7 +16,7 @@ fn with_word(signature: Signature, word: &[u8]) -> Signature
     let mut changed = signature;
     let mut rest = word;
     while let Some((change, behind)) = next_change(rest) {
-        changed = altered(changed, change.letter, change.alteration);
+        changed = altered(changed, change.letter, change.accidental.alteration());
         rest = behind;
     }
     if rest.is_empty() { changed } else { signature }

@@ -1,12 +1,12 @@
 //! The meter, M:.
 
-ghost use Rattle.std.specs.Prelude.{◌≡◌, ◌<◌, ◌==◌, ◌↔◌, length, position, IfSome, IfOk};
-ghost use Rattle.abc_fields.specs.Meter.{plus, sum_of, above_of, power_up_to_64, fraction_of, symbol_or_fraction, meter_of, IsMeter, IsMeterInRange};
-ghost use Rattle.abc_fields.specs.Number.{number_of};
+ghost use Rattle.std.specs.Prelude.{◌≡◌, ◌↔◌, IfOk};
+ghost use Rattle.abc_fields.specs.Meter.{plus, sum_of, above_of, power_up_to_64, fraction_of, symbol_or_fraction, meter_of, IsMeterInRange};
+ghost use Rattle.abc_fields.specs.Spelling.Meter.{IsMeter};
+ghost use Rattle.abc_text.specs.Number.{number_of};
 
 use crate::fault::FaultCode;
-use crate::number::number_of;
-use crate::power::is_power;
+use abc_text::{cut_at, is_power_up_to, number_of};
 
 /// The meter of a tune (ABC 2.1 section 3.1.6).
 #[derive(Clone, Copy, Debug, PartialEq, Eq)]
@@ -16,6 +16,9 @@ pub enum Meter {
     /// A bar of `num` parts, of which a whole note has `den`.
     Of { num: u8, den: u8 },
 }
+
+/// How often a whole note may be halved: the finest part of a bar is a 64th.
+const MOST_HALVINGS: u32 = 6;
 
 /// The sum so far and the number that a word spells, where they come to at most 255.
 fn plus(sum: u8, word: &[u8]) -> Option<u8>
@@ -50,28 +53,21 @@ fn below_of(text: &[u8]) -> Option<u8>
     ensures { result ≡ power_up_to_64 (number_of text.now) }
 {
     let number = number_of(text)?;
-    if is_power(number) && number <= 64 {
+    if is_power_up_to(MOST_HALVINGS, number) {
         Some(number as u8)
     } else {
         None
     }
 }
 
-/// Where the first stroke of a text stands.
-fn stroke_of(text: &[u8]) -> Option<usize>
-    ensures value { result ≡ position (λ b. b == 47) text.now }
-    ensures inside { IfSome result (λ at. at < length text.now) }
-{
-    text.iter().position(|byte| *byte == b'/')
-}
-
 /// Reads a meter that is written as a fraction.
+#[tactic(auto, unfolding(crate::specs::Meter::fraction_of))]
 fn fraction_of(text: &[u8]) -> Option<Meter>
     ensures { result ≡ fraction_of text.now }
 {
-    let stroke = stroke_of(text)?;
-    let num = above_of(&text[..stroke])?;
-    let den = below_of(&text[stroke + 1..])?;
+    let (above, below) = cut_at(text, b'/')?;
+    let num = above_of(above)?;
+    let den = below_of(below)?;
     if num == 0 {
         None
     } else {

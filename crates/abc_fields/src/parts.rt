@@ -2,10 +2,11 @@
 
 ghost use Rattle.std.specs.Prelude.{◌≡◌, ◌↔◌, ℕ, List};
 ghost use Rattle.abc_fields.specs.Letters.{letters_of};
-ghost use Rattle.abc_fields.specs.Parts.{is_ignored, ends_item, begins_item, with_digit, next, is_whole, place_behind, is_order, parts_of, IsParts};
+ghost use Rattle.abc_fields.specs.Parts.{is_ignored, ends_item, begins_item, with_digit, next, is_whole, place_behind, is_order, parts_of};
+ghost use Rattle.abc_fields.specs.Spelling.Parts.{IsParts};
 
-use crate::blank::is_blank;
 use crate::fault::FaultCode;
+use abc_text::is_blank;
 
 /// How many groups stand within one another at most.
 const DEEPEST_GROUP: u8 = 32;
@@ -131,6 +132,7 @@ fn place_behind(text: &[u8]) -> Option<Place>
     Some(place)
 }
 
+/// Whether a text is an order of parts.
 fn is_order(text: &[u8]) -> bool
     ensures { result ≡ is_order text.now }
 {

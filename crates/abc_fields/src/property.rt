@@ -1,10 +1,11 @@
 //! Properties, as `clef=bass octave=-1`, and clefs with a mark, as `treble-8`.
 
 ghost use Rattle.std.specs.Prelude.{◌≡◌, ◌↔◌, ◌≤ℤ◌, ℤ, pos, negsuc, Some, None, length, IfSome};
-ghost use Rattle.abc_fields.specs.Property.{IsProperty, clef_of, mark_of, property_of, signed_number, unquoted};
+ghost use Rattle.abc_fields.specs.Property.{clef_of, mark_of, property_of, signed_number, unquoted};
+ghost use Rattle.abc_fields.specs.Spelling.Property.{IsProperty};
 ghost use Rattle.abc_fields.specs.declared.property.Property.{Property};
 
-use crate::number::number_of;
+use abc_text::number_of;
 
 /// What a word of a field says.
 #[derive(Clone, Copy, Debug, PartialEq, Eq)]
@@ -31,7 +32,7 @@ fn unquoted(text: &[u8]) -> &[u8]
 }
 
 /// The number that a sign and one to nine digits spell.
-#[tactic(auto, unfolding(crate::specs::Property::signed_number, crate::specs::Number::number_of))]
+#[tactic(auto, unfolding(crate::specs::Property::signed_number, abc_text::specs::Number::number_of))]
 fn signed_number(text: &[u8]) -> Option<i64>
     ensures { result ≡ signed_number text.now }
 {

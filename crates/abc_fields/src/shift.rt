@@ -2,11 +2,12 @@
 
 ghost use Rattle.std.specs.Prelude.{◌≡◌, ◌↔◌, Some, IfSome};
 ghost use Rattle.abc_fields.specs.declared.shift.Shift.{Shift};
-ghost use Rattle.abc_fields.specs.Word.{words_of};
-ghost use Rattle.abc_fields.specs.Shift.{IsShift, IsSmallShift, shift_of, with_property};
+ghost use Rattle.abc_text.specs.Word.{words_of};
+ghost use Rattle.abc_fields.specs.Shift.{IsSmallShift, shift_of, with_property};
+ghost use Rattle.abc_fields.specs.Spelling.Shift.{IsShift};
 
 use crate::property::{Property, property_of};
-use crate::word::next_word;
+use abc_text::next_word;
 
 /// What the properties of a field K: or V: say of the pitch of notes, each part where it is given
 /// (ABC 2.1 sections 4.6 and 7.1).

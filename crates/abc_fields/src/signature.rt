@@ -1,7 +1,9 @@
 //! Key signatures.
 
-ghost use Rattle.std.specs.Prelude.{◌≡◌};
-ghost use Rattle.abc_fields.specs.Signature.{alteration, altered, by_fifths, signature_of, IsSharps};
+ghost use Rattle.std.specs.Prelude.{◌≡◌, ◌≤ℤ◌, pos};
+ghost use Rattle.abc_fields.specs.Signature.{alteration, altered, by_fifths, fifths, signature_of, IsSharps};
+
+use abc_text::Letter;
 
 /// A key signature: how many semitones it raises or lowers each letter by (ABC 2.1 section 3.1.14).
 #[derive(Clone, Copy, Debug, PartialEq, Eq)]
@@ -26,60 +28,67 @@ pub const NATURAL: Signature = Signature {
     g: 0,
 };
 
-/// The letters in the order in which sharps fall on them: fifths upwards.
-const SHARP_ORDER: &[u8; 7] = b"FCGDAEB";
-
-/// The letters in the order in which flats fall on them: fifths downwards.
-const FLAT_ORDER: &[u8; 7] = b"BEADGCF";
-
-/// By how many semitones a signature alters a letter, capital or small; 0 for any other byte (ABC
-/// 2.1 section 3.1.14).
-#[tactic(auto, unfolding(crate::specs::Signature::alteration))]
-pub fn alteration(signature: &Signature, letter: u8) -> i8
+/// By how many semitones a signature alters a letter (ABC 2.1 section 3.1.14).
+pub fn alteration(signature: &Signature, letter: Letter) -> i8
     ensures { result ≡ alteration signature.now letter }
 {
-    match letter.to_ascii_uppercase() {
-        b'A' => signature.a,
-        b'B' => signature.b,
-        b'C' => signature.c,
-        b'D' => signature.d,
-        b'E' => signature.e,
-        b'F' => signature.f,
-        b'G' => signature.g,
-        _ => 0,
+    match letter {
+        Letter::A => signature.a,
+        Letter::B => signature.b,
+        Letter::C => signature.c,
+        Letter::D => signature.d,
+        Letter::E => signature.e,
+        Letter::F => signature.f,
+        Letter::G => signature.g,
     }
 }
 
-/// The signature with another alteration of a letter, capital or small.
-#[tactic(auto, unfolding(crate::specs::Signature::altered))]
-pub(crate) fn altered(signature: Signature, letter: u8, by: i8) -> Signature
+/// The signature with another alteration of a letter.
+pub(crate) fn altered(signature: Signature, letter: Letter, by: i8) -> Signature
     ensures { result ≡ altered signature letter by }
 {
     let mut changed = signature;
-    match letter.to_ascii_uppercase() {
-        b'A' => changed.a = by,
-        b'B' => changed.b = by,
-        b'C' => changed.c = by,
-        b'D' => changed.d = by,
-        b'E' => changed.e = by,
-        b'F' => changed.f = by,
-        b'G' => changed.g = by,
-        _ => {}
+    match letter {
+        Letter::A => changed.a = by,
+        Letter::B => changed.b = by,
+        Letter::C => changed.c = by,
+        Letter::D => changed.d = by,
+        Letter::E => changed.e = by,
+        Letter::F => changed.f = by,
+        Letter::G => changed.g = by,
     }
     changed
 }
 
-/// How the signature of a count of sharps, or of flats where it is negative, alters a capital
-/// letter.
-fn by_fifths(sharps: i8, letter: u8) -> i8
+/// How many fifths a letter lies above F: the order in which sharps fall on the letters, and the
+/// reverse of that of flats.
+pub(crate) fn fifths(letter: Letter) -> i8
+    ensures value { result ≡ pos (fifths letter) }
+    ensures low { pos 0 ≤ℤ result }
+    ensures high { result ≤ℤ pos 6 }
+{
+    match letter {
+        Letter::F => 0,
+        Letter::C => 1,
+        Letter::G => 2,
+        Letter::D => 3,
+        Letter::A => 4,
+        Letter::E => 5,
+        Letter::B => 6,
+    }
+}
+
+/// How the signature of a count of sharps, or of flats where it is negative, alters a letter.
+fn by_fifths(sharps: i8, letter: Letter) -> i8
     requires { IsSharps sharps }
     ensures { result ≡ by_fifths sharps letter }
 {
-    let count = usize::from(sharps.unsigned_abs());
-    if sharps >= 0 {
-        i8::from(SHARP_ORDER[..count].contains(&letter))
+    if sharps > fifths(letter) {
+        1
+    } else if -sharps > 6 - fifths(letter) {
+        -1
     } else {
-        -i8::from(FLAT_ORDER[..count].contains(&letter))
+        0
     }
 }
 
@@ -90,12 +99,12 @@ pub(crate) fn signature_of(sharps: i8) -> Signature
     ensures value { result ≡ signature_of sharps }
 {
     Signature {
-        a: by_fifths(sharps, b'A'),
-        b: by_fifths(sharps, b'B'),
-        c: by_fifths(sharps, b'C'),
-        d: by_fifths(sharps, b'D'),
-        e: by_fifths(sharps, b'E'),
-        f: by_fifths(sharps, b'F'),
-        g: by_fifths(sharps, b'G'),
+        a: by_fifths(sharps, Letter::A),
+        b: by_fifths(sharps, Letter::B),
+        c: by_fifths(sharps, Letter::C),
+        d: by_fifths(sharps, Letter::D),
+        e: by_fifths(sharps, Letter::E),
+        f: by_fifths(sharps, Letter::F),
+        g: by_fifths(sharps, Letter::G),
     }
 }

@@ -1,13 +1,13 @@
 //! The tempo, `Q:`.
 
 ghost use Rattle.std.specs.Prelude.{◌≡◌, ◌≤◌, ◌↔◌, ◌*◌, ok_or, IfOk, IfSome, length};
+ghost use Rattle.abc_text.specs.declared.digit.TheConstants.{LARGEST_NUMBER};
 ghost use Rattle.abc_time.specs.Ratio.{IsRatio};
-ghost use Rattle.abc_fields.specs.Tempo.{positive_of, part_of, fraction_of, sum_of, lowest, word_size, first_word, behind_word, bare_tempo, tempo_around, tempo_in, tempo_of, IsTempo, IsInRange};
+ghost use Rattle.abc_fields.specs.Tempo.{positive_of, part_of, fraction_of, sum_of, lowest, word_size, first_word, behind_word, bare_tempo, tempo_around, tempo_in, tempo_of, IsInRange};
+ghost use Rattle.abc_fields.specs.Spelling.Tempo.{IsTempo};
 
-use crate::blank::{is_blank, trim_end, trim_start};
-use crate::cut::cut_at;
 use crate::fault::FaultCode;
-use crate::number::number_of;
+use abc_text::{cut_at, is_blank, is_power_up_to, number_of, trim_end, trim_start};
 use abc_time::Ratio;
 
 /// What a tempo field says (ABC 2.1 section 3.1.8).
@@ -25,7 +25,7 @@ pub enum Tempo {
 const MOST_FRACTIONS: usize = 16;
 
 /// How often 512 can be halved.
-const MOST_HALVINGS: usize = 9;
+const MOST_HALVINGS: u32 = 9;
 
 /// The finest part of a whole note that a beat counts in.
 const FINEST: u32 = 512;
@@ -34,7 +34,7 @@ const FINEST: u32 = 512;
 #[tactic(auto, unfolding(crate::specs::Tempo::positive_of))]
 fn positive_of(text: &[u8]) -> Option<u32>
     ensures value { result ≡ positive_of text.now }
-    ensures range { IfSome result (λ n. (1 ≤ n) × (n ≤ 999999999)) }
+    ensures range { IfSome result (λ n. (1 ≤ n) × (n ≤ LARGEST_NUMBER)) }
 {
     let n = number_of(text)?;
     if n == 0 { None } else { Some(n) }
@@ -46,7 +46,7 @@ fn part_of(above: u32, below: u32) -> Option<u32>
     ensures value { result ≡ part_of above below }
     ensures range { IfSome result (λ part. (1 ≤ part) × (part ≤ 262144)) }
 {
-    if above == 0 || above > FINEST || below == 0 || FINEST % below != 0 {
+    if above == 0 || above > FINEST || !is_power_up_to(MOST_HALVINGS, below) {
         return None;
     }
     Some(above * (FINEST / below))

@@ -3,10 +3,11 @@
 ghost use Rattle.std.specs.Prelude.{◌≡◌, ◌≤◌, length, MatchOption, IfSome, pos, negsuc, ◌≤ℤ◌};
 ghost use Rattle.std.specs.List.{prefix_len};
 ghost use Rattle.std.specs.Char.{is_ascii_alphabetic};
-ghost use Rattle.abc_fields.specs.Tonic.{tonic_sharps, sign_at, tonic_at, basis_at, IsMajor};
+ghost use Rattle.abc_fields.specs.Tonic.{major_sharps, tonic_letter, sign_at, tonic_at, basis_at, IsMajor};
 
 use crate::mode::{Mode, mode_of};
-use crate::word::blanks;
+use crate::signature::fifths;
+use abc_text::{Letter, leading_blanks, letter_of};
 
 /// What a signature is made from.
 #[derive(Clone, Copy, Debug, PartialEq, Eq)]
@@ -18,20 +19,23 @@ pub(crate) enum Basis {
 }
 
 /// The sharps of the major key on a letter.
-#[tactic(auto, unfolding(crate::specs::Tonic::tonic_sharps))]
-fn tonic_sharps(letter: u8) -> Option<i8>
-    ensures value { result ≡ tonic_sharps letter }
-    ensures range { IfSome result (λ n. (negsuc 0 ≤ℤ n) × (n ≤ℤ pos 5)) }
+fn major_sharps(letter: Letter) -> i8
+    ensures value { result ≡ major_sharps letter }
+    ensures low { negsuc 0 ≤ℤ result }
+    ensures high { result ≤ℤ pos 5 }
 {
-    match letter {
-        b'F' => Some(-1),
-        b'C' => Some(0),
-        b'G' => Some(1),
-        b'D' => Some(2),
-        b'A' => Some(3),
-        b'E' => Some(4),
-        b'B' => Some(5),
-        _ => None,
+    fifths(letter) - 1
+}
+
+/// The letter of a tonic, which is a capital.
+fn tonic_letter(byte: u8) -> Option<Letter>
+    ensures { result ≡ tonic_letter byte }
+{
+    let letter = letter_of(byte)?;
+    if letter.capital() == byte {
+        Some(letter)
+    } else {
+        None
     }
 }
 
@@ -53,10 +57,10 @@ pub(crate) fn tonic_at(text: &[u8]) -> Option<(i8, &[u8])>
         (λ p. tonic_at text.now ≡ Some (p.0, p.1.now)) }
     ensures range { IfSome result (λ p. IsMajor p.0) }
 {
-    let (letter, behind) = text.split_first()?;
-    let sharps = tonic_sharps(*letter)?;
+    let (byte, behind) = text.split_first()?;
+    let letter = tonic_letter(*byte)?;
     let (added, rest) = sign_at(behind);
-    Some((sharps + added, rest))
+    Some((major_sharps(letter) + added, rest))
 }
 
 /// How many letters a text begins with.
@@ -75,7 +79,7 @@ pub(crate) fn basis_at(text: &[u8]) -> Option<(Basis, &[u8])>
     ensures { MatchOption result (basis_at text.now ≡ None)
         (λ p. basis_at text.now ≡ Some (p.0, p.1.now)) }
 {
-    let blanks = blanks(text);
+    let blanks = leading_blanks(text);
     let behind = &text[blanks..];
     let (run, rest) = behind.split_at(letters(behind));
     if let Some(mode) = mode_of(run) {

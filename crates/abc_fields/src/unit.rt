@@ -2,12 +2,15 @@
 
 ghost use Rattle.std.specs.Prelude.{◌≡◌, ◌↔◌, IfOk};
 ghost use Rattle.abc_time.specs.Ratio.{IsRatio};
-ghost use Rattle.abc_fields.specs.Unit.{part_of, unit_of, IsUnit};
+ghost use Rattle.abc_fields.specs.Unit.{part_of, unit_of};
+ghost use Rattle.abc_fields.specs.Spelling.Unit.{IsUnit};
 
 use crate::fault::FaultCode;
-use crate::number::number_of;
-use crate::power::is_power;
+use abc_text::{is_power_up_to, number_of};
 use abc_time::Ratio;
+
+/// How often a whole note may be halved: the finest unit is a 512th.
+const MOST_HALVINGS: u32 = 9;
 
 /// Which part of a whole note the value says, as 8 for `1/8`.
 fn part_of(value: &[u8]) -> Option<u32>
@@ -15,7 +18,10 @@ fn part_of(value: &[u8]) -> Option<u32>
 {
     match value {
         [b'1'] => Some(1),
-        [b'1', b'/', below @ ..] => number_of(below).filter(|number| is_power(*number)),
+        [b'1', b'/', below @ ..] => number_of(below).filter(|number| is_power_up_to(
+            MOST_HALVINGS,
+            *number,
+        )),
         _ => None,
     }
 }

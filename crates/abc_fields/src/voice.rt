@@ -4,12 +4,13 @@ ghost use Rattle.std.specs.Prelude.{◌≡◌, ◌↔◌, ◌<◌, ◌≤◌, Ok
 ghost use Rattle.abc_fields.specs.declared.fault.FaultCode.TheVariants.{BadVoice};
 ghost use Rattle.abc_fields.specs.declared.voice.Voice.{Voice};
 ghost use Rattle.abc_fields.specs.Shift.{IsSmallShift};
-ghost use Rattle.abc_fields.specs.Word.{words_of};
-ghost use Rattle.abc_fields.specs.Voice.{IsVoice, voice_in, voice_of};
+ghost use Rattle.abc_text.specs.Word.{words_of};
+ghost use Rattle.abc_fields.specs.Voice.{voice_in, voice_of};
+ghost use Rattle.abc_fields.specs.Spelling.Voice.{IsVoice};
 
 use crate::fault::FaultCode;
 use crate::shift::{Shift, shift_in};
-use crate::word::first_word;
+use abc_text::first_word;
 
 /// A voice as the value of a field V: names it. Its identifier is the part of the value from `from`
 /// up to, but without, `to`.
@@ -20,6 +21,7 @@ pub struct Voice {
     pub shift: Shift,
 }
 
+/// The voice that a value spells.
 #[tactic(auto, unfolding(crate::specs::Voice::voice_in))]
 fn voice_in(value: &[u8]) -> Option<Voice>
     ensures value { result ≡ voice_in value.now }

@@ -1,6 +1,9 @@
 -- Laws of letters and accidentals.
-use Rattle.std.proofs.Common.{◌≡◌, ℕ, Some, refl, ap, ◌∙◌, ⊎_elim}
+use Rattle.std.proofs.Common.{◌≡◌, ℕ, cond, List, Option, Some, None, refl, sym, ap, ◌∙◌, ⊎_elim}
 use Rattle.std.specs.Prelude.{◌↔◌}
+use Rattle.std.specs.Str.{bytes_eq}
+use Rattle.std.proofs.lemmas.Bool.{cond-true, cond-false, cases_Bool}
+use Rattle.std.proofs.lemmas.Slice.Eq.{bytes_eq-Decides}
 use Rattle.std.proofs.lemmas.Grind.{common_steps}
 use Rattle.std.proofs.Common.{arith}
 use Rattle.abc_text.specs.declared.letter.Letter.{Letter}
@@ -50,3 +53,23 @@ accidental_of-spelling Flat = refl
 accidental_of-spelling Natural = refl
 accidental_of-spelling Sharp = refl
 accidental_of-spelling DoubleSharp = refl
+
+-- and from no other text
+tried : (text : List ℕ) (known : Accidental) (others : Option Accidental) (accidental : Accidental) → cond (bytes_eq text (spelling known)) (Some known) others ≡ Some accidental
+    → (others ≡ Some accidental → text ≡ spelling accidental) → text ≡ spelling accidental
+tried text known others accidental e later = ⊎_elim
+    (λ is.
+    let found : Some known ≡ Some accidental = sym (cond-true (bytes_eq text (spelling known)) (Some known) others is) ∙ e in
+    let same : known ≡ accidental = cc in
+    (bytes_eq-Decides text (spelling known)).0 is ∙ ap spelling same)
+    (λ other. later (sym (cond-false (bytes_eq text (spelling known)) (Some known) others other) ∙ e))
+    (cases_Bool (bytes_eq text (spelling known)))
+
+pub accidental_of-is : (text : List ℕ) (accidental : Accidental) → accidental_of text ≡ Some accidental → text ≡ spelling accidental
+unfolding accidental_of
+accidental_of-is text accidental e =
+    tried text DoubleFlat _ accidental e (λ e.
+    tried text Flat _ accidental e (λ e.
+    tried text Natural _ accidental e (λ e.
+    tried text Sharp _ accidental e (λ e.
+    tried text DoubleSharp None accidental e (λ e. cc)))))

@@ -3,7 +3,7 @@ use Rattle.std.specs.Prelude.{ℕ, ◌-◌, Bool, ◌||◌, ◌==◌, List, leng
 use Rattle.std.specs.List.{prefix_len, suffix_len, AllPass}
 use Rattle.abc_text.specs.Byte.{space, tab}
 
--- A space or a tab, and nothing else, is a blank. Our own.
+-- A space or a tab, and nothing else, is a blank.
 abbrev pub is_blank : ℕ → Bool
 is_blank b = (b == space) || (b == tab)
 

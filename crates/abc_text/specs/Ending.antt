@@ -3,7 +3,7 @@ use Rattle.std.specs.Prelude.{◌≡◌, ◌≢◌, ◌⊎◌, ℕ, ◌-◌, Lis
 use Rattle.std.specs.List.{ends_with}
 use Rattle.abc_text.specs.Byte.{carriage_return}
 
--- The rest of a line without one carriage return at its end. Our own.
+-- The rest of a line without one carriage return at its end.
 abbrev pub IsWithoutReturn : List ℕ → List ℕ → Type 0
 IsWithoutReturn line rest =
     (line ≡ rest ++ carriage_return ∷ []) ⊎ ((line ≡ rest) × ((front : List ℕ) → line ≢ front ++ carriage_return ∷ []))

@@ -3,15 +3,15 @@ use Rattle.std.specs.Prelude.{◌≡◌, ℕ, ◌+◌, ◌<◌, ◌⊎◌, Bool,
 use Rattle.std.specs.List.{All, AllPass, filter, position_or_len, prefix_len, slice_split}
 use Rattle.abc_text.specs.Blank.{is_blank}
 
--- A word has a byte at least. Our own.
+-- A word has a byte at least.
 abbrev pub is_word : List ℕ → Bool
 is_word part = nat_lt 0 (length part)
 
--- The words of a text: the parts between its blanks, but the empty ones. Our own.
+-- The words of a text: the parts between its blanks, but the empty ones.
 unfoldable pub words_of : List ℕ → List (List ℕ)
 words_of text = filter is_word (slice_split is_blank text)
 
--- The first word of a text: behind its blanks, bytes of which none is a blank, as far as they go. Our own.
+-- The first word of a text: behind its blanks, bytes of which none is a blank, as far as they go.
 pub record IsFirstWord (text word behind : List ℕ) : Type 0 where
   pub blanks : List ℕ
   pub spelling : text ≡ blanks ++ (word ++ behind)
@@ -20,7 +20,7 @@ pub record IsFirstWord (text word behind : List ℕ) : Type 0 where
   pub no_blank : All (λ b. is_blank b ≡ false) word
   pub ends : (behind ≡ []) ⊎ ((b : ℕ) × (rest : List ℕ) × (behind ≡ b ∷ rest) × (is_blank b ≡ true))
 
--- The words of a text, one behind the other; a text of nothing but blanks has none. Our own.
+-- The words of a text, one behind the other; a text of nothing but blanks has none.
 abbrev pub AreWords : List ℕ → List (List ℕ) → Type 0
 AreWords text [] = AllPass is_blank text
 AreWords text (word ∷ words) = (behind : List ℕ) × IsFirstWord text word behind × AreWords behind words

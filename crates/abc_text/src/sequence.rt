@@ -58,12 +58,14 @@ impl<T> Sequence<T> {
         Ok(())
     }
 
+    /// How many elements there are.
     pub fn len(&self) -> usize
         ensures { result ≡ length self.now }
     {
         self.elements.len()
     }
 
+    /// Whether there are none.
     pub fn is_empty(&self) -> bool
         ensures { result ≡ (length self.now == 0) }
     {

@@ -21,13 +21,14 @@ use crate::cancel::cancel;
 use crate::grains::{Grains, LONGEST_LENGTH, WHOLE_NOTE};
 use crate::product::product_within;
 use crate::ratio::Ratio;
+use thiserror::Error;
 
 /// Why there is no length.
-#[derive(Clone, Copy, Debug, PartialEq, Eq)]
+#[derive(Clone, Copy, Debug, PartialEq, Eq, Error)]
 pub enum LengthFault {
-    /// The product is not a whole number of grains.
+    #[error("the length is not a whole number of grains")]
     NotWhole,
-    /// The product is above 1,024 whole notes.
+    #[error("the length is above 1,024 whole notes")]
     TooLong,
 }
 

@@ -1,6 +1,7 @@
+use abc_text::Sequence;
 use abc_time::{Grains, TICK};
 use smf_bytes::{
-    Change, ChangeKind, Event, NumberFault, Score, Sequence, Sounding, file_of, is_within_limits,
+    Change, ChangeKind, Event, NumberFault, Score, Sounding, file_of, is_within_limits,
     number_texts, one_order, order_events, put_number, read_number,
 };
 use std::alloc::{AllocError, Global};

@@ -9,7 +9,7 @@ ghost use Rattle.smf_bytes.specs.declared.number.NumberFault.TheVariants.{Padded
 ghost use Rattle.smf_bytes.specs.declared.score.ChangeKind.TheVariants.{Tempo, Meter, Key};
 ghost use Rattle.smf_bytes.specs.Event.{change_bytes, end_event, note_events, note_off, note_on, title_events};
 ghost use Rattle.smf_bytes.specs.File.{file_bytes};
-ghost use Rattle.smf_bytes.specs.Limits.{is_denominator};
+ghost use Rattle.abc_text.specs.Power.{is_power_up_to};
 ghost use Rattle.smf_bytes.specs.Number.{number_text, reading};
 ghost use Rattle.smf_bytes.specs.Order.{in_order};
 ghost use Rattle.smf_bytes.specs.Track.{channel_of, conductor_events, track, track_body, voice_events};
@@ -62,8 +62,8 @@ pub fn changes()
 
 /// The denominators of meters: powers of two, from 1 to 64. SMF 1.0; the bound is our own.
 pub fn denominators()
-    ensures accepted { list_all is_denominator (1 ∷ 2 ∷ 4 ∷ 8 ∷ 16 ∷ 32 ∷ 64 ∷ []) ≡ true }
-    ensures refused { list_any is_denominator (0 ∷ 3 ∷ 6 ∷ 12 ∷ 63 ∷ 65 ∷ 128 ∷ []) ≡ false }
+    ensures accepted { list_all (is_power_up_to 6) (1 ∷ 2 ∷ 4 ∷ 8 ∷ 16 ∷ 32 ∷ 64 ∷ []) ≡ true }
+    ensures refused { list_any (is_power_up_to 6) (0 ∷ 3 ∷ 6 ∷ 12 ∷ 63 ∷ 65 ∷ 128 ∷ []) ≡ false }
 {}
 
 /// At one tick offs come before ons, and each by key; the end comes last. Our own.

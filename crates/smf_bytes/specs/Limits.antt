@@ -1,6 +1,6 @@
 -- What a file can hold, and the limits that are our own.
-use Rattle.std.specs.Prelude.{ℕ, ◌^◌, ◌<◌, ◌≤◌, ◌==◌, ◌≤ℤ◌, pos, negsuc, Bool, IsTrue, List, [], ◌∷◌, length, All}
-use Rattle.std.specs.List.{list_any}
+use Rattle.std.specs.Prelude.{ℕ, ◌^◌, ◌<◌, ◌≤◌, ◌≤ℤ◌, pos, negsuc, List, length, All}
+use Rattle.abc_text.specs.Power.{IsPowerUpTo}
 use Rattle.abc_time.specs.declared.grains.Grains.{Grains}
 use Rattle.abc_time.specs.Grains.{grains_of_the_latest_end}
 use Rattle.smf_bytes.specs.declared.score.Score.{Score}
@@ -9,15 +9,11 @@ use Rattle.smf_bytes.specs.declared.score.ChangeKind.{ChangeKind}
 use Rattle.smf_bytes.specs.declared.score.ChangeKind.TheVariants.{Tempo, Meter, Key}
 use Rattle.smf_bytes.specs.declared.score.Sounding.{Sounding}
 
--- The denominators of meters: the powers of two up to 64. Our own.
-abbrev pub is_denominator : ℕ → Bool
-is_denominator den = list_any (λ power. power == den) (1 ∷ 2 ∷ 4 ∷ 8 ∷ 16 ∷ 32 ∷ 64 ∷ [])
-
--- A tempo of one to 2^24 - 1 microseconds to a quarter, a meter over a power of two, a key of at
+-- A tempo of one to 2^24 - 1 microseconds to a quarter, a meter over a power of two up to 64, a key of at
 -- most seven sharps or flats (SMF 1.0).
 abbrev pub IsWritable : ChangeKind → Type 0
 IsWritable (Tempo micros) = (1 ≤ micros) × (micros < 2 ^ 24)
-IsWritable (Meter num den) = IsTrue (is_denominator den)
+IsWritable (Meter num den) = IsPowerUpTo 6 den
 IsWritable (Key sharps minor) = (negsuc 6 ≤ℤ sharps) × (sharps ≤ℤ pos 7)
 
 -- A change that comes before the end, or at it. Our own.

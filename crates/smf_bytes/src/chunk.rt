@@ -16,6 +16,7 @@ pub(crate) fn put_chunk(out: &mut Vec<u8>, kind: &[u8; 4], body: &[u8]) -> Resul
     out.extend_from_slice(body)
 }
 
+/// Appends a number in two bytes, the higher first.
 pub(crate) fn put_u16(out: &mut Vec<u8>, n: u16) -> Result<(), AllocError>
     ensures { OnOk result (out.new.items ≡ out.old.items ++ big_bytes 2 n) }
 {
@@ -24,6 +25,7 @@ pub(crate) fn put_u16(out: &mut Vec<u8>, n: u16) -> Result<(), AllocError>
     out.extend_from_slice(&bytes)
 }
 
+/// Appends a number in four bytes, the highest first.
 pub(crate) fn put_u32(out: &mut Vec<u8>, n: u32) -> Result<(), AllocError>
     ensures { OnOk result (out.new.items ≡ out.old.items ++ big_bytes 4 n) }
 {

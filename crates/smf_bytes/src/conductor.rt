@@ -7,7 +7,7 @@ ghost use Rattle.smf_bytes.specs.Track.{conductor_events};
 
 use crate::event::{Event, meta};
 use crate::score::{Change, ChangeKind};
-use crate::sequence::Sequence;
+use abc_text::Sequence;
 use abc_time::{Grains, tick_of};
 use byteorder::{BigEndian, ByteOrder};
 use std::alloc::{AllocError, Global};
@@ -34,6 +34,7 @@ pub(crate) fn conductor(
     Ok(events)
 }
 
+/// The event of a title.
 fn title_event(alloc: Global, title: &[u8]) -> Result<Event, AllocError>
     requires some { 0 < length title.now }
     requires short { length title.now ≤ 65535 }
@@ -47,6 +48,7 @@ fn title_event(alloc: Global, title: &[u8]) -> Result<Event, AllocError>
     })
 }
 
+/// The event of a change, which comes before the end or at it.
 fn changed(alloc: Global, end: Grains, change: &Change) -> Result<Event, AllocError>
     requires end { end.0 ≤ grains_of_the_latest_end }
     requires within { IsChangeWithin end change.now }
@@ -60,6 +62,7 @@ fn changed(alloc: Global, end: Grains, change: &Change) -> Result<Event, AllocEr
     })
 }
 
+/// The class of a change, by which events at one tick are ordered.
 fn class(what: ChangeKind) -> u8
     ensures { result ≡ class_of what }
 {
@@ -70,6 +73,7 @@ fn class(what: ChangeKind) -> u8
     }
 }
 
+/// The bytes of a change.
 fn bytes_of(alloc: Global, what: ChangeKind) -> Result<Sequence<u8>, AllocError>
     requires { IsWritable what }
     ensures { IfOk result (λ bytes. bytes ≡ change_bytes what) }

@@ -3,7 +3,7 @@ ghost use Rattle.std.specs.Prelude.{◌≡◌, ◌≤◌, ◌^◌, ◌<◌, leng
 ghost use Rattle.smf_bytes.specs.Event.{meta_event};
 
 use crate::number::put_number;
-use crate::sequence::Sequence;
+use abc_text::Sequence;
 use std::alloc::{AllocError, Global};
 
 /// An event of a track. Events compare as they stand in a track: by tick, then class, then key, then

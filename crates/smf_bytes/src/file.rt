@@ -8,7 +8,7 @@ ghost use Rattle.smf_bytes.specs.Track.{track, voice_events, channel_of};
 use crate::chunk::{put_u16, put_u32};
 use crate::conductor::conductor;
 use crate::score::{Score, Sounding};
-use crate::sequence::Sequence;
+use abc_text::Sequence;
 use crate::track::put_track;
 use crate::voice::{channel, voice};
 use abc_time::{Grains, tick_of};

@@ -10,7 +10,6 @@ mod limits;
 mod number;
 mod order;
 mod score;
-mod sequence;
 mod track;
 mod voice;
 
@@ -20,4 +19,3 @@ pub use limits::is_within_limits;
 pub use number::{NumberFault, number_texts, put_number, read_number};
 pub use order::{one_order, order_events};
 pub use score::{Change, ChangeKind, Score, Sounding};
-pub use sequence::Sequence;

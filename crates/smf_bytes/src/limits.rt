@@ -4,8 +4,11 @@ ghost use Rattle.abc_time.specs.Grains.{grains_of_the_latest_end};
 ghost use Rattle.smf_bytes.specs.Limits.{IsWritable, IsChangeWithin, IsSoundingWithin, IsVoiceWithin, AreCountsWithin, IsWithinLimits};
 
 use crate::score::{Change, ChangeKind, Score, Sounding};
-use crate::sequence::Sequence;
+use abc_text::{Sequence, is_power_up_to};
 use abc_time::{Grains, LATEST_END};
+
+/// How often a whole note may be halved: a meter counts in 64ths at the finest.
+const MOST_HALVINGS: u32 = 6;
 
 /// Whether a file can hold the score: its end at most 131,072 whole notes, changes and notes within
 /// it, at most 15 voices, and so few events that each track's length fits 32 bits.
@@ -17,6 +20,7 @@ pub fn is_within_limits(score: &Score) -> bool
         && are_voices_within(score.end, score.voices.as_slice())
 }
 
+/// Whether the end and the counts are within their limits.
 fn are_counts_within(score: &Score) -> bool
     ensures { IsTrue result ↔ AreCountsWithin score.now }
 {
@@ -26,6 +30,7 @@ fn are_counts_within(score: &Score) -> bool
         && score.voices.len() <= 15
 }
 
+/// Whether a tune may end then.
 #[tactic(auto, unfolding(abc_time::specs::Grains::grains_of_a_whole_note, abc_time::specs::Grains::grains_of_the_latest_end))]
 fn is_in_time(end: Grains) -> bool
     ensures { IsTrue result ↔ (end.0 ≤ grains_of_the_latest_end) }
@@ -33,28 +38,32 @@ fn is_in_time(end: Grains) -> bool
     end <= LATEST_END
 }
 
+/// Whether each change is within its limits.
 fn are_changes_within(end: Grains, changes: &[Change]) -> bool
     ensures { IsTrue result ↔ All (IsChangeWithin end) changes.now }
 {
     changes.iter().all(|change| is_change_within(end, change))
 }
 
+/// Whether a change comes before the end or at it, and a file can say it.
 fn is_change_within(end: Grains, change: &Change) -> bool
     ensures { IsTrue result ↔ IsChangeWithin end change.now }
 {
     change.at <= end && is_writable(change.what)
 }
 
+/// Whether a file can say a change.
 fn is_writable(what: ChangeKind) -> bool
     ensures { IsTrue result ↔ IsWritable what }
 {
     match what {
         ChangeKind::Tempo(micros) => 1 <= micros && micros < 1 << 24,
-        ChangeKind::Meter { num: _, den } => [1, 2, 4, 8, 16, 32, 64].contains(&den),
+        ChangeKind::Meter { num: _, den } => is_power_up_to(MOST_HALVINGS, u32::from(den)),
         ChangeKind::Key { sharps, minor: _ } => -7 <= sharps && sharps <= 7,
     }
 }
 
+/// Whether each voice is within its limits.
 fn are_voices_within(end: Grains, voices: &[Sequence<Sounding>]) -> bool
     ensures { IsTrue result ↔ All (IsVoiceWithin end) voices.now }
 {
@@ -63,18 +72,21 @@ fn are_voices_within(end: Grains, voices: &[Sequence<Sounding>]) -> bool
         .all(|notes| is_voice_within(end, notes.as_slice()))
 }
 
+/// Whether a voice has few enough notes, each within its limits.
 fn is_voice_within(end: Grains, notes: &[Sounding]) -> bool
     ensures { IsTrue result ↔ IsVoiceWithin end notes.now }
 {
     notes.len() <= 16_000_000 && are_notes_within(end, notes)
 }
 
+/// Whether each note is within its limits.
 fn are_notes_within(end: Grains, notes: &[Sounding]) -> bool
     ensures { IsTrue result ↔ All (IsSoundingWithin end) notes.now }
 {
     notes.iter().all(|note| is_note_within(end, note))
 }
 
+/// Whether a note has a key of MIDI, and ends before the end or at it.
 fn is_note_within(end: Grains, note: &Sounding) -> bool
     ensures { IsTrue result ↔ IsSoundingWithin end note.now }
 {

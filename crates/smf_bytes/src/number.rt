@@ -59,6 +59,7 @@ pub fn read_number(bytes: &[u8]) -> Result<(u32, usize), NumberFault>
     read(bytes)
 }
 
+/// The number at the front of bytes and its count of bytes, or what is wrong.
 #[tactic(auto, unfolding(crate::specs::Number::reading))]
 fn read(bytes: &[u8]) -> Result<(u32, usize), NumberFault>
     ensures { result ≡ reading bytes.now }

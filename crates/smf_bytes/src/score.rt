@@ -1,5 +1,5 @@
 //! The score of a tune: what the file of a tune is written from.
-use crate::sequence::Sequence;
+use abc_text::Sequence;
 use abc_time::Grains;
 
 /// A tune as notes and changes, at exact moments from its start.

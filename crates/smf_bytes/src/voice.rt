@@ -7,7 +7,7 @@ ghost use Rattle.smf_bytes.specs.Track.{voice_events, channel_of};
 
 use crate::event::Event;
 use crate::score::Sounding;
-use crate::sequence::Sequence;
+use abc_text::Sequence;
 use abc_time::{Grains, tick_of};
 use std::alloc::{AllocError, Global};
 
@@ -64,6 +64,7 @@ fn push_note(
     Ok(())
 }
 
+/// The event that ends a note.
 fn off_event(alloc: Global, channel: u8, key: u8, tick: u32) -> Result<Event, AllocError>
     requires { channel < 16 }
     ensures { IfOk result (λ event. event ≡ note_off channel key tick) }
@@ -77,6 +78,7 @@ fn off_event(alloc: Global, channel: u8, key: u8, tick: u32) -> Result<Event, Al
     })
 }
 
+/// The event that begins a note.
 fn on_event(alloc: Global, channel: u8, key: u8, tick: u32) -> Result<Event, AllocError>
     requires { channel < 16 }
     ensures { IfOk result (λ event. event ≡ note_on channel key tick) }

@@ -1,7 +1,8 @@
 use abc_fields::{
-    FaultCode, Meter, NATURAL, Tempo, alteration, number_of, read_key, read_meter, read_parts,
-    read_tempo, read_unit, read_voice, trimmed,
+    FaultCode, Meter, NATURAL, Tempo, alteration, key_set_by, read_key, read_meter, read_parts,
+    read_tempo, read_unit, read_voice,
 };
+use abc_text::Letter;
 use abc_time::Ratio;
 use std::test::Fail;
 
@@ -20,9 +21,10 @@ fn each_reader_accepts_and_refuses(rt: HostRuntime) -> Result<(), Fail> {
     assert_eq!(rt; read_parts(b"()"), Err(FaultCode::BadOrder));
     assert_eq!(rt; read_voice(b"Solo clef=bass").map(|voice| voice.to), Ok(4));
     assert_eq!(rt; read_voice(b""), Err(FaultCode::BadVoice));
-    assert_eq!(rt; alteration(&NATURAL, b'F'), 0);
-    assert_eq!(rt; trimmed(b" \ta b\t"), b"a b".as_slice());
-    assert_eq!(rt; number_of(b"007"), Some(7));
+    assert_eq!(rt; key_set_by(b"H").signature, Some(NATURAL));
+    assert_eq!(rt; alteration(&NATURAL, Letter::F), 0);
     assert_eq!(rt; FaultCode::TuneTooLong.name(), "TuneTooLong");
+    assert_eq!(rt; FaultCode::TuneTooLong.number(), 26);
+    assert!(rt; FaultCode::BadMeter < FaultCode::BadUnit);
     Ok(())
 }

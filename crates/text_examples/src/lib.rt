@@ -1,6 +1,6 @@
-//! Worked examples of lengths, lines, blocks, tokens, fields and plays. `definitions` has them by the definitions alone, each
-//! proved; the tests call each public function of these crates once with ample memory. Expected values are worked by
-//! hand from the rules in `docs/profile.md`; each example says where it is not our own.
+//! Worked examples of texts, lengths, lines, blocks, tokens, fields and plays. `definitions` has them by the definitions
+//! alone, each proved; the tests call each public function of these crates once with ample memory. Expected values are
+//! worked by hand from the rules in `docs/profile.md`; each example says where it is not our own.
 #![tactic(auto)]
 
 #[cfg(test)]
@@ -16,3 +16,5 @@ mod lengths;
 mod repeats;
 #[cfg(test)]
 mod scanning;
+#[cfg(test)]
+mod texts;

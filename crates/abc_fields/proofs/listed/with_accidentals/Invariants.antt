@@ -1,5 +1,5 @@
 use Rattle.std.proofs.Common.{◌≡◌, length}
-use Rattle.abc_fields.specs.Word.{words_of}
+use Rattle.abc_text.specs.Word.{words_of}
 use Rattle.abc_fields.specs.Listed.{with_accidentals}
 use Rattle.abc_fields.proofs.listed.with_accidentals.Given as goal
 

@@ -1,5 +1,5 @@
 use Rattle.std.proofs.Common.{Some, sym, ap, ◌∙◌}
-use Rattle.abc_fields.specs.Word.{words_of}
+use Rattle.abc_text.specs.Word.{words_of}
 use Rattle.abc_fields.specs.Shift.{shift_after, shift_of}
 use Rattle.abc_fields.proofs.Shifts.{shift_exact, shift_small}
 use Rattle.abc_fields.proofs.shift.shift_in.Goals as goal

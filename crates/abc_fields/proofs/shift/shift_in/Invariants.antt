@@ -1,5 +1,5 @@
 use Rattle.std.proofs.Common.{◌≡◌, length}
-use Rattle.abc_fields.specs.Word.{words_of}
+use Rattle.abc_text.specs.Word.{words_of}
 use Rattle.abc_fields.specs.Shift.{no_shift, shift_after}
 use Rattle.abc_fields.proofs.shift.shift_in.Given as goal
 

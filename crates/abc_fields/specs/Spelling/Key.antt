@@ -1,0 +1,91 @@
+-- How a key is written: the value of a field K:. ABC 2.1 section 3.1.14.
+use Rattle.std.specs.Prelude.{ℕ, ◌+◌, ◌≤◌, ◌⊎◌, ◌++◌, ◌≡◌, ℤ, ◌+ℤ◌, List, [], ◌∷◌, codes, Option, Some, None}
+use Rattle.std.specs.List.{Contains}
+use Rattle.abc_fields.specs.declared.key.Key.{Key}
+use Rattle.abc_fields.specs.declared.signature.Signature.{Signature}
+use Rattle.abc_fields.specs.declared.tonic.Basis.{Basis}
+use Rattle.abc_fields.specs.declared.tonic.Basis.TheVariants.{Named, Explicit}
+use Rattle.abc_fields.specs.Spelling.Listed.{AreListed}
+use Rattle.abc_fields.specs.Mode.{added_sharps, is_minor}
+use Rattle.abc_fields.specs.Spelling.Property.{EndsIn}
+use Rattle.abc_fields.specs.Shift.{no_shift}
+use Rattle.abc_fields.specs.Spelling.Shift.{IsShift}
+use Rattle.abc_fields.specs.Signature.{IsSharps, signature_of}
+use Rattle.abc_fields.specs.Spelling.Tonic.{IsTonic, IsBasis}
+use Rattle.abc_text.specs.Word.{AreWords, IsFirstWord}
+use Rattle.abc_fields.specs.Key.{empty_signature, unchanged_signature}
+use Rattle.abc_text.specs.Byte.{digit_zero, equals_sign, caret, underscore}
+
+-- The key of a basis on the tonic whose major key has these sharps. That tonic and mode have at most
+-- seven sharps or flats together is our own.
+abbrev pub IsKeyOn : ℤ → Basis → Key → Type 0
+IsKeyOn major Explicit key = key ≡ empty_signature
+IsKeyOn major (Named mode) key =
+    let sharps = major +ℤ added_sharps mode in
+    IsSharps sharps × (key ≡ record { signature = Some (signature_of sharps); sharps = sharps; minor = is_minor mode; shift = no_shift })
+
+-- A value begins with no tonic.
+abbrev pub HasNoTonic : List ℕ → Type 0
+HasNoTonic value = (sharps : ℤ) (rest : List ℕ) → ¬ IsTonic value sharps rest
+
+-- A word begins with an accidental: `^`, `_` or `=`.
+abbrev pub BeginsAccidental : List ℕ → Type 0
+BeginsAccidental word = (b : ℕ) × (rest : List ℕ) × (word ≡ b ∷ rest) × ((b ≡ caret) ⊎ ((b ≡ underscore) ⊎ (b ≡ equals_sign)))
+
+-- A word ends in `+8` or `-8`.
+abbrev pub EndsInOctave : List ℕ → Type 0
+EndsInOctave word = EndsIn word (codes "+8") ⊎ EndsIn word (codes "-8")
+
+-- The names of clefs. ABC 2.1 section 4.6.
+abbrev pub clef_names : List (List ℕ)
+clef_names = codes "treble" ∷ codes "bass" ∷ codes "alto" ∷ codes "tenor" ∷ codes "perc" ∷ []
+
+-- The line of a clef: nothing, or one digit 1 to 5.
+abbrev pub IsClefLine : List ℕ → Type 0
+IsClefLine line = (line ≡ []) ⊎ ((digit : ℕ) × (digit_zero + 1 ≤ digit) × (digit ≤ digit_zero + 5) × (line ≡ digit ∷ []))
+
+-- A word is the name of a clef, perhaps with the line that it stands on.
+pub record IsClefName (word : List ℕ) : Type 0 where
+  pub name : List ℕ
+  pub line : List ℕ
+  pub spelling : word ≡ name ++ line
+  pub is_name : Contains clef_names name
+  pub is_line : IsClefLine line
+
+-- A word sets properties, where it stands first: it has a `=`, or ends in `+8` or `-8`, or is the
+-- name of a clef. Our own.
+abbrev pub SetsProperties : List ℕ → Type 0
+SetsProperties word = Contains word equals_sign ⊎ (EndsInOctave word ⊎ IsClefName word)
+
+-- What a value begins with, and the text whose words complete it: a tonic and what it is the basis of;
+-- without a tonic, an empty signature where accidentals are listed, and none where properties stand
+-- alone, both of which are our own.
+pub data IsStart (value : List ℕ) (start : Key) (text : List ℕ) : Type 0 where
+  tonal : (major : ℤ) (behind : List ℕ) (basis : Basis) → IsTonic value major behind → IsBasis behind basis text
+      → IsKeyOn major basis start → IsStart value start text
+  listed : (first behind : List ℕ) → HasNoTonic value → IsFirstWord value first behind → BeginsAccidental first
+      → start ≡ empty_signature → text ≡ value → IsStart value start text
+  properties : (first behind : List ℕ) → HasNoTonic value → IsFirstWord value first behind → ¬ BeginsAccidental first
+      → SetsProperties first → start ≡ unchanged_signature → text ≡ value → IsStart value start text
+
+-- The accidentals among words complete a signature, if there is one.
+abbrev pub IsCompleted : Option Signature → List (List ℕ) → Option Signature → Type 0
+IsCompleted None words completed = completed ≡ None
+IsCompleted (Some signature) words completed = (changed : Signature) × AreListed signature words changed × (completed ≡ Some changed)
+
+-- What begins a value, completed by words.
+pub record IsSpelled (value : List ℕ) (key : Key) : Type 0 where
+  pub start : Key
+  pub text : List ℕ
+  pub words : List (List ℕ)
+  pub begins : IsStart value start text
+  pub are_words : AreWords text words
+  pub signature : IsCompleted start.signature words key.signature
+  pub sharps : key.sharps ≡ start.sharps
+  pub minor : key.minor ≡ start.minor
+  pub shift : IsShift words key.shift
+
+-- The value of a field K:. It is empty or `none`, or begins with a key that its words complete.
+pub data IsKey (value : List ℕ) (key : Key) : Type 0 where
+  nothing : (value ≡ []) ⊎ (value ≡ codes "none") → key ≡ empty_signature → IsKey value key
+  spelled : IsSpelled value key → IsKey value key
