@@ -1,6 +1,6 @@
 //! Worked examples by the definitions of `smf_bytes`: number texts, events, tracks and files. A body here does nothing;
 //! its contract is the example.
-#![tactic(auto, unfolding(abc_time::specs::Grains::grains_of_a_tick, abc_time::specs::Grains::grains_of_the_latest_end, crate::specs::Words::count_trailing_zeros, smf_bytes::specs::File::file_bytes, smf_bytes::specs::File::header, smf_bytes::specs::Number::number_text, smf_bytes::specs::Number::reading, smf_bytes::specs::Track::track, smf_bytes::specs::Track::track_body, hex::specs::Hex::encode_with))]
+#![tactic(auto, unfolding(abc_text::specs::Power::is_power_up_to, abc_time::specs::Grains::grains_of_a_tick, abc_time::specs::Grains::grains_of_the_latest_end, crate::specs::Words::count_trailing_zeros, smf_bytes::specs::File::file_bytes, smf_bytes::specs::File::header, smf_bytes::specs::Number::number_text, smf_bytes::specs::Number::reading, smf_bytes::specs::Track::track, smf_bytes::specs::Track::track_body, hex::specs::Hex::encode_with))]
 
 ghost use Rattle.std.specs.Prelude.{◌≡◌, pos, negsuc, true, false, [], ◌∷◌, ◌++◌, codes, replicate};
 ghost use Rattle.std.specs.List.{concat, list_all, list_any};
