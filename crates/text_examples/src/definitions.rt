@@ -7,3 +7,4 @@ pub mod fields;
 pub mod lengths;
 pub mod repeats;
 pub mod scanning;
+pub mod texts;

@@ -13,6 +13,8 @@ mod fields;
 #[cfg(test)]
 mod lengths;
 #[cfg(test)]
+mod lines;
+#[cfg(test)]
 mod repeats;
 #[cfg(test)]
 mod scanning;
