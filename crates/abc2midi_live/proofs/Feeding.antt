@@ -9,9 +9,9 @@ use Rattle.std.specs.Io.KnownBytes.{Appends, Keeps, Consumes, IsAtEnd}
 use Rattle.std.proofs.KnownBytes.{Appends-nil, Appends-trans, Appends-kept, Consumes-nil, Consumes-trans, Consumes-kept}
 use Rattle.std.proofs.lemmas.List.Elements.{All-append}
 use Rattle.abc2midi_live.specs.Cut.{IsCut}
-use Rattle.abc2midi_live.specs.Transcript.{input_lines}
+use Rattle.abc2midi_live.specs.Transcript.{input_lines, most_kept}
 use Rattle.abc2midi_live.specs.Machine.{IsClean, Answers, ahead}
-use Rattle.abc2midi_live.specs.Outcome.{BrokenOff, Unserved, Turn, Leaves, Reads, Failed, read_faults}
+use Rattle.abc2midi_live.specs.Outcome.{BrokenOff, Unserved, ends, Turn, Leaves, read_counts, Reads, Failed, read_faults}
 use Rattle.abc_fold.specs.Work.{raised}
 use Rattle.abc2midi_live.proofs.Counts.{raised_none, raised_twice}
 use Rattle.abc2midi_live.specs.declared.fault.RunFault.{RunFault}
@@ -37,7 +37,7 @@ no_length (b ∷ bytes) h = absurd (omega arith)
 
 -- a line that a piece ends is served
 pub line_ended : (before after : Future) (begun piece line begun' text : List ℕ) (goes_on : Bool) → IsClean begun → IsClean piece
-    → line ≡ take 65536 (begun ++ piece) → begun' ≡ [] → Answers before after (line ∷ []) text goes_on
+    → line ≡ take most_kept (begun ++ piece) → begun' ≡ [] → Answers before after (line ∷ []) text goes_on
     → Answers (ahead before begun) (ahead after begun') (piece ++ 10 ∷ []) text goes_on
 line_ended before after begun piece line begun' text goes_on clean clean_piece e none served ended rest =
     let whole : begun ++ ((piece ++ 10 ∷ []) ++ rest) ≡ (begun ++ piece) ++ 10 ∷ rest = ap (λ l. begun ++ l) (append_assoc piece (10 ∷ []) rest) ∙ sym (append_assoc begun piece (10 ∷ rest)) in
@@ -49,12 +49,12 @@ line_ended before after begun piece line begun' text goes_on clean clean_piece e
     ∙ ap (λ answers. text ++ (if goes_on then answers else [])) (sym later)
 
 -- a piece without the end of a line is kept
-pub piece_kept : (future : Future) (begun piece begun' : List ℕ) → IsClean begun → IsClean piece → begun' ≡ take 65536 (begun ++ piece)
+pub piece_kept : (future : Future) (begun piece begun' : List ℕ) → IsClean begun → IsClean piece → begun' ≡ take most_kept (begun ++ piece)
     → Answers (ahead future begun) (ahead future begun') piece [] true
 piece_kept future begun piece begun' clean clean_piece e ended rest =
     ahead_is future begun ended (piece ++ rest) ((begun ++ piece) ++ rest) (sym (append_assoc begun piece rest))
     ∙ sym (ap (future ended) (input_lines-kept ended (begun ++ piece) rest (All-append (λ b. (b == 10) ≡ false) begun piece clean clean_piece)))
-    ∙ sym (ahead_is future begun' ended rest (take 65536 (begun ++ piece) ++ rest) (ap (λ b. b ++ rest) e))
+    ∙ sym (ahead_is future begun' ended rest (take most_kept (begun ++ piece) ++ rest) (ap (λ b. b ++ rest) e))
 
 -- nothing is answered to a line that has only begun
 pub nothing_ahead : (future : Future) (begun : List ℕ) → IsClean begun → future false [] ≡ [] → ahead future begun false [] ≡ []
@@ -62,9 +62,9 @@ nothing_ahead future begun clean waits =
     ahead_is future begun false [] begun (append-nil begun) ∙ ap (future false) (input_lines-begun begun clean) ∙ waits
 
 -- the end of the input ends a line that has begun
-pub last_ahead : (future : Future) (begun : List ℕ) → IsClean begun → 0 < length begun → length begun ≤ 65536 → ahead future begun true [] ≡ future true (begun ∷ [])
+pub last_ahead : (future : Future) (begun : List ℕ) → IsClean begun → 0 < length begun → length begun ≤ most_kept → ahead future begun true [] ≡ future true (begun ∷ [])
 last_ahead future begun clean some short =
-    ahead_is future begun true [] begun (append-nil begun) ∙ ap (future true) (input_lines-last begun clean some) ∙ ap (λ l. future true (l ∷ [])) (take_short 65536 begun short)
+    ahead_is future begun true [] begun (append-nil begun) ∙ ap (future true) (input_lines-last begun clean some) ∙ ap (λ l. future true (l ∷ [])) (take_short most_kept begun short)
 
 pub none_ahead : (future : Future) (begun : List ℕ) → length begun ≤ 0 → ahead future begun true [] ≡ future true []
 none_ahead future begun none = ahead_is future begun true [] [] (append-nil begun ∙ no_length begun none) ∙ ap (future true) (input_lines-nil true)
@@ -128,7 +128,7 @@ abbrev pub Served : Future → Future → List ℕ → Option (List ℕ) → Opt
 Served before after line old new goes_on = (text : List ℕ) × Appends old new text × Answers before after (line ∷ []) text goes_on
 
 pub serve_line : (r : Result Bool RunFault) (before before' after : Future) (begun piece line begun' : List ℕ) (old new : Option (List ℕ)) → before' ≡ before → IsClean begun → IsClean piece
-    → line ≡ take 65536 (begun ++ piece) → begun' ≡ []
+    → line ≡ take most_kept (begun ++ piece) → begun' ≡ []
     → MatchResult r (Served before' after line old new) (Unserved old new)
     → MatchResult r (λ goes_on. (text : List ℕ) × Appends old new text × Answers (ahead before begun) (ahead after begun') (piece ++ 10 ∷ []) text goes_on) (Unserved old new)
 serve_line (Ok goes_on) before before' after begun piece line begun' old new same clean clean_piece e none (text, wrote, told) =
@@ -136,7 +136,7 @@ serve_line (Ok goes_on) before before' after begun piece line begun' old new sam
 serve_line (Err fault) before before' after begun piece line begun' old new same clean clean_piece e none h = h
 
 -- the last line, where the machine ends with it
-pub last_served : (before before' after : Future) (begun line : List ℕ) (old new : Option (List ℕ)) → before' ≡ before → line ≡ begun → IsClean begun → 0 < length begun → length begun ≤ 65536
+pub last_served : (before before' after : Future) (begun line : List ℕ) (old new : Option (List ℕ)) → before' ≡ before → line ≡ begun → IsClean begun → 0 < length begun → length begun ≤ most_kept
     → Served before' after line old new false → Appends old new (ahead before begun true [])
 last_served before before' after begun line old new same e clean some short (text, wrote, told) =
     let is : ahead before begun true [] ≡ text =
@@ -144,7 +144,7 @@ last_served before before' after begun line old new same e clean some short (tex
     subst (Appends old new) (sym is) wrote
 
 -- the last line, and then the last words
-pub last_said : (before before' after : Future) (begun line words : List ℕ) (old w new : Option (List ℕ)) → before' ≡ before → line ≡ begun → IsClean begun → 0 < length begun → length begun ≤ 65536
+pub last_said : (before before' after : Future) (begun line words : List ℕ) (old w new : Option (List ℕ)) → before' ≡ before → line ≡ begun → IsClean begun → 0 < length begun → length begun ≤ most_kept
     → Served before' after line old w true → words ≡ after true [] → Appends w new words → Appends old new (ahead before begun true [])
 last_said before before' after begun line words old w new same e clean some short (text, wrote, told) words_are said =
     let is : ahead before begun true [] ≡ text ++ words =
@@ -180,7 +180,7 @@ finish_none (Ok x) future begun words old new none e said = subst (Appends old n
 finish_none (Err fault) future begun words old new none e said = subst (Unserved old new) (sym said) tt
 
 -- else they are written behind the answer to the last line
-pub finish_said : (r : Result (Unit {0}) RunFault) (before before' after : Future) (begun line words : List ℕ) (old w new : Option (List ℕ)) → before' ≡ before → line ≡ begun → IsClean begun → 0 < length begun → length begun ≤ 65536
+pub finish_said : (r : Result (Unit {0}) RunFault) (before before' after : Future) (begun line words : List ℕ) (old w new : Option (List ℕ)) → before' ≡ before → line ≡ begun → IsClean begun → 0 < length begun → length begun ≤ most_kept
     → Served before' after line old w true → words ≡ after true []
     → MatchResult r (λ _. Appends w new words) (λ fault. fault ≡ Write)
     → MatchResult r (λ _. Appends old new (ahead before begun true [])) (Unserved old new)
@@ -207,7 +207,7 @@ pub record Heard (made : ℕ) (before now : Ahead) (input left old new : Option 
 pub heard_none : (before now : Ahead) (input w : Option (List ℕ)) → now ≡ before → Heard 0 before now input input w w
 heard_none before now input w same = record { taken = []; text = []; enough = omega arith; took = Consumes-nil input; wrote = Appends-nil w; told = λ ended rest. ap (λ f. f ended rest) (sym same) }
 
-pub heard_turn : (made : ℕ) (before mid after : Ahead) (input left left' old w new : Option (List ℕ)) → Heard made before mid input left old w → Turn mid after left left' w new true → Heard (made + 1) before after input left' old new
+pub heard_turn : (made : ℕ) (before mid after : Ahead) (input left left' old w new : Option (List ℕ)) → Heard made before mid input left old w → Turn mid after (ends left w) (ends left' new) true → Heard (made + 1) before after input left' old new
 heard_turn made before mid after input left left' old w new h (taken, text, some, took, wrote, told) = record {
   taken = h.taken ++ taken;
   text = h.text ++ text;
@@ -218,7 +218,7 @@ heard_turn made before mid after input left left' old w new h (taken, text, some
 }
 
 -- all of the input is answered
-pub heard_end : {made : ℕ} (before mid after : Ahead) (input left left' old w new : Option (List ℕ)) → Heard made before mid input left old w → Turn mid after left left' w new false
+pub heard_end : {made : ℕ} (before mid after : Ahead) (input left left' old w new : Option (List ℕ)) → Heard made before mid input left old w → Turn mid after (ends left w) (ends left' new) false
     → IfSome input (λ bytes. Appends old new (before true bytes))
 heard_end before mid after None left left' old w new h e = tt
 heard_end before mid after (Some bytes) None left' old w new h e = absurd h.took
@@ -226,8 +226,8 @@ heard_end before mid after (Some bytes) (Some rest) left' old w new h e =
     subst (Appends old new) (sym (ap (before true) h.took ∙ h.told true rest)) (Appends-trans old w new h.text (mid true rest) h.wrote e)
 
 -- a fault leaves what it leaves of the rest
-pub heard_left : {made : ℕ} (before mid : Ahead) (input left left' old w new : Option (List ℕ)) (fault : RunFault) → Heard made before mid input left old w → Leaves (mid false) left left' w new fault
-    → Leaves (before false) input left' old new fault
+pub heard_left : {made : ℕ} (before mid : Ahead) (input left left' old w new : Option (List ℕ)) (fault : RunFault) → Heard made before mid input left old w → Leaves (mid false) (ends left w) (ends left' new) fault
+    → Leaves (before false) (ends input old) (ends left' new) fault
 heard_left before mid input left left' old w new Read h (taken, took, wrote) = (
   h.taken ++ taken,
   Consumes-trans input left left' h.taken taken h.took took,
@@ -242,7 +242,7 @@ heard_left before mid input left left' old w new Memory h (front, behind, took, 
 )
 
 -- so many reads were made
-pub heard_so_far : {made : ℕ} (before mid : Ahead) (input left old new : Option (List ℕ)) → Heard made before mid input left old new → mid false [] ≡ [] → Leaves (before false) input left old new Read
+pub heard_so_far : {made : ℕ} (before mid : Ahead) (input left old new : Option (List ℕ)) → Heard made before mid input left old new → mid false [] ≡ [] → Leaves (before false) (ends input old) (ends left new) Read
 heard_so_far before mid input left old new h none = (
   h.taken,
   h.took,
@@ -256,7 +256,7 @@ heard_enough made before now (Some bytes) None old new h = absurd h.took
 heard_enough made before now (Some bytes) (Some rest) old new h = omega (arith, h.enough, ap length h.took, length-append h.taken rest)
 
 -- a read failed
-pub turn_failed : (before : Ahead) (input left w : Option (List ℕ)) → Keeps input left → before false [] ≡ [] → Leaves (before false) input left w w Read
+pub turn_failed : (before : Ahead) (input left w : Option (List ℕ)) → Keeps input left → before false [] ≡ [] → Leaves (before false) (ends input w) (ends left w) Read
 turn_failed before input left w kept none = ([], Consumes-kept input input left [] (Consumes-nil input) kept, subst (Appends w w) (sym none) (Appends-nil w))
 
 all_told : (before : Ahead) (piece text : List ℕ) (input left old new : Option (List ℕ)) → Consumes input left piece → Appends old new text → ((rest : List ℕ) → before true (piece ++ rest) ≡ text ++ [])
@@ -272,7 +272,7 @@ some_read count buffer some within = omega (arith, length-take count buffer)
 -- a piece was fed
 pub turn_fed : (r : Result Bool RunFault) (before after : Ahead) (piece : List ℕ) (input left old new : Option (List ℕ)) → 0 < length piece → Consumes input left piece
     → MatchResult r (λ goes_on. (text : List ℕ) × Appends old new text × Answers before after piece text goes_on) (BrokenOff before piece old new)
-    → MatchResult r (Turn before after input left old new) (Leaves (before false) input left old new)
+    → MatchResult r (Turn before after (ends input old) (ends left new)) (Leaves (before false) (ends input old) (ends left new))
 turn_fed (Ok true) before after piece input left old new some took (text, wrote, told) = (piece, text, some, took, wrote, told)
 turn_fed (Ok false) before after piece input left old new some took (text, wrote, told) = all_told before piece text input left old new took wrote (λ rest. told true rest)
 turn_fed (Err Read) before after piece input left old new some took h = absurd h
@@ -285,7 +285,7 @@ turn_ended before None left old new took end wrote = tt
 turn_ended before (Some bytes) None old new took end wrote = absurd took
 turn_ended before (Some bytes) (Some rest) old new took end wrote = subst (λ b. Appends old new (before true b)) (sym (took ∙ end)) wrote
 
-pub turn_unserved : (before : Ahead) (input left old new : Option (List ℕ)) (fault : RunFault) → Consumes input left [] → before false [] ≡ [] → Unserved old new fault → Leaves (before false) input left old new fault
+pub turn_unserved : (before : Ahead) (input left old new : Option (List ℕ)) (fault : RunFault) → Consumes input left [] → before false [] ≡ [] → Unserved old new fault → Leaves (before false) (ends input old) (ends left new) fault
 turn_unserved before input left old new Read took none h = absurd h
 turn_unserved before input left old new Write took none h = tt
 turn_unserved before input left old new Memory took none h = ([], [], took, subst (Appends old new) (sym none) (Appends-kept old old new [] (Appends-nil old) h))
@@ -300,7 +300,7 @@ fault_is (Ok x) fault h = let e = h.0 in cc
 fault_is (Err e) fault h = ap Err h.1
 
 -- what a read's counts say of a run that ends with its fault
-pub reads_exit : (fault : RunFault) (input : Option (List ℕ)) (failures failures' calls calls' : ℕ) → failures' ≡ raised failures (read_faults {T = Unit {0}} (Err fault)) → Reads {T = Unit {0}} input failures failures' calls calls' (Err fault)
+pub reads_exit : (fault : RunFault) (input : Option (List ℕ)) (failures failures' calls calls' : ℕ) → failures' ≡ raised failures (read_faults {T = Unit {0}} (Err fault)) → Reads {T = Unit {0}} input (read_counts failures calls) (read_counts failures' calls') (Err fault)
 reads_exit Read input failures failures' calls calls' e = Failed e
 reads_exit Write input failures failures' calls calls' e = e ∙ raised_none failures
 reads_exit Memory input failures failures' calls calls' e = e ∙ raised_none failures

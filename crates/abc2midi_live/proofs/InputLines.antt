@@ -6,7 +6,8 @@ use Rattle.std.proofs.lemmas.List.Elements.{All-tail, All-head, All-take}
 use Rattle.std.proofs.lemmas.List.{take_min}
 use Rattle.std.proofs.Math.Seq.{take-append-add}
 use Rattle.std.proofs.lemmas.Bool.Decides.{nat_tests}
-use Rattle.abc2midi_live.specs.Transcript.{whole_lines, input_lines}
+use Rattle.abc_lines.specs.declared.limits.TheConstants.{LONGEST_LINE}
+use Rattle.abc2midi_live.specs.Transcript.{whole_lines, input_lines, most_kept}
 use Rattle.abc2midi_live.specs.Machine.{IsClean}
 
 abbrev is_feed : ℕ → Bool
@@ -26,11 +27,11 @@ whole_lines-more ended line [] some = absurd (some refl)
 whole_lines-more ended line (next ∷ more) some = refl
 
 -- a line that has ended, before what comes behind its line feed
-pub input_lines-line : (ended : Bool) (line rest : List ℕ) → IsClean line → input_lines ended (line ++ 10 ∷ rest) ≡ take 65536 line ∷ input_lines ended rest
+pub input_lines-line : (ended : Bool) (line rest : List ℕ) → IsClean line → input_lines ended (line ++ 10 ∷ rest) ≡ take most_kept line ∷ input_lines ended rest
 unfolding input_lines
 input_lines-line ended line rest clean =
-    ap (λ parts. map (take 65536) (whole_lines ended parts)) (slice_split_at is_feed line 10 rest clean refl)
-    ∙ ap (map (take 65536)) (whole_lines-more ended line (slice_split is_feed rest) (split_some rest))
+    ap (λ parts. map (take most_kept) (whole_lines ended parts)) (slice_split_at is_feed line 10 rest clean refl)
+    ∙ ap (map (take most_kept)) (whole_lines-more ended line (slice_split is_feed rest) (split_some rest))
 
 -- a text in front of the first of some lines
 abbrev onto : List ℕ → List (List ℕ) → List (List ℕ)
@@ -80,22 +81,22 @@ pub clean_kept : (n : ℕ) (line : List ℕ) → IsClean line → IsClean (take 
 clean_kept n line clean = All-take (λ b. (b == 10) ≡ false) n line clean
 
 -- of a line that has not ended, only its front matters
-pub input_lines-kept : (ended : Bool) (line rest : List ℕ) → IsClean line → input_lines ended (take 65536 line ++ rest) ≡ input_lines ended (line ++ rest)
+pub input_lines-kept : (ended : Bool) (line rest : List ℕ) → IsClean line → input_lines ended (take most_kept line ++ rest) ≡ input_lines ended (line ++ rest)
 unfolding input_lines
 input_lines-kept ended line rest clean =
-    ap (λ parts. map (take 65536) (whole_lines ended parts)) (split-onto (take 65536 line) rest (clean_kept 65536 line clean))
-    ∙ kept-onto ended 65535 line (slice_split is_feed rest) (split_some rest)
-    ∙ sym (ap (λ parts. map (take 65536) (whole_lines ended parts)) (split-onto line rest clean))
+    ap (λ parts. map (take most_kept) (whole_lines ended parts)) (split-onto (take most_kept line) rest (clean_kept most_kept line clean))
+    ∙ kept-onto ended LONGEST_LINE line (slice_split is_feed rest) (split_some rest)
+    ∙ sym (ap (λ parts. map (take most_kept) (whole_lines ended parts)) (split-onto line rest clean))
 
 -- a line that has not ended is none so far
 pub input_lines-begun : (line : List ℕ) → IsClean line → input_lines false line ≡ []
 unfolding input_lines
-input_lines-begun line clean = ap (λ parts. map (take 65536) (whole_lines false parts)) (slice_split_none is_feed line clean)
+input_lines-begun line clean = ap (λ parts. map (take most_kept) (whole_lines false parts)) (slice_split_none is_feed line clean)
 
 -- where the input ends it is one, if it is not empty
-pub input_lines-last : (line : List ℕ) → IsClean line → 0 < length line → input_lines true line ≡ take 65536 line ∷ []
+pub input_lines-last : (line : List ℕ) → IsClean line → 0 < length line → input_lines true line ≡ take most_kept line ∷ []
 unfolding input_lines
-input_lines-last line clean some = ap (λ parts. map (take 65536) (whole_lines true parts)) (slice_split_none is_feed line clean) ∙ ap (λ b. map (take 65536) (cond b (line ∷ []) [])) (let e : leb 1 (length line) ≡ true = grind (arith, nat_tests) in e)
+input_lines-last line clean some = ap (λ parts. map (take most_kept) (whole_lines true parts)) (slice_split_none is_feed line clean) ∙ ap (λ b. map (take most_kept) (cond b (line ∷ []) [])) (let e : leb 1 (length line) ≡ true = grind (arith, nat_tests) in e)
 
 pub input_lines-nil : (ended : Bool) → input_lines ended [] ≡ []
 unfolding input_lines

@@ -10,5 +10,4 @@ pub mod Pitches
 pub mod Requests
 pub mod Runs
 pub mod ShortLines
-pub mod Splices
 pub mod Words

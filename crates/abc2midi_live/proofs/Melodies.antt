@@ -4,6 +4,7 @@ use Rattle.std.proofs.lemmas.Bool.Decides.{nat_tests}
 use Rattle.std.proofs.lemmas.List.{at_drop_more}
 use Rattle.std.specs.Prelude.{Some, None}
 use Rattle.abc_time.specs.Grains.{grains_of_the_latest_end, grains_of_a_whole_note}
+use Rattle.abc2midi_live.specs.declared.melody.TheConstants.{MOST_TIME_TOKENS}
 use Rattle.abc2midi_live.specs.declared.melody.TimeToken.{TimeToken}
 use Rattle.abc2midi_live.specs.Melody.{total, end_of}
 
@@ -19,6 +20,6 @@ pub end_of-late : (tokens : List TimeToken) → grains_of_the_latest_end < total
 unfolding end_of
 end_of-late tokens late = grind (arith, nat_tests)
 
-pub end_of-early : (tokens : List TimeToken) → length tokens ≤ 1000000 → total tokens ≤ grains_of_the_latest_end → end_of tokens ≡ Some (record { 0 = total tokens })
+pub end_of-early : (tokens : List TimeToken) → length tokens ≤ MOST_TIME_TOKENS → total tokens ≤ grains_of_the_latest_end → end_of tokens ≡ Some (record { 0 = total tokens })
 unfolding end_of
 end_of-early tokens few early = grind (arith, nat_tests)

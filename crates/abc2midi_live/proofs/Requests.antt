@@ -7,42 +7,34 @@ use Rattle.std.specs.declared.alloc.AllocError.{AllocError}
 use Rattle.std.proofs.lemmas.Bool.{true≢false}
 use Rattle.std.proofs.lemmas.Bool.Decides.{nat_tests}
 use Rattle.std.specs.Result.{result_unwrap_or}
-use Rattle.abc2midi_live.specs.Text.{Text, text_of, edited, Refuses}
+use Rattle.abc_lines.specs.Text.{Text, Splice, text_of}
+use Rattle.abc_lines.specs.Edits.{insertion, replacement, deletion, edited, Refuses}
 use Rattle.abc2midi_live.specs.Book.{files_of, written, removed}
 use Rattle.abc2midi_live.specs.Answer.{report_line, refusal}
 use Rattle.abc2midi_live.specs.Command.{line_count, command_of}
-use Rattle.abc2midi_live.specs.Transcript.{Change, Insertion, Replacement, Deletion, changed, change_answer, Request, Edits, CutOff, request_of, requests, answer, answers, goes_on, text_after}
+use Rattle.abc2midi_live.specs.Transcript.{edit_answer, Request, Edits, CutOff, request_of, requests, answer, answers, goes_on, text_after}
 use Rattle.abc2midi_live.specs.Answer.{hex_line, unknown_line, truncated_line}
 use Rattle.abc2midi_live.specs.Book.{file_at}
 use Rattle.abc2midi_live.specs.declared.command.Command.{Command}
 use Rattle.abc2midi_live.specs.declared.command.Command.TheVariants.{Hex, Quit, Unknown}
 use Rattle.abc2midi_live.specs.declared.command.Command.TheVariants as commands
-use Rattle.abc2midi_live.specs.Dialogue.{change_of, Begun, awaited, is_taken, Says, Responds}
+use Rattle.abc2midi_live.specs.Dialogue.{Begun, awaited, is_taken, Says, Responds}
 use Rattle.abc2midi_live.specs.Machine.{Replies}
 use Rattle.abc2midi_live.specs.declared.machine.Reply.{Reply}
 use Rattle.abc2midi_live.specs.declared.machine.Reply.TheVariants.{Nothing, Answer, End}
-use Rattle.abc2midi_live.specs.declared.edit.Edit.{Edit}
-use Rattle.abc2midi_live.specs.declared.edit.Edit.TheVariants.{Insert, Replace, Delete}
-use Rattle.abc2midi_live.specs.declared.edit.EditError.{EditError}
-use Rattle.abc2midi_live.specs.declared.edit.EditError.TheVariants.{OutOfMemory}
-
--- an edit changes a text as its change does
-pub edited-changed : (text : Text) (edit : Edit) → edited text edit ≡ changed text (change_of edit)
-unfolding edited changed
-edited-changed text (Insert at lines) = refl
-edited-changed text (Replace from to lines) = refl
-edited-changed text (Delete from to) = refl
+use Rattle.abc_lines.specs.declared.edit_error.EditError.{EditError}
+use Rattle.abc_lines.specs.declared.edit_error.EditError.TheVariants.{OutOfMemory}
 
 -- the answer to an accepted edit
 pub answer_accepted : (old new : Text) (change : Result Text EditError) (text writes removes : List ℕ) → change ≡ Ok new → writes ≡ written (files_of old) (files_of new) → removes ≡ removed (files_of old) (files_of new)
-    → text ≡ report_line writes removes → text ≡ change_answer old change
-unfolding change_answer
-answer_accepted old new change text writes removes e w r h = h ∙ ap (λ x. report_line x removes) w ∙ ap (report_line (written (files_of old) (files_of new))) r ∙ sym (ap (change_answer old) e)
+    → text ≡ report_line writes removes → text ≡ edit_answer old change
+unfolding edit_answer
+answer_accepted old new change text writes removes e w r h = h ∙ ap (λ x. report_line x removes) w ∙ ap (report_line (written (files_of old) (files_of new))) r ∙ sym (ap (edit_answer old) e)
 
 -- the answer to a refused one
-pub answer_refused : (old : Text) (change : Result Text EditError) (error : EditError) (text : List ℕ) → change ≡ Err error → text ≡ refusal error → text ≡ change_answer old change
-unfolding change_answer
-answer_refused old change error text e h = h ∙ sym (ap (change_answer old) e)
+pub answer_refused : (old : Text) (change : Result Text EditError) (error : EditError) (text : List ℕ) → change ≡ Err error → text ≡ refusal error → text ≡ edit_answer old change
+unfolding edit_answer
+answer_refused old change error text e h = h ∙ sym (ap (edit_answer old) e)
 
 pub unwrap_refused : (old : Text) (change : Result Text EditError) (error : EditError) → change ≡ Err error → old ≡ result_unwrap_or change old
 unwrap_refused old change error e = sym (ap (λ c. result_unwrap_or c old) e)
@@ -54,7 +46,7 @@ refused_by change error P (inr h) other = absurd (other h.0)
 
 -- the answer to a refused edit, if there is one
 pub refusal_answer : (r : Result (Vec ℕ) AllocError) (old : Text) (change : Result Text EditError) (error : EditError) → Refuses error change
-    → IfOk r (λ text. text.items ≡ refusal error) → OnOk r (error ≢ OutOfMemory) → IfOk r (λ text. text.items ≡ change_answer old change)
+    → IfOk r (λ text. text.items ≡ refusal error) → OnOk r (error ≢ OutOfMemory) → IfOk r (λ text. text.items ≡ edit_answer old change)
 refusal_answer (Ok text) old change error refused is other = answer_refused old change error text.items (refused_by change error _ refused other) is
 refusal_answer (Err e) old change error refused is other = tt
 
@@ -62,29 +54,21 @@ refusal_answer (Err e) old change error refused is other = tt
 abbrev pub Answered : Text → Text → Request → List ℕ → Type 0
 Answered old new request text = ((ended : Bool) → answer ended old request ≡ text) × (goes_on request ≡ true) × (new ≡ text_after old request)
 
-edited_answer : (old new : Text) (change : Change) (edit : Edit) (text : List ℕ) → change_of edit ≡ change → text ≡ change_answer old (edited old edit) → new ≡ result_unwrap_or (edited old edit) old
-    → Answered old new (Edits change) text
+edited_answer : (old new : Text) (splice : Option Splice) (text : List ℕ) → text ≡ edit_answer old (edited old splice) → new ≡ result_unwrap_or (edited old splice) old → Answered old new (Edits splice) text
 unfolding answer text_after
-edited_answer old new change edit text e t n =
-    let same : edited old edit ≡ changed old change = edited-changed old edit ∙ ap (changed old) e in (
-      λ ended. sym (t ∙ ap (change_answer old) same),
-      refl,
-      n ∙ ap (λ c. result_unwrap_or c old) same,
-    )
+edited_answer old new splice text t n = (λ ended. sym t, refl, n)
 
-pub responds_edit : (old new : Text) (request : Request) (change : Change) (edit : Edit) (text : List ℕ) → request ≡ Edits change → change_of edit ≡ change → text ≡ change_answer old (edited old edit)
-    → new ≡ result_unwrap_or (edited old edit) old → Answered old new request text
-responds_edit old new request change edit text is e t n = subst (λ r. Answered old new r text) (sym is) (edited_answer old new change edit text e t n)
+pub responds_edit : (old new : Text) (request : Request) (splice : Option Splice) (text : List ℕ) → request ≡ Edits splice → text ≡ edit_answer old (edited old splice)
+    → new ≡ result_unwrap_or (edited old splice) old → Answered old new request text
+responds_edit old new request splice text is t n = subst (λ r. Answered old new r text) (sym is) (edited_answer old new splice text t n)
 
 not_ok : (r : Result Text EditError) → is_ok r ≡ false → IsErr r
 not_ok (Ok text) e = absurd (true≢false e)
 not_ok (Err error) e = refl
 
 -- an edit that the text does not take is refused
-pub untaken : (old : Text) (request : Request) (change : Change) (edit : Edit) → request ≡ Edits change → change_of edit ≡ change → is_taken old request ≡ false → IsErr (edited old edit)
-untaken old request change edit is e none =
-    let refused : is_ok (changed old change) ≡ false = sym (ap (is_taken old) is) ∙ none in
-    subst IsErr (sym (edited-changed old edit ∙ ap (changed old) e)) (not_ok (changed old change) refused)
+pub untaken : (old : Text) (request : Request) (splice : Option Splice) → request ≡ Edits splice → is_taken old request ≡ false → IsErr (edited old splice)
+untaken old request splice is none = not_ok (edited old splice) (sym (ap (is_taken old) is) ∙ none)
 
 whole_if : (count n : ℕ) (request : Request) → n ≡ count → (if leb count n then request else CutOff) ≡ request
 whole_if count n request e = ap (λ b. cond b request CutOff) (let b : leb count n ≡ true = grind (arith, nat_tests) in b)
@@ -95,19 +79,19 @@ more_if count n m request e h = ap (λ b. cond b request CutOff) (let b : leb co
 take_whole : (count : ℕ) (lines : Text) → length lines ≡ count → take count lines ≡ lines
 take_whole count lines e = take_all count lines (omega arith)
 
-pub request_of-insert : (command : Command) (at count : ℕ) (lines : Text) → length lines ≡ line_count command → command ≡ commands.Insert at count → request_of command lines ≡ Edits (Insertion at lines)
+pub request_of-insert : (command : Command) (at count : ℕ) (lines : Text) → length lines ≡ line_count command → command ≡ commands.Insert at count → request_of command lines ≡ Edits (insertion at lines)
 unfolding request_of
 request_of-insert command at count lines whole is =
     let e : length lines ≡ count = whole ∙ ap line_count is in
-    ap (λ c. request_of c lines) is ∙ whole_if count (length lines) (Edits (Insertion at (take count lines))) e ∙ ap (λ ls. Edits (Insertion at ls)) (take_whole count lines e)
+    ap (λ c. request_of c lines) is ∙ whole_if count (length lines) (Edits (insertion at (take count lines))) e ∙ ap (λ ls. Edits (insertion at ls)) (take_whole count lines e)
 
-pub request_of-replace : (command : Command) (from to count : ℕ) (lines : Text) → length lines ≡ line_count command → command ≡ commands.Replace from to count → request_of command lines ≡ Edits (Replacement from to lines)
+pub request_of-replace : (command : Command) (from to count : ℕ) (lines : Text) → length lines ≡ line_count command → command ≡ commands.Replace from to count → request_of command lines ≡ Edits (replacement from to lines)
 unfolding request_of
 request_of-replace command from to count lines whole is =
     let e : length lines ≡ count = whole ∙ ap line_count is in
-    ap (λ c. request_of c lines) is ∙ whole_if count (length lines) (Edits (Replacement from to (take count lines))) e ∙ ap (λ ls. Edits (Replacement from to ls)) (take_whole count lines e)
+    ap (λ c. request_of c lines) is ∙ whole_if count (length lines) (Edits (replacement from to (take count lines))) e ∙ ap (λ ls. Edits (replacement from to ls)) (take_whole count lines e)
 
-pub request_of-delete : (command : Command) (from to : ℕ) (lines : Text) → command ≡ commands.Delete from to → request_of command lines ≡ Edits (Deletion from to)
+pub request_of-delete : (command : Command) (from to : ℕ) (lines : Text) → command ≡ commands.Delete from to → request_of command lines ≡ Edits (deletion from to)
 unfolding request_of
 request_of-delete command from to lines is = ap (λ c. request_of c lines) is
 
@@ -130,14 +114,14 @@ pub request_of-append : (command : Command) (lines more : Text) → length lines
 unfolding request_of
 request_of-append (commands.Insert at count) lines more whole =
     let fits : count ≤ length lines = omega arith in
-    more_if count (length lines) (length (lines ++ more)) (Edits (Insertion at (take count (lines ++ more)))) whole (omega (arith, length-append lines more))
-    ∙ ap (λ ls. Edits (Insertion at ls)) (take-append-le count lines more fits)
-    ∙ sym (whole_if count (length lines) (Edits (Insertion at (take count lines))) whole)
+    more_if count (length lines) (length (lines ++ more)) (Edits (insertion at (take count (lines ++ more)))) whole (omega (arith, length-append lines more))
+    ∙ ap (λ ls. Edits (insertion at ls)) (take-append-le count lines more fits)
+    ∙ sym (whole_if count (length lines) (Edits (insertion at (take count lines))) whole)
 request_of-append (commands.Replace from to count) lines more whole =
     let fits : count ≤ length lines = omega arith in
-    more_if count (length lines) (length (lines ++ more)) (Edits (Replacement from to (take count (lines ++ more)))) whole (omega (arith, length-append lines more))
-    ∙ ap (λ ls. Edits (Replacement from to ls)) (take-append-le count lines more fits)
-    ∙ sym (whole_if count (length lines) (Edits (Replacement from to (take count lines))) whole)
+    more_if count (length lines) (length (lines ++ more)) (Edits (replacement from to (take count (lines ++ more)))) whole (omega (arith, length-append lines more))
+    ∙ ap (λ ls. Edits (replacement from to ls)) (take-append-le count lines more fits)
+    ∙ sym (whole_if count (length lines) (Edits (replacement from to (take count lines))) whole)
 request_of-append (commands.Delete from to) lines more whole = refl
 request_of-append (Hex number) lines more whole = refl
 request_of-append Quit lines more whole = refl

@@ -5,11 +5,12 @@ use Rattle.std.specs.Prelude.{codes}
 use Rattle.std.proofs.lemmas.Str.{IsUtf8-from_ascii}
 use Rattle.std.specs.Borrow.{Bor}
 use Rattle.std.specs.Str.{IsUtf8, bytes_eq}
-use Rattle.std.specs.Str.Lines.{strip_carriage_return}
+use Rattle.abc_text.specs.Ending.{without_return}
 use Rattle.std.proofs.lemmas.List.Splits.{slice_split_at, slice_split_none}
 use Rattle.std.proofs.lemmas.Bool.Decides.{nat_tests}
 use Rattle.std.proofs.lemmas.Bool.{cases_Bool}
 use Rattle.std.proofs.lemmas.Slice.Eq.{bytes_eq-Decides}
+use Rattle.abc_lines.specs.declared.limits.TheConstants.{LONGEST_LINE}
 use Rattle.abc2midi_live.specs.Cut.{IsCut}
 use Rattle.abc_text.specs.Number.{number_of}
 use Rattle.abc2midi_live.specs.Command.{numbers_of, both, with_numbers, words_of, words_behind, command_named, command_of_words, command_of, IsUseless, insertion, replacement, deletion, hex_dump, quitting}
@@ -22,11 +23,11 @@ words_of-cut text front None c = ap words_of c.joined ∙ slice_split_none (λ b
 words_of-cut text front (Some rest) c = ap words_of c.joined ∙ slice_split_at (λ b. b == 32) front 32 rest.now c.clean refl
 
 -- the command of a line of allowed length
-pub command_of-short : (line : List ℕ) → length line ≤ 65535 → command_of_words (words_of (strip_carriage_return line)) ≡ command_of line
+pub command_of-short : (line : List ℕ) → length line ≤ LONGEST_LINE → command_of_words (words_of (without_return line)) ≡ command_of line
 unfolding command_of
 command_of-short line h = grind (arith, nat_tests)
 
-pub command_of-long : (line : List ℕ) → 65535 < length line → Unknown ≡ command_of line
+pub command_of-long : (line : List ℕ) → LONGEST_LINE < length line → Unknown ≡ command_of line
 unfolding command_of
 command_of-long line h = grind (arith, nat_tests)
 

@@ -1,13 +1,14 @@
 -- What the program answers to a command. Our own.
 use Rattle.std.specs.Prelude.{ℕ, List, ◌∷◌, ◌++◌, codes, decimal, flat_map, Option, Some, None}
 use Rattle.hex.specs.Hex.{encode_upper}
-use Rattle.abc2midi_live.specs.Edit.{name_of}
+use Rattle.abc_text.specs.Byte.{space}
+use Rattle.abc_lines.specs.EditError.{name_of}
 use Rattle.abc2midi_live.specs.Book.{Files, written, removed}
-use Rattle.abc2midi_live.specs.declared.edit.EditError.{EditError}
+use Rattle.abc_lines.specs.declared.edit_error.EditError.{EditError}
 
 -- numbers, each with a space before it
 unfoldable pub listed : List ℕ → List ℕ
-listed numbers = flat_map (λ n. 32 ∷ decimal n) numbers
+listed numbers = flat_map (λ n. space ∷ decimal n) numbers
 
 -- an accepted edit: the numbers whose files it wrote and removed
 unfoldable pub report_line : List ℕ → List ℕ → List ℕ

@@ -11,7 +11,7 @@ use Rattle.abc2midi_live.specs.Melody.{end_of}
 use Rattle.abc2midi_live.specs.Music.{plain_times}
 use Rattle.abc2midi_live.specs.PlainTune.{Heading, heading_of}
 use Rattle.abc2midi_live.specs.Score.{score_of}
-use Rattle.abc2midi_live.specs.Text.{Text}
+use Rattle.abc_lines.specs.Text.{Text}
 use Rattle.smf_bytes.specs.File.{file_bytes}
 
 -- the reference numbers that have a file, rising, each with the file's bytes

@@ -4,8 +4,10 @@ use Rattle.std.specs.Borrow.{Bor}
 use Rattle.std.specs.List.{slice_split}
 use Rattle.std.specs.Option.{option_map_or}
 use Rattle.std.specs.Str.{bytes_eq}
-use Rattle.std.specs.Str.Lines.{strip_carriage_return}
+use Rattle.abc_text.specs.Byte.{space}
+use Rattle.abc_text.specs.Ending.{without_return}
 use Rattle.abc_text.specs.Number.{number_of}
+use Rattle.abc_lines.specs.declared.limits.TheConstants.{LONGEST_LINE, MOST_LINES}
 use Rattle.abc2midi_live.specs.declared.command.Command.{Command}
 use Rattle.abc2midi_live.specs.declared.command.Command.TheVariants.{Insert, Replace, Delete, Hex, Quit, Unknown}
 
@@ -25,9 +27,9 @@ abbrev pub IsUseless : Option (List ℕ) → Type 0
 IsUseless None = Unit {0}
 IsUseless (Some numbers) = 3 < length numbers
 
--- A command takes at most 1,048,576 lines.
+-- A command takes no more lines than a text may have.
 unfoldable pub if_few : ℕ → Command → Command
-if_few count command = if nat_le count 1048576 then command else Unknown
+if_few count command = if nat_le count MOST_LINES then command else Unknown
 
 -- insert L K
 unfoldable pub insertion : List ℕ → Command
@@ -75,16 +77,16 @@ command_of_words (name ∷ words) = with_numbers words (command_named name)
 
 -- The words of a line are what stands between its spaces.
 unfoldable pub words_of : List ℕ → List (List ℕ)
-words_of line = slice_split (λ b. b == 32) line
+words_of line = slice_split (λ b. b == space) line
 
 -- the words behind a space, where there is one
 unfoldable pub words_behind : Option (Bor (List ℕ)) → List (List ℕ)
 words_behind None = []
 words_behind (Some rest) = words_of rest.now
 
--- The command of a line: one carriage return at its end is dropped, and a line of more than 65,535 bytes is none.
+-- The command of a line: one carriage return at its end is dropped, and one that is longer than a line of a text is none.
 unfoldable pub command_of : List ℕ → Command
-command_of line = if nat_le (length line) 65535 then command_of_words (words_of (strip_carriage_return line)) else Unknown
+command_of line = if nat_le (length line) LONGEST_LINE then command_of_words (words_of (without_return line)) else Unknown
 
 -- how many of the lines after it belong to a command
 abbrev pub line_count : Command → ℕ

@@ -1,14 +1,9 @@
 -- The lines of a text that count (ABC 2.1 section 2.2).
-use Rattle.std.specs.Prelude.{ℕ, Bool, true, false, not, List, map, filter}
-use Rattle.std.specs.Borrow.{Bor}
+use Rattle.std.specs.Prelude.{ℕ, Bool, true, false, not, List, filter}
 use Rattle.abc_scan.specs.declared.class.LineClass.{LineClass}
 use Rattle.abc_scan.specs.declared.class.LineClass.TheVariants.{Blank, Comment, Field, Music}
 use Rattle.abc_scan.specs.LineClass.{class_of}
-use Rattle.abc2midi_live.specs.Text.{Text}
-
--- what lines in memory contain, our own
-abbrev pub seen_lines : List (Bor (List ℕ)) → Text
-seen_lines lines = map (λ line. line.now) lines
+use Rattle.abc_lines.specs.Text.{Text}
 
 -- whether a class is that of a blank line
 abbrev pub is_blank_class : LineClass → Bool

@@ -1,19 +1,12 @@
 -- Commands that come line by line, and what is answered to the lines that still come. Our own.
 use Rattle.std.specs.Prelude.{◌≡◌, ℕ, ◌-◌, Bool, true, false, is_ok, List, [], ◌∷◌, ◌++◌, length, Option, Some, None}
-use Rattle.abc2midi_live.specs.Text.{Text, text_of}
+use Rattle.abc_lines.specs.Text.{Text}
+use Rattle.abc_lines.specs.Edits.{edited}
 use Rattle.abc2midi_live.specs.Command.{line_count, command_of}
-use Rattle.abc2midi_live.specs.Transcript.{Change, Insertion, Replacement, Deletion, Request, Edits, Shows, Misspelled, CutOff, Ends, changed, request_of, requests, answers, answer, goes_on, text_after}
-use Rattle.abc2midi_live.specs.declared.edit.Edit.{Edit}
-use Rattle.abc2midi_live.specs.declared.edit.Edit.TheVariants.{Insert, Replace, Delete}
+use Rattle.abc2midi_live.specs.Transcript.{Request, Edits, Shows, Misspelled, CutOff, Ends, request_of, requests, answers, answer, goes_on, text_after}
 use Rattle.abc2midi_live.specs.declared.command.Command.{Command}
 use Rattle.abc2midi_live.specs.declared.machine.Reply.{Reply}
 use Rattle.abc2midi_live.specs.declared.machine.Reply.TheVariants.{Nothing, Answer, End}
-
--- an edit without where its lines lie in memory
-abbrev pub change_of : Edit → Change
-change_of (Insert at lines) = Insertion at (text_of lines)
-change_of (Replace from to lines) = Replacement from to (text_of lines)
-change_of (Delete from to) = Deletion from to
 
 -- a command with the first of the lines that belong to it
 pub record Begun : Type 0 where
@@ -41,7 +34,7 @@ Responds old new request End = ((ended : Bool) → answer ended old request ≡ 
 
 -- whether the text takes what is asked for: nothing else costs any work that is counted
 abbrev pub is_taken : Text → Request → Bool
-is_taken text (Edits change) = is_ok (changed text change)
+is_taken text (Edits splice) = is_ok (edited text splice)
 is_taken text (Shows number) = false
 is_taken text Misspelled = false
 is_taken text CutOff = false

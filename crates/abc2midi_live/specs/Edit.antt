@@ -1,11 +1,16 @@
--- How a refused edit is named.
-use Rattle.std.specs.Prelude.{ℕ, List, codes}
-use Rattle.abc2midi_live.specs.declared.edit.EditError.{EditError}
-use Rattle.abc2midi_live.specs.declared.edit.EditError.TheVariants.{BadRange, BadLine, TooLarge, OutOfMemory}
+-- Edits of a text, whose lines are counted from 1. Our own.
+use Rattle.std.specs.Prelude.{ℕ, ◌-◌, ◌==◌, if◌then◌else◌, List, Option, None, slice_get}
+use Rattle.abc_lines.specs.Text.{Text, Splice, text_of}
+use Rattle.abc_lines.specs.Edits.{insertion, replacement, deletion}
+use Rattle.abc2midi_live.specs.declared.edit.Edit.{Edit}
+use Rattle.abc2midi_live.specs.declared.edit.Edit.TheVariants.{Insert, Replace, Delete}
 
--- the word that an answer has for a refusal; our own
-abbrev pub name_of : EditError → List ℕ
-name_of BadRange = codes "BadRange"
-name_of BadLine = codes "BadLine"
-name_of TooLarge = codes "TooLarge"
-name_of OutOfMemory = codes "OutOfMemory"
+-- the line of a number
+abbrev pub line_at : Text → ℕ → Option (List ℕ)
+line_at text n = if n == 0 then None else slice_get text (n - 1)
+
+-- the splice that an edit names
+abbrev pub splice_of : Edit → Option Splice
+splice_of (Insert at lines) = insertion at (text_of lines)
+splice_of (Replace from to lines) = replacement from to (text_of lines)
+splice_of (Delete from to) = deletion from to

@@ -4,9 +4,10 @@ use Rattle.std.proofs.Common.{sym, ap, ◌∙◌, append-nil}
 use Rattle.std.proofs.lemmas.List.{length-map}
 use Rattle.std.proofs.lemmas.Bool.{false≢true}
 use Rattle.std.proofs.Math.Dec.{leb-zero}
-use Rattle.abc2midi_live.specs.Text.{Text, text_of}
+use Rattle.abc_lines.specs.Text.{Text, text_of}
+use Rattle.abc_lines.specs.Edits.{insertion, replacement}
 use Rattle.abc2midi_live.specs.Command.{line_count}
-use Rattle.abc2midi_live.specs.Transcript.{Edits, CutOff, Insertion, Replacement, request_of, requests, answers, answer}
+use Rattle.abc2midi_live.specs.Transcript.{Edits, CutOff, request_of, requests, answers, answer}
 use Rattle.abc2midi_live.specs.Dialogue.{Begun, awaited}
 use Rattle.abc2midi_live.specs.declared.dialogue.Gathering.{Gathering}
 use Rattle.abc2midi_live.specs.declared.command.Command.{Command}
@@ -19,8 +20,8 @@ begun_of gathering = option_map (λ g. record { command = g.command; lines = tex
 -- a command without all its lines is cut off
 pub request_of-cut : (command : Command) (lines : Text) → nat_le (line_count command) (length lines) ≡ false → request_of command lines ≡ CutOff
 unfolding request_of
-request_of-cut (Insert at count) lines e = ap (λ b. cond b (Edits (Insertion at (take count lines))) CutOff) e
-request_of-cut (Replace from to count) lines e = ap (λ b. cond b (Edits (Replacement from to (take count lines))) CutOff) e
+request_of-cut (Insert at count) lines e = ap (λ b. cond b (Edits (insertion at (take count lines))) CutOff) e
+request_of-cut (Replace from to count) lines e = ap (λ b. cond b (Edits (replacement from to (take count lines))) CutOff) e
 request_of-cut (Delete from to) lines e = absurd (false≢true (sym e ∙ leb-zero (length lines)))
 request_of-cut (Hex number) lines e = absurd (false≢true (sym e ∙ leb-zero (length lines)))
 request_of-cut Quit lines e = absurd (false≢true (sym e ∙ leb-zero (length lines)))

@@ -1,5 +1,5 @@
 -- What contracts see of a heading in memory. Our own.
-use Rattle.abc2midi_live.specs.Comments.{seen_lines}
+use Rattle.abc_lines.specs.Text.{seen_lines}
 use Rattle.abc2midi_live.specs.declared.header.Heading.{Heading}
 use Rattle.abc2midi_live.specs.PlainTune.{Heading as PlainHeading}
 

@@ -17,7 +17,7 @@ pub mod Outcome
 pub mod Piped
 pub mod Pitch
 pub mod PlainTune
+pub mod Report
 pub mod Score
 pub mod Streams
-pub mod Text
 pub mod Transcript

@@ -1,5 +1,6 @@
 -- What a machine that takes lines answers. Our own.
 use Rattle.std.specs.Prelude.{◌≡◌, ℕ, Bool, true, false, if◌then◌else◌, List, [], ◌∷◌, ◌++◌, ◌==◌, All}
+use Rattle.abc_text.specs.Byte.{line_feed}
 use Rattle.abc2midi_live.specs.Transcript.{input_lines}
 use Rattle.abc2midi_live.specs.declared.machine.Reply.{Reply}
 use Rattle.abc2midi_live.specs.declared.machine.Reply.TheVariants.{Nothing, Answer, End}
@@ -18,7 +19,7 @@ Replies before after line End = Answers before after (line ∷ []) [] false
 
 -- no line ends within these bytes
 abbrev pub IsClean : List ℕ → Type 0
-IsClean bytes = All (λ b. (b == 10) ≡ false) bytes
+IsClean bytes = All (λ b. (b == line_feed) ≡ false) bytes
 
 -- what is answered to bytes, where the beginning of a line has come before them
 unfoldable pub ahead : (Bool → List (List ℕ) → List ℕ) → List ℕ → Bool → List ℕ → List ℕ

@@ -2,6 +2,7 @@
 use Rattle.std.specs.Prelude.{ℕ, ◌+◌, ◌≤◌, ◌&&◌, if◌then◌else◌, List, [], ◌∷◌, length, nat_le, Option, Some, None, IfSome}
 use Rattle.abc_time.specs.declared.grains.Grains.{Grains}
 use Rattle.abc_time.specs.Grains.{grains_of_the_latest_end}
+use Rattle.abc2midi_live.specs.declared.melody.TheConstants.{MOST_TIME_TOKENS}
 use Rattle.abc2midi_live.specs.declared.melody.TimeToken.{TimeToken}
 use Rattle.smf_bytes.specs.declared.score.Sounding.{Sounding}
 
@@ -24,9 +25,9 @@ abbrev pub notes_from : ℕ → List TimeToken → List Sounding
 notes_from at [] = []
 notes_from at (t ∷ ts) = sounded t.key at t.length.0 (notes_from (at + t.length.0) ts)
 
--- The end of a tune: at most 1,000,000 time tokens and 131,072 whole notes. The limits are our own.
+-- The end of a tune: at most so many time tokens, and 131,072 whole notes. The limits are our own.
 unfoldable pub end_of : List TimeToken → Option Grains
 end_of tokens =
-    if nat_le (length tokens) 1000000 && nat_le (total tokens) grains_of_the_latest_end
+    if nat_le (length tokens) MOST_TIME_TOKENS && nat_le (total tokens) grains_of_the_latest_end
     then Some (record { 0 = total tokens })
     else None

@@ -18,7 +18,7 @@ use Rattle.abc_time.specs.Length.{length_of}
 use Rattle.abc2midi_live.specs.Pitch.{midi_key_of}
 use Rattle.abc2midi_live.specs.declared.melody.TimeToken.{TimeToken}
 use Rattle.abc2midi_live.specs.declared.opening.Opening.{Opening}
-use Rattle.abc2midi_live.specs.Text.{Text}
+use Rattle.abc_lines.specs.Text.{Text}
 
 -- how long the unit is, which is a whole number of grains; in grains, our own
 abbrev pub unit_length : Ratio → Grains

@@ -16,7 +16,7 @@ use Rattle.abc_time.specs.Ratio.{IsRatio}
 use Rattle.abc_time.specs.Tempo.{quarter_micros_of, FitsInTempoEvent}
 use Rattle.abc_time.specs.declared.ratio.Ratio.{Ratio}
 use Rattle.abc2midi_live.specs.Field.{is_field, value_of}
-use Rattle.abc2midi_live.specs.Text.{Text}
+use Rattle.abc_lines.specs.Text.{Text}
 use Rattle.abc2midi_live.specs.declared.opening.Opening.{Opening}
 
 -- what the field of this letter says, if the line is one and its value is accepted; a field that is refused has

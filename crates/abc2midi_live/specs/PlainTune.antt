@@ -8,7 +8,7 @@ use Rattle.abc_scan.specs.declared.class.LineClass.TheVariants.{Blank, Comment, 
 use Rattle.abc2midi_live.specs.Field.{is_field, value_of}
 use Rattle.abc_text.specs.Number.{number_of}
 use Rattle.abc2midi_live.specs.Opening.{opening_of}
-use Rattle.abc2midi_live.specs.Text.{Text}
+use Rattle.abc_lines.specs.Text.{Text}
 use Rattle.abc2midi_live.specs.declared.opening.Opening.{Opening}
 
 -- a number from 1

@@ -1,13 +1,15 @@
 -- What the program writes for an input: the answers to its commands, in order. Our own.
-use Rattle.std.specs.Prelude.{ℕ, zero, suc, ◌+◌, ◌-◌, ◌&&◌, ◌==◌, nat_le, Bool, true, false, if◌then◌else◌, List, [], ◌∷◌, ◌++◌, length, take, map, Result, Ok, Err}
+use Rattle.std.specs.Prelude.{ℕ, zero, suc, ◌+◌, ◌&&◌, ◌==◌, nat_le, Bool, true, false, if◌then◌else◌, List, [], ◌∷◌, ◌++◌, length, take, map, Option, Result, Ok, Err}
 use Rattle.std.specs.List.{slice_split}
 use Rattle.std.specs.Result.{result_unwrap_or}
-use Rattle.abc2midi_live.specs.Text.{Text, checked, names_range}
+use Rattle.abc_lines.specs.declared.limits.TheConstants.{LONGEST_LINE}
+use Rattle.abc_text.specs.Byte.{line_feed}
+use Rattle.abc_lines.specs.Text.{Text, Splice}
+use Rattle.abc_lines.specs.Edits.{insertion, replacement, deletion, edited}
 use Rattle.abc2midi_live.specs.Book.{files_of, file_at}
 use Rattle.abc2midi_live.specs.Command.{command_of, line_count}
 use Rattle.abc2midi_live.specs.Answer.{report, refusal, hex_line, unknown_line, truncated_line}
-use Rattle.abc2midi_live.specs.declared.edit.EditError.{EditError}
-use Rattle.abc2midi_live.specs.declared.edit.EditError.TheVariants.{BadRange}
+use Rattle.abc_lines.specs.declared.edit_error.EditError.{EditError}
 use Rattle.abc2midi_live.specs.declared.command.Command.{Command}
 use Rattle.abc2midi_live.specs.declared.command.Command.TheVariants.{Insert, Replace, Delete, Hex, Quit, Unknown}
 
@@ -18,19 +20,17 @@ whole_lines ended [] = []
 whole_lines ended (line ∷ []) = if ended && nat_le 1 (length line) then line ∷ [] else []
 whole_lines ended (line ∷ next ∷ more) = line ∷ whole_lines ended (next ∷ more)
 
--- the lines of an input; of a long one the first 65,536 bytes are kept, which is one more than a line may have
-unfoldable pub input_lines : Bool → List ℕ → List (List ℕ)
-input_lines ended bytes = map (take 65536) (whole_lines ended (slice_split (λ b. b == 10) bytes))
+-- how many bytes of a line of an input are kept: one more than a line of a text may have
+abbrev pub most_kept : ℕ
+most_kept = LONGEST_LINE + 1
 
--- what an edit command asks for
-pub data Change : Type 0 where
-  Insertion : (at : ℕ) (lines : Text) → Change
-  Replacement : (from to : ℕ) (lines : Text) → Change
-  Deletion : (from to : ℕ) → Change
+-- the lines of an input, of a long one its front
+unfoldable pub input_lines : Bool → List ℕ → List (List ℕ)
+input_lines ended bytes = map (take most_kept) (whole_lines ended (slice_split (λ b. b == line_feed) bytes))
 
 -- a command with the lines that belong to it
 pub data Request : Type 0 where
-  Edits : (change : Change) → Request
+  Edits : (splice : Option Splice) → Request
   Shows : (number : ℕ) → Request
   Misspelled : Request
   CutOff : Request  -- there are not as many lines as it asks for
@@ -38,9 +38,9 @@ pub data Request : Type 0 where
 
 -- A command takes its lines from those that follow it.
 unfoldable pub request_of : Command → List (List ℕ) → Request
-request_of (Insert at count) lines = if nat_le count (length lines) then Edits (Insertion at (take count lines)) else CutOff
-request_of (Replace from to count) lines = if nat_le count (length lines) then Edits (Replacement from to (take count lines)) else CutOff
-request_of (Delete from to) lines = Edits (Deletion from to)
+request_of (Insert at count) lines = if nat_le count (length lines) then Edits (insertion at (take count lines)) else CutOff
+request_of (Replace from to count) lines = if nat_le count (length lines) then Edits (replacement from to (take count lines)) else CutOff
+request_of (Delete from to) lines = Edits (deletion from to)
 request_of (Hex number) lines = Shows number
 request_of Quit lines = Ends
 request_of Unknown lines = Misspelled
@@ -51,34 +51,22 @@ requests taken [] = []
 requests zero (line ∷ lines) = request_of (command_of line) lines ∷ requests (line_count (command_of line)) lines
 requests (suc taken) (line ∷ lines) = requests taken lines
 
--- the text after a change, or the first reason to refuse it
-unfoldable pub changed : Text → Change → Result Text EditError
-changed text (Insertion at lines) =
-    if nat_le 1 at && nat_le at (length text + 1)
-    then checked text (record { at = at - 1; removed = 0; lines = lines }) else Err BadRange
-changed text (Replacement from to lines) =
-    if names_range from to (length text)
-    then checked text (record { at = from - 1; removed = to + 1 - from; lines = lines }) else Err BadRange
-changed text (Deletion from to) =
-    if names_range from to (length text)
-    then checked text (record { at = from - 1; removed = to + 1 - from; lines = [] }) else Err BadRange
-
--- the answer to a change of a text
-unfoldable pub change_answer : Text → Result Text EditError → List ℕ
-change_answer before (Ok after) = report (files_of before) (files_of after)
-change_answer before (Err error) = refusal error
+-- the answer to an edit of a text
+unfoldable pub edit_answer : Text → Result Text EditError → List ℕ
+edit_answer before (Ok after) = report (files_of before) (files_of after)
+edit_answer before (Err error) = refusal error
 
 -- the answer to a request; one that is cut off has its answer where the input has ended
 unfoldable pub answer : Bool → Text → Request → List ℕ
-answer ended text (Edits change) = change_answer text (changed text change)
+answer ended text (Edits splice) = edit_answer text (edited text splice)
 answer ended text (Shows number) = hex_line (file_at (files_of text) number)
 answer ended text Misspelled = unknown_line
 answer ended text CutOff = if ended then truncated_line else []
 answer ended text Ends = []
 
--- A refused change leaves the text.
+-- A refused edit leaves the text.
 unfoldable pub text_after : Text → Request → Text
-text_after text (Edits change) = result_unwrap_or (changed text change) text
+text_after text (Edits splice) = result_unwrap_or (edited text splice) text
 text_after text (Shows number) = text
 text_after text Misspelled = text
 text_after text CutOff = text
@@ -86,7 +74,7 @@ text_after text Ends = text
 
 -- whether the run goes on after a request
 abbrev pub goes_on : Request → Bool
-goes_on (Edits change) = true
+goes_on (Edits splice) = true
 goes_on (Shows number) = true
 goes_on Misspelled = true
 goes_on CutOff = false

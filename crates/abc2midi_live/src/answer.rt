@@ -3,7 +3,8 @@
 ghost use Rattle.std.specs.Prelude.{◌≡◌, ◌≢◌, ◌++◌, option_map, IfOk, OnOk};
 ghost use Rattle.abc2midi_live.specs.Answer.{listed, report_line, refusal, hex_line};
 
-use crate::edit::{EditError, Report};
+use crate::edit::Report;
+use abc_lines::EditError;
 use itoa::Buffer;
 use std::alloc::{AllocError, Global};
 

@@ -1,9 +1,8 @@
 //! The book of a text.
 
-ghost use Rattle.std.specs.Prelude.{◌≡◌, IfOk, true};
-ghost use Rattle.std.specs.List.{list_all};
+ghost use Rattle.std.specs.Prelude.{◌≡◌, IfOk};
 ghost use Rattle.abc2midi_live.specs.Book.{files_of};
-ghost use Rattle.abc2midi_live.specs.Text.{is_line, lines_of};
+ghost use Rattle.abc_lines.specs.Text.{IsText, seen_lines};
 
 use crate::comments::{has_blank_line, without_comment_lines};
 use crate::files::Files;
@@ -17,13 +16,9 @@ use std::alloc::{AllocError, Global};
 
 /// The MIDI files of a whole text.
 #[tactic(auto, unfolding(crate::specs::Book::files_of))]
-pub(crate) fn compile(
-    alloc: Global,
-    lines: &[Vec<u8>],
-    work: &mut Work,
-) -> Result<Files, AllocError>
-    requires { list_all is_line (lines_of lines.now) ≡ true }
-    ensures { IfOk result (λ files. files ≡ files_of (lines_of lines.now)) }
+pub(crate) fn compile(alloc: Global, lines: &[&[u8]], work: &mut Work) -> Result<Files, AllocError>
+    requires { IsText (seen_lines lines.now) }
+    ensures { IfOk result (λ files. files ≡ files_of (seen_lines lines.now)) }
 {
     let mut files = Files::new(alloc);
     if has_blank_line(lines) {

@@ -1,19 +1,13 @@
 //! The commands, and how they are read from a line.
 
 ghost use Rattle.std.specs.Prelude.{◌≡◌, ◌≤◌, take, Some, MatchOption, IfSome};
-ghost use Rattle.std.specs.Str.Lines.{strip_carriage_return};
 ghost use Rattle.abc_text.specs.Number.{number_of};
 ghost use Rattle.abc2midi_live.specs.Command.{insertion, replacement, deletion, hex_dump, quitting, if_few, command_named, command_of, command_of_words, numbers_of, words_behind, IsUseless, words_of, line_count};
 
 use crate::cut::cut;
-use abc_text::number_of;
+use abc_lines::{LONGEST_LINE, MOST_LINES};
+use abc_text::{number_of, without_return};
 use std::str;
-
-/// How many lines a command takes at most.
-const MOST_LINES: u32 = 1_048_576;
-
-/// How many bytes a command line has at most.
-const LONGEST_LINE: usize = 65_535;
 
 /// A command. `Insert` and `Replace` take the `count` lines after them.
 #[derive(Clone, Copy, Debug, PartialEq, Eq)]
@@ -77,7 +71,7 @@ fn numbers_of(words: Option<&[u8]>) -> Option<Numbers>
 fn if_few(count: u32, command: Command) -> Command
     ensures { result ≡ if_few count command }
 {
-    if count <= MOST_LINES {
+    if count as usize <= MOST_LINES {
         command
     } else {
         Command::Unknown
@@ -156,15 +150,6 @@ fn named_by_bytes(name: &[u8], numbers: &[u32]) -> Command
     match str::from_utf8(name) {
         Ok(name) => named(name, numbers),
         Err(_) => Command::Unknown,
-    }
-}
-
-fn without_return(line: &[u8]) -> &[u8]
-    ensures { result.now ≡ strip_carriage_return line.now }
-{
-    match line.last() {
-        Some(b'\r') => &line[..line.len() - 1],
-        _ => line,
     }
 }
 

@@ -1,20 +1,17 @@
-//! A text cut at a byte.
+//! A text cut at a byte, which need not stand in it.
 
-ghost use Rattle.std.specs.Prelude.{option_map, ◌≡◌, ◌==◌, position, IsAscii};
+ghost use Rattle.std.specs.Prelude.{option_map, ◌≡◌};
 ghost use Rattle.abc2midi_live.specs.Cut.{IsCut};
 
-fn place(text: &[u8], byte: u8) -> Option<usize>
-    ensures { result ≡ position (λ b. b == byte) text.now }
-{
-    text.iter().position(|b| *b == byte)
-}
+use abc_text::cut_at;
 
 /// What stands before the first such byte, and what stands behind it where there is one.
+#[tactic(auto, using(crate::proofs::Cuts::cut_found, crate::proofs::Cuts::cut_none))]
 pub fn cut(text: &[u8], byte: u8) -> (&[u8], Option<&[u8]>)
     ensures { IsCut byte text.now result.0.now (option_map (λ rest. rest.now) result.1) }
 {
-    match place(text, byte) {
-        Some(at) => (&text[..at], Some(&text[at + 1..])),
+    match cut_at(text, byte) {
+        Some((front, rest)) => (front, Some(rest)),
         None => (text, None),
     }
 }

@@ -3,8 +3,10 @@
 ghost use Rattle.std.specs.Prelude.{◌≡◌, ◌<◌, ◌≤◌, nat_le, false, ℕ, Bool, List, Option, None, [], length, IfOk, IsErr, OnOk};
 ghost use Rattle.std.specs.Result.{result_unwrap_or};
 ghost use Rattle.abc2midi_live.specs.Command.{line_count};
-ghost use Rattle.abc2midi_live.specs.Text.{edited, text_of};
-ghost use Rattle.abc2midi_live.specs.Transcript.{change_answer, request_of};
+ghost use Rattle.abc_lines.specs.Text.{text_of};
+ghost use Rattle.abc_lines.specs.Edits.{edited};
+ghost use Rattle.abc2midi_live.specs.Edit.{splice_of};
+ghost use Rattle.abc2midi_live.specs.Transcript.{edit_answer, request_of};
 ghost use Rattle.abc2midi_live.specs.Dialogue.{Responds, Proceeds, is_taken};
 
 use crate::answer::{hex_line, refusal, report_line};
@@ -22,9 +24,9 @@ fn edit(
     edit: &Edit,
     work: &mut Work,
 ) -> Result<Vec<u8>, AllocError>
-    ensures answer { IfOk result (λ text. text.items ≡ change_answer session.old (edited session.old edit.now)) }
-    ensures text { IfOk result (λ _. session.new ≡ result_unwrap_or (edited session.old edit.now) session.old) }
-    ensures uncounted { OnOk result (IsErr (edited session.old edit.now) → work.new ≡ work.old) }
+    ensures answer { IfOk result (λ text. text.items ≡ edit_answer session.old (edited session.old (splice_of edit.now))) }
+    ensures text { IfOk result (λ _. session.new ≡ result_unwrap_or (edited session.old (splice_of edit.now)) session.old) }
+    ensures uncounted { OnOk result (IsErr (edited session.old (splice_of edit.now)) → work.new ≡ work.old) }
 {
     match session.apply(edit, work) {
         Ok(report) => report_line(alloc, &report),

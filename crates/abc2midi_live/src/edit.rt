@@ -1,10 +1,4 @@
-//! Edits of a text, why they are refused, and what an accepted one reports.
-
-ghost use Rattle.std.specs.Prelude.{◌≡◌};
-ghost use Rattle.abc2midi_live.specs.declared.edit.EditError.TheVariants.{OutOfMemory};
-
-use std::alloc::{AllocError, AllocFailed};
-use thiserror::Error;
+//! Edits of a text, and what an accepted one reports.
 
 /// A change of a range of lines. Lines are counted from 1, and a list of lines may be empty.
 #[derive(Debug, Drop)]
@@ -25,55 +19,6 @@ pub enum Edit {
         from: u32,
         to: u32,
     },
-}
-
-/// Why an edit was refused: the first of these that applies, in this order.
-#[derive(Clone, Copy, Debug, PartialEq, Eq, Error)]
-pub enum EditError {
-    /// The edit's lines are not lines of the text.
-    #[error("the range is not in the text")]
-    BadRange,
-    /// A line handed in holds a line feed or has more than 65,535 bytes.
-    #[error("a line holds a line feed or has more than 65,535 bytes")]
-    BadLine,
-    /// The text would have more than 1,048,576 lines.
-    #[error("the text would have more than 1,048,576 lines")]
-    TooLarge,
-    /// There is no memory.
-    #[error("out of memory")]
-    OutOfMemory,
-}
-
-impl EditError {
-    ghost use Rattle.abc2midi_live.specs.Edit.{name_of};
-
-    /// The word that stands for it in an answer.
-    pub fn name(self) -> &'static str
-        ensures { result.now ≡ name_of self }
-    {
-        match self {
-            EditError::BadRange => "BadRange",
-            EditError::BadLine => "BadLine",
-            EditError::TooLarge => "TooLarge",
-            EditError::OutOfMemory => "OutOfMemory",
-        }
-    }
-}
-
-impl From<AllocError> for EditError {
-    ghost from_gives = { λ _ e. e ≡ OutOfMemory };
-
-    fn from(_e: AllocError) -> EditError {
-        EditError::OutOfMemory
-    }
-}
-
-impl<T: Drop> From<AllocFailed<T>> for EditError {
-    ghost from_gives = { λ _ e. e ≡ OutOfMemory };
-
-    fn from(_e: AllocFailed<T>) -> EditError {
-        EditError::OutOfMemory
-    }
 }
 
 /// The reference numbers whose files an edit changed, each list rising.

@@ -5,6 +5,7 @@ ghost use Rattle.std.specs.List.Sorted.{IsStrictlyIncreasing};
 ghost use Rattle.std.specs.Option.{option_eq};
 ghost use Rattle.std.specs.Str.{bytes_eq};
 ghost use Rattle.abc2midi_live.specs.Files.{entries_of};
+ghost use Rattle.abc2midi_live.specs.Report.{Reports};
 ghost use Rattle.abc2midi_live.specs.Book.{numbers_of, IsRising, file_at, written, removed, HasNewFile, HasLostFile};
 
 use crate::edit::Report;
@@ -71,14 +72,7 @@ impl Files {
 
     /// What changed from these files to others.
     pub fn changes(&self, after: &Files) -> Result<Report, AllocError>
-        ensures written { IfOk result (λ report. report.written.items ≡ written self.now after.now) }
-        ensures removed { IfOk result (λ report. report.removed.items ≡ removed self.now after.now) }
-
-        // That is: the numbers whose bytes are new or differ, and those that have no file any more.
-        ensures new { IfOk result (λ report. (n : ℕ) → Contains report.written.items n ↔ HasNewFile self.now after.now n) }
-        ensures lost { IfOk result (λ report. (n : ℕ) → Contains report.removed.items n ↔ HasLostFile self.now after.now n) }
-        ensures written_rise { IfOk result (λ report. IsStrictlyIncreasing report.written.items) }
-        ensures removed_rise { IfOk result (λ report. IsStrictlyIncreasing report.removed.items) }
+        ensures { IfOk result (Reports self.now after.now) }
     {
         let written = self.written(after)?;
         let removed = self.removed(after)?;

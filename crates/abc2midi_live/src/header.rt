@@ -3,7 +3,7 @@
 ghost use Rattle.std.specs.Prelude.{◌≡◌, ◌≤◌, length, All, IfSome};
 ghost use Rattle.std.specs.List.{list_all};
 ghost use Rattle.std.specs.Option.{option_map};
-ghost use Rattle.abc2midi_live.specs.Comments.{seen_lines};
+ghost use Rattle.abc_lines.specs.Text.{seen_lines};
 ghost use Rattle.abc2midi_live.specs.Heading.{seen};
 ghost use Rattle.abc2midi_live.specs.Opening.{IsOpening};
 ghost use Rattle.abc2midi_live.specs.PlainTune.{reference_in, lines_before_key, is_header_line, title_in, heading_from, heading_of};

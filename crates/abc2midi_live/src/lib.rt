@@ -13,7 +13,6 @@ mod fault;
 mod field;
 mod files;
 mod header;
-mod lines;
 mod listener;
 mod machine;
 mod melody;
@@ -26,7 +25,8 @@ mod session;
 mod streams;
 mod transcript;
 
-pub use edit::{Edit, EditError, Report};
+pub use abc_lines::EditError;
+pub use edit::{Edit, Report};
 pub use fault::RunFault;
 pub use session::Session;
 pub use streams::{Piped, Sink, Source, Store, StoreFault, StreamFault};

@@ -2,8 +2,10 @@
 
 ghost use Rattle.std.specs.Prelude.{◌≡◌, ◌≤◌, ◌==◌, ℕ, List, [], ◌∷◌, ◌++◌, take, length, true, false, All, OnOk, MatchResult, IfSome};
 ghost use Rattle.std.specs.Io.KnownBytes.{Appends, Keeps};
+ghost use Rattle.abc_text.specs.Byte.{line_feed};
 ghost use Rattle.abc2midi_live.specs.Machine.{Answers, ahead, IsClean};
 ghost use Rattle.abc2midi_live.specs.Outcome.{write_faults, Unserved, BrokenOff};
+ghost use Rattle.abc2midi_live.specs.Transcript.{most_kept};
 ghost use Rattle.abc_fold.specs.Work.{raised};
 
 use crate::cut::cut;
@@ -11,11 +13,12 @@ use crate::fault::RunFault;
 use crate::machine::{Machine, Reply};
 use crate::streams::Sink;
 use abc_fold::Work;
+use abc_lines::LONGEST_LINE;
 use std::alloc::{AllocError, Global};
 use std::mem;
 
-/// How many bytes of a line are kept: one more than a line of a text may have.
-const KEPT: usize = 65_536;
+/// How many bytes of a line of the input are kept: one more than a line of a text may have.
+const MOST_KEPT: usize = LONGEST_LINE + 1;
 
 // Hands a line to the machine and writes its answer. Whether the machine goes on.
 #[tactic(auto, using(crate::proofs::Counts::raised_none))]
@@ -65,7 +68,7 @@ pub struct Listener<M> {
     machine: M,
     begun: Vec<u8>,
     ghost whole: { IsClean begun.items },
-    ghost kept: { length begun.items ≤ 65536 },
+    ghost kept: { length begun.items ≤ most_kept },
 }
 
 #[tactic(auto, using(crate::proofs::Counts::raised_none))]
@@ -84,10 +87,10 @@ impl<M: Machine> Listener<M> {
     // Keeps what there is room for.
     fn keep(&mut self, piece: &[u8]) -> Result<(), AllocError>
         requires { IsClean piece.now }
-        ensures begun { OnOk result (self.new.begun.items ≡ take 65536 (self.old.begun.items ++ piece.now)) }
+        ensures begun { OnOk result (self.new.begun.items ≡ take most_kept (self.old.begun.items ++ piece.now)) }
         ensures machine { self.new.machine ≡ self.old.machine }
     {
-        let room = KEPT - self.begun.len();
+        let room = MOST_KEPT - self.begun.len();
         self.begun
             .extend_from_slice(&piece[..piece.len().min(room)])
     }
@@ -113,7 +116,7 @@ impl<M: Machine> Listener<M> {
         ensures answer { MatchResult result
             (λ goes_on. (text : List ℕ) × Appends (W.contents writer.old) (W.contents writer.new) text
             × Answers (ahead (M.future self.old.machine) self.old.begun.items)
-            (ahead (M.future self.new.machine) self.new.begun.items) (piece.now ++ 10 ∷ []) text goes_on)
+            (ahead (M.future self.new.machine) self.new.begun.items) (piece.now ++ line_feed ∷ []) text goes_on)
             (Unserved (W.contents writer.old) (W.contents writer.new)) }
         ensures fails { W.failures writer.new ≡ raised (W.failures writer.old) (write_faults result) }
     {

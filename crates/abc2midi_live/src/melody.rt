@@ -18,7 +18,7 @@ pub(crate) struct TimeToken {
 }
 
 /// The most notes and rests that a tune plays.
-const MOST_TIME_TOKENS: usize = 1_000_000;
+pub(crate) const MOST_TIME_TOKENS: usize = 1_000_000;
 
 /// The moment at which the tokens end, if it is within the limits of a tune.
 #[tactic(auto, unfolding(crate::specs::Melody::end_of))]
@@ -26,7 +26,7 @@ pub(crate) fn end_of(tokens: &[TimeToken]) -> Option<Grains>
     ensures value { result ≡ end_of tokens.now }
     ensures end { IfSome result (λ end. end.0 ≡ total tokens.now) }
     ensures early { OnSome result (total tokens.now ≤ grains_of_the_latest_end) }
-    ensures few { OnSome result (length tokens.now ≤ 1000000) }
+    ensures few { OnSome result (length tokens.now ≤ MOST_TIME_TOKENS) }
 {
     if tokens.len() > MOST_TIME_TOKENS {
         return None;
@@ -50,10 +50,10 @@ pub(crate) fn notes_of(
     tokens: &[TimeToken],
 ) -> Result<Sequence<Sounding>, AllocError>
     requires early { total tokens.now ≤ grains_of_the_latest_end }
-    requires few { length tokens.now ≤ 1000000 }
+    requires few { length tokens.now ≤ MOST_TIME_TOKENS }
     requires keys { All HasMidiKey tokens.now }
     ensures value { IfOk result (λ notes. notes ≡ notes_from 0 tokens.now) }
-    ensures count { IfOk result (λ notes. length notes ≤ 1000000) }
+    ensures count { IfOk result (λ notes. length notes ≤ MOST_TIME_TOKENS) }
     ensures each { IfOk result (λ notes. All (IsSoundingWithin (record { 0 = total tokens.now })) notes) }
 {
     let mut notes = Sequence::new(alloc);

@@ -7,7 +7,7 @@ ghost use Rattle.abc_scan.specs.LineClass.{class_of};
 ghost use Rattle.abc_scan.specs.Cutting.{HasLength};
 ghost use Rattle.abc_scan.specs.Length.{HasFactor};
 ghost use Rattle.std.specs.Option.{option_map};
-ghost use Rattle.abc2midi_live.specs.Comments.{seen_lines};
+ghost use Rattle.abc_lines.specs.Text.{seen_lines};
 ghost use Rattle.abc2midi_live.specs.Melody.{HasMidiKey};
 ghost use Rattle.abc2midi_live.specs.Opening.{IsOpening};
 ghost use Rattle.abc2midi_live.specs.Music.{unit_length, length_by, is_plain_kind, time_of, takes_time, times_of, are_plain, is_music, is_plain_line, plain_times};

@@ -6,7 +6,7 @@ ghost use Rattle.abc_fields.specs.Signature.{IsSharps};
 ghost use Rattle.abc_fields.specs.Tempo.{IsInRange};
 ghost use Rattle.abc_time.specs.Ratio.{IsRatio};
 ghost use Rattle.abc_time.specs.Tempo.{FitsInTempoEvent};
-ghost use Rattle.abc2midi_live.specs.Comments.{seen_lines};
+ghost use Rattle.abc_lines.specs.Text.{seen_lines};
 ghost use Rattle.abc2midi_live.specs.Opening.{key_on, last_of, meter_in, meter_on, micros_by, opening_of, tempo_in, tempo_on, unit_by, unit_in, unit_on, IsOpening};
 
 use crate::field::{is_field, value_of};

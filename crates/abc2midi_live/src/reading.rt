@@ -3,7 +3,7 @@
 ghost use Rattle.std.specs.Prelude.{◌≡◌, ◌<◌, ◌≤◌, ℕ, List, true, false, length, MatchResult, IfSome};
 ghost use Rattle.std.specs.Io.KnownBytes.{Appends};
 ghost use Rattle.abc2midi_live.specs.Transcript.{input_lines};
-ghost use Rattle.abc2midi_live.specs.Outcome.{read_faults, write_faults, Leaves, Reads, Turn};
+ghost use Rattle.abc2midi_live.specs.Outcome.{read_faults, write_faults, ends, read_counts, Leaves, Reads, Turn};
 ghost use Rattle.abc2midi_live.specs.Machine.{ahead};
 ghost use Rattle.abc_fold.specs.Work.{raised};
 
@@ -15,7 +15,7 @@ use abc_fold::Work;
 use std::alloc::Global;
 
 /// How many reads are made at most.
-const MOST_READS: u32 = 4_294_967_295;
+pub(crate) const MOST_READS: u32 = 4_294_967_295;
 
 // One read, and what it leads to. Whether the run goes on.
 #[tactic(auto, using(crate::proofs::Counts::raised_none))]
@@ -31,9 +31,9 @@ fn turn<M: Machine, R: Source, W: Sink>(
     ensures answers { MatchResult result
         (Turn (ahead (M.future listener.old.machine) listener.old.begun.items)
         (ahead (M.future listener.new.machine) listener.new.begun.items)
-        (R.remaining reader.old) (R.remaining reader.new) (W.contents writer.old) (W.contents writer.new))
+        (ends (R.remaining reader.old) (W.contents writer.old)) (ends (R.remaining reader.new) (W.contents writer.new)))
         (Leaves (ahead (M.future listener.old.machine) listener.old.begun.items false)
-        (R.remaining reader.old) (R.remaining reader.new) (W.contents writer.old) (W.contents writer.new)) }
+        (ends (R.remaining reader.old) (W.contents writer.old)) (ends (R.remaining reader.new) (W.contents writer.new))) }
     ensures calls { R.calls reader.new ≡ raised (R.calls reader.old) 1 }
     ensures reads { R.failures reader.new ≡ raised (R.failures reader.old) (read_faults result) }
     ensures writes { W.failures writer.new ≡ raised (W.failures writer.old) (write_faults result) }
@@ -65,9 +65,10 @@ pub fn listen<M: Machine + Drop, R: Source, W: Sink>(
         (λ _. IfSome (R.remaining reader.old) (λ input.
         Appends (W.contents writer.old) (W.contents writer.new) (M.future machine true (input_lines true input))))
         (Leaves (λ input. M.future machine false (input_lines false input))
-        (R.remaining reader.old) (R.remaining reader.new) (W.contents writer.old) (W.contents writer.new)) }
-    ensures calls { (made : ℕ) × (made ≤ 4294967295) × (R.calls reader.new ≡ raised (R.calls reader.old) made) }
-    ensures reads { Reads (R.remaining reader.old) (R.failures reader.old) (R.failures reader.new) (R.calls reader.old) (R.calls reader.new) result }
+        (ends (R.remaining reader.old) (W.contents writer.old)) (ends (R.remaining reader.new) (W.contents writer.new))) }
+    ensures calls { (made : ℕ) × (made ≤ MOST_READS) × (R.calls reader.new ≡ raised (R.calls reader.old) made) }
+    ensures reads { Reads (R.remaining reader.old) (read_counts (R.failures reader.old) (R.calls reader.old))
+        (read_counts (R.failures reader.new) (R.calls reader.new)) result }
     ensures writes { W.failures writer.new ≡ raised (W.failures writer.old) (write_faults result) }
 {
     let mut listener = Listener::new(alloc, machine);

@@ -9,7 +9,7 @@ ghost use Rattle.abc2midi_live.specs.Opening.{IsOpening};
 ghost use Rattle.abc2midi_live.specs.Score.{at_start, conductor_of, score_of, voices_of, IsOpeningChange};
 
 use crate::header::Heading;
-use crate::melody::{TimeToken, notes_of};
+use crate::melody::{MOST_TIME_TOKENS, TimeToken, notes_of};
 use crate::opening::Opening;
 use abc_fields::{Key, Meter};
 use abc_time::Grains;
@@ -50,7 +50,7 @@ fn conductor_of(alloc: Global, opening: &Opening) -> Result<Sequence<Change>, Al
 /// The notes of the one voice, which is there where a note or rest is.
 fn voices_of(alloc: Global, times: &[TimeToken]) -> Result<Sequence<Sequence<Sounding>>, AllocError>
     requires early { total times.now ≤ grains_of_the_latest_end }
-    requires few { length times.now ≤ 1000000 }
+    requires few { length times.now ≤ MOST_TIME_TOKENS }
     requires keys { All HasMidiKey times.now }
     ensures value { IfOk result (λ voices. voices ≡ voices_of times.now) }
     ensures one { IfOk result (λ voices. length voices ≤ 1) }
@@ -74,7 +74,7 @@ pub(crate) fn score_of(
     requires opening { IsOpening heading.opening }
     requires end { end.0 ≡ total times.now }
     requires early { total times.now ≤ grains_of_the_latest_end }
-    requires few { length times.now ≤ 1000000 }
+    requires few { length times.now ≤ MOST_TIME_TOKENS }
     requires keys { All HasMidiKey times.now }
     ensures value { IfOk result (λ score. score ≡ score_of (seen heading.entry) times.now end) }
     ensures limits { IfOk result IsWithinLimits }

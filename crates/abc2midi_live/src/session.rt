@@ -1,15 +1,18 @@
 //! A tune book that is edited, and the MIDI files of its tunes.
 
-ghost use Rattle.std.specs.Prelude.{◌≡◌, ◌≢◌, ℕ, ◌↔◌, ◌≤◌, [], Contains, IfOk, IfErr, MatchResult, Ok, Err, option_copied, length};
-ghost use Rattle.std.specs.List.Sorted.{IsStrictlyIncreasing};
-ghost use Rattle.abc2midi_live.specs.Text.{Text, edited, range_replaced, line_at, Refuses};
-ghost use Rattle.abc2midi_live.specs.Book.{files_of, file_at, written, removed, HasNewFile, HasLostFile};
+ghost use Rattle.std.specs.Prelude.{◌≡◌, ◌≢◌, ◌≤◌, [], IfOk, IfErr, MatchResult, Ok, option_copied, length};
+ghost use Rattle.abc_lines.specs.Text.{Text, IsText, lines_of};
+ghost use Rattle.abc_lines.specs.Edits.{edited, replacement, Refuses};
+ghost use Rattle.abc_lines.specs.declared.limits.TheConstants.{MOST_LINES};
+ghost use Rattle.abc2midi_live.specs.Edit.{line_at, splice_of};
+ghost use Rattle.abc2midi_live.specs.Book.{files_of, file_at};
+ghost use Rattle.abc2midi_live.specs.Report.{Reports};
 
 use crate::book::compile;
-use crate::edit::{Edit, EditError, Report};
+use crate::edit::{Edit, Report};
 use crate::files::Files;
-use crate::lines::{LineBuffer, LinePatch};
 use abc_fold::Work;
+use abc_lines::{EditError, LineBuffer, LinePatch};
 use std::alloc::{AllocError, Global};
 use std::marker::Model;
 
@@ -24,9 +27,9 @@ pub struct Session {
 impl Model for Session {
     ghost Value = { Text };
 
-    ghost view = { λ s. s.lines };
+    ghost view = { λ s. s.lines.text };
 
-    ghost invariant = { λ s. s.files ≡ files_of s.lines };
+    ghost invariant = { λ s. s.files ≡ files_of s.lines.text };
 }
 
 impl Session {
@@ -41,21 +44,13 @@ impl Session {
 
     /// Edits the text, and answers which files that changed. After an error the session is unchanged.
     pub fn apply(&mut self, edit: &Edit, work: &mut Work) -> Result<Report, EditError>
-        ensures text { MatchResult result (λ _. edited self.old edit.now ≡ Ok self.new) (λ _. self.new ≡ self.old) }
-        ensures refused { IfErr result (λ e. Refuses e (edited self.old edit.now)) }
+        ensures text { MatchResult result (λ _. edited self.old (splice_of edit.now) ≡ Ok self.new) (λ _. self.new ≡ self.old) }
+        ensures refused { IfErr result (λ e. Refuses e (edited self.old (splice_of edit.now))) }
         ensures uncounted { IfErr result (λ e. e ≢ EditError.OutOfMemory → work.new ≡ work.old) }
-
-        ensures written { IfOk result (λ report. report.written.items ≡ written (files_of self.old) (files_of self.new)) }
-        ensures removed { IfOk result (λ report. report.removed.items ≡ removed (files_of self.old) (files_of self.new)) }
-
-        // That is: the numbers whose bytes are new or differ, and those that have no file any more.
-        ensures new { IfOk result (λ report. (n : ℕ) → Contains report.written.items n ↔ HasNewFile (files_of self.old) (files_of self.new) n) }
-        ensures lost { IfOk result (λ report. (n : ℕ) → Contains report.removed.items n ↔ HasLostFile (files_of self.old) (files_of self.new) n) }
-        ensures written_rise { IfOk result (λ report. IsStrictlyIncreasing report.written.items) }
-        ensures removed_rise { IfOk result (λ report. IsStrictlyIncreasing report.removed.items) }
+        ensures report { IfOk result (Reports (files_of self.old) (files_of self.new)) }
     {
-        let patch = self.prepare(edit)?;
-        match self.compiled(&patch, work) {
+        let patch = prepare(&self.lines, edit)?;
+        match compiled(&self.lines, &self.files, &patch, work) {
             Ok((files, report)) => {
                 self.lines.commit(patch);
                 self.files = files;
@@ -66,51 +61,6 @@ impl Session {
                 Err(EditError::from(refused))
             }
         }
-    }
-
-    /// The text that an edit would make.
-    fn prepare(&self, edit: &Edit) -> Result<LinePatch, EditError>
-        ensures text { IfOk result (λ text. edited self.now edit.now ≡ Ok text) }
-        ensures refused { IfErr result (λ e. Refuses e (edited self.now edit.now)) }
-    {
-        match edit {
-            Edit::Insert { at, lines } => {
-                if *at == 0 {
-                    return Err(EditError::BadRange);
-                }
-                self.lines.splice_prepare(*at as usize - 1, 0, lines)
-            }
-            Edit::Replace { from, to, lines } => self.prepare_range(*from, *to, lines),
-            Edit::Delete { from, to } => self.prepare_range(*from, *to, &[]),
-        }
-    }
-
-    /// The text with lines in the place of those from one number to another.
-    fn prepare_range(&self, from: u32, to: u32, lines: &[Vec<u8>]) -> Result<LinePatch, EditError>
-        ensures text { let answer = range_replaced self.now from to lines.now in IfOk result (λ text. answer ≡ Ok text) }
-        ensures refused { let answer = range_replaced self.now from to lines.now in IfErr result (λ e. Refuses e answer) }
-    {
-        if from == 0 || from > to {
-            return Err(EditError::BadRange);
-        }
-        let removed = to - from + 1;
-        self.lines
-            .splice_prepare(from as usize - 1, removed as usize, lines)
-    }
-
-    /// The files that a text gives, and how they differ from those at hand.
-    fn compiled(&self, patch: &LinePatch, work: &mut Work) -> Result<(Files, Report), AllocError>
-        ensures files { IfOk result (λ made. made.0 ≡ files_of patch.now) }
-        ensures written { IfOk result (λ made. made.1.written.items ≡ written (files_of self.now) (files_of patch.now)) }
-        ensures removed { IfOk result (λ made. made.1.removed.items ≡ removed (files_of self.now) (files_of patch.now)) }
-        ensures new { IfOk result (λ made. (n : ℕ) → Contains made.1.written.items n ↔ HasNewFile (files_of self.now) (files_of patch.now) n) }
-        ensures lost { IfOk result (λ made. (n : ℕ) → Contains made.1.removed.items n ↔ HasLostFile (files_of self.now) (files_of patch.now) n) }
-        ensures written_rise { IfOk result (λ made. IsStrictlyIncreasing made.1.written.items) }
-        ensures removed_rise { IfOk result (λ made. IsStrictlyIncreasing made.1.removed.items) }
-    {
-        let files = compile(self.lines.allocator(), patch.lines(), work)?;
-        let report = self.files.changes(&files)?;
-        Ok((files, report))
     }
 
     /// The bytes of a number's MIDI file.
@@ -130,11 +80,67 @@ impl Session {
         self.lines.line(n as usize - 1)
     }
 
-    /// How many lines there are: at most 1,048,576.
+    /// How many lines there are.
     pub fn line_count(&self) -> u32
         ensures count { result ≡ length self.now }
-        ensures limit { result ≤ 1048576 }
+        ensures limit { result ≤ MOST_LINES }
     {
         self.lines.len() as u32
     }
+}
+
+/// Prepares the text that an edit makes.
+fn prepare(text: &LineBuffer, edit: &Edit) -> Result<LinePatch, EditError>
+    ensures on { IfOk result (λ patch. patch.on ≡ text.now) }
+    ensures after { IfOk result (λ patch. edited text.now.text (splice_of edit.now) ≡ Ok patch.after) }
+    ensures limits { IfOk result (λ patch. IsText patch.after) }
+    ensures refused { IfErr result (λ e. Refuses e (edited text.now.text (splice_of edit.now))) }
+{
+    match edit {
+        Edit::Insert { at, lines } => {
+            if *at == 0 {
+                return Err(EditError::BadRange);
+            }
+            text.splice_prepare(*at as usize - 1, 0, lines)
+        }
+        Edit::Replace { from, to, lines } => prepare_range(text, *from, *to, lines),
+        Edit::Delete { from, to } => prepare_range(text, *from, *to, &[]),
+    }
+}
+
+/// Prepares the text with lines in the place of those from one number to another.
+fn prepare_range(
+    text: &LineBuffer,
+    from: u32,
+    to: u32,
+    lines: &[Vec<u8>],
+) -> Result<LinePatch, EditError>
+    ensures on { IfOk result (λ patch. patch.on ≡ text.now) }
+    ensures after { IfOk result (λ patch. edited text.now.text (replacement from to (lines_of lines.now)) ≡ Ok patch.after) }
+    ensures limits { IfOk result (λ patch. IsText patch.after) }
+    ensures refused { IfErr result (λ e. Refuses e (edited text.now.text (replacement from to (lines_of lines.now)))) }
+{
+    if from == 0 || from > to {
+        return Err(EditError::BadRange);
+    }
+    let removed = to - from + 1;
+    text.splice_prepare(from as usize - 1, removed as usize, lines)
+}
+
+/// The files that a prepared text gives, and how they differ from those at hand.
+fn compiled(
+    text: &LineBuffer,
+    files: &Files,
+    patch: &LinePatch,
+    work: &mut Work,
+) -> Result<(Files, Report), AllocError>
+    requires on { patch.now.on ≡ text.now }
+    requires limits { IsText patch.now.after }
+    ensures files { IfOk result (λ made. made.0 ≡ files_of patch.now.after) }
+    ensures report { IfOk result (λ made. Reports files.now (files_of patch.now.after) made.1) }
+{
+    let lines = patch.after(text)?;
+    let after = compile(text.allocator(), &lines, work)?;
+    let report = files.changes(&after)?;
+    Ok((after, report))
 }

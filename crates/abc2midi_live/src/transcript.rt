@@ -2,13 +2,13 @@
 
 ghost use Rattle.std.specs.Prelude.{◌≡◌, ◌≤◌, ℕ, List, None, MatchResult, IfSome};
 ghost use Rattle.std.specs.Io.KnownBytes.{Appends};
-ghost use Rattle.abc2midi_live.specs.Outcome.{write_faults, Leaves, Reads};
+ghost use Rattle.abc2midi_live.specs.Outcome.{write_faults, ends, read_counts, Leaves, Reads};
 ghost use Rattle.abc_fold.specs.Work.{raised};
 ghost use Rattle.abc2midi_live.specs.Transcript.{transcript, transcript_so_far};
 
 use crate::dialogue::Dialogue;
 use crate::fault::RunFault;
-use crate::reading::listen;
+use crate::reading::{MOST_READS, listen};
 use crate::streams::{Sink, Source, Store};
 use abc_fold::Work;
 use std::alloc::Global;
@@ -35,12 +35,13 @@ pub fn run<R: Source, W: Sink, S: Store>(
     ensures transcript { MatchResult result
         (λ _. IfSome (R.remaining reader.old) (λ input.
         Appends (W.contents writer.old) (W.contents writer.new) (transcript input)))
-        (Leaves transcript_so_far (R.remaining reader.old) (R.remaining reader.new)
-        (W.contents writer.old) (W.contents writer.new)) }
+        (Leaves transcript_so_far
+        (ends (R.remaining reader.old) (W.contents writer.old)) (ends (R.remaining reader.new) (W.contents writer.new))) }
 
     // What the counts of the reader and the writer say.
-    ensures calls { (made : ℕ) × (made ≤ 4294967295) × (R.calls reader.new ≡ raised (R.calls reader.old) made) }
-    ensures reads { Reads (R.remaining reader.old) (R.failures reader.old) (R.failures reader.new) (R.calls reader.old) (R.calls reader.new) result }
+    ensures calls { (made : ℕ) × (made ≤ MOST_READS) × (R.calls reader.new ≡ raised (R.calls reader.old) made) }
+    ensures reads { Reads (R.remaining reader.old) (read_counts (R.failures reader.old) (R.calls reader.old))
+        (read_counts (R.failures reader.new) (R.calls reader.new)) result }
     ensures writes { W.failures writer.new ≡ raised (W.failures writer.old) (write_faults result) }
 
     ensures store { store.new ≡ store.old }

@@ -1,2 +1,3 @@
+pub mod Edits
 pub mod Ready
 pub mod Splices

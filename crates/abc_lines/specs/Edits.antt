@@ -1,5 +1,5 @@
 -- The text after an edit, and when there is none. Our own.
-use Rattle.std.specs.Prelude.{◌≡◌, ◌⊎◌, ℕ, ◌+◌, ◌-◌, ◌&&◌, ◌==◌, not, if◌then◌else◌, length, nat_le, Option, Some, None, Result, Ok, Err, IsOk}
+use Rattle.std.specs.Prelude.{◌≡◌, ◌⊎◌, ℕ, ◌+◌, ◌-◌, ◌&&◌, ◌==◌, not, if◌then◌else◌, [], length, nat_le, Option, Some, None, Result, Ok, Err, IsOk}
 use Rattle.std.specs.List.{list_all}
 use Rattle.abc_lines.specs.declared.limits.TheConstants.{MOST_LINES}
 use Rattle.abc_lines.specs.declared.edit_error.EditError.{EditError}
@@ -15,7 +15,8 @@ replaced text s =
     Ok (spliced text s)
 
 -- Edits count lines from 1. One that names no lines, as line 0 or a range that runs backwards, is no splice.
--- Lines put before a line:
+
+-- lines put before a line
 abbrev pub insertion : ℕ → Text → Option Splice
 insertion at lines = if at == 0 then None else Some (record { at = at - 1; removed = 0; lines = lines })
 
@@ -23,6 +24,10 @@ insertion at lines = if at == 0 then None else Some (record { at = at - 1; remov
 abbrev pub replacement : ℕ → ℕ → Text → Option Splice
 replacement from to lines =
     if nat_le 1 from && nat_le from to then Some (record { at = from - 1; removed = to + 1 - from; lines = lines }) else None
+
+-- the lines from one to another taken out
+abbrev pub deletion : ℕ → ℕ → Option Splice
+deletion from to = replacement from to []
 
 -- the text after an edit, or the first reason why there is none
 unfoldable pub edited : Text → Option Splice → Result Text EditError

@@ -14,6 +14,10 @@ Text = List (List ℕ)
 abbrev pub lines_of : List (Vec ℕ) → Text
 lines_of lines = map (λ line. line.items) lines
 
+-- what a list of lines contains
+abbrev pub text_of : Vec (Vec ℕ) → Text
+text_of lines = lines_of lines.items
+
 -- what borrowed lines contain
 abbrev pub seen_lines : List (Bor (List ℕ)) → Text
 seen_lines lines = map (λ line. line.now) lines
@@ -34,8 +38,8 @@ pub record Splice : Type 0 where
   pub lines : Text
 
 -- the splice that leaves out so many lines behind the first few and puts lines in their place
-abbrev pub splice_of : ℕ → ℕ → List (Vec ℕ) → Splice
-splice_of at removed lines = record { at = at; removed = removed; lines = lines_of lines }
+abbrev pub splice_from : ℕ → ℕ → List (Vec ℕ) → Splice
+splice_from at removed lines = record { at = at; removed = removed; lines = lines_of lines }
 
 -- the lines before the splice, the lines handed in, the lines after it
 unfoldable pub spliced : Text → Splice → Text

@@ -1,7 +1,7 @@
 //! A text, and a splice of it that has been prepared.
 
 ghost use Rattle.std.specs.Prelude.{◌≡◌, ◌+◌, ◌≤◌, [], IfOk, IfErr, Ok, Err, option_copied, slice_get, length};
-ghost use Rattle.abc_lines.specs.Text.{IsText, splice_of, spliced, seen_lines};
+ghost use Rattle.abc_lines.specs.Text.{IsText, splice_from, spliced, seen_lines};
 ghost use Rattle.abc_lines.specs.Edits.{replaced, Refuses};
 ghost use Rattle.abc_lines.specs.Lines.{IsReady, held_by, prepared};
 
@@ -90,9 +90,9 @@ impl LineBuffer {
         lines: &[Vec<u8>],
     ) -> Result<LinePatch, EditError>
         ensures on { IfOk result (λ patch. patch.on ≡ self.now) }
-        ensures after { IfOk result (λ patch. replaced self.now.text (splice_of at removed lines.now) ≡ Ok patch.after) }
+        ensures after { IfOk result (λ patch. replaced self.now.text (splice_from at removed lines.now) ≡ Ok patch.after) }
         ensures limits { IfOk result (λ patch. IsText patch.after) }
-        ensures refused { IfErr result (λ e. Refuses e (replaced self.now.text (splice_of at removed lines.now))) }
+        ensures refused { IfErr result (λ e. Refuses e (replaced self.now.text (splice_from at removed lines.now))) }
     {
         let count = self.count_after(at, removed, lines)?;
         let alloc = self.allocator();
@@ -113,11 +113,11 @@ impl LineBuffer {
 
     /// How many lines the text would have, or the first reason why there is none.
     fn count_after(&self, at: usize, removed: usize, lines: &[Vec<u8>]) -> Result<usize, EditError>
-        ensures count { let s = splice_of at removed lines.now in IfOk result (λ count. count ≡ length (spliced self.now.text s)) }
+        ensures count { let s = splice_from at removed lines.now in IfOk result (λ count. count ≡ length (spliced self.now.text s)) }
         ensures inside { IfOk result (λ _. at + removed ≤ length self.now.text) }
-        ensures limits { let s = splice_of at removed lines.now in IfOk result (λ _. IsText (spliced self.now.text s)) }
-        ensures accepted { let s = splice_of at removed lines.now in IfOk result (λ _. replaced self.now.text s ≡ Ok (spliced self.now.text s)) }
-        ensures refused { let s = splice_of at removed lines.now in IfErr result (λ e. replaced self.now.text s ≡ Err e) }
+        ensures limits { let s = splice_from at removed lines.now in IfOk result (λ _. IsText (spliced self.now.text s)) }
+        ensures accepted { let s = splice_from at removed lines.now in IfOk result (λ _. replaced self.now.text s ≡ Ok (spliced self.now.text s)) }
+        ensures refused { let s = splice_from at removed lines.now in IfErr result (λ e. replaced self.now.text s ≡ Err e) }
     {
         let count = self.len();
         if at > count || removed > count - at {

@@ -1,9 +1,9 @@
 use Rattle.std.proofs.Common.{◌≡◌, ℕ, ◌+◌, [], ◌∷◌, ◌++◌, Bool, true, false, not, length, cond, nat_le, Result, Ok, Err, codes, ap, ap₂, ◌∙◌, length-append}
 use Rattle.std.specs.List.{list_all}
-use Rattle.abc2midi_live.specs.Text.{Text, is_line, checked, spliced}
-use Rattle.abc2midi_live.specs.Transcript.{Insertion, changed}
-use Rattle.abc2midi_live.specs.declared.edit.EditError.{EditError}
-use Rattle.abc2midi_live.specs.declared.edit.EditError.TheVariants.{BadLine, TooLarge}
+use Rattle.abc_lines.specs.Text.{Text, is_line, spliced}
+use Rattle.abc_lines.specs.Edits.{edited, insertion, replaced}
+use Rattle.abc_lines.specs.declared.edit_error.EditError.{EditError}
+use Rattle.abc_lines.specs.declared.edit_error.EditError.TheVariants.{BadLine, TooLarge}
 
 -- lines before the one line of a text, judged by whether they are lines and by how many there are then
 judged : Bool → ℕ → Text → Result Text EditError
@@ -14,19 +14,19 @@ one_more : (lines : Text) (n : ℕ) → length lines ≡ n → length (lines ++ 
 one_more lines n count = length-append lines (codes "a" ∷ []) ∙ ap (λ k. k + 1) count
 
 -- one line too many
-pub too_many : (lines : Text) → list_all is_line lines ≡ true → length lines ≡ 1048576 → changed (codes "a" ∷ []) (Insertion 1 lines) ≡ Err TooLarge
-unfolding changed checked spliced judged
+pub too_many : (lines : Text) → list_all is_line lines ≡ true → length lines ≡ 1048576 → edited (codes "a" ∷ []) (insertion 1 lines) ≡ Err TooLarge
+unfolding edited replaced spliced judged
 too_many lines proper count =
     ap₂ (λ p n. judged p n (lines ++ codes "a" ∷ [])) proper (one_more lines 1048576 count)
 
 -- as many lines as a text may have
-pub not_too_many : (lines : Text) → list_all is_line lines ≡ true → length lines ≡ 1048575 → changed (codes "a" ∷ []) (Insertion 1 lines) ≡ Ok (lines ++ codes "a" ∷ [])
-unfolding changed checked spliced judged
+pub not_too_many : (lines : Text) → list_all is_line lines ≡ true → length lines ≡ 1048575 → edited (codes "a" ∷ []) (insertion 1 lines) ≡ Ok (lines ++ codes "a" ∷ [])
+unfolding edited replaced spliced judged
 not_too_many lines proper count =
     ap₂ (λ p n. judged p n (lines ++ codes "a" ∷ [])) proper (one_more lines 1048575 count)
 
 -- what is no line is refused first, however many there are
-pub too_many_and_bad : (lines : Text) → list_all is_line lines ≡ false → changed (codes "a" ∷ []) (Insertion 1 lines) ≡ Err BadLine
-unfolding changed checked spliced judged
+pub too_many_and_bad : (lines : Text) → list_all is_line lines ≡ false → edited (codes "a" ∷ []) (insertion 1 lines) ≡ Err BadLine
+unfolding edited replaced spliced judged
 too_many_and_bad lines improper =
     ap (λ p. judged p (length (lines ++ codes "a" ∷ [])) (lines ++ codes "a" ∷ [])) improper

@@ -1,6 +1,6 @@
 -- Values as the worked examples write them. Our own.
 use Rattle.std.specs.Prelude.{[], ◌∷◌, codes}
-use Rattle.abc2midi_live.specs.Text.{Text}
+use Rattle.abc_lines.specs.Text.{Text}
 
 -- a text of four lines
 abbrev pub four_lines : Text

@@ -1,15 +1,16 @@
 //! Worked examples by the definitions of a session: edits of a text and the differences of two books. A body here does
 //! nothing; its contract is the example. How a text is edited is our own.
-#![tactic(auto, unfolding(abc2midi_live::specs::Book::removed, abc2midi_live::specs::Book::written, abc2midi_live::specs::Text::checked, abc2midi_live::specs::Text::edited, abc2midi_live::specs::Text::spliced, abc2midi_live::specs::Transcript::changed))]
+#![tactic(auto, unfolding(abc2midi_live::specs::Book::removed, abc2midi_live::specs::Book::written, abc_lines::specs::Edits::edited, abc_lines::specs::Edits::replaced, abc_lines::specs::Text::spliced))]
 
 ghost use Rattle.std.specs.Prelude.{◌≡◌, ℕ, true, false, [], ◌∷◌, ◌++◌, length, codes, replicate};
 ghost use Rattle.std.specs.Global.{Vec};
 ghost use Rattle.std.specs.List.{list_all};
 ghost use Rattle.abc2midi_live.specs.Book.{file_at, removed, written};
-ghost use Rattle.abc2midi_live.specs.Text.{Text, edited, is_line, line_at};
-ghost use Rattle.abc2midi_live.specs.Transcript.{Deletion, Insertion, Replacement, changed};
+ghost use Rattle.abc2midi_live.specs.Edit.{line_at, splice_of};
 ghost use Rattle.abc2midi_live.specs.declared.edit.Edit.TheVariants.{Delete, Insert, Replace};
-ghost use Rattle.abc2midi_live.specs.declared.edit.EditError.TheVariants.{BadLine, BadRange, TooLarge};
+ghost use Rattle.abc_lines.specs.Edits.{deletion, edited, insertion, replacement};
+ghost use Rattle.abc_lines.specs.Text.{Text, is_line};
+ghost use Rattle.abc_lines.specs.declared.edit_error.EditError.TheVariants.{BadLine, BadRange, TooLarge};
 ghost use Rattle.session_examples.specs.Values.{four_lines};
 
 /// Lines are counted from 1.
@@ -23,45 +24,45 @@ pub fn line_numbers()
 /// What accepted changes make of four lines. An insertion may stand behind the last line, and each list of lines may be
 /// empty.
 pub fn accepted_changes()
-    ensures at_first { changed four_lines (Insertion 1 (codes "x" ∷ [])) ≡ Ok (codes "x" ∷ four_lines) }
-    ensures before_the_third { changed four_lines (Insertion 3 (codes "x" ∷ codes "y" ∷ []))
+    ensures at_first { edited four_lines (insertion 1 (codes "x" ∷ [])) ≡ Ok (codes "x" ∷ four_lines) }
+    ensures before_the_third { edited four_lines (insertion 3 (codes "x" ∷ codes "y" ∷ []))
         ≡ Ok (codes "a" ∷ codes "b" ∷ codes "x" ∷ codes "y" ∷ codes "c" ∷ codes "d" ∷ []) }
-    ensures behind_the_last { changed four_lines (Insertion 5 (codes "x" ∷ []))
+    ensures behind_the_last { edited four_lines (insertion 5 (codes "x" ∷ []))
         ≡ Ok (codes "a" ∷ codes "b" ∷ codes "c" ∷ codes "d" ∷ codes "x" ∷ []) }
-    ensures no_lines { changed four_lines (Insertion 1 []) ≡ Ok four_lines }
-    ensures one_for_two { changed four_lines (Replacement 2 3 (codes "x" ∷ [])) ≡ Ok (codes "a" ∷ codes "x" ∷ codes "d" ∷ []) }
-    ensures none_for_two { changed four_lines (Replacement 2 3 []) ≡ Ok (codes "a" ∷ codes "d" ∷ []) }
-    ensures one_line { changed four_lines (Deletion 4 4) ≡ Ok (codes "a" ∷ codes "b" ∷ codes "c" ∷ []) }
-    ensures all_lines { changed four_lines (Deletion 1 4) ≡ Ok [] }
-    ensures into_nothing { changed [] (Insertion 1 (codes "x" ∷ [])) ≡ Ok (codes "x" ∷ []) }
+    ensures no_lines { edited four_lines (insertion 1 []) ≡ Ok four_lines }
+    ensures one_for_two { edited four_lines (replacement 2 3 (codes "x" ∷ [])) ≡ Ok (codes "a" ∷ codes "x" ∷ codes "d" ∷ []) }
+    ensures none_for_two { edited four_lines (replacement 2 3 []) ≡ Ok (codes "a" ∷ codes "d" ∷ []) }
+    ensures one_line { edited four_lines (deletion 4 4) ≡ Ok (codes "a" ∷ codes "b" ∷ codes "c" ∷ []) }
+    ensures all_lines { edited four_lines (deletion 1 4) ≡ Ok [] }
+    ensures into_nothing { edited [] (insertion 1 (codes "x" ∷ [])) ≡ Ok (codes "x" ∷ []) }
 {}
 
 /// Ranges that are not in a text of four lines.
 pub fn bad_ranges()
-    ensures backwards { changed four_lines (Deletion 3 2) ≡ Err BadRange }
-    ensures from_zero { changed four_lines (Deletion 0 2) ≡ Err BadRange }
-    ensures past_the_end { changed four_lines (Deletion 4 5) ≡ Err BadRange }
-    ensures replaced_backwards { changed four_lines (Replacement 3 2 []) ≡ Err BadRange }
-    ensures replaced_past_the_end { changed four_lines (Replacement 5 5 (codes "x" ∷ [])) ≡ Err BadRange }
-    ensures inserted_at_zero { changed four_lines (Insertion 0 []) ≡ Err BadRange }
-    ensures inserted_past_the_end { changed four_lines (Insertion 6 []) ≡ Err BadRange }
-    ensures inserted_far_past_the_end { changed four_lines (Insertion 9 (codes "x" ∷ [])) ≡ Err BadRange }
-    ensures nothing_to_replace { changed [] (Replacement 1 1 []) ≡ Err BadRange }
+    ensures backwards { edited four_lines (deletion 3 2) ≡ Err BadRange }
+    ensures from_zero { edited four_lines (deletion 0 2) ≡ Err BadRange }
+    ensures past_the_end { edited four_lines (deletion 4 5) ≡ Err BadRange }
+    ensures replaced_backwards { edited four_lines (replacement 3 2 []) ≡ Err BadRange }
+    ensures replaced_past_the_end { edited four_lines (replacement 5 5 (codes "x" ∷ [])) ≡ Err BadRange }
+    ensures inserted_at_zero { edited four_lines (insertion 0 []) ≡ Err BadRange }
+    ensures inserted_past_the_end { edited four_lines (insertion 6 []) ≡ Err BadRange }
+    ensures inserted_far_past_the_end { edited four_lines (insertion 9 (codes "x" ∷ [])) ≡ Err BadRange }
+    ensures nothing_to_replace { edited [] (replacement 1 1 []) ≡ Err BadRange }
 {}
 
 /// The same of edits as a session takes them, whatever the lines are.
 pub fn bad_ranges_of_edits()
-    ensures deleted { edited four_lines (Delete 3 2) ≡ Err BadRange }
-    ensures inserted { (lines : Vec (Vec ℕ)) → edited four_lines (Insert 9 lines) ≡ Err BadRange }
-    ensures replaced { (lines : Vec (Vec ℕ)) → edited four_lines (Replace 4 5 lines) ≡ Err BadRange }
-    ensures accepted { edited four_lines (Delete 2 3) ≡ Ok (codes "a" ∷ codes "d" ∷ []) }
+    ensures deleted { edited four_lines (splice_of (Delete 3 2)) ≡ Err BadRange }
+    ensures inserted { (lines : Vec (Vec ℕ)) → edited four_lines (splice_of (Insert 9 lines)) ≡ Err BadRange }
+    ensures replaced { (lines : Vec (Vec ℕ)) → edited four_lines (splice_of (Replace 4 5 lines)) ≡ Err BadRange }
+    ensures accepted { edited four_lines (splice_of (Delete 2 3)) ≡ Ok (codes "a" ∷ codes "d" ∷ []) }
 {}
 
 /// A line has no line feed, wherever it is put.
 pub fn bad_lines()
-    ensures inserted { changed four_lines (Insertion 1 (codes "x" ∷ codes "a\nb" ∷ [])) ≡ Err BadLine }
-    ensures replaced { changed four_lines (Replacement 1 4 (codes "\n" ∷ [])) ≡ Err BadLine }
-    ensures behind_a_bad_range { changed four_lines (Insertion 9 (codes "\n" ∷ [])) ≡ Err BadRange }
+    ensures inserted { edited four_lines (insertion 1 (codes "x" ∷ codes "a\nb" ∷ [])) ≡ Err BadLine }
+    ensures replaced { edited four_lines (replacement 1 4 (codes "\n" ∷ [])) ≡ Err BadLine }
+    ensures behind_a_bad_range { edited four_lines (insertion 9 (codes "\n" ∷ [])) ≡ Err BadRange }
 {}
 
 /// The numbers that two books differ in, rising: those with a file that is new or has other bytes, and those that have
@@ -86,9 +87,9 @@ pub fn files_of_numbers()
 
 /// A line has at most 65,535 bytes, wherever it is put; a bad range comes first.
 pub fn long_lines()
-    ensures longest { changed [] (Insertion 1 (replicate 65535 120 ∷ [])) ≡ Ok (replicate 65535 120 ∷ []) }
-    ensures longer { changed four_lines (Insertion 1 (replicate 65536 120 ∷ [])) ≡ Err BadLine }
-    ensures behind_a_bad_range { changed four_lines (Insertion 9 (replicate 65536 120 ∷ [])) ≡ Err BadRange }
+    ensures longest { edited [] (insertion 1 (replicate 65535 120 ∷ [])) ≡ Ok (replicate 65535 120 ∷ []) }
+    ensures longer { edited four_lines (insertion 1 (replicate 65536 120 ∷ [])) ≡ Err BadLine }
+    ensures behind_a_bad_range { edited four_lines (insertion 9 (replicate 65536 120 ∷ [])) ≡ Err BadRange }
 {}
 
 /// A text has at most 1,048,576 lines: of a text of one line, whatever lines are put before it. What is no line comes
@@ -96,9 +97,9 @@ pub fn long_lines()
 #[tactic(auto, using(crate::proofs::LargeTexts::too_many, crate::proofs::LargeTexts::not_too_many, crate::proofs::LargeTexts::too_many_and_bad))]
 pub fn large_texts()
     ensures most { (lines : Text) → list_all is_line lines ≡ true → length lines ≡ 1048575
-        → changed (codes "a" ∷ []) (Insertion 1 lines) ≡ Ok (lines ++ codes "a" ∷ []) }
+        → edited (codes "a" ∷ []) (insertion 1 lines) ≡ Ok (lines ++ codes "a" ∷ []) }
     ensures more { (lines : Text) → list_all is_line lines ≡ true → length lines ≡ 1048576
-        → changed (codes "a" ∷ []) (Insertion 1 lines) ≡ Err TooLarge }
+        → edited (codes "a" ∷ []) (insertion 1 lines) ≡ Err TooLarge }
     ensures bad_line { (lines : Text) → list_all is_line lines ≡ false
-        → changed (codes "a" ∷ []) (Insertion 1 lines) ≡ Err BadLine }
+        → edited (codes "a" ∷ []) (insertion 1 lines) ≡ Err BadLine }
 {}

@@ -5,7 +5,7 @@ use Rattle.abc2midi_live.proofs.dialogue.edit.Goals as goal
 pub returns-in-Ok-clause-answer : goal.returns-in-Ok-clause-answer
 returns-in-Ok-clause-answer c =
     IfOk-weaker c.report_line.result _ _
-    (λ text h. answer_accepted c.args.session.now c.apply.new.self _ text.items _ _ c.in-Ok.ensures.text c.in-Ok.ensures.written c.in-Ok.ensures.removed h) c.report_line.ensures
+    (λ text h. answer_accepted c.args.session.now c.apply.new.self _ text.items _ _ c.in-Ok.ensures.text c.in-Ok.ensures.report.writes c.in-Ok.ensures.report.removes h) c.report_line.ensures
 
 pub returns-in-Err-clause-answer : goal.returns-in-Err-clause-answer
 returns-in-Err-clause-answer c =

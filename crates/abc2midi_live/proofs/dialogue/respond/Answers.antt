@@ -1,10 +1,10 @@
-use Rattle.std.proofs.Common.{◌≡◌, length, refl, ◌∙◌}
+use Rattle.std.proofs.Common.{◌≡◌, length, ◌∙◌}
 use Rattle.std.proofs.lemmas.List.{length-map}
-use Rattle.abc2midi_live.specs.Text.{text_of}
+use Rattle.abc_lines.specs.Text.{text_of}
+use Rattle.abc_lines.specs.Edits.{insertion, replacement, deletion}
 use Rattle.abc2midi_live.specs.Command.{line_count}
 use Rattle.abc2midi_live.specs.Answer.{unknown_line}
-use Rattle.abc2midi_live.specs.Transcript.{Insertion, Replacement, Deletion, request_of}
-use Rattle.abc2midi_live.specs.declared.edit.Edit.TheVariants.{Insert, Replace, Delete}
+use Rattle.abc2midi_live.specs.Transcript.{request_of}
 use Rattle.abc2midi_live.proofs.Requests.{untaken, responds_edit, request_of-insert, request_of-replace, request_of-delete, responds_hex, responds_unknown, responds_quit}
 use Rattle.abc2midi_live.proofs.dialogue.respond.Goals as goal
 
@@ -13,23 +13,23 @@ returns-in_ok-text-in-Insert-clause-reply c =
     let lines = text_of c.args.lines in
     let whole : length lines ≡ line_count c.args.command = length-map c.args.lines.items (λ line. line.items) ∙ c.requires in
     let done = c.in_ok-text-in-Insert in
-    responds_edit c.args.session.now c.edit.new.session (request_of c.args.command lines) (Insertion c.in-Insert.at lines) (Insert c.in-Insert.at c.args.lines) done.text.items
-    (request_of-insert c.args.command c.in-Insert.at c.in-Insert.count lines whole c.in-Insert.is) refl done.ensures.answer done.ensures.text
+    responds_edit c.args.session.now c.edit.new.session (request_of c.args.command lines) (insertion c.in-Insert.at lines) done.text.items
+    (request_of-insert c.args.command c.in-Insert.at c.in-Insert.count lines whole c.in-Insert.is) done.ensures.answer done.ensures.text
 
 pub returns-in_ok-text-in-Replace-clause-reply : goal.returns-in_ok-text-in-Replace-clause-reply
 returns-in_ok-text-in-Replace-clause-reply c =
     let lines = text_of c.args.lines in
     let whole : length lines ≡ line_count c.args.command = length-map c.args.lines.items (λ line. line.items) ∙ c.requires in
     let done = c.in_ok-text-in-Replace in
-    responds_edit c.args.session.now c.edit-in-Replace.new.session (request_of c.args.command lines) (Replacement c.in-Replace.from c.in-Replace.to lines) (Replace c.in-Replace.from c.in-Replace.to c.args.lines) done.text.items
-    (request_of-replace c.args.command c.in-Replace.from c.in-Replace.to c.in-Replace.count lines whole c.in-Replace.is) refl done.ensures.answer done.ensures.text
+    responds_edit c.args.session.now c.edit-in-Replace.new.session (request_of c.args.command lines) (replacement c.in-Replace.from c.in-Replace.to lines) done.text.items
+    (request_of-replace c.args.command c.in-Replace.from c.in-Replace.to c.in-Replace.count lines whole c.in-Replace.is) done.ensures.answer done.ensures.text
 
 pub returns-in_ok-text-in-Delete-clause-reply : goal.returns-in_ok-text-in-Delete-clause-reply
 returns-in_ok-text-in-Delete-clause-reply c =
     let lines = text_of c.args.lines in
     let done = c.in_ok-text-in-Delete in
-    responds_edit c.args.session.now c.edit-in-Delete.new.session (request_of c.args.command lines) (Deletion c.in-Delete.from c.in-Delete.to) (Delete c.in-Delete.from c.in-Delete.to) done.text.items
-    (request_of-delete c.args.command c.in-Delete.from c.in-Delete.to lines c.in-Delete.is) refl done.ensures.answer done.ensures.text
+    responds_edit c.args.session.now c.edit-in-Delete.new.session (request_of c.args.command lines) (deletion c.in-Delete.from c.in-Delete.to) done.text.items
+    (request_of-delete c.args.command c.in-Delete.from c.in-Delete.to lines c.in-Delete.is) done.ensures.answer done.ensures.text
 
 pub returns-in_ok-text-in-Hex-clause-reply : goal.returns-in_ok-text-in-Hex-clause-reply
 returns-in_ok-text-in-Hex-clause-reply c =
@@ -48,20 +48,20 @@ returns-in_ok-text-in-Insert-clause-uncounted c = λ none.
     let lines = text_of c.args.lines in
     let whole : length lines ≡ line_count c.args.command = length-map c.args.lines.items (λ line. line.items) ∙ c.requires in
     c.in_ok-text-in-Insert.ensures.uncounted
-    (untaken c.args.session.now (request_of c.args.command lines) (Insertion c.in-Insert.at lines) (Insert c.in-Insert.at c.args.lines)
-    (request_of-insert c.args.command c.in-Insert.at c.in-Insert.count lines whole c.in-Insert.is) refl none)
+    (untaken c.args.session.now (request_of c.args.command lines) (insertion c.in-Insert.at lines)
+    (request_of-insert c.args.command c.in-Insert.at c.in-Insert.count lines whole c.in-Insert.is) none)
 
 pub returns-in_ok-text-in-Replace-clause-uncounted : goal.returns-in_ok-text-in-Replace-clause-uncounted
 returns-in_ok-text-in-Replace-clause-uncounted c = λ none.
     let lines = text_of c.args.lines in
     let whole : length lines ≡ line_count c.args.command = length-map c.args.lines.items (λ line. line.items) ∙ c.requires in
     c.in_ok-text-in-Replace.ensures.uncounted
-    (untaken c.args.session.now (request_of c.args.command lines) (Replacement c.in-Replace.from c.in-Replace.to lines) (Replace c.in-Replace.from c.in-Replace.to c.args.lines)
-    (request_of-replace c.args.command c.in-Replace.from c.in-Replace.to c.in-Replace.count lines whole c.in-Replace.is) refl none)
+    (untaken c.args.session.now (request_of c.args.command lines) (replacement c.in-Replace.from c.in-Replace.to lines)
+    (request_of-replace c.args.command c.in-Replace.from c.in-Replace.to c.in-Replace.count lines whole c.in-Replace.is) none)
 
 pub returns-in_ok-text-in-Delete-clause-uncounted : goal.returns-in_ok-text-in-Delete-clause-uncounted
 returns-in_ok-text-in-Delete-clause-uncounted c = λ none.
     let lines = text_of c.args.lines in
     c.in_ok-text-in-Delete.ensures.uncounted
-    (untaken c.args.session.now (request_of c.args.command lines) (Deletion c.in-Delete.from c.in-Delete.to) (Delete c.in-Delete.from c.in-Delete.to)
-    (request_of-delete c.args.command c.in-Delete.from c.in-Delete.to lines c.in-Delete.is) refl none)
+    (untaken c.args.session.now (request_of c.args.command lines) (deletion c.in-Delete.from c.in-Delete.to)
+    (request_of-delete c.args.command c.in-Delete.from c.in-Delete.to lines c.in-Delete.is) none)

@@ -1,6 +1,6 @@
 use Rattle.std.proofs.Common.{◌≡◌, drop}
 use Rattle.std.specs.List.{list_all}
-use Rattle.abc2midi_live.specs.Comments.{seen_lines}
+use Rattle.abc_lines.specs.Text.{seen_lines}
 use Rattle.abc2midi_live.specs.PlainTune.{is_header_line}
 use Rattle.abc2midi_live.proofs.header.are_header_lines.Given as goal
 

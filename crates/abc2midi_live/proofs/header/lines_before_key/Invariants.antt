@@ -1,5 +1,5 @@
 use Rattle.std.proofs.Common.{◌≡◌, ◌+◌, drop}
-use Rattle.abc2midi_live.specs.Comments.{seen_lines}
+use Rattle.abc_lines.specs.Text.{seen_lines}
 use Rattle.abc2midi_live.specs.PlainTune.{lines_before_key}
 use Rattle.abc2midi_live.proofs.header.lines_before_key.Given as goal
 

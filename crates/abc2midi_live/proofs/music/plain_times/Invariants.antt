@@ -2,7 +2,7 @@ use Rattle.std.proofs.Common.{◌≡◌, ◌++◌, drop, All}
 use Rattle.std.specs.List.{list_all}
 use Rattle.abc2midi_live.specs.Melody.{HasMidiKey}
 use Rattle.abc2midi_live.specs.Music.{body_times, is_plain_line}
-use Rattle.abc2midi_live.specs.Comments.{seen_lines}
+use Rattle.abc_lines.specs.Text.{seen_lines}
 use Rattle.abc2midi_live.proofs.music.plain_times.Given as goal
 
 abbrev pub invariant-loop-line : goal.invariant-loop-line

@@ -1,6 +1,6 @@
 use Rattle.std.proofs.Common.{◌≡◌, drop, IfSome}
 use Rattle.abc_fields.specs.Meter.{IsMeterInRange}
-use Rattle.abc2midi_live.specs.Comments.{seen_lines}
+use Rattle.abc_lines.specs.Text.{seen_lines}
 use Rattle.abc2midi_live.specs.Opening.{later_of, last_of, meter_on}
 use Rattle.abc2midi_live.proofs.opening.last_meter.Given as goal
 

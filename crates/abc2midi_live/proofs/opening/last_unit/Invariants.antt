@@ -1,6 +1,6 @@
 use Rattle.std.proofs.Common.{◌≡◌, drop, IfSome}
 use Rattle.abc_time.specs.Ratio.{IsRatio}
-use Rattle.abc2midi_live.specs.Comments.{seen_lines}
+use Rattle.abc_lines.specs.Text.{seen_lines}
 use Rattle.abc2midi_live.specs.Opening.{later_of, last_of, unit_on}
 use Rattle.abc2midi_live.proofs.opening.last_unit.Given as goal
 

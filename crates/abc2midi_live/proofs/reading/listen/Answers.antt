@@ -1,7 +1,8 @@
 use Rattle.std.proofs.Common.{◌≡◌, ◌≤◌, ◌+◌, length, [], sym, ap, ◌∙◌, subst, refl, Bool, false, Err, arith}
 use Rattle.std.specs.Prelude.{IfSome}
+use Rattle.abc2midi_live.specs.declared.reading.TheConstants.{MOST_READS}
 use Rattle.abc2midi_live.specs.Machine.{ahead}
-use Rattle.abc2midi_live.specs.Outcome.{Leaves, Turn, Exhausted, read_faults}
+use Rattle.abc2midi_live.specs.Outcome.{ends, Leaves, Turn, Exhausted, read_faults}
 use Rattle.abc_fold.specs.Work.{raised}
 use Rattle.abc2midi_live.proofs.Counts.{raised_none}
 use Rattle.abc2midi_live.proofs.Feeding.{heard_none, heard_turn, heard_end, heard_left, heard_so_far, heard_enough, nothing_ahead, fault_exit, fault_is, reads_exit, calls_more}
@@ -19,7 +20,7 @@ pub returns-in_err-turn-clause-answers : goal.returns-in_err-turn-clause-answers
 unfolding ahead
 returns-in_err-turn-clause-answers g c =
     let now = c.reads.listener in
-    fault_exit c.from_residual.result _ (Leaves (ahead (g.M.Machine.future c.args.machine) [] false) (g.R.Source.remaining c.args.reader.now) (g.R.Source.remaining c.turn.new.reader) (g.W.Sink.contents c.args.writer.now) (g.W.Sink.contents c.turn.new.writer)) c.in_err-turn.field-0.0 c.from_residual.ensures
+    fault_exit c.from_residual.result _ (Leaves (ahead (g.M.Machine.future c.args.machine) [] false) (ends (g.R.Source.remaining c.args.reader.now) (g.W.Sink.contents c.args.writer.now)) (ends (g.R.Source.remaining c.turn.new.reader) (g.W.Sink.contents c.turn.new.writer))) c.in_err-turn.field-0.0 c.from_residual.ensures
     (heard_left (ahead (g.M.Machine.future c.args.machine) []) (ahead (g.M.Machine.future now.machine) now.begun.items) (g.R.Source.remaining c.args.reader.now) (g.R.Source.remaining c.reads.reader) (g.R.Source.remaining c.turn.new.reader) (g.W.Sink.contents c.args.writer.now) (g.W.Sink.contents c.reads.writer) (g.W.Sink.contents c.turn.new.writer) c.in_err-turn.field-0.0 c.reads.invariant.heard c.in_err-turn.ensures.answers)
 
 pub returns-in_err-turn-clause-calls : goal.returns-in_err-turn-clause-calls
@@ -36,7 +37,7 @@ returns-then-not-branch-clause-answers g c =
     let now = c.reads.listener in
     let after = c.turn.new.listener in
     heard_end (ahead (g.M.Machine.future c.args.machine) []) (ahead (g.M.Machine.future now.machine) now.begun.items) (ahead (g.M.Machine.future after.machine) after.begun.items) (g.R.Source.remaining c.args.reader.now) (g.R.Source.remaining c.reads.reader) (g.R.Source.remaining c.turn.new.reader) (g.W.Sink.contents c.args.writer.now) (g.W.Sink.contents c.reads.writer) (g.W.Sink.contents c.turn.new.writer) c.reads.invariant.heard
-    (subst (Turn (ahead (g.M.Machine.future now.machine) now.begun.items) (ahead (g.M.Machine.future after.machine) after.begun.items) (g.R.Source.remaining c.reads.reader) (g.R.Source.remaining c.turn.new.reader) (g.W.Sink.contents c.reads.writer) (g.W.Sink.contents c.turn.new.writer)) c.if-not-branch.true c.in_ok-turn.ensures.answers)
+    (subst (Turn (ahead (g.M.Machine.future now.machine) now.begun.items) (ahead (g.M.Machine.future after.machine) after.begun.items) (ends (g.R.Source.remaining c.reads.reader) (g.W.Sink.contents c.reads.writer)) (ends (g.R.Source.remaining c.turn.new.reader) (g.W.Sink.contents c.turn.new.writer))) c.if-not-branch.true c.in_ok-turn.ensures.answers)
 
 pub returns-then-not-branch-clause-calls : goal.returns-then-not-branch-clause-calls
 returns-then-not-branch-clause-calls g c = (c.reads.counter + 1, omega arith, calls_more _ _ _ c.reads.counter c.reads.invariant.calls c.turn.ensures.calls)
@@ -47,7 +48,7 @@ reads-preserved g c =
     let after = c.turn.new.listener in
     record {
       heard = heard_turn c.reads.counter (ahead (g.M.Machine.future c.args.machine) []) (ahead (g.M.Machine.future now.machine) now.begun.items) (ahead (g.M.Machine.future after.machine) after.begun.items) (g.R.Source.remaining c.args.reader.now) (g.R.Source.remaining c.reads.reader) (g.R.Source.remaining c.turn.new.reader) (g.W.Sink.contents c.args.writer.now) (g.W.Sink.contents c.reads.writer) (g.W.Sink.contents c.turn.new.writer) c.reads.invariant.heard
-          (subst (Turn (ahead (g.M.Machine.future now.machine) now.begun.items) (ahead (g.M.Machine.future after.machine) after.begun.items) (g.R.Source.remaining c.reads.reader) (g.R.Source.remaining c.turn.new.reader) (g.W.Sink.contents c.reads.writer) (g.W.Sink.contents c.turn.new.writer)) c.if-not-branch.false c.in_ok-turn.ensures.answers);
+          (subst (Turn (ahead (g.M.Machine.future now.machine) now.begun.items) (ahead (g.M.Machine.future after.machine) after.begun.items) (ends (g.R.Source.remaining c.reads.reader) (g.W.Sink.contents c.reads.writer)) (ends (g.R.Source.remaining c.turn.new.reader) (g.W.Sink.contents c.turn.new.writer))) c.if-not-branch.false c.in_ok-turn.ensures.answers);
       calls = calls_more _ _ _ c.reads.counter c.reads.invariant.calls c.turn.ensures.calls;
       reads = c.in_ok-turn.ensures.reads ∙ raised_none _ ∙ c.reads.invariant.reads;
       writes = c.in_ok-turn.ensures.writes ∙ raised_none _ ∙ c.reads.invariant.writes;
@@ -65,7 +66,7 @@ returns-clause-calls g c = (c.reads.counter, omega arith, c.reads.invariant.call
 
 pub returns-clause-reads : goal.returns-clause-reads
 returns-clause-reads g c =
-    let all : c.reads.counter ≡ 4294967295 = omega arith in
+    let all : c.reads.counter ≡ MOST_READS = omega arith in
     let enough = heard_enough c.reads.counter _ _ (g.R.Source.remaining c.args.reader.now) _ _ _ c.reads.invariant.heard in
     Exhausted c.reads.invariant.reads (c.reads.invariant.calls ∙ ap (raised (g.R.Source.calls c.args.reader.now)) all)
     (subst (λ made. IfSome (g.R.Source.remaining c.args.reader.now) (λ bytes. made ≤ length bytes)) all enough)

@@ -1,5 +1,5 @@
 use Rattle.std.proofs.Common.{true, false, sym, arith}
-use Rattle.abc2midi_live.specs.Outcome.{Leaves}
+use Rattle.abc2midi_live.specs.Outcome.{ends, Leaves}
 use Rattle.abc2midi_live.specs.Transcript.{input_lines, transcript, transcript_so_far}
 use Rattle.abc2midi_live.specs.Dialogue.{awaited}
 use Rattle.abc2midi_live.specs.Gathering.{begun_of}
@@ -13,7 +13,7 @@ pub returns-in_err-dialogue-clause-transcript : goal.returns-in_err-dialogue-cla
 returns-in_err-dialogue-clause-transcript g c =
     let input = g.R.Source.remaining c.args.reader.now in
     let old = g.W.Sink.contents c.args.writer.now in
-    fault_exit c.from_residual.result _ (Leaves transcript_so_far input input old old) Memory c.from_residual.ensures (not_begun input old)
+    fault_exit c.from_residual.result _ (Leaves transcript_so_far (ends input old) (ends input old)) Memory c.from_residual.ensures (not_begun input old)
 
 pub returns-in_err-dialogue-clause-calls : goal.returns-in_err-dialogue-clause-calls
 returns-in_err-dialogue-clause-calls g c = (0, omega arith, sym (raised_none _))

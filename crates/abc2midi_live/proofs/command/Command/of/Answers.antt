@@ -9,5 +9,5 @@ returns-then-line-gt-LONGEST_LINE c = command_of-long c.args.line.now c.if-line-
 pub returns : goal.returns
 returns c =
     c.spelled.ensures
-    ∙ ap (λ line. command_of_words (words_of line)) c.without_return.ensures
+    ∙ ap (λ line. command_of_words (words_of line)) c.without_return.ensures.value
     ∙ command_of-short c.args.line.now c.if-line-gt-LONGEST_LINE.false

@@ -1,7 +1,7 @@
 use Rattle.std.proofs.Common.{◌≡◌, length, sym, ◌∙◌, subst, arith}
 use Rattle.std.proofs.lemmas.Result.{IfOk-weaker}
 use Rattle.std.proofs.lemmas.List.{length-map}
-use Rattle.abc2midi_live.specs.Text.{text_of}
+use Rattle.abc_lines.specs.Text.{text_of}
 use Rattle.abc2midi_live.specs.Command.{line_count}
 use Rattle.abc2midi_live.specs.Dialogue.{Proceeds}
 use Rattle.abc2midi_live.specs.Gathering.{begun_of}

@@ -1,7 +1,7 @@
 use Rattle.std.specs.Prelude.{OnOk}
 use Rattle.std.proofs.Common.{◌≡◌, false, map, [], ◌∷◌, ◌++◌, Some, None, ap, ◌∙◌, subst}
 use Rattle.std.proofs.lemmas.Result.{IfOk-weaker}
-use Rattle.abc2midi_live.specs.Text.{text_of}
+use Rattle.abc_lines.specs.Text.{text_of}
 use Rattle.abc2midi_live.specs.Command.{command_of}
 use Rattle.abc2midi_live.specs.Machine.{Replies}
 use Rattle.abc2midi_live.specs.Transcript.{request_of}
