@@ -3,8 +3,8 @@
 ghost use Rattle.std.specs.Prelude.{◌≡◌, ◌≤◌, length};
 ghost use Rattle.abc2midi_live.specs.Field.{value_of, is_field};
 
-use abc_text::trimmed;
 use abc_scan::{LineClass, class_of, content};
+use abc_text::trimmed;
 
 /// The value of a field line: what follows its colon, without its comment, blanks cut at both ends.
 pub(crate) fn value_of(line: &[u8]) -> &[u8]

@@ -10,8 +10,8 @@ ghost use Rattle.abc2midi_live.specs.PlainTune.{reference_in, lines_before_key, 
 
 use crate::field::{is_field, value_of};
 use crate::opening::{Opening, opening_of};
-use abc_text::number_of;
 use abc_scan::{LineClass, class_of};
+use abc_text::number_of;
 
 fn reference_in(line: &[u8]) -> Option<u32>
     ensures { result ≡ reference_in line.now }

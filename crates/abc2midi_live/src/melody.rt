@@ -5,8 +5,8 @@ ghost use Rattle.abc_time.specs.Grains.{grains_of_the_latest_end};
 ghost use Rattle.abc2midi_live.specs.Melody.{total, notes_from, end_of, HasMidiKey};
 ghost use Rattle.smf_bytes.specs.Limits.{IsSoundingWithin};
 
-use abc_time::{Grains, LATEST_END};
 use abc_text::Sequence;
+use abc_time::{Grains, LATEST_END};
 use smf_bytes::Sounding;
 use std::alloc::{AllocError, Global};
 

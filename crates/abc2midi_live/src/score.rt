@@ -12,8 +12,8 @@ use crate::header::Heading;
 use crate::melody::{MOST_TIME_TOKENS, TimeToken, notes_of};
 use crate::opening::Opening;
 use abc_fields::{Key, Meter};
-use abc_time::Grains;
 use abc_text::Sequence;
+use abc_time::Grains;
 use smf_bytes::{Change, ChangeKind, Score, Sounding};
 use std::alloc::{AllocError, Global};
 
