@@ -2,11 +2,11 @@
 use Rattle.std.specs.Prelude.{ℕ, ◌/◌, Bool, true, false, ◌&&◌, if◌then◌else◌, List, [], ◌∷◌, ◌++◌, Option, Some, None, is_none}
 use Rattle.std.specs.List.{list_all, list_any}
 use Rattle.std.specs.Result.{result_unwrap_or}
-use Rattle.abc_scan.specs.Cutting.{tokens_of}
+use Rattle.abc_scan.specs.Line.{tokens_of}
 use Rattle.abc_scan.specs.declared.class.LineClass.{LineClass}
 use Rattle.abc_scan.specs.declared.class.LineClass.TheVariants as classes
 use Rattle.abc_scan.specs.LineClass.{class_of}
-use Rattle.abc_scan.specs.declared.token.Token.{Token}
+use Rattle.abc_scan.specs.declared.spanned.Spanned.{Spanned}
 use Rattle.abc_scan.specs.declared.token.TokenKind.{TokenKind}
 use Rattle.abc_scan.specs.declared.token.TokenKind.TheVariants as kinds
 use Rattle.abc_scan.specs.declared.length.WrittenLength.{WrittenLength}
@@ -33,25 +33,55 @@ length_by unit Refused = unit_length unit
 abbrev pub is_plain_kind : TokenKind → Bool
 is_plain_kind (kinds.Note note) = is_none note.accidental
 is_plain_kind (kinds.Rest written) = true
+is_plain_kind (kinds.BarRest bars) = false
+is_plain_kind (kinds.Chord chord) = false
+is_plain_kind (kinds.InlineField field) = false
+is_plain_kind (kinds.Bar bar) = false
+is_plain_kind (kinds.Ending passes) = false
+is_plain_kind (kinds.Tuplet tuplet) = false
+is_plain_kind (kinds.Broken broken) = false
+is_plain_kind kinds.Tie = false
 is_plain_kind kinds.Blank = true
-is_plain_kind kinds.Field = false
-is_plain_kind kinds.Other = false
+is_plain_kind kinds.NoEffect = false
+is_plain_kind (kinds.Field field) = false
+is_plain_kind kinds.Unclosed = false
+is_plain_kind kinds.BadByte = false
 
 -- what a token of a tune plays: a note or rest takes time, anything else none
 abbrev pub time_of : Opening → TokenKind → Option TimeToken
 time_of opening (kinds.Note note) = Some (record { key = midi_key_of opening.key note; length = length_by opening.unit note.length })
 time_of opening (kinds.Rest written) = Some (record { key = None; length = length_by opening.unit written })
+time_of opening (kinds.BarRest bars) = None
+time_of opening (kinds.Chord chord) = None
+time_of opening (kinds.InlineField field) = None
+time_of opening (kinds.Bar bar) = None
+time_of opening (kinds.Ending passes) = None
+time_of opening (kinds.Tuplet tuplet) = None
+time_of opening (kinds.Broken broken) = None
+time_of opening kinds.Tie = None
 time_of opening kinds.Blank = None
-time_of opening kinds.Field = None
-time_of opening kinds.Other = None
+time_of opening kinds.NoEffect = None
+time_of opening (kinds.Field field) = None
+time_of opening kinds.Unclosed = None
+time_of opening kinds.BadByte = None
 
 -- whether a token is a note or a rest
 abbrev pub takes_time : TokenKind → Bool
 takes_time (kinds.Note note) = true
 takes_time (kinds.Rest written) = true
+takes_time (kinds.BarRest bars) = false
+takes_time (kinds.Chord chord) = false
+takes_time (kinds.InlineField field) = false
+takes_time (kinds.Bar bar) = false
+takes_time (kinds.Ending passes) = false
+takes_time (kinds.Tuplet tuplet) = false
+takes_time (kinds.Broken broken) = false
+takes_time kinds.Tie = false
 takes_time kinds.Blank = false
-takes_time kinds.Field = false
-takes_time kinds.Other = false
+takes_time kinds.NoEffect = false
+takes_time (kinds.Field field) = false
+takes_time kinds.Unclosed = false
+takes_time kinds.BadByte = false
 
 -- what one token plays, if anything, before what others play
 abbrev pub before : Option TimeToken → List TimeToken → List TimeToken
@@ -59,7 +89,7 @@ before None times = times
 before (Some time) times = time ∷ times
 
 -- what the tokens of a line play, one after another
-abbrev pub times_of : Opening → List Token → List TimeToken
+abbrev pub times_of : Opening → List (Spanned TokenKind) → List TimeToken
 times_of opening [] = []
 times_of opening (t ∷ ts) = before (time_of opening t.kind) (times_of opening ts)
 
@@ -71,7 +101,7 @@ is_music (classes.Field letter) = false
 is_music classes.Music = true
 
 -- plain music: notes, rests and blanks, at least one of them a note or rest
-abbrev pub are_plain : List Token → Bool
+abbrev pub are_plain : List (Spanned TokenKind) → Bool
 are_plain tokens = list_all (λ t. is_plain_kind t.kind) tokens && list_any (λ t. takes_time t.kind) tokens
 
 -- whether a line is plain music

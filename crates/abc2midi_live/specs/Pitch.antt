@@ -4,10 +4,8 @@ use Rattle.abc_fields.specs.Signature.{alteration}
 use Rattle.abc_fields.specs.declared.key.Key.{Key}
 use Rattle.abc_fields.specs.declared.shift.Shift.{Shift}
 use Rattle.abc_fields.specs.declared.signature.Signature.{Signature}
-use Rattle.abc_text.specs.declared.letter.Letter as letters
-use Rattle.abc_text.specs.declared.letter.Letter.TheVariants as variants
-use Rattle.abc_scan.specs.declared.note.Letter.{Letter}
-use Rattle.abc_scan.specs.declared.note.Letter.TheVariants.{C, D, E, F, G, A, B}
+use Rattle.abc_text.specs.declared.letter.Letter.{Letter}
+use Rattle.abc_text.specs.declared.letter.Letter.TheVariants.{C, D, E, F, G, A, B}
 use Rattle.abc_scan.specs.declared.note.Note.{Note}
 
 -- semitones above C (ABC 2.1 section 4.1)
@@ -20,20 +18,10 @@ semitones G = 7
 semitones A = 9
 semitones B = 11
 
--- the same letter, as signatures know it
-abbrev pub in_signatures : Letter → letters.Letter
-in_signatures C = variants.C
-in_signatures D = variants.D
-in_signatures E = variants.E
-in_signatures F = variants.F
-in_signatures G = variants.G
-in_signatures A = variants.A
-in_signatures B = variants.B
-
 -- by how many semitones a signature, where there is one, alters a letter (ABC 2.1 section 3.1.14)
 abbrev pub altered_by : Option Signature → Letter → ℤ
 altered_by None letter = pos 0
-altered_by (Some signature) letter = alteration signature (in_signatures letter)
+altered_by (Some signature) letter = alteration signature letter
 
 -- how many semitones notes sound above what is written: by the clef, by octaves and by semitones (ABC 2.1 section 4.6)
 abbrev pub shifted_by : Shift → ℤ

@@ -4,7 +4,7 @@ ghost use Rattle.std.specs.Prelude.{◌≡◌, ◌++◌, All, IfOk, IfSome, OnOk
 ghost use Rattle.abc_time.specs.Ratio.{IsRatio};
 ghost use Rattle.std.specs.List.{list_all, list_any};
 ghost use Rattle.abc_scan.specs.LineClass.{class_of};
-ghost use Rattle.abc_scan.specs.Cutting.{HasLength};
+ghost use Rattle.abc_scan.specs.Line.{HasLength};
 ghost use Rattle.abc_scan.specs.Length.{HasFactor};
 ghost use Rattle.std.specs.Option.{option_map};
 ghost use Rattle.abc_lines.specs.Text.{seen_lines};
@@ -44,37 +44,37 @@ fn length_by(unit: Ratio, written: WrittenLength) -> Grains
 }
 
 /// What a token of a tune plays.
-fn time_of(opening: &Opening, kind: TokenKind) -> Option<TimeToken>
+fn time_of(opening: &Opening, kind: &TokenKind) -> Option<TimeToken>
     requires opening { IsOpening opening.now }
-    requires length { HasLength kind }
-    ensures value { result ≡ time_of opening.now kind }
+    requires length { HasLength kind.now }
+    ensures value { result ≡ time_of opening.now kind.now }
     ensures key { IfSome result HasMidiKey }
 {
     match kind {
         TokenKind::Note(note) => Some(TimeToken {
-            key: midi_key_of(&opening.key, note),
+            key: midi_key_of(&opening.key, *note),
             length: length_by(opening.unit, note.length),
         }),
         TokenKind::Rest(written) => Some(TimeToken {
             key: None,
-            length: length_by(opening.unit, written),
+            length: length_by(opening.unit, *written),
         }),
-        TokenKind::Blank | TokenKind::Field | TokenKind::Other => None,
+        _ => None,
     }
 }
 
-fn is_plain_kind(kind: TokenKind) -> bool
-    ensures { result ≡ is_plain_kind kind }
+fn is_plain_kind(kind: &TokenKind) -> bool
+    ensures { result ≡ is_plain_kind kind.now }
 {
     match kind {
         TokenKind::Note(note) => note.accidental.is_none(),
         TokenKind::Rest(_) | TokenKind::Blank => true,
-        TokenKind::Field | TokenKind::Other => false,
+        _ => false,
     }
 }
 
-fn takes_time(kind: TokenKind) -> bool
-    ensures { result ≡ takes_time kind }
+fn takes_time(kind: &TokenKind) -> bool
+    ensures { result ≡ takes_time kind.now }
 {
     matches!(kind, TokenKind::Note(_) | TokenKind::Rest(_))
 }
@@ -89,13 +89,13 @@ fn are_plain(tokens: &[Token]) -> bool
 fn are_plain_kinds(tokens: &[Token]) -> bool
     ensures { result ≡ list_all (λ t. is_plain_kind t.kind) tokens.now }
 {
-    tokens.iter().all(|token| is_plain_kind(token.kind))
+    tokens.iter().all(|token| is_plain_kind(&token.kind))
 }
 
 fn has_time(tokens: &[Token]) -> bool
     ensures { result ≡ list_any (λ t. takes_time t.kind) tokens.now }
 {
-    tokens.iter().any(|token| takes_time(token.kind))
+    tokens.iter().any(|token| takes_time(&token.kind))
 }
 
 fn is_music(line: &[u8]) -> bool
@@ -117,7 +117,7 @@ fn push_times(
     ensures keys { OnOk result (All HasMidiKey times.new.items) }
 {
     for token in tokens {
-        if let Some(time) = time_of(opening, token.kind) {
+        if let Some(time) = time_of(opening, &token.kind) {
             times.push(time)?;
         }
     }

@@ -1,7 +1,7 @@
 //! Which keys of a keyboard notes are.
 
 ghost use Rattle.std.specs.Prelude.{◌≡◌, ◌^◌, ◌<◌, ◌≤◌, ◌≤ℤ◌, pos, negsuc, IfSome};
-ghost use Rattle.abc2midi_live.specs.Pitch.{altered_by, in_signatures, midi_key, midi_key_of, pitch_of, semitones, shifted_by};
+ghost use Rattle.abc2midi_live.specs.Pitch.{altered_by, midi_key, midi_key_of, pitch_of, semitones, shifted_by};
 
 use abc_fields::{Key, Shift, Signature, alteration};
 use abc_scan::{Letter, Note};
@@ -21,27 +21,12 @@ fn semitones(letter: Letter) -> u8
     }
 }
 
-/// The same letter, as signatures know it.
-fn in_signatures(letter: Letter) -> abc_text::Letter
-    ensures { result ≡ in_signatures letter }
-{
-    match letter {
-        Letter::C => abc_text::Letter::C,
-        Letter::D => abc_text::Letter::D,
-        Letter::E => abc_text::Letter::E,
-        Letter::F => abc_text::Letter::F,
-        Letter::G => abc_text::Letter::G,
-        Letter::A => abc_text::Letter::A,
-        Letter::B => abc_text::Letter::B,
-    }
-}
-
 /// By how many semitones a signature, where there is one, alters a letter.
 fn altered_by(signature: Option<Signature>, letter: Letter) -> i8
     ensures { result ≡ altered_by signature letter }
 {
     match signature {
-        Some(signature) => alteration(&signature, in_signatures(letter)),
+        Some(signature) => alteration(&signature, letter),
         None => 0,
     }
 }

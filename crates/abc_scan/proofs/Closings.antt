@@ -1,12 +1,13 @@
 -- The first closing byte of a text, and what is known of a text without one.
-use Rattle.std.proofs.Common.{◌≡◌, ℕ, suc, ◌+◌, ◌<◌, ◌≤◌, true, false, Option, Some, None, is_some, List, [], ◌∷◌, ◌++◌, length, take, drop, refl, sym, ap, ◌∙◌, subst, ⊎_elim, arith, append-nil, length-append}
+use Rattle.std.proofs.Common.{◌≡◌, ℕ, suc, ◌+◌, ◌<◌, ◌≤◌, true, false, Option, Some, None, is_some, List, [], ◌∷◌, ◌++◌, length, take, drop, refl, sym, ap, ◌∙◌, subst, ⊎_elim, arith, append-nil, length-append, ◌-◌}
 use Rattle.std.specs.List.{prefix_len}
 use Rattle.std.proofs.lemmas.Bool.{cond-true, cond-false, cases_Bool, cases_lt, lt-ltb, le-ltb, eq-eqb, eqb-true, not-false, not_from_true, false≢true}
 use Rattle.std.proofs.lemmas.List.{take_all}
 use Rattle.std.proofs.lemmas.List.Elements.{All-drop}
+use Rattle.std.proofs.lemmas.List.{drop-drop}
 use Rattle.abc_scan.specs.declared.closing.Missing.{Missing}
 use Rattle.abc_scan.specs.Closing.{closing_brace, closing_bracket, is_other, Lacks, place_of, IsMissing}
-use Rattle.abc_scan.proofs.Fronts.{front_passes, front_append, front_exact, front_none}
+use Rattle.abc_text.proofs.Fronts.{front_passes, front_append, front_exact, front_none}
 
 -- a text without such a byte has no place of it
 pub place-none : (closing : ℕ) (text : List ℕ) → Lacks closing text → place_of closing text ≡ None
@@ -75,3 +76,10 @@ missing-drop n missing text is = record {
   no_brace = λ e. lacks-drop n closing_brace text (is.no_brace e);
   no_bracket = λ e. lacks-drop n closing_bracket text (is.no_bracket e);
 }
+
+-- what is missing behind the first byte of a token is missing behind the token
+pub missing-behind : (missing : Missing) (text : List ℕ) (at size : ℕ) → 0 < size → IsMissing missing (drop 1 (drop at text)) → IsMissing missing (drop (at + size) text)
+missing-behind missing text at size some is =
+    let cut : drop (size - 1) (drop 1 (drop at text)) ≡ drop (at + size) text =
+    ap (drop (size - 1)) (drop-drop 1 at text) ∙ drop-drop (size - 1) (at + 1) text ∙ ap (λ n. drop n text) (let e : at + 1 + (size - 1) ≡ at + size = omega (arith, some) in e) in
+    subst (IsMissing missing) cut (missing-drop (size - 1) missing (drop 1 (drop at text)) is)

@@ -4,8 +4,8 @@ use Rattle.std.specs.Prelude.{◌==◌, ◌&&◌, not, nat_eq}
 use Rattle.std.specs.List.{ends_with}
 use Rattle.std.specs.Cmp.Lexicographic.{pointwise}
 use Rattle.std.proofs.lemmas.Bool.{cond-true, cond-false, cases_Bool, eqb-true, eqb-false, and_parts, and_cases, and_left, ne_eqb, not-true, not-false}
-use Rattle.abc_scan.specs.Text.{without_return, before_comment, last_or, IsRead, CutsComments, DropsOneReturn}
-use Rattle.abc_scan.proofs.Fronts.{take_exact, drop_exact}
+use Rattle.abc_scan.specs.Text.{before_comment, last_or, IsRead, CutsComments}
+use Rattle.abc_text.proofs.Fronts.{take_exact, drop_exact}
 
 -- a comment begins here
 nothing_escaped : (before : ℕ) (front rest : List ℕ) → [] ≡ front ++ 37 ∷ rest → last_or before front ≡ 92
@@ -49,25 +49,3 @@ reads before (b ∷ bs) = ⊎_elim
 
 pub cuts_comments : CutsComments
 cuts_comments text = reads 32 text
-
--- the last byte of a text
-no_return : (b : ℕ) → (b ≡ 13 → ⊥) → pointwise nat_eq (13 ∷ []) (b ∷ []) ≡ false
-no_return b other = and_left _ _ (ne_eqb 13 b (λ e. other (sym e)))
-
-return_at : (text : List ℕ) (b : ℕ) → without_return (text ++ b ∷ []) ≡ cond (b == 13) text (text ++ b ∷ [])
-return_at text b =
-    let line = text ++ b ∷ [] in
-    let long : length line ≡ length text + 1 = length-append text (b ∷ []) in
-    let last : drop (length line - 1) line ≡ b ∷ [] = drop_exact (length line - 1) text (b ∷ []) (omega (arith, long)) in
-    let front : take (length line - 1) line ≡ text = take_exact (length line - 1) text (b ∷ []) (omega (arith, long)) in
-    ⊎_elim
-    (λ test_is.
-    let test : ends_with nat_eq line (13 ∷ []) ≡ true = ap (pointwise nat_eq (13 ∷ [])) last ∙ ap (λ x. pointwise nat_eq (13 ∷ []) (x ∷ [])) (eqb-true b 13 test_is) in
-    cond-true _ _ _ test ∙ front ∙ sym (cond-true (b == 13) text line test_is))
-    (λ other.
-    let test : ends_with nat_eq line (13 ∷ []) ≡ false = ap (pointwise nat_eq (13 ∷ [])) last ∙ no_return b (eqb-false b 13 other) in
-    cond-false _ _ _ test ∙ sym (cond-false (b == 13) text line other))
-    (cases_Bool (b == 13))
-
-pub drops_one_return : DropsOneReturn
-drops_one_return = (refl, return_at)

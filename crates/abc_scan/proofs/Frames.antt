@@ -10,7 +10,7 @@ use Rattle.abc_scan.specs.Closing.{opening_bracket, closing_bracket}
 use Rattle.abc_scan.specs.Field.{begins_field}
 use Rattle.abc_scan.specs.Frame.{is_inside, IsFrame, closed_frame, inside_size, frame_at}
 use Rattle.abc_scan.specs.Length.{length_at, length_size}
-use Rattle.abc_scan.proofs.Fronts.{front_passes, front_exact, front_none, drop_exact}
+use Rattle.abc_text.proofs.Fronts.{front_passes, front_exact, front_none, drop_exact}
 use Rattle.abc_scan.proofs.Lengths.{length_longest, length_sound, length_size-le}
 use Rattle.abc_scan.proofs.Readings.{Finds, IsFront}
 

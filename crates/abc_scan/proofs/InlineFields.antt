@@ -11,7 +11,7 @@ use Rattle.abc_scan.specs.Closing.{opening_bracket, closing_bracket, colon, is_o
 use Rattle.abc_scan.specs.Field.{begins_field, field_of}
 use Rattle.abc_scan.specs.InlineField.{IsInlineField, closed_field, inline_field_at}
 use Rattle.abc_scan.proofs.Closings.{IsFirst, place-first, place-sound}
-use Rattle.abc_scan.proofs.Fronts.{take_exact}
+use Rattle.abc_text.proofs.Fronts.{take_exact}
 use Rattle.abc_scan.proofs.Readings.{Finds, IsFront}
 
 -- a letter is no bracket

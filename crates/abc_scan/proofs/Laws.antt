@@ -1,195 +1,222 @@
--- Each text has one cutting.
-use Rattle.std.proofs.Common.{◌≡◌, ℕ, zero, suc, ◌+◌, ◌<◌, ◌≤◌, true, Option, Some, None, List, [], ◌∷◌, ◌++◌, length, take, drop, refl, sym, ap, ◌∙◌, subst, inl, inr, ⊎_elim, arith, length-append, length-drop, length-take-le, take-append-drop}
-use Rattle.std.specs.Prelude.{unwrap_or}
-use Rattle.std.specs.Option.{option_map}
-use Rattle.std.proofs.lemmas.Bool.{cond-true, cond-false, cases_Bool, or_cases, eqb-true}
-use Rattle.abc_scan.specs.declared.length.WrittenLength.{WrittenLength}
-use Rattle.abc_scan.specs.declared.note.Note.{Note}
-use Rattle.abc_scan.specs.declared.token.Token.{Token}
+-- Each text of a line has one cutting.
+use Rattle.std.proofs.Common.{◌≡◌, ℕ, zero, suc, ◌<◌, ◌≤◌, Bool, true, false, Option, Some, None, List, [], ◌∷◌, ◌++◌, length, take, drop, refl, sym, ap, ◌∙◌, subst, inl, inr, ⊎_elim, arith, length-append, length-take-le}
+use Rattle.std.specs.List.{AllPass}
+use Rattle.std.proofs.Math.Seq.{drop-append_seam}
+use Rattle.std.proofs.lemmas.List.{take-append-le}
+use Rattle.std.proofs.lemmas.Bool.{cases_lt, false≢true}
+use Rattle.std.proofs.lemmas.List.Elements.{All-nil, All-take, All-drop, All-head}
+use Rattle.abc_scan.specs.declared.chord.Chord.{Chord}
+use Rattle.abc_scan.specs.declared.start.Start.{Start}
+use Rattle.abc_scan.specs.declared.start.Start.TheVariants as starts
 use Rattle.abc_scan.specs.declared.token.TokenKind.{TokenKind}
 use Rattle.abc_scan.specs.declared.token.TokenKind.TheVariants as kinds
-use Rattle.abc_scan.specs.LineClass.{is_blank}
-use Rattle.abc_scan.specs.Note.{note_at, rest_at, accidental_at, letter_of}
-use Rattle.abc_scan.specs.Token.{IsBlankToken, Spells, or_else, blank_at, reading_at, next}
-use Rattle.abc_scan.specs.Cutting.{IsLongest, SpellsNone, IsNext, IsCuttingFrom, token_at, cutting_from, CutsEachText, CutsOnce}
-use Rattle.abc_scan.proofs.Fronts.{drop_exact}
-use Rattle.abc_scan.proofs.Notes.{IsFront, note_longest, note_sound, rest_longest, rest_sound}
-use Rattle.abc_scan.proofs.Cuttings.{cutting_from-first}
+use Rattle.abc_scan.specs.declared.tuplet.Tuplet.{Tuplet}
+use Rattle.abc_scan.specs.Bar.{bar_at}
+use Rattle.abc_scan.specs.BarRest.{bar_rest_at}
+use Rattle.abc_scan.specs.Broken.{broken_at}
+use Rattle.abc_scan.specs.Chord.{IsChord, chord_at}
+use Rattle.abc_scan.specs.Delimited.{IsDelimited, delimited_at}
+use Rattle.abc_scan.specs.Ending.{IsEnding, ending_at}
+use Rattle.abc_scan.specs.InlineField.{inline_field_at}
+use Rattle.abc_scan.specs.Line.{CutsEachText, CutsOnce}
+use Rattle.abc_scan.specs.NoEffect.{IsExtraSpace, IsSingle, HasNoEffect, extra_space_at}
+use Rattle.abc_scan.specs.Note.{note_at, rest_at}
+use Rattle.abc_scan.specs.Start.{start_of}
+use Rattle.abc_scan.specs.Token.{Spells, line_kinds, as_token, or_else, reading_by, reading_at}
+use Rattle.abc_scan.specs.Tuplet.{tuplet_at}
+use Rattle.abc_scan.proofs.BarRests.{bar_rest_longest, bar_rest_sound, extra_space_longest, extra_space_sound}
+use Rattle.abc_scan.proofs.Bars.{bar_longest, bar_sound}
+use Rattle.abc_scan.proofs.Brokens.{broken_longest, broken_sound}
+use Rattle.abc_scan.proofs.Chords.{chord_longest, chord_sound}
+use Rattle.abc_scan.proofs.Cuttings.{Reads, cuts_from, only_cutting}
+use Rattle.abc_scan.proofs.Delimiters.{delimited_longest, delimited_sound}
+use Rattle.abc_scan.proofs.Endings.{is_range_byte, ending_bytes, ending_longest, ending_sound}
+use Rattle.abc_scan.proofs.InlineFields.{inline_field_longest, inline_field_sound}
+use Rattle.abc_scan.proofs.Notes.{note_longest, note_sound, rest_longest, rest_sound}
+use Rattle.abc_scan.proofs.Readings.{Finds, IsFront}
+use Rattle.abc_scan.proofs.Starts.{note_starts, rest_starts, bar_rest_starts, bar_starts, field_starts, chord_starts, ending_starts, tuplet_starts, broken_starts, tie_starts, blank_starts, delimited_starts, space_starts, single_start, Known, start_known}
+use Rattle.abc_scan.proofs.Tuplets.{tuplet_longest, tuplet_sound}
+use Rattle.abc_scan.proofs.Wraps.{finds-wrapped, finds-sized, finds-one, wrapped-sound, sized-sound, one-sound}
 
-note_token : Note × ℕ → TokenKind × ℕ
-note_token note = (kinds.Note note.0, note.1)
+-- what is read by the first bytes is read
+by_start : (start : Start) (after_bar : Bool) (text front : List ℕ) (kind : TokenKind) → start_of text ≡ start → Finds (reading_by start after_bar text) front kind → Finds (reading_at after_bar text) front kind
+unfolding reading_at
+by_start start after_bar text front kind e found = subst (λ s. Finds (reading_by s after_bar text) front kind) (sym e) found
 
-rest_token : WrittenLength × ℕ → TokenKind × ℕ
-rest_token rest = (kinds.Rest rest.0, rest.1)
+-- the first of two readings
+finds-first : (o other : Option (TokenKind × ℕ)) (front : List ℕ) (kind : TokenKind) → Finds o front kind → Finds (or_else o other) front kind
+finds-first o other front kind f = record {
+  found = f.found;
+  size = f.size;
+  is_read = ap (λ x. or_else x other) f.is_read;
+  long = f.long;
+  same = f.same;
+}
 
--- what is read where the front of a text spells a token
-pub record Longest (text front : List ℕ) (kind : TokenKind) : Type 0 where
-  pub found : TokenKind
-  pub size : ℕ
-  pub is_read : reading_at text ≡ Some (found, size)
-  pub long : length front ≤ size
-  pub same : length front ≡ size → kind ≡ found
+-- a chord that begins as an ending is longer
+behind_first : (size : ℕ) (written : List ℕ) → AllPass is_range_byte written → AllPass is_range_byte (drop 1 (take size (91 ∷ written)))
+behind_first zero written all = All-nil _
+behind_first (suc n) written all = All-take (λ b. is_range_byte b ≡ true) n written all
 
-no_music_at : (b : ℕ) (rest : List ℕ) → is_blank b ≡ true → (note_at (b ∷ rest) ≡ None) × (rest_at (b ∷ rest) ≡ None)
-unfolding note_at accidental_at letter_of rest_at
-no_music_at b rest blank = ⊎_elim
-    (λ e. let space = eqb-true b 32 e in (ap (λ x. note_at (x ∷ rest)) space, ap (λ x. rest_at (x ∷ rest)) space))
-    (λ e. let tab = eqb-true b 9 e in (ap (λ x. note_at (x ∷ rest)) tab, ap (λ x. rest_at (x ∷ rest)) tab))
-    (or_cases _ _ blank)
+too_short : (written rest inside behind : List ℕ) (size : ℕ) → AllPass is_range_byte written → size ≤ length (91 ∷ written) → take size ((91 ∷ written) ++ rest) ≡ 91 ∷ (inside ++ 93 ∷ behind) → ⊥
+too_short written rest inside behind size bytes short spelled =
+    let whole : take size (91 ∷ written) ≡ 91 ∷ (inside ++ 93 ∷ behind) = sym (take-append-le size (91 ∷ written) rest short) ∙ spelled in
+    let all : AllPass is_range_byte (inside ++ 93 ∷ behind) = subst (λ l. AllPass is_range_byte (drop 1 l)) whole (behind_first size written bytes) in
+    let last : AllPass is_range_byte (93 ∷ behind) = subst (AllPass is_range_byte) (drop-append_seam inside (93 ∷ behind)) (All-drop (λ b. is_range_byte b ≡ true) (length inside) (inside ++ 93 ∷ behind) all) in
+    false≢true (All-head (λ b. is_range_byte b ≡ true) 93 behind last)
 
-reading_of : Option (Note × ℕ) → Option (WrittenLength × ℕ) → Option (TokenKind × ℕ) → Option (TokenKind × ℕ)
-reading_of note rest blank = or_else (option_map note_token note) (or_else (option_map rest_token rest) blank)
+chord_longer : (text front rest written : List ℕ) (chord : Chord) (size : ℕ) → text ≡ front ++ rest → front ≡ 91 ∷ written → AllPass is_range_byte written → IsChord (take size text) chord → length front < size
+chord_longer text front rest written chord size cut spelled bytes is = ⊎_elim
+    (λ longer. longer)
+    (λ short.
+    let chord_text : take size ((91 ∷ written) ++ rest) ≡ 91 ∷ (is.framed.inside ++ 93 ∷ is.framed.written) =
+    sym (ap (take size) (cut ∙ ap (λ l. l ++ rest) spelled)) ∙ is.framed.spelling in
+    absurd (too_short written rest is.framed.inside is.framed.written size bytes (omega (arith, short, ap length spelled)) chord_text))
+    (cases_lt (length front) size)
 
-reading_is : (text : List ℕ) → reading_at text ≡ reading_of (note_at text) (rest_at text) (blank_at text)
-unfolding reading_of note_token rest_token
-reading_is text = refl
-
-longest_blank : (text front rest : List ℕ) → text ≡ front ++ rest → IsBlankToken front → Longest text front kinds.Blank
-unfolding reading_of
-longest_blank text front rest cut is =
-    let parts : text ≡ is.byte ∷ rest = cut ∙ ap (λ l. l ++ rest) is.spelling in
-    let silent = no_music_at is.byte rest is.blank in
-    let blank : blank_at (is.byte ∷ rest) ≡ Some (kinds.Blank, 1) = cond-true _ _ _ is.blank in
+-- an ending that begins with `[` is read where no chord is
+bracket_finds : (after_bar : Bool) (text front rest written : List ℕ) (passes : Option ℕ) (o : Option (Chord × ℕ)) → chord_at text ≡ o → text ≡ front ++ rest → front ≡ 91 ∷ written → AllPass is_range_byte written → Finds (ending_at after_bar text) front passes → Finds (or_else (as_token (λ c. kinds.Chord c) o) (as_token (λ p. kinds.Ending p) (ending_at after_bar text))) front (kinds.Ending passes)
+bracket_finds after_bar text front rest written passes None read cut spelled bytes f = finds-wrapped (λ p. kinds.Ending p) (ending_at after_bar text) front passes f
+bracket_finds after_bar text front rest written passes (Some r) read cut spelled bytes f =
+    let longer = chord_longer text front rest written r.0 r.1 cut spelled bytes (chord_sound text r.0 r.1 read).1 in
     record {
-      found = kinds.Blank;
-      size = 1;
-      is_read = reading_is text ∙ ap (λ l. reading_of (note_at l) (rest_at l) (blank_at l)) parts ∙ (λ i. reading_of (silent.0 i) (silent.1 i) (blank i));
-      long = omega (arith, ap length is.spelling);
-      same = λ _. refl;
+      found = kinds.Chord r.0;
+      size = r.1;
+      is_read = refl;
+      long = omega (arith, longer);
+      same = λ e. absurd (omega (arith, longer, e));
     }
 
-reading_longest : (text front rest : List ℕ) (kind : TokenKind) → text ≡ front ++ rest → Spells front kind → Longest text front kind
-unfolding reading_of note_token rest_token
-reading_longest text front rest (kinds.Note note) cut is =
-    let l = note_longest text front rest note cut is in
+ending_finds : (after_bar : Bool) (text front rest : List ℕ) (passes : Option ℕ) → text ≡ front ++ rest → IsEnding after_bar front passes → Finds (reading_at after_bar text) front (kinds.Ending passes)
+ending_finds after_bar text front rest passes cut is =
+    let f = ending_longest after_bar text front rest passes cut is in
+    ⊎_elim
+    (λ (b : (front ≡ 91 ∷ is.written) × (start_of text ≡ starts.Bracket)). by_start starts.Bracket after_bar text front (kinds.Ending passes) b.1 (bracket_finds after_bar text front rest is.written passes (chord_at text) refl cut b.0 (ending_bytes after_bar front passes is) f))
+    (λ (d : start_of text ≡ starts.Digit). by_start starts.Digit after_bar text front (kinds.Ending passes) d (finds-wrapped (λ p. kinds.Ending p) (ending_at after_bar text) front passes f))
+    (ending_starts after_bar text front rest passes cut is)
+
+-- a tuplet is longer than its `(`
+tuplet_two : (text : List ℕ) (tuplet : Tuplet) (size : ℕ) → tuplet_at text ≡ Some (tuplet, size) → 2 ≤ size
+tuplet_two text tuplet size read =
+    let sound = tuplet_sound text tuplet size read in
+    let is = sound.1 in
+    let p = is.p_is.some in
+    omega (arith, p, length-take-le size text sound.0.inside, ap length is.spelling, length-append is.p_text (is.q_text ++ is.r_text))
+
+parenthesis_finds : (text front : List ℕ) (o : Option (Tuplet × ℕ)) → tuplet_at text ≡ o → length front ≡ 1 → Finds (or_else (as_token (λ t. kinds.Tuplet t) o) (Some (kinds.NoEffect, 1))) front kinds.NoEffect
+parenthesis_finds text front None read one = finds-one kinds.NoEffect front one
+parenthesis_finds text front (Some r) read one =
+    let two = tuplet_two text r.0 r.1 read in
     record {
-      found = kinds.Note l.found;
-      size = l.size;
-      is_read = reading_is text ∙ ap (λ o. reading_of o (rest_at text) (blank_at text)) l.is_read;
-      long = l.long;
-      same = λ e. ap (λ n. kinds.Note n) (l.same e);
+      found = kinds.Tuplet r.0;
+      size = r.1;
+      is_read = refl;
+      long = omega (arith, two, one);
+      same = λ e. absurd (omega (arith, two, one, e));
     }
-reading_longest text front rest (kinds.Rest value) cut is =
-    let l = rest_longest text front rest value cut is in
-    record {
-      found = kinds.Rest l.found;
-      size = l.size;
-      is_read = reading_is text ∙ (λ i. reading_of (l.no_note i) (l.is_read i) (blank_at text));
-      long = l.long;
-      same = λ e. ap (λ n. kinds.Rest n) (l.same e);
-    }
-reading_longest text front rest kinds.Blank cut is = longest_blank text front rest cut is
-reading_longest text front rest kinds.Field cut is = absurd is
-reading_longest text front rest kinds.Other cut is = absurd is
 
--- what is read spells a token
-blank_sound : (text : List ℕ) (kind : TokenKind) (size : ℕ) → blank_at text ≡ Some (kind, size) → IsFront text size × Spells (take size text) kind
-blank_sound [] kind size e = cc
-blank_sound (b ∷ rest) kind size e = ⊎_elim
-    (λ test.
-    let chosen : Some (kinds.Blank, 1) ≡ Some (kind, size) = sym (cond-true _ _ _ test) ∙ e in
-    let same : (kinds.Blank, 1) ≡ (kind, size) = cc in
-    subst (λ (x : TokenKind × ℕ). IsFront (b ∷ rest) x.1 × Spells (take x.1 (b ∷ rest)) x.0) same
-    (record { some = omega arith; inside = omega arith }, record { byte = b; spelling = refl; blank = test }))
-    (λ fails. let none : None ≡ Some (kind, size) = sym (cond-false _ _ _ fails) ∙ e in cc)
-    (cases_Bool (is_blank b))
-
-parts_sound : (text : List ℕ) (note : Option (Note × ℕ)) (rest : Option (WrittenLength × ℕ)) (kind : TokenKind) (size : ℕ) → note_at text ≡ note → rest_at text ≡ rest → reading_of note rest (blank_at text) ≡ Some (kind, size) → IsFront text size × Spells (take size text) kind
-unfolding reading_of note_token rest_token
-parts_sound text (Some note) rest kind size is_note is_rest e =
-    let same : (kinds.Note note.0, note.1) ≡ (kind, size) = cc in
-    subst (λ (x : TokenKind × ℕ). IsFront text x.1 × Spells (take x.1 text) x.0) same (note_sound text note.0 note.1 is_note)
-parts_sound text None (Some rest) kind size is_note is_rest e =
-    let same : (kinds.Rest rest.0, rest.1) ≡ (kind, size) = cc in
-    subst (λ (x : TokenKind × ℕ). IsFront text x.1 × Spells (take x.1 text) x.0) same (rest_sound text rest.0 rest.1 is_rest)
-parts_sound text None None kind size is_note is_rest e = blank_sound text kind size e
-
-reading_sound : (text : List ℕ) (kind : TokenKind) (size : ℕ) → reading_at text ≡ Some (kind, size) → IsFront text size × Spells (take size text) kind
-reading_sound text kind size e = parts_sound text (note_at text) (rest_at text) kind size refl refl (sym (reading_is text) ∙ e)
-
--- what comes first
-abbrev or_other : Option (TokenKind × ℕ) → TokenKind × ℕ
-or_other o = unwrap_or o (kinds.Other, 1)
-
-first_is : (text : List ℕ) (o : Option (TokenKind × ℕ)) → reading_at text ≡ o → 0 < length text → IsFront text (or_other o).1 × IsNext text (take (or_other o).1 text) (or_other o).0
-first_is text (Some token) e some =
-    let sound = reading_sound text token.0 token.1 e in
-    let long : length (take token.1 text) ≡ token.1 = length-take-le token.1 text sound.0.inside in (
-      sound.0,
-      inl (record {
-        spells = sound.1;
-        longest = λ other rest k cut spells.
-            let l = reading_longest text other rest k cut spells in
-            let read : Some (l.found, l.size) ≡ Some token = sym l.is_read ∙ e in
-            let same : l.size ≡ token.1 = ap (λ (o : Option (TokenKind × ℕ)). (or_other o).1) read in
-            omega (arith, l.long, same, long);
-      }),
-    )
-first_is text None e some = (
-  record { some = omega arith; inside = omega arith },
-  inr (λ front rest kind cut spells. let l = reading_longest text front rest kind cut spells in let read : None ≡ Some (l.found, l.size) = sym e ∙ l.is_read in cc, length-take-le 1 text (omega arith), refl),
-)
-
-pub next_is : (text : List ℕ) → 0 < length text → IsFront text (next text).1 × IsNext text (take (next text).1 text) (next text).0
-next_is text some = first_is text (reading_at text) refl some
-
-first_size : (text : List ℕ) (o : Option (TokenKind × ℕ)) → reading_at text ≡ o → 0 < (or_other o).1
-first_size text (Some token) e = (reading_sound text token.0 token.1 e).0.some
-first_size text None e = omega arith
-
-pub next_size : (text : List ℕ) → 0 < (next text).1
-next_size text = first_size text (reading_at text) refl
-
--- and nothing else can come first
-none_only : (text : List ℕ) (o : Option (TokenKind × ℕ)) → reading_at text ≡ o → SpellsNone text → or_other o ≡ (kinds.Other, 1)
-none_only text (Some token) e none =
-    let sound = reading_sound text token.0 token.1 e in
-    absurd (none (take token.1 text) (drop token.1 text) token.0 (sym (take-append-drop token.1 text)) sound.1)
-none_only text None e none = refl
-
-longest_only : (text front rest : List ℕ) (kind : TokenKind) → text ≡ front ++ rest → IsLongest text front kind → next text ≡ (kind, length front)
-longest_only text front rest kind cut is =
-    let l = reading_longest text front rest kind cut is.spells in
-    let sound = reading_sound text l.found l.size l.is_read in
-    let within = is.longest (take l.size text) (drop l.size text) l.found (sym (take-append-drop l.size text)) sound.1 in
-    let same : length front ≡ l.size = omega (arith, within, l.long, length-take-le l.size text sound.0.inside) in
-    ap or_other l.is_read ∙ (λ i. (sym (l.same same) i, sym same i))
-
-pub next_only : (text front rest : List ℕ) (kind : TokenKind) → text ≡ front ++ rest → IsNext text front kind → next text ≡ (kind, length front)
-next_only text front rest kind cut is = ⊎_elim
-    (λ longest. longest_only text front rest kind cut longest)
-    (λ none. none_only text (reading_at text) refl none.0 ∙ (λ i. (sym none.2 i, sym none.1 i)))
+silent_finds : (after_bar : Bool) (text front rest : List ℕ) → text ≡ front ++ rest → HasNoEffect front → Finds (reading_at after_bar text) front kinds.NoEffect
+silent_finds after_bar text front rest cut is = ⊎_elim
+    (λ (d : IsDelimited front). by_start starts.Delimited after_bar text front kinds.NoEffect (delimited_starts text front rest cut d) (finds-sized kinds.NoEffect (delimited_at text) front (length front) (delimited_longest text front rest cut d) (omega arith)))
+    (λ other. ⊎_elim
+    (λ (s : IsExtraSpace front). let l = extra_space_longest text front rest cut s in by_start starts.Space after_bar text front kinds.NoEffect (space_starts text front rest cut s) (finds-sized kinds.NoEffect (extra_space_at text) front l.size l.is_read l.long))
+    (λ (one : IsSingle front).
+    let long : length front ≡ 1 = ap length one.spelling in
+    ⊎_elim
+    (λ e. by_start starts.Parenthesis after_bar text front kinds.NoEffect e (parenthesis_finds text front (tuplet_at text) refl long))
+    (λ e. by_start starts.Single after_bar text front kinds.NoEffect e (finds-one kinds.NoEffect front long))
+    (single_start text front rest cut one))
+    other)
     is
 
-pub cuts_from : (fuel at : ℕ) (text : List ℕ) → length text ≤ fuel → IsCuttingFrom at text (cutting_from at 0 text)
-cuts_from fuel at [] enough = refl
-cuts_from zero at (b ∷ bs) enough = absurd (omega arith)
-cuts_from (suc fuel) at (b ∷ bs) enough =
-    let text = b ∷ bs in
-    let size = (next text).1 in
-    let first = next_is text (omega arith) in
-    let long : length (take size text) ≡ size = length-take-le size text first.0.inside in
-    let less : length (drop size text) ≤ fuel = omega (arith, length-drop size text, first.0.some) in
-    subst (IsCuttingFrom at text) (sym (cutting_from-first at text (omega arith) first.0.some))
-    (take size text, drop size text, sym (take-append-drop size text), first.1, refl, ap (λ k. at + k) (sym long), cuts_from fuel (at + size) (drop size text) less)
+token_longest : (after_bar : Bool) (text front rest : List ℕ) (kind : TokenKind) → text ≡ front ++ rest → Spells after_bar front kind → Finds (reading_at after_bar text) front kind
+token_longest after_bar text front rest (kinds.Note note) cut is =
+    by_start starts.Note after_bar text front (kinds.Note note) (note_starts text front rest note cut is) (finds-wrapped (λ x. kinds.Note x) (note_at text) front note (note_longest text front rest note cut is))
+token_longest after_bar text front rest (kinds.Rest value) cut is =
+    by_start starts.Rest after_bar text front (kinds.Rest value) (rest_starts text front rest value cut is) (finds-wrapped (λ x. kinds.Rest x) (rest_at text) front value (rest_longest text front rest value cut is))
+token_longest after_bar text front rest (kinds.BarRest bars) cut is =
+    by_start starts.BarRest after_bar text front (kinds.BarRest bars) (bar_rest_starts text front rest bars cut is) (finds-wrapped (λ x. kinds.BarRest x) (bar_rest_at text) front bars (bar_rest_longest text front rest bars cut is))
+token_longest after_bar text front rest (kinds.Chord chord) cut is =
+    by_start starts.Bracket after_bar text front (kinds.Chord chord) (chord_starts text front rest is.frame cut is.framed)
+    (finds-first (as_token (λ x. kinds.Chord x) (chord_at text)) (as_token (λ x. kinds.Ending x) (ending_at after_bar text)) front (kinds.Chord chord) (finds-wrapped (λ x. kinds.Chord x) (chord_at text) front chord (chord_longest text front rest chord cut is)))
+token_longest after_bar text front rest (kinds.InlineField field) cut is =
+    by_start starts.InlineField after_bar text front (kinds.InlineField field) (field_starts text front rest field cut is) (finds-wrapped (λ x. kinds.InlineField x) (inline_field_at text) front field (inline_field_longest text front rest field cut is))
+token_longest after_bar text front rest (kinds.Bar bar) cut is =
+    by_start starts.BarLine after_bar text front (kinds.Bar bar) (bar_starts text front rest bar cut is) (finds-wrapped (λ x. kinds.Bar x) (bar_at text) front bar (bar_longest text front rest bar cut is))
+token_longest after_bar text front rest (kinds.Ending passes) cut is = ending_finds after_bar text front rest passes cut is
+token_longest after_bar text front rest (kinds.Tuplet tuplet) cut is =
+    by_start starts.Parenthesis after_bar text front (kinds.Tuplet tuplet) (tuplet_starts text front rest tuplet cut is)
+    (finds-first (as_token (λ x. kinds.Tuplet x) (tuplet_at text)) (Some (kinds.NoEffect, 1)) front (kinds.Tuplet tuplet) (finds-wrapped (λ x. kinds.Tuplet x) (tuplet_at text) front tuplet (tuplet_longest text front rest tuplet cut is)))
+token_longest after_bar text front rest (kinds.Broken broken) cut is =
+    by_start starts.Broken after_bar text front (kinds.Broken broken) (broken_starts text front rest broken cut is) (finds-wrapped (λ x. kinds.Broken x) (broken_at text) front broken (broken_longest text front rest broken cut is))
+token_longest after_bar text front rest kinds.Tie cut is =
+    by_start starts.Tie after_bar text front kinds.Tie (tie_starts text front rest cut is) (finds-one kinds.Tie front (ap length is))
+token_longest after_bar text front rest kinds.Blank cut is =
+    by_start starts.Blank after_bar text front kinds.Blank (blank_starts text front rest cut is) (finds-one kinds.Blank front (ap length is.spelling))
+token_longest after_bar text front rest kinds.NoEffect cut is = silent_finds after_bar text front rest cut is
+token_longest after_bar text front rest (kinds.Field field) cut is = absurd is
+token_longest after_bar text front rest kinds.Unclosed cut is = absurd is
+token_longest after_bar text front rest kinds.BadByte cut is = absurd is
 
-pub only_cutting : (at : ℕ) (text : List ℕ) (tokens : List Token) → IsCuttingFrom at text tokens → tokens ≡ cutting_from at 0 text
-only_cutting at text [] is = sym (ap (λ l. cutting_from at 0 l) is)
-only_cutting at text (t ∷ ts) (front, rest, cut, first, from, to, more) =
-    let only = next_only text front rest t.kind cut first in
-    let kind : (next text).0 ≡ t.kind = ap (λ (x : TokenKind × ℕ). x.0) only in
-    let size : (next text).1 ≡ length front = ap (λ (x : TokenKind × ℕ). x.1) only in
-    let some = next_size text in
-    let left : 0 < length text = omega (arith, size, some, ap length cut, length-append front rest) in
-    let end : t.to ≡ at + (next text).1 = to ∙ ap (λ k. at + k) (sym size) in
-    let behind : drop (next text).1 text ≡ rest = ap (λ l. drop (next text).1 l) cut ∙ drop_exact (next text).1 front rest size in
-    let later : ts ≡ cutting_from (at + (next text).1) 0 (drop (next text).1 text) =
-    only_cutting t.to rest ts more ∙ (λ i. cutting_from (end i) 0 (sym behind i)) in
-    let token : t ≡ token_at at text = λ i. record { kind = sym kind i; from = from i; to = end i } in
-    (λ i. token i ∷ later i) ∙ sym (cutting_from-first at text left some)
+-- what is read is a token
+abbrev IsToken : Bool → List ℕ → TokenKind → ℕ → Type 0
+IsToken after_bar text kind size = IsFront text size × Spells after_bar (take size text) kind
+
+one_front : (b : ℕ) (rest : List ℕ) → IsFront (b ∷ rest) 1
+one_front b rest = record { some = omega arith; inside = omega arith }
+
+bracket_sound : (after_bar : Bool) (text : List ℕ) (o : Option (Chord × ℕ)) (kind : TokenKind) (size : ℕ) → chord_at text ≡ o → or_else (as_token (λ c. kinds.Chord c) o) (as_token (λ p. kinds.Ending p) (ending_at after_bar text)) ≡ Some (kind, size) → IsToken after_bar text kind size
+bracket_sound after_bar text None kind size read e =
+    wrapped-sound (λ p. kinds.Ending p) (IsToken after_bar text) (ending_at after_bar text) kind size (λ x n found. ending_sound after_bar text x n found) e
+bracket_sound after_bar text (Some r) kind size read e =
+    wrapped-sound (λ c. kinds.Chord c) (IsToken after_bar text) (Some r) kind size (λ x n found. chord_sound text x n (read ∙ found)) e
+
+parenthesis_sound : (after_bar : Bool) (b : ℕ) (rest : List ℕ) (o : Option (Tuplet × ℕ)) (kind : TokenKind) (size : ℕ) → b ≡ 40 → tuplet_at (b ∷ rest) ≡ o → or_else (as_token (λ t. kinds.Tuplet t) o) (Some (kinds.NoEffect, 1)) ≡ Some (kind, size) → IsToken after_bar (b ∷ rest) kind size
+parenthesis_sound after_bar b rest None kind size known read e =
+    one-sound kinds.NoEffect (IsToken after_bar (b ∷ rest)) kind size (one_front b rest, inr (inr (record { byte = 40; spelling = ap (λ x. x ∷ []) known; silent = refl }))) e
+parenthesis_sound after_bar b rest (Some r) kind size known read e =
+    wrapped-sound (λ t. kinds.Tuplet t) (IsToken after_bar (b ∷ rest)) (Some r) kind size (λ x n found. tuplet_sound (b ∷ rest) x n (read ∙ found)) e
+
+read_sound : (start : Start) (after_bar : Bool) (b : ℕ) (rest : List ℕ) (kind : TokenKind) (size : ℕ) → Known b start → reading_by start after_bar (b ∷ rest) ≡ Some (kind, size) → IsToken after_bar (b ∷ rest) kind size
+read_sound starts.Note after_bar b rest kind size known e =
+    wrapped-sound (λ x. kinds.Note x) (IsToken after_bar (b ∷ rest)) (note_at (b ∷ rest)) kind size (λ x n read. note_sound (b ∷ rest) x n read) e
+read_sound starts.Rest after_bar b rest kind size known e =
+    wrapped-sound (λ x. kinds.Rest x) (IsToken after_bar (b ∷ rest)) (rest_at (b ∷ rest)) kind size (λ x n read. rest_sound (b ∷ rest) x n read) e
+read_sound starts.BarRest after_bar b rest kind size known e =
+    wrapped-sound (λ x. kinds.BarRest x) (IsToken after_bar (b ∷ rest)) (bar_rest_at (b ∷ rest)) kind size (λ x n read. bar_rest_sound (b ∷ rest) x n read) e
+read_sound starts.BarLine after_bar b rest kind size known e =
+    wrapped-sound (λ x. kinds.Bar x) (IsToken after_bar (b ∷ rest)) (bar_at (b ∷ rest)) kind size (λ x n read. bar_sound (b ∷ rest) x n read) e
+read_sound starts.InlineField after_bar b rest kind size known e =
+    wrapped-sound (λ x. kinds.InlineField x) (IsToken after_bar (b ∷ rest)) (inline_field_at (b ∷ rest)) kind size (λ x n read. inline_field_sound (b ∷ rest) x n read) e
+read_sound starts.Bracket after_bar b rest kind size known e = bracket_sound after_bar (b ∷ rest) (chord_at (b ∷ rest)) kind size refl e
+read_sound starts.Digit after_bar b rest kind size known e =
+    wrapped-sound (λ x. kinds.Ending x) (IsToken after_bar (b ∷ rest)) (ending_at after_bar (b ∷ rest)) kind size (λ x n read. ending_sound after_bar (b ∷ rest) x n read) e
+read_sound starts.Parenthesis after_bar b rest kind size known e = parenthesis_sound after_bar b rest (tuplet_at (b ∷ rest)) kind size known refl e
+read_sound starts.Broken after_bar b rest kind size known e =
+    wrapped-sound (λ x. kinds.Broken x) (IsToken after_bar (b ∷ rest)) (broken_at (b ∷ rest)) kind size (λ x n read. broken_sound (b ∷ rest) x n read) e
+read_sound starts.Tie after_bar b rest kind size known e =
+    one-sound kinds.Tie (IsToken after_bar (b ∷ rest)) kind size (one_front b rest, ap (λ x. x ∷ []) known) e
+read_sound starts.Blank after_bar b rest kind size known e =
+    one-sound kinds.Blank (IsToken after_bar (b ∷ rest)) kind size (one_front b rest, record { byte = b; spelling = refl; blank = known }) e
+read_sound starts.Delimited after_bar b rest kind size known e =
+    sized-sound kinds.NoEffect (IsToken after_bar (b ∷ rest)) (delimited_at (b ∷ rest)) kind size (λ n read. let s = delimited_sound (b ∷ rest) n read in (s.0, inl s.1)) e
+read_sound starts.Space after_bar b rest kind size known e =
+    sized-sound kinds.NoEffect (IsToken after_bar (b ∷ rest)) (extra_space_at (b ∷ rest)) kind size (λ n read. let s = extra_space_sound (b ∷ rest) n read in (s.0, inr (inl s.1))) e
+read_sound starts.Single after_bar b rest kind size known e =
+    one-sound kinds.NoEffect (IsToken after_bar (b ∷ rest)) kind size (one_front b rest, inr (inr (record { byte = b; spelling = refl; silent = known }))) e
+read_sound starts.Nothing after_bar b rest kind size known e = cc
+
+token_sound : (after_bar : Bool) (text : List ℕ) (kind : TokenKind) (size : ℕ) → reading_at after_bar text ≡ Some (kind, size) → IsFront text size × Spells after_bar (take size text) kind
+unfolding reading_at
+token_sound after_bar [] kind size e = cc
+token_sound after_bar (b ∷ rest) kind size e = read_sound (start_of (b ∷ rest)) after_bar b rest kind size (start_known b rest) e
+
+pub reads_tokens : Reads Spells reading_at
+reads_tokens = record { longest = token_longest; sound = token_sound }
 
 pub cuts_each : CutsEachText
-cuts_each text = cuts_from (length text) 0 text (omega arith)
+cuts_each text = cuts_from line_kinds Spells reading_at reads_tokens (length text) false 0 text (omega arith)
 
 pub cuts_once : CutsOnce
-cuts_once text a b is_a is_b = only_cutting 0 text a is_a ∙ sym (only_cutting 0 text b is_b)
+cuts_once text a b is_a is_b =
+    only_cutting line_kinds Spells reading_at reads_tokens false 0 text a is_a ∙ sym (only_cutting line_kinds Spells reading_at reads_tokens false 0 text b is_b)

@@ -6,10 +6,11 @@ use Rattle.std.proofs.lemmas.Bool.{cond-true, cond-false, cond_both, cases_Bool,
 use Rattle.std.proofs.lemmas.List.{length-replicate}
 use Rattle.std.proofs.lemmas.List.Elements.{All-nil, All-head, All-replicate}
 use Rattle.std.proofs.lemmas.List.Sums.{prefix_len-le-length}
+use Rattle.abc_text.specs.Digit.{is_digit}
 use Rattle.abc_scan.specs.declared.length.WrittenLength.{WrittenLength}
-use Rattle.abc_scan.specs.Length.{is_digit, is_slash, written_length, IsLength, over_size, slashes_size, under_size, length_size, length_at}
-use Rattle.abc_scan.proofs.Decimal.{digit_range}
-use Rattle.abc_scan.proofs.Fronts.{front_passes, front_append, front_exact, take_exact, drop_exact, front_none}
+use Rattle.abc_scan.specs.Length.{is_slash, written_length, IsLength, over_size, slashes_size, under_size, length_size, length_at}
+use Rattle.abc_text.proofs.Decimals.{digit_range}
+use Rattle.abc_text.proofs.Fronts.{front_passes, front_append, front_exact, take_exact, drop_exact, front_none}
 
 -- a digit is no slash
 digit_no_slash : (b : ℕ) → is_digit b ≡ true → is_slash b ≡ false

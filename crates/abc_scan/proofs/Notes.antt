@@ -1,5 +1,5 @@
 -- The note or rest at the front of a text is the longest one that the grammar has there.
-use Rattle.std.proofs.Common.{◌≡◌, ℕ, zero, suc, ◌+◌, ◌<◌, ◌≤◌, true, false, cond, Option, Some, None, List, [], ◌∷◌, ◌++◌, length, take, drop, replicate, refl, sym, ap, ◌∙◌, subst, inl, inr, ⊎_elim, arith, append_assoc, length-append, length-drop, take-add}
+use Rattle.std.proofs.Common.{◌≡◌, ℕ, zero, suc, ◌+◌, ◌<◌, true, false, cond, Option, Some, None, List, [], ◌∷◌, ◌++◌, length, take, drop, replicate, refl, sym, ap, ◌∙◌, subst, inl, inr, ⊎_elim, arith, append_assoc, length-append, length-drop, take-add}
 use Rattle.std.specs.Prelude.{◌⊎◌, ◌==◌, ◌||◌}
 use Rattle.std.specs.List.{prefix_len, AllPass}
 use Rattle.std.specs.Option.{option_map}
@@ -8,53 +8,23 @@ use Rattle.std.proofs.lemmas.Bool.{cond-true, cond-false, cond_both, cases_Bool,
 use Rattle.std.proofs.lemmas.List.Elements.{All-head}
 use Rattle.std.proofs.lemmas.List.Sums.{prefix_len-le-length}
 use Rattle.abc_scan.specs.declared.length.WrittenLength.{WrittenLength}
-use Rattle.abc_scan.specs.declared.note.Accidental.{Accidental}
-use Rattle.abc_scan.specs.declared.note.Accidental.TheVariants.{DoubleFlat, Flat, Natural, Sharp, DoubleSharp}
-use Rattle.abc_scan.specs.declared.note.Letter.{Letter}
-use Rattle.abc_scan.specs.declared.note.Letter.TheVariants.{C, D, E, F, G, A, B}
+use Rattle.abc_text.specs.declared.accidental.Accidental.{Accidental}
+use Rattle.abc_text.specs.declared.accidental.Accidental.TheVariants.{DoubleFlat, Flat, Natural, Sharp, DoubleSharp}
+use Rattle.abc_text.specs.declared.letter.Letter.{Letter}
+use Rattle.abc_text.specs.declared.letter.Letter.TheVariants.{C, D, E, F, G, A, B}
+use Rattle.abc_text.specs.Digit.{is_digit}
+use Rattle.abc_text.specs.Letter.{capital, small, IsLetter, letter_of}
+use Rattle.abc_text.proofs.Decimals.{digit_range}
+use Rattle.abc_text.proofs.Letters.{letter_of-is, letter_exact}
 use Rattle.abc_scan.specs.declared.note.Note.{Note}
-use Rattle.abc_scan.specs.Length.{is_digit, IsLength, length_at, length_size}
-use Rattle.abc_scan.specs.Note.{accidental_text, capital, small, is_octave_mark, octave, IsNote, IsRest, begins_with, accidental_at, accidental_size, letter_of, marks_size, note_of, note_behind, note_at, is_rest_letter, rest_at}
-use Rattle.abc_scan.proofs.Decimal.{digit_range}
-use Rattle.abc_scan.proofs.Fronts.{front_passes, front_append, take_exact, drop_exact, front_none}
+use Rattle.abc_scan.specs.Length.{IsLength, length_at, length_size}
+use Rattle.abc_scan.specs.Note.{accidental_text, is_octave_mark, octave, IsNote, IsRest, begins_with, accidental_at, accidental_size, marks_size, note_of, note_behind, note_at, is_rest_letter, rest_at}
+use Rattle.abc_text.proofs.Fronts.{front_passes, front_append, take_exact, drop_exact, front_none}
+use Rattle.abc_scan.proofs.Readings.{Finds, IsFront}
 use Rattle.abc_scan.proofs.Lengths.{length_longest, length_sound, length_size-le}
 
-abbrev IsLetter : ℕ → Letter → Type 0
-IsLetter b letter = (b ≡ capital letter) ⊎ (b ≡ small letter)
-
--- a letter is read as itself, and is no accidental
-letter_known : (letter : Letter) → (letter_of (capital letter) ≡ Some letter) × (letter_of (small letter) ≡ Some letter)
-unfolding letter_of
-letter_known C = (refl, refl)
-letter_known D = (refl, refl)
-letter_known E = (refl, refl)
-letter_known F = (refl, refl)
-letter_known G = (refl, refl)
-letter_known A = (refl, refl)
-letter_known B = (refl, refl)
-
 letter_read : (b : ℕ) (letter : Letter) → IsLetter b letter → letter_of b ≡ Some letter
-letter_read b letter is = ⊎_elim (λ e. ap letter_of e ∙ (letter_known letter).0) (λ e. ap letter_of e ∙ (letter_known letter).1) is
-
--- a byte that is read as a letter is one
-if_letter : (b m n : ℕ) (this letter : Letter) (other : Option Letter) → capital this ≡ m → small this ≡ n → cond ((b == m) || (b == n)) (Some this) other ≡ Some letter → IsLetter b letter ⊎ (other ≡ Some letter)
-if_letter b m n this letter other big low e = ⊎_elim
-    (λ yes. let same : this ≡ letter = (let chosen : Some this ≡ Some letter = sym (cond-true _ _ _ yes) ∙ e in cc) in
-    inl (subst (IsLetter b) same (⊎_elim (λ t. inl (eqb-true b m t ∙ sym big)) (λ t. inr (eqb-true b n t ∙ sym low)) (or_cases _ _ yes))))
-    (λ fails. inr (sym (cond-false _ _ _ fails) ∙ e))
-    (cases_Bool ((b == m) || (b == n)))
-
-letter_sound : (b : ℕ) (letter : Letter) → letter_of b ≡ Some letter → IsLetter b letter
-unfolding letter_of
-letter_sound b letter e =
-    ⊎_elim (λ h. h) (λ e. ⊎_elim (λ h. h) (λ e. ⊎_elim (λ h. h) (λ e. ⊎_elim (λ h. h) (λ e. ⊎_elim (λ h. h) (λ e. ⊎_elim (λ h. h) (λ e. ⊎_elim (λ h. h) (λ e. cc)
-    (if_letter b 66 98 B letter _ refl refl e))
-    (if_letter b 65 97 A letter _ refl refl e))
-    (if_letter b 71 103 G letter _ refl refl e))
-    (if_letter b 70 102 F letter _ refl refl e))
-    (if_letter b 69 101 E letter _ refl refl e))
-    (if_letter b 68 100 D letter _ refl refl e))
-    (if_letter b 67 99 C letter _ refl refl e)
+letter_read b letter is = (letter_exact b letter).1 is
 
 -- an accidental in front of a letter is read as itself
 pub record NoSign (b : ℕ) : Type 0 where
@@ -122,13 +92,6 @@ after_marks written rest value is = ⊎_elim
     (λ none. ⊎_elim (λ more. inr (more, omega arith)) (λ no_more. inl (omega arith)) (cases_lt 0 (prefix_len is_octave_mark (written ++ rest))))
     (cases_lt 0 (length written))
 
-pub record LongestNote (text front : List ℕ) (note : Note) : Type 0 where
-  pub found : Note
-  pub size : ℕ
-  pub is_read : note_at text ≡ Some (found, size)
-  pub long : length front ≤ size
-  pub same : length front ≡ size → note ≡ found
-
 note_read : (text rest : List ℕ) (note : Note) (b : ℕ) → text ≡ accidental_text note.accidental ++ (b ∷ rest) → IsLetter b note.letter → note_at text ≡ Some (note_of note.accidental b rest note.letter)
 unfolding note_at
 note_read text rest note b cut letter =
@@ -137,7 +100,7 @@ note_read text rest note b cut letter =
     (λ i. drop (accidental_size (sign i)) (cut i)) ∙ drop_exact (accidental_size note.accidental) (accidental_text note.accidental) (b ∷ rest) refl in
     (λ i. note_behind (sign i) (behind i)) ∙ ap (option_map (note_of note.accidental b rest)) (letter_read b note.letter letter)
 
-longest_here : (text front rest : List ℕ) (note : Note) (is : IsNote front note) → note_at text ≡ Some (note_of note.accidental is.letter (is.marks ++ (is.written ++ rest)) note.letter) → LongestNote text front note
+longest_here : (text front rest : List ℕ) (note : Note) (is : IsNote front note) → note_at text ≡ Some (note_of note.accidental is.letter (is.marks ++ (is.written ++ rest)) note.letter) → Finds (note_at text) front note
 longest_here text front rest note is read =
     let behind = is.marks ++ (is.written ++ rest) in
     let sign = length (accidental_text note.accidental) in
@@ -170,7 +133,7 @@ longest_here text front rest note is read =
     })
     (after_marks is.written rest note.length is.length_is)
 
-pub note_longest : (text front rest : List ℕ) (note : Note) → text ≡ front ++ rest → IsNote front note → LongestNote text front note
+pub note_longest : (text front rest : List ℕ) (note : Note) → text ≡ front ++ rest → IsNote front note → Finds (note_at text) front note
 note_longest text front rest note cut is =
     let sign = accidental_text note.accidental in
     let parts : text ≡ sign ++ (is.letter ∷ (is.marks ++ (is.written ++ rest))) =
@@ -178,10 +141,6 @@ note_longest text front rest note cut is =
     longest_here text front rest note is (note_read text (is.marks ++ (is.written ++ rest)) note is.letter parts is.letter_is)
 
 -- what is read as a note is one
-pub record IsFront (text : List ℕ) (size : ℕ) : Type 0 where
-  pub some : 0 < size
-  pub inside : size ≤ length text
-
 note_here : (a : Option Accidental) (text : List ℕ) (b : ℕ) (rest : List ℕ) (letter : Letter) → text ≡ accidental_text a ++ (b ∷ rest) → letter_of b ≡ Some letter → IsFront text (note_of a b rest letter).1 × IsNote (take (note_of a b rest letter).1 text) (note_of a b rest letter).0
 note_here a text b rest letter cut known =
     let size = (note_of a b rest letter).1 in
@@ -196,7 +155,7 @@ note_here a text b rest letter cut known =
         marks = take (marks_size rest) rest;
         written = take (length_size behind) behind;
         spelling = (λ i. take (sum i) (cut i)) ∙ take-append-add (accidental_text a) (b ∷ rest) (suc (marks_size rest + length_size behind)) ∙ ap (λ l. accidental_text a ++ (b ∷ l)) (take-add (marks_size rest) (length_size behind) rest);
-        letter_is = letter_sound b letter known;
+        letter_is = letter_of-is b letter known;
         octave_marks = front_passes is_octave_mark rest;
         octave_is = refl;
         length_is = length_sound behind;
@@ -217,20 +176,8 @@ pub note_sound : (text : List ℕ) (note : Note) (size : ℕ) → note_at text �
 unfolding note_at
 note_sound text note size e = note_behind_sound (accidental_at text) text (drop (accidental_size (accidental_at text)) text) note size (accidental_sound text) e
 
-pub record LongestRest (text front : List ℕ) (value : WrittenLength) : Type 0 where
-  pub found : WrittenLength
-  pub size : ℕ
-  pub is_read : rest_at text ≡ Some (found, size)
-  pub no_note : note_at text ≡ None
-  pub long : length front ≤ size
-  pub same : length front ≡ size → value ≡ found
-
 abbrev IsRestLetter : ℕ → Type 0
 IsRestLetter b = (b ≡ 122) ⊎ (b ≡ 120)
-
-no_note_at : (b : ℕ) (rest : List ℕ) → IsRestLetter b → note_at (b ∷ rest) ≡ None
-unfolding note_at accidental_at letter_of
-no_note_at b rest is = ⊎_elim (λ e. ap (λ x. note_at (x ∷ rest)) e) (λ e. ap (λ x. note_at (x ∷ rest)) e) is
 
 is_rest_letter-from : (b : ℕ) → IsRestLetter b → is_rest_letter b ≡ true
 is_rest_letter-from b is = ⊎_elim (λ e. or_left (b == 122) (b == 120) (eq-eqb b 122 e)) (λ e. or_right (b == 122) (b == 120) (eq-eqb b 120 e)) is
@@ -239,7 +186,7 @@ rest_read : (b : ℕ) (rest : List ℕ) → IsRestLetter b → rest_at (b ∷ re
 unfolding rest_at
 rest_read b rest is = cond-true _ _ _ (is_rest_letter-from b is)
 
-pub rest_longest : (text front rest : List ℕ) (value : WrittenLength) → text ≡ front ++ rest → IsRest front value → LongestRest text front value
+pub rest_longest : (text front rest : List ℕ) (value : WrittenLength) → text ≡ front ++ rest → IsRest front value → Finds (rest_at text) front value
 rest_longest text front rest value cut is =
     let parts : text ≡ is.letter ∷ (is.written ++ rest) = cut ∙ ap (λ l. l ++ rest) is.spelling in
     let long : length front ≡ suc (length is.written) = ap length is.spelling in
@@ -248,7 +195,6 @@ rest_longest text front rest value cut is =
       found = length_at (is.written ++ rest);
       size = 1 + length_size (is.written ++ rest);
       is_read = ap rest_at parts ∙ rest_read is.letter (is.written ++ rest) is.letter_is;
-      no_note = ap note_at parts ∙ no_note_at is.letter (is.written ++ rest) is.letter_is;
       long = omega (arith, long, l.0);
       same = λ e. l.1 (omega (arith, long, e));
     }

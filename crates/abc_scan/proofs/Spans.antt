@@ -1,5 +1,5 @@
 -- Where the tokens of a line lie, and which lengths they have.
-use Rattle.std.proofs.Common.{◌≡◌, ℕ, ◌+◌, ◌-◌, ◌^◌, ◌<◌, ◌≤◌, Option, Some, None, List, [], ◌∷◌, length, take, refl, sym, ap, ◌∙◌, subst, ⊎_elim, arith, length-append, length-take-le, ltb-false}
+use Rattle.std.proofs.Common.{◌≡◌, ℕ, Bool, false, ◌+◌, ◌-◌, ◌^◌, ◌<◌, ◌≤◌, Option, Some, None, List, [], ◌∷◌, length, take, refl, sym, ap, ◌∙◌, subst, arith, length-append, length-take-le, ltb-false}
 use Rattle.std.specs.Prelude.{All, nat_lt, nat_eq, ◌==◌, ◌&&◌, not}
 use Rattle.std.specs.List.{AllPass, ends_with}
 use Rattle.std.proofs.Math.Nat.{pow-le-pow_right}
@@ -8,18 +8,27 @@ use Rattle.std.proofs.lemmas.Bool.{cond-false, cond_both, eqb-false, and_left}
 use Rattle.std.proofs.lemmas.List.Elements.{All-nil, All-cons}
 use Rattle.abc_scan.specs.declared.class.LineClass.{LineClass}
 use Rattle.abc_scan.specs.declared.class.LineClass.TheVariants.{Blank, Comment, Field, Music}
+use Rattle.abc_scan.specs.declared.chord.Chord.{Chord}
 use Rattle.abc_scan.specs.declared.length.WrittenLength.{WrittenLength}
-use Rattle.abc_scan.specs.declared.token.Token.{Token}
+use Rattle.abc_scan.specs.declared.parts.ChordPartKind.{ChordPartKind}
+use Rattle.abc_scan.specs.declared.parts.ChordPartKind.TheVariants as parts
+use Rattle.abc_scan.specs.declared.spanned.Spanned.{Spanned}
 use Rattle.abc_scan.specs.declared.token.TokenKind.{TokenKind}
 use Rattle.abc_scan.specs.declared.token.TokenKind.TheVariants as kinds
 use Rattle.abc_scan.specs.LineClass.{class_of, IsFieldLine}
-use Rattle.abc_scan.specs.Length.{is_digit, decimal, number_or, factor, written_length, IsLength, HasFactor}
-use Rattle.abc_scan.specs.Text.{without_return, before_comment, without_comment, content}
-use Rattle.abc_scan.specs.Token.{Spells}
-use Rattle.abc_scan.specs.Cutting.{IsNext, IsCuttingFrom, cutting_of, tokens_in, tokens_of, IsSpan, JoinFromTo, covered_in, covered_of, HasLength}
-use Rattle.abc_scan.proofs.Decimal.{decimal-lt}
+use Rattle.abc_scan.specs.Length.{number_or, factor, written_length, IsLength, HasFactor}
+use Rattle.abc_scan.specs.Text.{before_comment, without_comment, content}
+use Rattle.abc_scan.specs.Chord.{SpellsPart, part_kinds, inside_of, IsChord}
+use Rattle.abc_scan.specs.Cutting.{alone_at, IsCuttingFrom, IsSpan, JoinFromTo}
+use Rattle.abc_scan.specs.Line.{cutting_of, tokens_in, tokens_of, covered_in, covered_of, HasPartLength, HasLength}
+use Rattle.abc_scan.specs.Token.{Spells, opens, alone_of, is_bar, line_kinds, reading_at, next_token}
+use Rattle.abc_text.specs.Digit.{is_digit, decimal}
+use Rattle.abc_text.specs.Ending.{without_return}
+use Rattle.abc_text.proofs.Decimals.{decimal-lt}
+use Rattle.abc_text.proofs.Endings.{without_return-le}
 use Rattle.abc_scan.proofs.ClassLaws.{laws, field_visible}
-use Rattle.abc_scan.proofs.Laws.{next_only, next_size, cuts_each}
+use Rattle.abc_scan.proofs.Cuttings.{next_only, next_size, cut-all}
+use Rattle.abc_scan.proofs.Laws.{reads_tokens, cuts_each}
 
 -- an accepted number is from 1 to 999,999,999
 abbrev InRange : Option ℕ → Type 0
@@ -49,47 +58,68 @@ written-range over slashes under over_digits under_digits =
 length-range : (text : List ℕ) (value : WrittenLength) → IsLength text value → HasFactor value
 length-range text value is = subst HasFactor (sym is.value_is) (written-range is.over is.slashes is.under is.over_digits is.under_digits)
 
-spelled-range : (text : List ℕ) (kind : TokenKind) → Spells text kind → HasLength kind
-spelled-range text (kinds.Note note) is = length-range is.written note.length is.length_is
-spelled-range text (kinds.Rest value) is = length-range is.written value is.length_is
-spelled-range text kinds.Blank is = tt
-spelled-range text kinds.Field is = tt
-spelled-range text kinds.Other is = tt
+part-range : (after_bar : Bool) (text : List ℕ) (kind : ChordPartKind) → SpellsPart after_bar text kind → HasPartLength kind
+part-range after_bar text (parts.Note note) is = length-range is.written note.length is.length_is
+part-range after_bar text parts.Tie is = tt
+part-range after_bar text parts.NoEffect is = tt
+part-range after_bar text parts.BadByte is = tt
 
-next-range : (text front : List ℕ) (kind : TokenKind) → IsNext text front kind → HasLength kind
-next-range text front kind is = ⊎_elim (λ longest. spelled-range front kind longest.spells) (λ none. subst HasLength (sym none.2) tt) is
+part-alone : (text : List ℕ) → HasPartLength (alone_at part_kinds text)
+part-alone [] = tt
+part-alone (b ∷ bs) = tt
+
+chord-range : (text : List ℕ) (chord : Chord) → IsChord text chord → HasFactor chord.length × All (λ p. HasPartLength p.kind) chord.parts
+chord-range text chord is = (
+  subst HasFactor (sym is.length_is) (length-range is.framed.written is.frame.length is.framed.length_is),
+  cut-all part_kinds SpellsPart HasPartLength part-range part-alone false 1 (inside_of is.frame text) chord.parts is.parts_are,
+)
+
+token-range : (after_bar : Bool) (text : List ℕ) (kind : TokenKind) → Spells after_bar text kind → HasLength kind
+token-range after_bar text (kinds.Note note) is = length-range is.written note.length is.length_is
+token-range after_bar text (kinds.Rest value) is = length-range is.written value is.length_is
+token-range after_bar text (kinds.BarRest bars) is = tt
+token-range after_bar text (kinds.Chord chord) is = chord-range text chord is
+token-range after_bar text (kinds.InlineField field) is = tt
+token-range after_bar text (kinds.Bar bar) is = tt
+token-range after_bar text (kinds.Ending passes) is = tt
+token-range after_bar text (kinds.Tuplet tuplet) is = tt
+token-range after_bar text (kinds.Broken broken) is = tt
+token-range after_bar text kinds.Tie is = tt
+token-range after_bar text kinds.Blank is = tt
+token-range after_bar text kinds.NoEffect is = tt
+token-range after_bar text (kinds.Field field) is = tt
+token-range after_bar text kinds.Unclosed is = tt
+token-range after_bar text kinds.BadByte is = tt
+
+byte-alone : (b : ℕ) → HasLength (alone_of b)
+byte-alone b = cond_both (opens b) kinds.Unclosed kinds.BadByte HasLength (λ _. tt) (λ _. tt)
+
+token-alone : (text : List ℕ) → HasLength (alone_at line_kinds text)
+token-alone [] = tt
+token-alone (b ∷ bs) = byte-alone b
 
 -- of every cutting
-pub record Laid (at : ℕ) (tokens : List Token) (end len : ℕ) : Type 0 where
+pub record Laid (at : ℕ) (tokens : List (Spanned TokenKind)) (end len : ℕ) : Type 0 where
   pub spans : All (IsSpan len) tokens
   pub joined : JoinFromTo at tokens end
   pub lengths : All (λ t. HasLength t.kind) tokens
 
-laid_cut : (at : ℕ) (text : List ℕ) (tokens : List Token) (len : ℕ) → IsCuttingFrom at text tokens → at + length text ≤ len → Laid at tokens (at + length text) len
-laid_cut at text [] len is fits = record {
-  spans = All-nil (IsSpan len);
-  joined = let none = ap length is in omega (arith, none);
-  lengths = All-nil (λ t. HasLength t.kind);
-}
-laid_cut at text (t ∷ ts) len (front, rest, cut, first, from, to, more) fits =
-    let only = ap (λ (x : TokenKind × ℕ). x.1) (next_only text front rest t.kind cut first) in
-    let some = next_size text in
+laid_cut : (after_bar : Bool) (at : ℕ) (text : List ℕ) (tokens : List (Spanned TokenKind)) (len : ℕ) → IsCuttingFrom line_kinds Spells after_bar at text tokens → at + length text ≤ len → All (IsSpan len) tokens × JoinFromTo at tokens (at + length text)
+laid_cut after_bar at text [] len is fits = (All-nil (IsSpan len), let none = ap length is in omega (arith, none))
+laid_cut after_bar at text (t ∷ ts) len (front, rest, cut, first, from, to, more) fits =
+    let only : (next_token after_bar text).1 ≡ length front = ap (λ (x : TokenKind × ℕ). x.1) (next_only line_kinds Spells reading_at reads_tokens after_bar text front rest t.kind cut first) in
+    let some = next_size line_kinds Spells reading_at reads_tokens after_bar text in
     let total : length text ≡ length front + length rest = ap length cut ∙ length-append front rest in
     let end : t.to + length rest ≡ at + length text = omega (arith, to, total) in
-    let l = laid_cut t.to rest ts len more (omega (arith, end)) in
-    record {
-      spans = All-cons (IsSpan len) t ts (omega (arith, from, to, only, some), omega (arith, end)) l.spans;
-      joined = (from, subst (JoinFromTo t.to ts) end l.joined);
-      lengths = All-cons (λ u. HasLength u.kind) t ts (next-range text front t.kind first) l.lengths;
-    }
+    let l = laid_cut (is_bar t.kind) t.to rest ts len more (omega (arith, end)) in (
+      All-cons (IsSpan len) t ts (omega (arith, from, to, only, some), omega (arith, end)) l.0,
+      (from, subst (JoinFromTo t.to ts) end l.1),
+    )
 
 -- what is read of a line is no longer than the line, and of a field not empty
 before_comment-le : (before : ℕ) (text : List ℕ) → length (before_comment before text) ≤ length text
 before_comment-le before [] = omega arith
 before_comment-le before (b ∷ bs) = cond_both ((b == 37) && not (before == 92)) [] (b ∷ before_comment b bs) (λ l. length l ≤ length (b ∷ bs)) (λ _. omega arith) (λ _. let rest = before_comment-le b bs in omega (arith, rest))
-
-without_return-le : (line : List ℕ) → length (without_return line) ≤ length line
-without_return-le line = cond_both (ends_with nat_eq line (13 ∷ [])) (take (length line - 1) line) line (λ l. length l ≤ length line) (λ _. let short = length-take-le (length line - 1) line (omega arith) in omega (arith, short)) (λ _. omega arith)
 
 content-le : (line : List ℕ) → length (content line) ≤ length line
 content-le line = let a = before_comment-le 32 (without_return line) in let b = without_return-le line in omega (arith, a, b)
@@ -114,7 +144,13 @@ laid_in line (Field letter) e =
 laid_in line Music e =
     let short = content-le line in
     let sum : 0 + length (content line) ≡ length (content line) = omega arith in
-    subst (λ n. Laid 0 (cutting_of (content line)) n (length line)) sum (laid_cut 0 (content line) (cutting_of (content line)) (length line) (cuts_each (content line)) (omega (arith, short)))
+    let is = cuts_each (content line) in
+    let l = laid_cut false 0 (content line) (cutting_of (content line)) (length line) is (omega (arith, short)) in
+    record {
+      spans = l.0;
+      joined = subst (JoinFromTo 0 (cutting_of (content line))) sum l.1;
+      lengths = cut-all line_kinds Spells HasLength token-range token-alone false 0 (content line) (cutting_of (content line)) is;
+    }
 
 pub laid : (line : List ℕ) → Laid 0 (tokens_of line) (covered_of line) (length line)
 unfolding tokens_of covered_of

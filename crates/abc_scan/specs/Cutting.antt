@@ -1,101 +1,61 @@
--- The tokens of a line. ABC 2.1 section 4.
-use Rattle.std.specs.Prelude.{◌≡◌, ℕ, zero, suc, ◌+◌, ◌-◌, ◌<◌, ◌≤◌, ◌⊎◌, List, [], ◌∷◌, ◌++◌, length}
-use Rattle.abc_scan.specs.declared.class.LineClass.{LineClass}
-use Rattle.abc_scan.specs.declared.class.LineClass.TheVariants.{Blank, Comment, Field, Music}
-use Rattle.abc_scan.specs.declared.token.Token.{Token}
-use Rattle.abc_scan.specs.declared.token.TokenKind.{TokenKind}
-use Rattle.abc_scan.specs.declared.token.TokenKind.TheVariants as kinds
-use Rattle.abc_scan.specs.LineClass.{class_of}
-use Rattle.abc_scan.specs.Length.{HasFactor}
-use Rattle.abc_scan.specs.Text.{content}
-use Rattle.abc_scan.specs.Token.{Spells, next}
+-- A text cut from left to right, each time the longest part that begins there: a line into its tokens, the
+-- inside of a chord into its parts. ABC 2.1 section 4.
+use Rattle.std.specs.Prelude.{◌≡◌, ℕ, zero, suc, ◌+◌, ◌-◌, ◌<◌, ◌≤◌, ◌⊎◌, Bool, Option, List, [], ◌∷◌, ◌++◌, length, unwrap_or}
+use Rattle.abc_scan.specs.declared.spanned.Spanned.{Spanned}
 
--- The longest front of a text that spells a token.
-pub record IsLongest (text front : List ℕ) (kind : TokenKind) : Type 0 where
-  pub spells : Spells front kind
-  pub longest : (other rest : List ℕ) (k : TokenKind) → text ≡ other ++ rest → Spells other k → length other ≤ length front
+-- What a byte is that begins no part, and which parts are bar lines.
+pub record Kinds (K : Type 0) : Type 0 where
+  pub alone : ℕ → K
+  pub is_bar : K → Bool
 
--- No front of a text spells a token.
-abbrev pub SpellsNone : List ℕ → Type 0
-SpellsNone text = (front rest : List ℕ) (kind : TokenKind) → text ≡ front ++ rest → Spells front kind → ⊥
+-- The byte at the front of a text, as one that begins no part.
+abbrev pub alone_at : {K : Type 0} → Kinds K → List ℕ → K
+alone_at kinds [] = kinds.alone 0
+alone_at kinds (b ∷ bs) = kinds.alone b
 
--- What is cut off a text: its longest token, or one byte where it begins with none. ABC 2.1 section 4.
-abbrev pub IsNext : List ℕ → List ℕ → TokenKind → Type 0
-IsNext text front kind = IsLongest text front kind ⊎ (SpellsNone text × (length front ≡ 1) × (kind ≡ kinds.Other))
+-- The longest front of a text that spells a part.
+pub record IsLongest {K : Type 0} (spells : List ℕ → K → Type 0) (text front : List ℕ) (kind : K) : Type 0 where
+  pub spelled : spells front kind
+  pub longest : (other rest : List ℕ) (k : K) → text ≡ other ++ rest → spells other k → length other ≤ length front
 
--- The tokens are the text cut up, which begins at this byte of its line.
-abbrev pub IsCuttingFrom : ℕ → List ℕ → List Token → Type 0
-IsCuttingFrom at text [] = text ≡ []
-IsCuttingFrom at text (t ∷ ts) =
-    (front : List ℕ) × (rest : List ℕ) × (text ≡ front ++ rest) × IsNext text front t.kind
-    × (t.from ≡ at) × (t.to ≡ at + length front) × IsCuttingFrom t.to rest ts
+-- No front of a text spells a part.
+abbrev pub SpellsNone : {K : Type 0} → (List ℕ → K → Type 0) → List ℕ → Type 0
+SpellsNone {K} spells text = (front rest : List ℕ) (kind : K) → text ≡ front ++ rest → spells front kind → ⊥
 
--- The tokens are the whole text of a line cut up.
-abbrev pub IsCutting : List ℕ → List Token → Type 0
-IsCutting text tokens = IsCuttingFrom 0 text tokens
+-- What is cut off a text: its longest part, or one byte where it begins with none.
+abbrev pub IsNext : {K : Type 0} → Kinds K → (List ℕ → K → Type 0) → List ℕ → List ℕ → K → Type 0
+IsNext kinds spells text front kind =
+    IsLongest spells text front kind ⊎ (SpellsNone spells text × (length front ≡ 1) × (kind ≡ alone_at kinds text))
 
--- The token at the front of a text that begins at this byte of its line.
-abbrev pub token_at : ℕ → List ℕ → Token
-token_at at text = record { kind = (next text).0; from = at; to = at + (next text).1 }
+-- The parts are the text cut up, which begins at this place. What spells a part may depend on whether a
+-- bar line stands directly before it.
+abbrev pub IsCuttingFrom : {K : Type 0} → Kinds K → (Bool → List ℕ → K → Type 0) → Bool → ℕ → List ℕ → List (Spanned K) → Type 0
+IsCuttingFrom kinds spells after_bar at text [] = text ≡ []
+IsCuttingFrom kinds spells after_bar at text (t ∷ ts) =
+    (front : List ℕ) × (rest : List ℕ) × (text ≡ front ++ rest) × IsNext kinds (spells after_bar) text front t.kind
+    × (t.from ≡ at) × (t.to ≡ at + length front) × IsCuttingFrom kinds spells (kinds.is_bar t.kind) t.to rest ts
 
--- The tokens of a text that begins at this byte of its line, and whose first `inside` bytes belong to
--- the token before it.
-abbrev pub cutting_from : ℕ → ℕ → List ℕ → List Token
-cutting_from at inside [] = []
-cutting_from at zero (b ∷ bs) = token_at at (b ∷ bs) ∷ cutting_from (at + 1) ((next (b ∷ bs)).1 - 1) bs
-cutting_from at (suc inside) (b ∷ bs) = cutting_from (at + 1) inside bs
+-- What comes first in a text, and how many bytes it takes: what is read there, else one byte.
+abbrev pub next : {K : Type 0} → Kinds K → (Bool → List ℕ → Option (K × ℕ)) → Bool → List ℕ → K × ℕ
+next kinds reading after_bar text = unwrap_or (reading after_bar text) (alone_at kinds text, 1)
 
--- A text cut from left to right.
-abbrev pub cutting_of : List ℕ → List Token
-cutting_of text = cutting_from 0 0 text
+-- The part at the front of a text that begins at this place.
+abbrev pub part_at : {K : Type 0} → ℕ → K × ℕ → Spanned K
+part_at at first = record { kind = first.0; from = at; to = at + first.1 }
 
--- One token, which is the whole text.
-abbrev pub field_token : List ℕ → List Token
-field_token text = record { kind = kinds.Field; from = 0; to = length text } ∷ []
+-- The parts of a text that begins at this place, and whose first `inside` bytes belong to the part before it.
+abbrev pub cutting_from : {K : Type 0} → Kinds K → (Bool → List ℕ → Option (K × ℕ)) → Bool → ℕ → ℕ → List ℕ → List (Spanned K)
+cutting_from kinds reading after_bar at inside [] = []
+cutting_from kinds reading after_bar at zero (b ∷ bs) =
+    part_at at (next kinds reading after_bar (b ∷ bs))
+    ∷ cutting_from kinds reading (kinds.is_bar (next kinds reading after_bar (b ∷ bs)).0) (at + 1) ((next kinds reading after_bar (b ∷ bs)).1 - 1) bs
+cutting_from kinds reading after_bar at (suc inside) (b ∷ bs) = cutting_from kinds reading after_bar (at + 1) inside bs
 
--- The tokens of a text of this class: a field is one, a blank line and a comment have none.
-abbrev pub tokens_in : LineClass → List ℕ → List Token
-tokens_in Blank text = []
-tokens_in Comment text = []
-tokens_in (Field letter) text = field_token text
-tokens_in Music text = cutting_of text
-
--- The tokens of a line, by its class and what is read of it. ABC 2.1 sections 2.2 and 4.
-unfoldable pub tokens_of : List ℕ → List Token
-tokens_of line = tokens_in (class_of line) (content line)
-
--- A token has at least one byte, and they lie in a line of this length.
-abbrev pub IsSpan : ℕ → Token → Type 0
+-- A part has at least one byte, and they lie in a text of this length.
+abbrev pub IsSpan : {K : Type 0} → ℕ → Spanned K → Type 0
 IsSpan len t = (t.from < t.to) × (t.to ≤ len)
 
--- The tokens lie end to end from the first place to the last.
-abbrev pub JoinFromTo : ℕ → List Token → ℕ → Type 0
+-- The parts lie end to end from the first place to the last.
+abbrev pub JoinFromTo : {K : Type 0} → ℕ → List (Spanned K) → ℕ → Type 0
 JoinFromTo at [] end = at ≡ end
 JoinFromTo at (t ∷ ts) end = (t.from ≡ at) × JoinFromTo t.to ts end
-
--- How many bytes of a line its tokens cover: a blank line and a comment have none.
-abbrev pub covered_in : LineClass → List ℕ → ℕ
-covered_in Blank text = 0
-covered_in Comment text = 0
-covered_in (Field letter) text = length text
-covered_in Music text = length text
-
--- How many bytes the tokens of a line cover.
-unfoldable pub covered_of : List ℕ → ℕ
-covered_of line = covered_in (class_of line) (content line)
-
--- The length of a note or rest is refused, or a ratio of accepted numbers.
-abbrev pub HasLength : TokenKind → Type 0
-HasLength (kinds.Note note) = HasFactor note.length
-HasLength (kinds.Rest value) = HasFactor value
-HasLength kinds.Blank = Unit {0}
-HasLength kinds.Field = Unit {0}
-HasLength kinds.Other = Unit {0}
-
--- What `cutting_of` gives is a cutting of the text.
-abbrev pub CutsEachText : Type 0
-CutsEachText = (text : List ℕ) → IsCutting text (cutting_of text)
-
--- A text has one cutting.
-abbrev pub CutsOnce : Type 0
-CutsOnce = (text : List ℕ) (a b : List Token) → IsCutting text a → IsCutting text b → a ≡ b

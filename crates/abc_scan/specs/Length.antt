@@ -1,21 +1,13 @@
 -- Lengths as they are written behind notes and rests. ABC 2.1 section 4.3.
 use Rattle.std.specs.Prelude.{◌≤◌, ◌≡◌, ℕ, ◌+◌, ◌-◌, ◌*◌, ◌^◌, ◌<◌, Bool, Option, Some, None, List, [], ◌∷◌, ◌++◌, length, take, drop, replicate, if◌then◌else◌, ◌==◌, nat_lt, fold}
-use Rattle.std.specs.Char.{is_ascii_digit}
 use Rattle.std.specs.List.{prefix_len, AllPass}
+use Rattle.abc_text.specs.Digit.{is_digit, decimal}
 use Rattle.abc_scan.specs.declared.length.WrittenLength.{WrittenLength}
 use Rattle.abc_scan.specs.declared.length.WrittenLength.TheVariants.{Factor, Refused}
-
--- A digit.
-abbrev pub is_digit : ℕ → Bool
-is_digit b = is_ascii_digit b
 
 -- A slash.
 abbrev pub is_slash : ℕ → Bool
 is_slash b = b == 47
-
--- The number that digits write.
-abbrev pub decimal : List ℕ → ℕ
-decimal digits = fold (λ n d. n * 10 + (d - 48)) 0 digits
 
 -- The number that digits write, or another where there are none. It is refused where it has more than
 -- nine digits or is 0. Our own.

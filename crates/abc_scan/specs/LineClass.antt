@@ -1,13 +1,10 @@
 -- The class of a line, by its own bytes.
 use Rattle.std.specs.Prelude.{◌≡◌, ℕ, Bool, false, ◌&&◌, ◌||◌, not, Option, Some, None, List, [], ◌∷◌, ◌++◌, if◌then◌else◌, ◌==◌, nat_le, find, All, IsTrue}
 use Rattle.std.specs.Char.{is_ascii_alphabetic}
+use Rattle.abc_text.specs.Blank.{is_blank}
+use Rattle.abc_text.specs.Ending.{without_return}
 use Rattle.abc_scan.specs.declared.class.LineClass.{LineClass}
 use Rattle.abc_scan.specs.declared.class.LineClass.TheVariants.{Blank, Comment, Field, Music}
-use Rattle.abc_scan.specs.Text.{without_return}
-
--- A space or a tab, and nothing else, is a blank. Our own.
-abbrev pub is_blank : ℕ → Bool
-is_blank b = (b == 32) || (b == 9)
 
 -- The first byte of a text that is no blank.
 abbrev pub first_visible : List ℕ → Option ℕ

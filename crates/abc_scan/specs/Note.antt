@@ -2,42 +2,19 @@
 use Rattle.std.specs.Prelude.{◌≡◌, ℕ, ℤ, pos, ◌-ℤ◌, ◌+◌, Bool, false, ◌||◌, ◌⊎◌, Option, Some, None, List, [], ◌∷◌, ◌++◌, length, take, drop, if◌then◌else◌, ◌==◌, nat_lt, count_by}
 use Rattle.std.specs.List.{prefix_len, AllPass}
 use Rattle.std.specs.Option.{option_map}
+use Rattle.abc_text.specs.declared.accidental.Accidental.{Accidental}
+use Rattle.abc_text.specs.declared.accidental.Accidental.TheVariants.{DoubleFlat, Flat, Natural, Sharp, DoubleSharp}
+use Rattle.abc_text.specs.declared.letter.Letter.{Letter}
+use Rattle.abc_text.specs.Accidental.{spelling}
+use Rattle.abc_text.specs.Letter.{IsLetter, letter_of}
 use Rattle.abc_scan.specs.declared.length.WrittenLength.{WrittenLength}
-use Rattle.abc_scan.specs.declared.note.Accidental.{Accidental}
-use Rattle.abc_scan.specs.declared.note.Accidental.TheVariants.{DoubleFlat, Flat, Natural, Sharp, DoubleSharp}
-use Rattle.abc_scan.specs.declared.note.Letter.{Letter}
-use Rattle.abc_scan.specs.declared.note.Letter.TheVariants.{C, D, E, F, G, A, B}
 use Rattle.abc_scan.specs.declared.note.Note.{Note}
 use Rattle.abc_scan.specs.Length.{IsLength, length_at, length_size}
 
--- How an accidental is written: `__`, `_`, `=`, `^`, `^^`. ABC 2.1 section 4.2.
+-- How an accidental, or none, is written. ABC 2.1 section 4.2.
 abbrev pub accidental_text : Option Accidental → List ℕ
 accidental_text None = []
-accidental_text (Some DoubleFlat) = 95 ∷ 95 ∷ []
-accidental_text (Some Flat) = 95 ∷ []
-accidental_text (Some Natural) = 61 ∷ []
-accidental_text (Some Sharp) = 94 ∷ []
-accidental_text (Some DoubleSharp) = 94 ∷ 94 ∷ []
-
--- The capital letter. ABC 2.1 section 4.1.
-abbrev pub capital : Letter → ℕ
-capital C = 67
-capital D = 68
-capital E = 69
-capital F = 70
-capital G = 71
-capital A = 65
-capital B = 66
-
--- The small letter, an octave higher. ABC 2.1 section 4.1.
-abbrev pub small : Letter → ℕ
-small C = 99
-small D = 100
-small E = 101
-small F = 102
-small G = 103
-small A = 97
-small B = 98
+accidental_text (Some accidental) = spelling accidental
 
 -- `'` and `,`, which raise and lower a note by an octave. ABC 2.1 section 4.1.
 abbrev pub is_octave_mark : ℕ → Bool
@@ -58,7 +35,7 @@ pub record IsNote (text : List ℕ) (note : Note) : Type 0 where
   pub marks : List ℕ
   pub written : List ℕ
   pub spelling : text ≡ accidental_text note.accidental ++ (letter ∷ (marks ++ written))
-  pub letter_is : (letter ≡ capital note.letter) ⊎ (letter ≡ small note.letter)
+  pub letter_is : IsLetter letter note.letter
   pub octave_marks : AllPass is_octave_mark marks
   pub octave_is : note.octave ≡ octave letter marks
   pub length_is : IsLength written note.length
@@ -87,18 +64,6 @@ accidental_at (b ∷ bs) =
 -- How many bytes an accidental takes.
 abbrev pub accidental_size : Option Accidental → ℕ
 accidental_size a = length (accidental_text a)
-
--- The letter that a byte is, capital or small. ABC 2.1 section 4.1.
-unfoldable pub letter_of : ℕ → Option Letter
-letter_of b =
-    if (b == 67) || (b == 99) then Some C
-    else (if (b == 68) || (b == 100) then Some D
-    else (if (b == 69) || (b == 101) then Some E
-    else (if (b == 70) || (b == 102) then Some F
-    else (if (b == 71) || (b == 103) then Some G
-    else (if (b == 65) || (b == 97) then Some A
-    else (if (b == 66) || (b == 98) then Some B
-    else None))))))
 
 -- How many octave marks stand at the front of a text.
 abbrev pub marks_size : List ℕ → ℕ

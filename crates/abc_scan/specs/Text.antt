@@ -1,10 +1,6 @@
 -- The part of a line that is read.
 use Rattle.std.specs.Prelude.{◌≡◌, ◌≢◌, ◌⊎◌, ℕ, ◌-◌, ◌&&◌, not, List, [], ◌∷◌, ◌++◌, length, take, if◌then◌else◌, ◌==◌, nat_eq}
-use Rattle.std.specs.List.{ends_with}
-
--- The line without the carriage return at its end. Of two only the last is dropped. Our own.
-abbrev pub without_return : List ℕ → List ℕ
-without_return line = if ends_with nat_eq line (13 ∷ []) then take (length line - 1) line else line
+use Rattle.abc_text.specs.Ending.{without_return}
 
 -- What stands before the comment in a text that follows this byte: a comment begins at a `%` (37)
 -- that does not directly follow a backslash (92). ABC 2.1 section 2.2; that backslashes do not pair up is our own.
@@ -36,8 +32,3 @@ pub record IsRead (before : ℕ) (text read : List ℕ) : Type 0 where
 -- What is left of each text without its comment is what is read of it.
 abbrev pub CutsComments : Type 0
 CutsComments = (text : List ℕ) → IsRead 32 text (without_comment text)
-
--- One carriage return at the end is dropped, and nothing else. Our own.
-abbrev pub DropsOneReturn : Type 0
-DropsOneReturn =
-    (without_return [] ≡ []) × ((text : List ℕ) (b : ℕ) → without_return (text ++ b ∷ []) ≡ (if b == 13 then text else text ++ b ∷ []))

@@ -1,41 +1,128 @@
 -- What a music line is made of. ABC 2.1 section 4.
-use Rattle.std.specs.Prelude.{◌≡◌, ℕ, Option, Some, None, List, [], ◌∷◌, if◌then◌else◌, unwrap_or, IsTrue}
+use Rattle.std.specs.Prelude.{ℕ, Bool, true, false, Option, Some, None, List, if◌then◌else◌, ◌||◌, ◌==◌}
 use Rattle.std.specs.Option.{option_map}
+use Rattle.abc_scan.specs.declared.start.Start.{Start}
+use Rattle.abc_scan.specs.declared.start.Start.TheVariants as starts
 use Rattle.abc_scan.specs.declared.token.TokenKind.{TokenKind}
 use Rattle.abc_scan.specs.declared.token.TokenKind.TheVariants as kinds
-use Rattle.abc_scan.specs.LineClass.{is_blank}
-use Rattle.abc_scan.specs.Note.{note_at, rest_at, IsNote, IsRest}
+use Rattle.abc_scan.specs.Bar.{IsBar, bar_at}
+use Rattle.abc_scan.specs.BarRest.{IsBarRest, bar_rest_at}
+use Rattle.abc_scan.specs.Broken.{IsBroken, broken_at}
+use Rattle.abc_scan.specs.Chord.{IsChord, chord_at}
+use Rattle.abc_scan.specs.Cutting.{Kinds, next}
+use Rattle.abc_scan.specs.Delimited.{delimited_at}
+use Rattle.abc_scan.specs.Ending.{IsEnding, ending_at}
+use Rattle.abc_scan.specs.InlineField.{IsInlineField, inline_field_at}
+use Rattle.abc_scan.specs.NoEffect.{HasNoEffect, extra_space_at}
+use Rattle.abc_scan.specs.Note.{IsNote, IsRest, note_at, rest_at}
+use Rattle.abc_scan.specs.Single.{IsBlankToken, IsTie}
+use Rattle.abc_scan.specs.Start.{start_of}
+use Rattle.abc_scan.specs.Tuplet.{IsTuplet, tuplet_at}
 
--- A blank token is one space or tab. Our own.
-pub record IsBlankToken (text : List ℕ) : Type 0 where
-  pub byte : ℕ
-  pub spelling : text ≡ byte ∷ []
-  pub blank : IsTrue (is_blank byte)
+-- The bytes spell a token of this kind, where a bar line stands directly before them or not. A field line
+-- is no token of music, and a byte alone is what spells none.
+abbrev pub Spells : Bool → List ℕ → TokenKind → Type 0
+Spells after_bar text (kinds.Note note) = IsNote text note
+Spells after_bar text (kinds.Rest value) = IsRest text value
+Spells after_bar text (kinds.BarRest bars) = IsBarRest text bars
+Spells after_bar text (kinds.Chord chord) = IsChord text chord
+Spells after_bar text (kinds.InlineField field) = IsInlineField text field
+Spells after_bar text (kinds.Bar bar) = IsBar text bar
+Spells after_bar text (kinds.Ending passes) = IsEnding after_bar text passes
+Spells after_bar text (kinds.Tuplet tuplet) = IsTuplet text tuplet
+Spells after_bar text (kinds.Broken broken) = IsBroken text broken
+Spells after_bar text kinds.Tie = IsTie text
+Spells after_bar text kinds.Blank = IsBlankToken text
+Spells after_bar text kinds.NoEffect = HasNoEffect text
+Spells after_bar text (kinds.Field field) = ⊥
+Spells after_bar text kinds.Unclosed = ⊥
+Spells after_bar text kinds.BadByte = ⊥
 
--- The bytes spell a token of this kind. A field line is no token of music, and `Other` is what spells none.
-abbrev pub Spells : List ℕ → TokenKind → Type 0
-Spells text (kinds.Note note) = IsNote text note
-Spells text (kinds.Rest value) = IsRest text value
-Spells text kinds.Blank = IsBlankToken text
-Spells text kinds.Field = ⊥
-Spells text kinds.Other = ⊥
+-- A byte that opens something: `[`, `"`, `!` or `{`.
+abbrev pub opens : ℕ → Bool
+opens b = (b == 91) || (b == 34) || (b == 33) || (b == 123)
 
--- The first of two readings that there is. No two kinds of token begin with the same byte.
+-- A byte of a line that begins no token is unclosed if it opens something. Our own.
+abbrev pub alone_of : ℕ → TokenKind
+alone_of b = if opens b then kinds.Unclosed else kinds.BadByte
+
+-- Whether a token is a bar line.
+abbrev pub is_bar : TokenKind → Bool
+is_bar (kinds.Note note) = false
+is_bar (kinds.Rest value) = false
+is_bar (kinds.BarRest bars) = false
+is_bar (kinds.Chord chord) = false
+is_bar (kinds.InlineField field) = false
+is_bar (kinds.Bar bar) = true
+is_bar (kinds.Ending passes) = false
+is_bar (kinds.Tuplet tuplet) = false
+is_bar (kinds.Broken broken) = false
+is_bar kinds.Tie = false
+is_bar kinds.Blank = false
+is_bar kinds.NoEffect = false
+is_bar (kinds.Field field) = false
+is_bar kinds.Unclosed = false
+is_bar kinds.BadByte = false
+
+-- The bytes of a line that begin no token, and its bar lines.
+abbrev pub line_kinds : Kinds TokenKind
+line_kinds = record { alone = alone_of; is_bar = is_bar }
+
+-- A value that was read, as a token.
+abbrev pub as_token : {V : Type 0} → (V → TokenKind) → Option (V × ℕ) → Option (TokenKind × ℕ)
+as_token kind found = option_map (λ r. (kind r.0, r.1)) found
+
+-- So many bytes, as a token without effect.
+abbrev pub as_silent : Option ℕ → Option (TokenKind × ℕ)
+as_silent found = option_map (λ size. (kinds.NoEffect, size)) found
+
+-- The first of two readings that there is.
 abbrev pub or_else : Option (TokenKind × ℕ) → Option (TokenKind × ℕ) → Option (TokenKind × ℕ)
 or_else (Some token) other = Some token
 or_else None other = other
 
--- The blank at the front of a text.
-abbrev pub blank_at : List ℕ → Option (TokenKind × ℕ)
-blank_at [] = None
-blank_at (b ∷ bs) = if is_blank b then Some (kinds.Blank, 1) else None
+-- The longest token at the front of a text that begins in this way, if it can be told without memory and
+-- without a search for its end, and how many bytes it takes. A tuplet is longer than its `(`.
+abbrev pub mark_by : Start → Bool → List ℕ → Option (TokenKind × ℕ)
+mark_by starts.Note after_bar text = as_token kinds.Note (note_at text)
+mark_by starts.Rest after_bar text = as_token kinds.Rest (rest_at text)
+mark_by starts.BarRest after_bar text = as_token kinds.BarRest (bar_rest_at text)
+mark_by starts.BarLine after_bar text = as_token kinds.Bar (bar_at text)
+mark_by starts.InlineField after_bar text = None
+mark_by starts.Bracket after_bar text = None
+mark_by starts.Digit after_bar text = as_token kinds.Ending (ending_at after_bar text)
+mark_by starts.Parenthesis after_bar text = or_else (as_token kinds.Tuplet (tuplet_at text)) (Some (kinds.NoEffect, 1))
+mark_by starts.Broken after_bar text = as_token kinds.Broken (broken_at text)
+mark_by starts.Tie after_bar text = Some (kinds.Tie, 1)
+mark_by starts.Blank after_bar text = Some (kinds.Blank, 1)
+mark_by starts.Delimited after_bar text = None
+mark_by starts.Space after_bar text = as_silent (extra_space_at text)
+mark_by starts.Single after_bar text = Some (kinds.NoEffect, 1)
+mark_by starts.Nothing after_bar text = None
 
--- The token at the front of a text, and how many bytes it takes.
-abbrev pub reading_at : List ℕ → Option (TokenKind × ℕ)
-reading_at text =
-    or_else (option_map (λ note. (kinds.Note note.0, note.1)) (note_at text))
-    (or_else (option_map (λ rest. (kinds.Rest rest.0, rest.1)) (rest_at text)) (blank_at text))
+-- The longest token at the front of a text that begins in this way, and how many bytes it takes. A chord is
+-- longer than the ending that begins with the same bytes.
+abbrev pub reading_by : Start → Bool → List ℕ → Option (TokenKind × ℕ)
+reading_by starts.Note after_bar text = mark_by starts.Note after_bar text
+reading_by starts.Rest after_bar text = mark_by starts.Rest after_bar text
+reading_by starts.BarRest after_bar text = mark_by starts.BarRest after_bar text
+reading_by starts.BarLine after_bar text = mark_by starts.BarLine after_bar text
+reading_by starts.InlineField after_bar text = as_token kinds.InlineField (inline_field_at text)
+reading_by starts.Bracket after_bar text = or_else (as_token kinds.Chord (chord_at text)) (as_token kinds.Ending (ending_at after_bar text))
+reading_by starts.Digit after_bar text = mark_by starts.Digit after_bar text
+reading_by starts.Parenthesis after_bar text = mark_by starts.Parenthesis after_bar text
+reading_by starts.Broken after_bar text = mark_by starts.Broken after_bar text
+reading_by starts.Tie after_bar text = mark_by starts.Tie after_bar text
+reading_by starts.Blank after_bar text = mark_by starts.Blank after_bar text
+reading_by starts.Delimited after_bar text = as_silent (delimited_at text)
+reading_by starts.Space after_bar text = mark_by starts.Space after_bar text
+reading_by starts.Single after_bar text = mark_by starts.Single after_bar text
+reading_by starts.Nothing after_bar text = mark_by starts.Nothing after_bar text
+
+-- The longest token at the front of a text, and how many bytes it takes.
+unfoldable pub reading_at : Bool → List ℕ → Option (TokenKind × ℕ)
+reading_at after_bar text = reading_by (start_of text) after_bar text
 
 -- What comes first in a text, and how many bytes it takes: a token, else one byte that begins none.
-abbrev pub next : List ℕ → TokenKind × ℕ
-next text = unwrap_or (reading_at text) (kinds.Other, 1)
+abbrev pub next_token : Bool → List ℕ → TokenKind × ℕ
+next_token after_bar text = next line_kinds reading_at after_bar text

@@ -1,10 +1,10 @@
 //! The class of a line.
 
 ghost use Rattle.std.specs.Prelude.{◌≡◌, ◌↔◌, ℕ};
-ghost use Rattle.abc_scan.specs.LineClass.{class_of, class_of_text, is_blank, first_visible, names_field, is_music_letter, begins_bar, field_letter, IsBlankLine, IsCommentLine, IsFieldLine, IsMusicLine};
-ghost use Rattle.abc_scan.specs.Text.{without_return};
+ghost use Rattle.abc_scan.specs.LineClass.{class_of, class_of_text, first_visible, names_field, is_music_letter, begins_bar, field_letter, IsBlankLine, IsCommentLine, IsFieldLine, IsMusicLine};
+ghost use Rattle.abc_text.specs.Ending.{without_return};
 
-use crate::text::without_return;
+use abc_text::{is_blank, without_return};
 
 /// What a line of an ABC text is, by its own bytes (ABC 2.1 section 2.2).
 #[derive(Clone, Copy, Debug, PartialEq, Eq)]
@@ -17,12 +17,6 @@ pub enum LineClass {
     Field(u8),
     /// Anything else.
     Music,
-}
-
-pub(crate) fn is_blank(byte: u8) -> bool
-    ensures { result ≡ is_blank byte }
-{
-    byte == b' ' || byte == b'\t'
 }
 
 fn names_field(byte: u8) -> bool

@@ -2,7 +2,10 @@
 
 ghost use Rattle.std.specs.Prelude.{◌≡◌, ◌≤◌, ◌==◌, if◌then◌else◌, length, take};
 ghost use Rattle.std.specs.List.{prefix_len, AllPass};
-ghost use Rattle.abc_scan.specs.Length.{is_digit, is_slash, decimal, number_or, written_length, length_at, length_size};
+ghost use Rattle.abc_text.specs.Digit.{is_digit};
+ghost use Rattle.abc_scan.specs.Length.{is_slash, number_or, written_length, length_at, length_size};
+
+use abc_text::{LONGEST_NUMBER, decimal, digits};
 
 /// The value of a length text: what it multiplies the unit note length by (ABC 2.1 section 4.3).
 #[derive(Clone, Copy, Debug, PartialEq, Eq)]
@@ -11,21 +14,6 @@ pub enum WrittenLength {
     Factor { num: u32, den: u32 },
     /// A number that is 0 or has more than nine digits, or more than 29 slashes.
     Refused,
-}
-
-fn is_digit(byte: u8) -> bool
-    ensures { result ≡ is_digit byte }
-{
-    byte.is_ascii_digit()
-}
-
-/// How many digits a text begins with.
-fn digits(text: &[u8]) -> usize
-    ensures value { result ≡ prefix_len is_digit text.now }
-    ensures inside { result ≤ length text.now }
-    ensures digits { AllPass is_digit (take result text.now) }
-{
-    text.iter().take_while(|byte| is_digit(**byte)).count()
 }
 
 /// How many slashes a text begins with.
@@ -45,19 +33,6 @@ fn digits_behind(slashes: usize, text: &[u8]) -> usize
     if slashes == 1 { digits(text) } else { 0 }
 }
 
-/// The number that digits write.
-fn decimal(digits: &[u8]) -> u32
-    requires digits { AllPass is_digit digits.now }
-    requires short { length digits.now ≤ 9 }
-    ensures { result ≡ decimal digits.now }
-{
-    let mut number = 0;
-    for digit in digits {
-        number = number * 10 + u32::from(*digit - b'0');
-    }
-    number
-}
-
 /// The number that digits write, if it is accepted, or another where there are none.
 fn number_or(digits: &[u8], other: u32) -> Option<u32>
     requires { AllPass is_digit digits.now }
@@ -66,7 +41,7 @@ fn number_or(digits: &[u8], other: u32) -> Option<u32>
     match digits {
         [] => Some(other),
         [_, ..] => {
-            if digits.len() > 9 {
+            if digits.len() > LONGEST_NUMBER {
                 return None;
             }
             let number = decimal(digits);

@@ -1,30 +1,45 @@
-//! The lines of an ABC text: which class each is of, and the tokens that a music line is cut into.
+//! The lines of an ABC text: which class each is of, the tokens that a music line is cut into, and
+//! its cells.
 #![tactic(auto)]
 
 mod bar;
+mod bar_rest;
 mod broken;
+mod cell;
+mod chord;
 mod class;
 mod closing;
-mod cutting;
 mod delimited;
 mod ending;
 mod field;
 mod frame;
 mod inline_field;
 mod length;
+mod line;
+mod no_effect;
 mod note;
 mod number;
+mod parts;
+mod short_sequence;
+mod spanned;
+mod start;
 mod text;
 mod token;
 mod tuplet;
 
+pub use abc_text::{Accidental, Letter};
 pub use bar::BarLine;
 pub use broken::{BrokenRhythm, Direction};
+pub use cell::{Cell, cells};
+pub use chord::Chord;
 pub use class::{LineClass, class_of};
-pub use cutting::{one_cutting, scan};
 pub use field::Field;
 pub use length::WrittenLength;
-pub use note::{Accidental, Letter, Note};
-pub use text::{content, part_read, without_return};
+pub use line::{one_cutting, scan};
+pub use note::Note;
+pub use parts::{ChordPart, ChordPartKind};
+pub use short_sequence::ShortSequence;
+pub use spanned::Spanned;
+pub use text::{content, part_read};
 pub use token::{Token, TokenKind};
 pub use tuplet::Tuplet;

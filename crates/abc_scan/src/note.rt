@@ -3,31 +3,10 @@
 ghost use Rattle.std.specs.Prelude.{◌≡◌, ◌≤◌, ◌<◌, ◌+◌, ◌^◌, length, IfSome, count_by, ◌==◌};
 ghost use Rattle.std.specs.List.{prefix_len};
 ghost use Rattle.std.specs.Option.{option_map};
-ghost use Rattle.abc_scan.specs.Note.{accidental_at, accidental_size, letter_of, is_octave_mark, octave, letter_octave, note_at, rest_at};
+ghost use Rattle.abc_scan.specs.Note.{accidental_at, accidental_size, is_octave_mark, octave, letter_octave, note_at, rest_at};
 
 use crate::length::{WrittenLength, length_at};
-
-/// A sign in front of a note (ABC 2.1 section 4.2).
-#[derive(Clone, Copy, Debug, PartialEq, Eq)]
-pub enum Accidental {
-    DoubleFlat,
-    Flat,
-    Natural,
-    Sharp,
-    DoubleSharp,
-}
-
-/// The letter of a note, without its octave.
-#[derive(Clone, Copy, Debug, PartialEq, Eq)]
-pub enum Letter {
-    C,
-    D,
-    E,
-    F,
-    G,
-    A,
-    B,
-}
+use abc_text::{Accidental, Letter, letter_of};
 
 /// A note as it is written (ABC 2.1 sections 4.1 to 4.3).
 #[derive(Clone, Copy, Debug, PartialEq, Eq)]
@@ -55,22 +34,6 @@ fn accidental_at(text: &[u8]) -> (Option<Accidental>, usize)
         [b'_', ..] => (Some(Accidental::Flat), 1),
         [b'=', ..] => (Some(Accidental::Natural), 1),
         _ => (None, 0),
-    }
-}
-
-#[tactic(auto, unfolding(crate::specs::Note::letter_of))]
-fn letter_of(byte: u8) -> Option<Letter>
-    ensures { result ≡ letter_of byte }
-{
-    match byte {
-        b'C' | b'c' => Some(Letter::C),
-        b'D' | b'd' => Some(Letter::D),
-        b'E' | b'e' => Some(Letter::E),
-        b'F' | b'f' => Some(Letter::F),
-        b'G' | b'g' => Some(Letter::G),
-        b'A' | b'a' => Some(Letter::A),
-        b'B' | b'b' => Some(Letter::B),
-        _ => None,
     }
 }
 

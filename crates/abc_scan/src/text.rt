@@ -1,19 +1,10 @@
 //! The part of a line that is read.
 
 ghost use Rattle.std.specs.Prelude.{◌≡◌, ◌≤◌, length};
-ghost use Rattle.abc_scan.specs.Text.{without_return, without_comment, content, CutsComments, DropsOneReturn};
+ghost use Rattle.abc_text.specs.Ending.{DropsOneReturn};
+ghost use Rattle.abc_scan.specs.Text.{without_comment, content, CutsComments};
 
-/// The line without the carriage return at its end, of which one is dropped.
-pub fn without_return(line: &[u8]) -> &[u8]
-    ensures value { result.now ≡ without_return line.now }
-    ensures bounded { length result.now ≤ length line.now }
-{
-    if line.ends_with(b"\r") {
-        &line[..line.len() - 1]
-    } else {
-        line
-    }
-}
+use abc_text::without_return;
 
 fn without_comment(text: &[u8]) -> &[u8]
     ensures value { result.now ≡ without_comment text.now }

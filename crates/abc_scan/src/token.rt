@@ -1,63 +1,221 @@
 //! What a music line is made of.
 
-ghost use Rattle.std.specs.Prelude.{◌≡◌, ◌≤◌, ◌<◌, length, IfSome};
-ghost use Rattle.abc_scan.specs.Token.{reading_at, next};
+ghost use Rattle.std.specs.Prelude.{◌≡◌, ◌≤◌, ◌<◌, drop, length, false, IfOk, IfSome};
+ghost use Rattle.abc_scan.specs.Closing.{IsMissing};
+ghost use Rattle.abc_scan.specs.Token.{opens, is_bar, mark_by, reading_by, reading_at, alone_of, next_token};
 
-use crate::class::is_blank;
+use crate::bar::{BarLine, bar_at};
+use crate::bar_rest::bar_rest_at;
+use crate::broken::{BrokenRhythm, broken_at};
+use crate::chord::{Chord, chord_at};
+use crate::closing::Missing;
+use crate::delimited::delimited_at;
+use crate::ending::ending_at;
+use crate::field::Field;
+use crate::inline_field::inline_field_at;
 use crate::length::WrittenLength;
+use crate::no_effect::extra_space_at;
 use crate::note::{Note, note_at, rest_at};
+use crate::spanned::Spanned;
+use crate::start::{Start, start_of};
+use crate::tuplet::{Tuplet, tuplet_at};
+use std::alloc::{AllocError, Global};
 
 /// A part of a line, with its value read.
-#[derive(Clone, Copy, Debug, PartialEq, Eq)]
-pub struct Token {
-    pub kind: TokenKind,
-    /// The place of its first byte in the line, counted from 0.
-    pub from: usize,
-    /// The place behind its last byte.
-    pub to: usize,
-}
+pub type Token = Spanned<TokenKind>;
 
 /// What a token is.
-#[derive(Clone, Copy, Debug, PartialEq, Eq)]
+#[derive(Clone, Debug, Drop, Eq, PartialEq)]
 pub enum TokenKind {
     Note(Note),
     /// A rest, with its length.
     Rest(WrittenLength),
+    /// A rest of whole bars, with their number where it is written.
+    BarRest(Option<u32>),
+    Chord(Chord),
+    /// A field in a music line, as `[K:G]`.
+    InlineField(Field),
+    Bar(BarLine),
+    /// The passes that an ending is for: bit i - 1 is set for pass i. None where a number is refused.
+    Ending(Option<u32>),
+    Tuplet(Tuplet),
+    Broken(BrokenRhythm),
+    Tie,
     /// One space or tab.
     Blank,
+    /// Quoted text, a decoration, a grace group, an extra space or a byte without effect.
+    NoEffect,
     /// A whole field line, without its comment.
-    Field,
-    /// A byte of a music line that begins no token.
-    Other,
+    Field(Field),
+    /// A byte that opens what nothing closes.
+    Unclosed,
+    /// Another byte of a music line that begins no token.
+    BadByte,
 }
 
-/// The token that the front of a text spells, and how many bytes it takes.
-fn reading_at(text: &[u8]) -> Option<(TokenKind, usize)>
-    ensures value { result ≡ reading_at text.now }
+/// Whether a byte opens something that another byte closes.
+fn opens(byte: u8) -> bool
+    ensures { result ≡ opens byte }
+{
+    matches!(byte, b'[' | b'"' | b'!' | b'{')
+}
+
+/// Whether a token is a bar line.
+pub(crate) fn is_bar(kind: &TokenKind) -> bool
+    ensures { result ≡ is_bar kind.now }
+{
+    matches!(kind, TokenKind::Bar(_))
+}
+
+/// A byte of a line that begins no token.
+fn alone_of(byte: u8) -> TokenKind
+    ensures { result ≡ alone_of byte }
+{
+    if opens(byte) {
+        TokenKind::Unclosed
+    } else {
+        TokenKind::BadByte
+    }
+}
+
+/// The chord at the front of a text, or the ending, and how many bytes it takes.
+fn bracket_at(
+    alloc: Global,
+    after_bar: bool,
+    text: &[u8],
+) -> Result<Option<(TokenKind, usize)>, AllocError>
+    ensures value { IfOk result (λ token. token ≡ reading_by Start.Bracket after_bar text.now) }
+    ensures some { IfOk result (λ token. IfSome token (λ r. 0 < r.1)) }
+    ensures inside { IfOk result (λ token. IfSome token (λ r. r.1 ≤ length text.now)) }
+{
+    if let Some((chord, size)) = chord_at(alloc, text)? {
+        return Ok(Some((TokenKind::Chord(chord), size)));
+    }
+    match ending_at(after_bar, text) {
+        Some((passes, size)) => Ok(Some((TokenKind::Ending(passes), size))),
+        None => Ok(None),
+    }
+}
+
+/// The inline field at the front of a text, and how many bytes it takes.
+fn field_at(
+    alloc: Global,
+    text: &[u8],
+    missing: &mut Missing,
+) -> Result<Option<(TokenKind, usize)>, AllocError>
+    requires { IsMissing missing.old (drop 1 text.now) }
+    ensures value { IfOk result (λ token. token ≡ reading_by Start.InlineField false text.now) }
+    ensures some { IfOk result (λ token. IfSome token (λ r. 0 < r.1)) }
+    ensures inside { IfOk result (λ token. IfSome token (λ r. r.1 ≤ length text.now)) }
+    ensures kept { IsMissing missing.new (drop 1 text.now) }
+{
+    match inline_field_at(alloc, text, missing)? {
+        Some((field, size)) => Ok(Some((TokenKind::InlineField(field), size))),
+        None => Ok(None),
+    }
+}
+
+/// The tuplet at the front of a text, or its `(` alone, and how many bytes it takes.
+fn parenthesis_at(text: &[u8]) -> Option<(TokenKind, usize)>
+    requires { 0 < length text.now }
+    ensures value { result ≡ mark_by Start.Parenthesis false text.now }
     ensures some { IfSome result (λ r. 0 < r.1) }
     ensures inside { IfSome result (λ r. r.1 ≤ length text.now) }
 {
-    if let Some((note, size)) = note_at(text) {
-        return Some((TokenKind::Note(note), size));
-    }
-    if let Some((length, size)) = rest_at(text) {
-        return Some((TokenKind::Rest(length), size));
-    }
-    match text {
-        [byte, ..] if is_blank(*byte) => Some((TokenKind::Blank, 1)),
-        _ => None,
+    match tuplet_at(text) {
+        Some((tuplet, size)) => Some((TokenKind::Tuplet(tuplet), size)),
+        None => Some((TokenKind::NoEffect, 1)),
     }
 }
 
-/// What comes first in a text, and how many bytes it takes.
-pub(crate) fn next(text: &[u8]) -> (TokenKind, usize)
+/// The token at the front of a text that begins in this way, and how many bytes it takes, if it can
+/// be told without memory and without a search for its end.
+fn mark_at(start: Start, after_bar: bool, text: &[u8]) -> Option<(TokenKind, usize)>
     requires { 0 < length text.now }
-    ensures value { result ≡ next text.now }
-    ensures some { 0 < result.1 }
-    ensures inside { result.1 ≤ length text.now }
+    ensures value { result ≡ mark_by start after_bar text.now }
+    ensures some { IfSome result (λ r. 0 < r.1) }
+    ensures inside { IfSome result (λ r. r.1 ≤ length text.now) }
 {
-    match reading_at(text) {
-        Some(token) => token,
-        None => (TokenKind::Other, 1),
+    match start {
+        Start::Note => {
+            let (note, size) = note_at(text)?;
+            Some((TokenKind::Note(note), size))
+        }
+        Start::Rest => {
+            let (length, size) = rest_at(text)?;
+            Some((TokenKind::Rest(length), size))
+        }
+        Start::BarRest => {
+            let (bars, size) = bar_rest_at(text)?;
+            Some((TokenKind::BarRest(bars), size))
+        }
+        Start::BarLine => {
+            let (bar, size) = bar_at(text)?;
+            Some((TokenKind::Bar(bar), size))
+        }
+        Start::Digit => {
+            let (passes, size) = ending_at(after_bar, text)?;
+            Some((TokenKind::Ending(passes), size))
+        }
+        Start::Parenthesis => parenthesis_at(text),
+        Start::Broken => {
+            let (broken, size) = broken_at(text)?;
+            Some((TokenKind::Broken(broken), size))
+        }
+        Start::Tie => Some((TokenKind::Tie, 1)),
+        Start::Blank => Some((TokenKind::Blank, 1)),
+        Start::Space => {
+            let size = extra_space_at(text)?;
+            Some((TokenKind::NoEffect, size))
+        }
+        Start::Single => Some((TokenKind::NoEffect, 1)),
+        Start::InlineField | Start::Bracket | Start::Delimited | Start::Nothing => None,
+    }
+}
+
+/// The token at the front of a text, and how many bytes it takes, where a bar line stands directly
+/// before it or not.
+#[tactic(auto, using(crate::proofs::Starts::mark_reading), unfolding(crate::specs::Token::reading_at))]
+fn reading_at(
+    alloc: Global,
+    after_bar: bool,
+    text: &[u8],
+    missing: &mut Missing,
+) -> Result<Option<(TokenKind, usize)>, AllocError>
+    requires some { 0 < length text.now }
+    requires known { IsMissing missing.old (drop 1 text.now) }
+    ensures value { IfOk result (λ token. token ≡ reading_at after_bar text.now) }
+    ensures some { IfOk result (λ token. IfSome token (λ r. 0 < r.1)) }
+    ensures inside { IfOk result (λ token. IfSome token (λ r. r.1 ≤ length text.now)) }
+    ensures kept { IsMissing missing.new (drop 1 text.now) }
+{
+    match start_of(text) {
+        Start::InlineField => field_at(alloc, text, missing),
+        Start::Bracket => bracket_at(alloc, after_bar, text),
+        Start::Delimited => match delimited_at(text, missing) {
+            Some(size) => Ok(Some((TokenKind::NoEffect, size))),
+            None => Ok(None),
+        },
+        start => Ok(mark_at(start, after_bar, text)),
+    }
+}
+
+/// What comes first in a text, and how many bytes it takes: a token, else one byte that begins none.
+pub(crate) fn next_token(
+    alloc: Global,
+    after_bar: bool,
+    text: &[u8],
+    missing: &mut Missing,
+) -> Result<(TokenKind, usize), AllocError>
+    requires some { 0 < length text.now }
+    requires known { IsMissing missing.old (drop 1 text.now) }
+    ensures value { IfOk result (λ r. r ≡ next_token after_bar text.now) }
+    ensures some { IfOk result (λ r. 0 < r.1) }
+    ensures inside { IfOk result (λ r. r.1 ≤ length text.now) }
+    ensures kept { IsMissing missing.new (drop 1 text.now) }
+{
+    match reading_at(alloc, after_bar, text, missing)? {
+        Some(token) => Ok(token),
+        None => Ok((alone_of(text[0]), 1)),
     }
 }

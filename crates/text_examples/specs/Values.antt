@@ -6,8 +6,8 @@ use Rattle.abc_fields.specs.declared.shift.Shift.{Shift}
 use Rattle.abc_fields.specs.declared.voice.Voice.{Voice}
 use Rattle.abc_scan.specs.declared.length.WrittenLength.{WrittenLength}
 use Rattle.abc_scan.specs.declared.length.WrittenLength.TheVariants.{Factor}
-use Rattle.abc_scan.specs.declared.note.Letter.{Letter}
-use Rattle.abc_scan.specs.declared.token.Token.{Token}
+use Rattle.abc_text.specs.declared.letter.Letter.{Letter}
+use Rattle.abc_scan.specs.declared.spanned.Spanned.{Spanned}
 use Rattle.abc_scan.specs.declared.token.TokenKind.{TokenKind}
 use Rattle.abc_scan.specs.declared.token.TokenKind.TheVariants as kinds
 use Rattle.abc_time.specs.declared.grains.Grains.{Grains}
@@ -30,7 +30,7 @@ abbrev pub plain : WrittenLength
 plain = Factor 1 1
 
 -- a token from one byte of a line to another, counted from 0
-abbrev pub token : TokenKind → ℕ → ℕ → Token
+abbrev pub token : TokenKind → ℕ → ℕ → Spanned TokenKind
 token kind from to = record { kind = kind; from = from; to = to }
 
 -- a shift with these parts

@@ -15,8 +15,12 @@ mod lengths;
 #[cfg(test)]
 mod lines;
 #[cfg(test)]
+mod music_tokens;
+#[cfg(test)]
 mod repeats;
 #[cfg(test)]
 mod scanning;
 #[cfg(test)]
 mod texts;
+#[cfg(test)]
+mod token_text;

@@ -1,7 +1,7 @@
 use abc_fold::Work;
 use abc_scan::{
-    Letter, LineClass, Note, Token, TokenKind, WrittenLength, class_of, one_cutting, part_read,
-    scan,
+    Letter, LineClass, Note, Spanned, TokenKind, WrittenLength, cells, class_of, one_cutting,
+    part_read, scan,
 };
 use std::test::Fail;
 
@@ -20,18 +20,21 @@ fn classes_and_tokens(rt: HostRuntime) -> Result<(), Fail> {
         length: WrittenLength::Factor { num: 3, den: 2 },
     });
     let wanted = [
-        Token {
+        Spanned {
             kind: note,
             from: 0,
             to: 4,
         },
-        Token {
+        Spanned {
             kind: TokenKind::Blank,
             from: 4,
             to: 5,
         },
     ];
     assert_eq!(rt; tokens.as_slice(), wanted.as_slice());
+    let cells = cells(rt.alloc(), &tokens)?;
+    assert_eq!(rt; cells.len(), 1);
+    assert_eq!(rt; cells[0].as_slice(), wanted.as_slice());
     assert_eq!(rt; (work.scanned(), work.folded(), work.built()), (1, 0, 0));
     Ok(())
 }

@@ -1,13 +1,13 @@
 //! Line classes, what is read of a line, and its tokens, by the definitions of `abc_scan`.
-#![tactic(auto, unfolding(abc_scan::specs::Cutting::tokens_of, abc_scan::specs::Length::length_at, abc_scan::specs::Length::length_size, abc_scan::specs::Note::accidental_at, abc_scan::specs::Note::letter_of, abc_scan::specs::Note::note_at, abc_scan::specs::Note::rest_at))]
+#![tactic(auto, unfolding(abc_scan::specs::Line::tokens_of, abc_scan::specs::Token::reading_at, abc_scan::specs::Start::byte_start, abc_scan::specs::Bar::bar_at, abc_scan::specs::Ending::ending_at, abc_text::specs::Blank::trimmed, abc_text::specs::Blank::trim_start, abc_text::specs::Blank::trim_end, abc_scan::specs::Length::length_at, abc_scan::specs::Length::length_size, abc_scan::specs::Note::accidental_at, abc_text::specs::Letter::letter_of, abc_scan::specs::Note::note_at, abc_scan::specs::Note::rest_at))]
 
-ghost use Rattle.std.specs.Prelude.{◌≡◌, pos, negsuc, [], ◌∷◌, codes, replicate};
+ghost use Rattle.std.specs.Prelude.{◌≡◌, false, pos, negsuc, [], ◌∷◌, codes, replicate};
 ghost use Rattle.abc_scan.specs.declared.class.LineClass.TheVariants.{Blank, Comment, Field, Music};
 ghost use Rattle.abc_scan.specs.declared.length.WrittenLength.TheVariants.{Factor, Refused};
-ghost use Rattle.abc_scan.specs.declared.note.Accidental.TheVariants.{DoubleSharp};
-ghost use Rattle.abc_scan.specs.declared.note.Letter.TheVariants.{C};
+ghost use Rattle.abc_text.specs.declared.accidental.Accidental.TheVariants.{DoubleSharp};
+ghost use Rattle.abc_text.specs.declared.letter.Letter.TheVariants.{C};
 ghost use Rattle.abc_scan.specs.declared.token.TokenKind.TheVariants as kinds;
-ghost use Rattle.abc_scan.specs.Cutting.{tokens_of};
+ghost use Rattle.abc_scan.specs.Line.{tokens_of};
 ghost use Rattle.abc_scan.specs.Length.{length_at};
 ghost use Rattle.abc_scan.specs.LineClass.{class_of};
 ghost use Rattle.abc_scan.specs.Note.{octave};
@@ -113,16 +113,17 @@ pub fn tokens_of_low_notes()
 /// The longest token is taken: `C//2` is `C//` and a byte that begins no token, and of three signs the first is none.
 /// ABC 2.1 sections 4.2, 4.3 and 4.5; a byte that begins no token stands alone, our own.
 pub fn longest_tokens()
-    ensures slashes { tokens_of (codes "C//2") ≡ token (note C (pos 0) (Factor 1 4)) 0 3 ∷ token kinds.Other 3 4 ∷ [] }
-    ensures signs { tokens_of (codes "^^^c") ≡ token kinds.Other 0 1
+    ensures slashes { tokens_of (codes "C//2") ≡ token (note C (pos 0) (Factor 1 4)) 0 3 ∷ token kinds.BadByte 3 4 ∷ [] }
+    ensures signs { tokens_of (codes "^^^c") ≡ token kinds.BadByte 0 1
         ∷ token (kinds.Note (record { accidental = Some DoubleSharp; letter = C; octave = pos 1; length = plain })) 1 4 ∷ [] }
     ensures rest { tokens_of (codes "z3/2") ≡ token (kinds.Rest (Factor 3 2)) 0 4 ∷ [] }
-    ensures bar { tokens_of (codes "C|") ≡ token (note C (pos 0) plain) 0 1 ∷ token kinds.Other 1 2 ∷ [] }
+    ensures bar_line { tokens_of (codes "C|") ≡ token (note C (pos 0) plain) 0 1
+        ∷ token (kinds.Bar (record { closes = 0; opens = 0; double = false })) 1 2 ∷ [] }
 {}
 
 /// A field line is one token, without its comment; a blank line and a comment have none. Our own.
 pub fn lines_without_music()
-    ensures field { tokens_of (codes "T:a % b") ≡ token kinds.Field 0 4 ∷ [] }
+    ensures field { tokens_of (codes "T:a % b") ≡ token (kinds.Field (record { letter = 84; value = codes "a" })) 0 4 ∷ [] }
     ensures blank { tokens_of (codes " \r") ≡ [] }
     ensures comment { tokens_of (codes " % C") ≡ [] }
 {}

@@ -1,5 +1,5 @@
 use Rattle.abc_scan.proofs.Laws.{cuts_each, cuts_once}
-use Rattle.abc_scan.proofs.cutting.one_cutting.Goals as goal
+use Rattle.abc_scan.proofs.line.one_cutting.Goals as goal
 
 pub returns-clause-cuts : goal.returns-clause-cuts
 returns-clause-cuts c = cuts_each

@@ -1,12 +1,17 @@
 //! The tokens of a line.
 
-ghost use Rattle.std.specs.Prelude.{◌≡◌, ◌+◌, IfOk, All, length};
+ghost use Rattle.std.specs.Prelude.{◌≡◌, ◌+◌, IfOk, IsOk, All, length, false};
 ghost use Rattle.abc_fold.specs.Work.{raised};
-ghost use Rattle.abc_scan.specs.Cutting.{cutting_of, field_token, tokens_in, tokens_of, IsSpan, JoinFromTo, covered_of, HasLength, CutsEachText, CutsOnce};
+ghost use Rattle.abc_scan.specs.Cutting.{IsSpan, JoinFromTo};
+ghost use Rattle.abc_scan.specs.LineClass.{class_of};
+ghost use Rattle.abc_scan.specs.Line.{cutting_of, field_token, has_tokens, tokens_in, tokens_of, covered_of, HasLength, CutsEachText, CutsOnce};
 
 use crate::class::{LineClass, class_of};
+use crate::closing::Missing;
+use crate::field::field_of;
+use crate::spanned::Spanned;
 use crate::text::content;
-use crate::token::{Token, TokenKind, next};
+use crate::token::{Token, TokenKind, is_bar, next_token};
 use abc_fold::Work;
 use std::alloc::{AllocError, Global};
 
@@ -15,10 +20,13 @@ fn cut(alloc: Global, text: &[u8]) -> Result<Vec<Token>, AllocError>
     ensures { IfOk result (λ tokens. tokens.items ≡ cutting_of text.now) }
 {
     let mut tokens = Vec::new(alloc);
+    let mut missing = Missing::none();
+    let mut after_bar = false;
     let mut at = 0;
     while at < text.len() {
-        let (kind, size) = next(&text[at..]);
-        tokens.push(Token {
+        let (kind, size) = next_token(alloc, after_bar, &text[at..], &mut missing)?;
+        after_bar = is_bar(&kind);
+        tokens.push(Spanned {
             kind,
             from: at,
             to: at + size,
@@ -33,8 +41,8 @@ fn field_token(alloc: Global, text: &[u8]) -> Result<Vec<Token>, AllocError>
     ensures { IfOk result (λ tokens. tokens.items ≡ field_token text.now) }
 {
     let mut tokens = Vec::new(alloc);
-    tokens.push(Token {
-        kind: TokenKind::Field,
+    tokens.push(Spanned {
+        kind: TokenKind::Field(field_of(alloc, text)?),
         from: 0,
         to: text.len(),
     })?;
@@ -42,7 +50,8 @@ fn field_token(alloc: Global, text: &[u8]) -> Result<Vec<Token>, AllocError>
 }
 
 fn tokens_in(alloc: Global, class: LineClass, text: &[u8]) -> Result<Vec<Token>, AllocError>
-    ensures { IfOk result (λ tokens. tokens.items ≡ tokens_in class text.now) }
+    ensures tokens { IfOk result (λ tokens. tokens.items ≡ tokens_in class text.now) }
+    ensures silent { has_tokens class ≡ false → IsOk result }
 {
     match class {
         LineClass::Blank | LineClass::Comment => Ok(Vec::new(alloc)),
@@ -52,13 +61,14 @@ fn tokens_in(alloc: Global, class: LineClass, text: &[u8]) -> Result<Vec<Token>,
 }
 
 /// The tokens of a line, without its carriage return and comment. Counts one line scanned, also
-/// where there is no memory for the tokens.
-#[tactic(auto, unfolding(crate::specs::Cutting::tokens_of, crate::specs::Cutting::covered_of))]
+/// where there is no memory for the tokens; a blank line and a comment need none.
+#[tactic(auto, unfolding(crate::specs::Line::tokens_of, crate::specs::Line::covered_of))]
 pub fn scan(alloc: Global, line: &[u8], work: &mut Work) -> Result<Vec<Token>, AllocError>
     ensures tokens { IfOk result (λ tokens. tokens.items ≡ tokens_of line.now) }
     ensures spans { IfOk result (λ tokens. All (IsSpan (length line.now)) tokens.items) }
     ensures joined { IfOk result (λ tokens. JoinFromTo 0 tokens.items (covered_of line.now)) }
     ensures lengths { IfOk result (λ tokens. All (λ t. HasLength t.kind) tokens.items) }
+    ensures silent { has_tokens (class_of line.now) ≡ false → IsOk result }
 
     ensures counted { work.new ≡ record work.old { scanned = raised work.old.scanned 1 } }
 {

@@ -1,0 +1,53 @@
+-- Which kind of token a text can begin with, by its first bytes.
+use Rattle.std.specs.Prelude.{ℕ, Bool, ◌&&◌, ◌||◌, List, [], ◌∷◌, if◌then◌else◌, ◌==◌, nat_le}
+use Rattle.std.specs.Char.{is_ascii_alphabetic, is_ascii_digit}
+use Rattle.abc_scan.specs.declared.start.Start.{Start}
+use Rattle.abc_scan.specs.declared.start.Start.TheVariants as starts
+use Rattle.abc_text.specs.Blank.{is_blank}
+
+-- A byte that is a token without effect: a letter H to W or h to w, or one of `` ` `` `.` `~` `\` `$` `#` `*` `;`
+-- `?` `@` `(` `)`. ABC 2.1 sections 4.7, 4.11, 4.14, 4.16, 6.1.1 and 8.1.
+abbrev pub has_no_effect : ℕ → Bool
+has_no_effect b =
+    ((nat_le 72 b && nat_le b 87) || (nat_le 104 b && nat_le b 119))
+    || (b == 96) || (b == 46) || (b == 126) || (b == 92) || (b == 36) || (b == 35) || (b == 42) || (b == 59) || (b == 63)
+    || (b == 64) || (b == 40) || (b == 41)
+
+-- An accidental, or the letter of a note. ABC 2.1 sections 4.1 and 4.2.
+abbrev pub begins_note : ℕ → Bool
+begins_note b = (nat_le 65 b && nat_le b 71) || (nat_le 97 b && nat_le b 103) || (b == 94) || (b == 95) || (b == 61)
+
+-- What one of the remaining bytes begins.
+abbrev pub mark_start : ℕ → Start
+mark_start b =
+    if (b == 122) || (b == 120) then starts.Rest
+    else (if (b == 90) || (b == 88) then starts.BarRest
+    else (if (b == 124) || (b == 58) then starts.BarLine
+    else (if (b == 62) || (b == 60) then starts.Broken
+    else (if b == 45 then starts.Tie
+    else (if (b == 34) || (b == 33) || (b == 123) then starts.Delimited
+    else (if b == 121 then starts.Space
+    else starts.Nothing))))))
+
+-- What a byte other than `[` begins.
+unfoldable pub byte_start : ℕ → Start
+byte_start b =
+    if b == 40 then starts.Parenthesis
+    else (if has_no_effect b then starts.Single
+    else (if is_ascii_digit b then starts.Digit
+    else (if is_blank b then starts.Blank
+    else (if begins_note b then starts.Note
+    else mark_start b))))
+
+-- What a `[` begins, by the bytes behind it: a bar line where a `|` follows, an inline field where a letter and
+-- a colon follow.
+unfoldable pub bracket_start : List ℕ → Start
+bracket_start [] = starts.Bracket
+bracket_start (b ∷ []) = if b == 124 then starts.BarLine else starts.Bracket
+bracket_start (b ∷ c ∷ rest) =
+    if b == 124 then starts.BarLine else (if is_ascii_alphabetic b && (c == 58) then starts.InlineField else starts.Bracket)
+
+-- What a text begins with.
+abbrev pub start_of : List ℕ → Start
+start_of [] = starts.Nothing
+start_of (b ∷ rest) = if b == 91 then bracket_start rest else byte_start b

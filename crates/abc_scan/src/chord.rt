@@ -1,0 +1,102 @@
+//! Chords.
+
+ghost use Rattle.std.specs.Prelude.{◌≡◌, ◌≤◌, ◌<◌, drop, length, IfOk, IfSome, false};
+ghost use Rattle.std.specs.Option.{option_map};
+ghost use Rattle.abc_scan.specs.Chord.{part_reading_at, part_kinds, parts_of, chord_at};
+ghost use Rattle.abc_scan.specs.Closing.{IsMissing};
+ghost use Rattle.abc_scan.specs.Cutting.{next};
+
+use crate::closing::Missing;
+use crate::delimited::delimited_at;
+use crate::frame::frame_at;
+use crate::length::WrittenLength;
+use crate::no_effect::extra_space_at;
+use crate::note::note_at;
+use crate::parts::{ChordPart, ChordPartKind};
+use crate::short_sequence::ShortSequence;
+use crate::spanned::Spanned;
+use crate::start::{Start, start_of};
+use std::alloc::{AllocError, Global};
+
+/// The notes between `[` and `]`, which sound together (ABC 2.1 section 4.17).
+#[derive(Clone, Debug, Drop, Eq, PartialEq)]
+pub struct Chord {
+    /// What stands between the brackets, in order.
+    pub parts: ShortSequence<ChordPart>,
+    /// The length behind the closing bracket.
+    pub length: WrittenLength,
+}
+
+/// The part at the front of a text, and how many bytes it takes.
+#[tactic(auto, unfolding(crate::specs::Chord::part_reading_at))]
+fn part_reading_at(text: &[u8], missing: &mut Missing) -> Option<(ChordPartKind, usize)>
+    requires { IsMissing missing.old (drop 1 text.now) }
+    ensures value { result ≡ part_reading_at false text.now }
+    ensures some { IfSome result (λ r. 0 < r.1) }
+    ensures inside { IfSome result (λ r. r.1 ≤ length text.now) }
+    ensures kept { IsMissing missing.new (drop 1 text.now) }
+{
+    match start_of(text) {
+        Start::Note => {
+            let (note, size) = note_at(text)?;
+            Some((ChordPartKind::Note(note), size))
+        }
+        Start::Tie => Some((ChordPartKind::Tie, 1)),
+        Start::Blank | Start::Single | Start::Parenthesis => Some((ChordPartKind::NoEffect, 1)),
+        Start::Delimited => {
+            let size = delimited_at(text, missing)?;
+            Some((ChordPartKind::NoEffect, size))
+        }
+        Start::Space => {
+            let size = extra_space_at(text)?;
+            Some((ChordPartKind::NoEffect, size))
+        }
+        _ => None,
+    }
+}
+
+/// What comes first in a text, and how many bytes it takes.
+fn next_part(text: &[u8], missing: &mut Missing) -> (ChordPartKind, usize)
+    requires some { 0 < length text.now }
+    requires known { IsMissing missing.old (drop 1 text.now) }
+    ensures value { result ≡ next part_kinds part_reading_at false text.now }
+    ensures some { 0 < result.1 }
+    ensures inside { result.1 ≤ length text.now }
+    ensures kept { IsMissing missing.new (drop 1 text.now) }
+{
+    part_reading_at(text, missing).unwrap_or((ChordPartKind::BadByte, 1))
+}
+
+/// The parts that the inside of a chord is cut into.
+fn parts_of(alloc: Global, text: &[u8]) -> Result<ShortSequence<ChordPart>, AllocError>
+    ensures { IfOk result (λ parts. parts ≡ parts_of text.now) }
+{
+    let mut parts = ShortSequence::new(alloc);
+    let mut missing = Missing::none();
+    let mut at = 0;
+    while at < text.len() {
+        let (kind, size) = next_part(&text[at..], &mut missing);
+        parts.push(Spanned {
+            kind,
+            from: 1 + at,
+            to: 1 + at + size,
+        })?;
+        at += size;
+    }
+    Ok(parts)
+}
+
+/// The chord at the front of a text, and how many bytes it takes.
+#[tactic(auto, unfolding(crate::specs::Chord::chord_at))]
+pub(crate) fn chord_at(alloc: Global, text: &[u8]) -> Result<Option<(Chord, usize)>, AllocError>
+    ensures value { IfOk result (λ chord. chord ≡ chord_at text.now) }
+    ensures some { IfOk result (λ chord. IfSome chord (λ r. 0 < r.1)) }
+    ensures inside { IfOk result (λ chord. IfSome chord (λ r. r.1 ≤ length text.now)) }
+{
+    let Some((frame, size)) = frame_at(text) else {
+        return Ok(None);
+    };
+    let parts = parts_of(alloc, &text[1..1 + frame.inside])?;
+    let length = frame.length;
+    Ok(Some((Chord { parts, length }, size)))
+}

@@ -1,0 +1,22 @@
+//! Tokens without effect.
+
+ghost use Rattle.std.specs.Prelude.{◌≡◌, ◌≤◌, ◌<◌, length, IfSome};
+ghost use Rattle.abc_scan.specs.NoEffect.{extra_space_at};
+
+use crate::number::optional_number_at;
+
+/// How many bytes the `y` at the front of a text takes, with its number (ABC 2.1 section 6.1.2).
+#[tactic(auto, unfolding(crate::specs::NoEffect::extra_space_at))]
+pub(crate) fn extra_space_at(text: &[u8]) -> Option<usize>
+    ensures value { result ≡ extra_space_at text.now }
+    ensures some { IfSome result (λ size. 0 < size) }
+    ensures inside { IfSome result (λ size. size ≤ length text.now) }
+{
+    match text {
+        [b'y', behind @ ..] => {
+            let (_, size) = optional_number_at(behind);
+            Some(1 + size)
+        }
+        _ => None,
+    }
+}

@@ -1,0 +1,84 @@
+//! A list of few elements that contracts see as nothing but its elements.
+
+ghost use Rattle.std.specs.Prelude.{◌≡◌, [], ◌∷◌, ◌++◌, IfOk, OnOk};
+ghost use Rattle.std.specs.Cmp.{on_per, on_equiv};
+ghost use Rattle.std.specs.Cmp.Lexicographic.{pointwise, lists_per, lists_equiv};
+ghost use Rattle.std.specs.List.{AllZip};
+
+use smallvec::SmallVec;
+use std::alloc::{AllocError, Global};
+use std::fmt;
+use std::marker::Model;
+
+/// The elements of a list in order, whatever place in memory they have: up to four need none of
+/// their own.
+#[derive(Drop)]
+pub struct ShortSequence<T: Default + Drop> {
+    elements: SmallVec<T, 4>,
+}
+
+impl<T: Default + Drop> Model for ShortSequence<T> {
+    ghost use Rattle.std.specs.Prelude.{List};
+    ghost use Rattle.std.specs.Coded.{coded_list};
+
+    ghost Value = { List T };
+
+    ghost coded = { coded_list T.code };
+
+    ghost view = { λ s. s.elements.items };
+}
+
+impl<T: Default + Drop> ShortSequence<T> {
+    /// No elements yet.
+    pub fn new(alloc: Global) -> Self
+        ensures { result ≡ [] }
+    {
+        ShortSequence {
+            elements: SmallVec::new(alloc),
+        }
+    }
+
+    /// Puts one more element at the end.
+    pub fn push(&mut self, element: T) -> Result<(), AllocError>
+        ensures { OnOk result (self.new ≡ self.old ++ element ∷ []) }
+    {
+        self.elements.push(element)?;
+        Ok(())
+    }
+
+    /// The elements in order.
+    pub fn as_slice(&self) -> &[T]
+        ensures { result.now ≡ self.now }
+    {
+        self.elements.as_slice()
+    }
+}
+
+impl<T: Clone + Default + Drop> Clone for ShortSequence<T> {
+    ghost is_clone = { λ v w. AllZip T.is_clone v w };
+
+    fn clone(&self) -> Result<Self, AllocError> {
+        let elements = self.elements.clone()?;
+        Ok(ShortSequence { elements })
+    }
+}
+
+impl<T: Default + Drop + PartialEq> PartialEq for ShortSequence<T> {
+    ghost eq = { λ v w. pointwise T.eq v w };
+
+    ghost laws = { on_per (λ v. v) (lists_per T.laws) };
+
+    fn eq(&self, other: &Self) -> bool {
+        self.elements == other.elements
+    }
+}
+
+impl<T: Default + Drop + Eq> Eq for ShortSequence<T> {
+    ghost laws = { on_equiv (λ v. v) (lists_equiv T.Eq.laws) };
+}
+
+impl<T: Default + Drop + fmt::Debug> fmt::Debug for ShortSequence<T> {
+    fn fmt<W: fmt::Write>(&self, f: &mut fmt::Formatter<W>) -> fmt::Result {
+        self.elements.fmt(f)
+    }
+}
