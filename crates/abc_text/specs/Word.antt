@@ -25,14 +25,15 @@ abbrev pub AreWords : List ℕ → List (List ℕ) → Type 0
 AreWords text [] = AllPass is_blank text
 AreWords text (word ∷ words) = (behind : List ℕ) × IsFirstWord text word behind × AreWords behind words
 
--- how many blanks a text begins with, and how many bytes stand in it before the first blank
+-- How many blanks a text begins with.
 abbrev pub leading_blanks : List ℕ → ℕ
 leading_blanks text = prefix_len is_blank text
 
+-- How many bytes stand before the first blank of a text.
 abbrev pub before_blank : List ℕ → ℕ
 before_blank text = position_or_len is_blank text
 
--- where the first word of a text begins and ends
+-- Where the first word of a text begins and ends.
 unfoldable pub first_word : List ℕ → Option (ℕ × ℕ)
 first_word text =
     if nat_lt (leading_blanks text) (length text) then Some (leading_blanks text, leading_blanks text + before_blank (drop (leading_blanks text) text))
