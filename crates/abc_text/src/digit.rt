@@ -1,6 +1,6 @@
 //! Decimal digits, and the numbers that they write.
 
-ghost use Rattle.std.specs.Prelude.{◌≡◌, ◌≤◌, length, take};
+ghost use Rattle.std.specs.Prelude.{◌≡◌, ◌+◌, ◌≤◌, ◌^◌, length, take};
 ghost use Rattle.std.specs.List.{prefix_len, AllPass};
 ghost use Rattle.abc_text.specs.Digit.{is_digit, decimal};
 
@@ -9,6 +9,11 @@ pub const LONGEST_NUMBER: usize = 9;
 
 /// The largest number of so many digits.
 pub const LARGEST_NUMBER: u32 = 999_999_999;
+
+/// The largest number is written with nines alone, as many as a number may have digits.
+pub fn number_limits()
+    ensures { LARGEST_NUMBER + 1 ≡ 10 ^ LONGEST_NUMBER }
+{}
 
 /// Whether a byte is a decimal digit.
 pub fn is_digit(byte: u8) -> bool

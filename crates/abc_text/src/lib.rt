@@ -18,7 +18,7 @@ mod word;
 pub use accidental::{Accidental, accidental_of};
 pub use blank::{is_blank, trim_end, trim_start, trimmed};
 pub use cut::cut_at;
-pub use digit::{LARGEST_NUMBER, LONGEST_NUMBER, decimal, digits, is_digit};
+pub use digit::{LARGEST_NUMBER, LONGEST_NUMBER, decimal, digits, is_digit, number_limits};
 pub use ending::without_return;
 pub use letter::{Letter, letter_of};
 pub use number::number_of;
