@@ -21,5 +21,10 @@ pub le-raised : (count k : ℕ) → count ≤ raised count k
 unfolding raised
 le-raised count k = omega arith
 
+-- The more it is raised by, the greater it is.
+pub raised-mono : (count j k : ℕ) → j ≤ k → raised count j ≤ raised count k
+unfolding raised
+raised-mono count j k more = omega arith
+
 -- What a proof needs to add up the steps of several calls.
-pub ruleset raising = (raised-zero, raised-raised)
+pub ruleset raising = (raised-zero, raised-raised, raised-mono)

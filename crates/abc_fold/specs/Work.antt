@@ -9,3 +9,7 @@ pub record Counters : Type 0 where
 -- A counter raised by k, which stays at the greatest u64 once there. Our own.
 unfoldable pub raised : ℕ → ℕ → ℕ
 raised count k = max count (min (count + k) (2 ^ 64 - 1))
+
+-- The counters after k more steps. Our own.
+abbrev pub after_steps : Counters → ℕ → Counters
+after_steps counters k = record counters { folded = raised counters.folded k }

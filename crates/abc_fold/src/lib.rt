@@ -1,7 +1,12 @@
-//! The work that an edit costs, counted: lines scanned, steps folded, tunes built. The promise that
-//! a small edit takes few steps is said in these counters.
+//! Folds that can be taken up again at any cell, and the work that an edit costs, counted: lines
+//! scanned, steps folded, tunes built. The promise that a small edit takes few steps is said in
+//! these counters.
 #![tactic(auto)]
 
+mod counts;
+mod fold;
 mod work;
 
+pub use counts::Counts;
+pub use fold::Fold;
 pub use work::Work;

@@ -11,6 +11,8 @@ pub mod definitions;
 #[cfg(test)]
 mod fields;
 #[cfg(test)]
+mod folds;
+#[cfg(test)]
 mod lengths;
 #[cfg(test)]
 mod lines;

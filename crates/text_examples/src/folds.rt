@@ -1,0 +1,100 @@
+ghost use Rattle.std.specs.Prelude.{◌≡◌, ℕ, ◌+◌, ◌-◌, ◌^◌, ◌≤◌, [], ◌∷◌, min, IfOk, OnOk};
+ghost use Rattle.abc_fold.specs.Work.{after_steps, raised};
+
+use abc_fold::{Counts, Fold, Work};
+use abc_text::Sequence;
+use std::alloc::{AllocError, Global};
+use std::marker::Model;
+use std::test::Fail;
+
+/// Adds numbers up. A number gives the total before it, and itself.
+struct Adding;
+
+/// What the numbers so far add up to, the greatest `u64` where they are more.
+#[derive(Drop)]
+struct Total {
+    sum: u64,
+}
+
+impl Model for Total {
+    ghost Value = { ℕ };
+
+    ghost view = { λ total. total.sum };
+}
+
+impl Fold for Adding {
+    type State = Total;
+
+    type Cell = u64;
+
+    type Items = Sequence<u64>;
+
+    type Work = Work;
+
+    ghost next = { λ _ total number. min (total + number) (2 ^ 64 - 1) };
+
+    ghost gives = { λ _ total number. total ∷ number ∷ [] };
+
+    fn step(
+        &self,
+        alloc: Global,
+        total: &Total,
+        number: &u64,
+        work: &mut Work,
+    ) -> Result<(Total, Sequence<u64>), AllocError> {
+        work.count_folded();
+        let items = Sequence::from_slice(alloc, &[total.sum, *number])?;
+        let sum = total.sum.saturating_add(*number);
+        Ok((Total { sum }, items))
+    }
+}
+
+// Two steps of any fold, one behind the other: what its definition gives, and two steps counted. Where memory is
+// refused, no more than two.
+#[tactic(auto, using(abc_fold::proofs::Raised::raising))]
+fn two_steps<F: Fold>(
+    fold: &F,
+    alloc: Global,
+    opening: &F::State,
+    first: &F::Cell,
+    second: &F::Cell,
+    work: &mut F::Work,
+) -> Result<(F::State, F::Items, F::Items), AllocError>
+    ensures state_after { let between = F.next fold.now opening.now first.now in
+        IfOk result (λ made. made.0 ≡ F.next fold.now between second.now) }
+    ensures items_of_first { IfOk result (λ made. made.1 ≡ F.gives fold.now opening.now first.now) }
+    ensures items_of_second { let between = F.next fold.now opening.now first.now in
+        IfOk result (λ made. made.2 ≡ F.gives fold.now between second.now) }
+
+    ensures counted { OnOk result (F.Work.counts work.new ≡ after_steps (F.Work.counts work.old) 2) }
+    ensures at_most { (F.Work.counts work.new).folded ≤ raised (F.Work.counts work.old).folded 2 }
+    ensures no_line { (F.Work.counts work.new).scanned ≡ (F.Work.counts work.old).scanned }
+    ensures no_tune { (F.Work.counts work.new).built ≡ (F.Work.counts work.old).built }
+{
+    let (between, of_first) = fold.step(alloc, opening, first, work)?;
+    let (after, of_second) = fold.step(alloc, &between, second, work)?;
+    Ok((after, of_first, of_second))
+}
+
+// The three numbers of any counters.
+fn numbers_of<W: Counts>(work: &W) -> (u64, u64, u64)
+    ensures scanned { result.0 ≡ (W.counts work.now).scanned }
+    ensures folded { result.1 ≡ (W.counts work.now).folded }
+    ensures built { result.2 ≡ (W.counts work.now).built }
+{
+    (work.scanned(), work.folded(), work.built())
+}
+
+// Two steps and the counters after them, through the bounds alone. Our own.
+#[test]
+fn two_numbers_are_added(rt: HostRuntime) -> Result<(), Fail> {
+    let mut work = Work::mint(&rt);
+    work.count_scanned();
+    let opening = Total { sum: 3 };
+    let (after, of_first, of_second) = two_steps(&Adding, rt.alloc(), &opening, &4, &5, &mut work)?;
+    assert_eq!(rt; after.sum, 12);
+    assert_eq!(rt; of_first.as_slice(), [3, 4].as_slice());
+    assert_eq!(rt; of_second.as_slice(), [7, 5].as_slice());
+    assert_eq!(rt; numbers_of(&work), (1, 2, 0));
+    Ok(())
+}
