@@ -1,11 +1,8 @@
 -- What is read of a line: no carriage return at its end, and no comment.
-use Rattle.std.proofs.Common.{◌≡◌, ℕ, ◌+◌, ◌-◌, true, false, cond, List, [], ◌∷◌, ◌++◌, length, take, drop, refl, sym, ap, ◌∙◌, subst, inl, inr, ⊎_elim, arith, length-append}
-use Rattle.std.specs.Prelude.{◌==◌, ◌&&◌, not, nat_eq}
-use Rattle.std.specs.List.{ends_with}
-use Rattle.std.specs.Cmp.Lexicographic.{pointwise}
-use Rattle.std.proofs.lemmas.Bool.{cond-true, cond-false, cases_Bool, eqb-true, eqb-false, and_parts, and_cases, and_left, ne_eqb, not-true, not-false}
+use Rattle.std.proofs.Common.{◌≡◌, ℕ, ◌+◌, ◌-◌, true, false, List, [], ◌∷◌, ◌++◌, refl, sym, ap, ◌∙◌, subst, inl, inr, ⊎_elim}
+use Rattle.std.specs.Prelude.{◌==◌, ◌&&◌, not}
+use Rattle.std.proofs.lemmas.Bool.{cond-true, cond-false, cases_Bool, eqb-true, eqb-false, and_parts, and_cases, not-true, not-false}
 use Rattle.abc_scan.specs.Text.{before_comment, last_or, IsRead, CutsComments}
-use Rattle.abc_text.proofs.Fronts.{take_exact, drop_exact}
 
 -- a comment begins here
 nothing_escaped : (before : ℕ) (front rest : List ℕ) → [] ≡ front ++ 37 ∷ rest → last_or before front ≡ 92

@@ -1,7 +1,7 @@
 -- Where the tokens of a line lie, and which lengths they have.
-use Rattle.std.proofs.Common.{◌≡◌, ℕ, Bool, false, ◌+◌, ◌-◌, ◌^◌, ◌<◌, ◌≤◌, Option, Some, None, List, [], ◌∷◌, length, take, refl, sym, ap, ◌∙◌, subst, arith, length-append, length-take-le, ltb-false}
-use Rattle.std.specs.Prelude.{All, nat_lt, nat_eq, ◌==◌, ◌&&◌, not}
-use Rattle.std.specs.List.{AllPass, ends_with}
+use Rattle.std.proofs.Common.{◌≡◌, ℕ, Bool, false, ◌+◌, ◌-◌, ◌^◌, ◌<◌, ◌≤◌, Option, Some, None, List, [], ◌∷◌, length, refl, sym, ap, ◌∙◌, subst, arith, length-append, ltb-false}
+use Rattle.std.specs.Prelude.{All, nat_lt, ◌==◌, ◌&&◌, not}
+use Rattle.std.specs.List.{AllPass}
 use Rattle.std.proofs.Math.Nat.{pow-le-pow_right}
 use Rattle.std.proofs.lemmas.Nat.{pow_pos}
 use Rattle.std.proofs.lemmas.Bool.{cond-false, cond_both, eqb-false, and_left}

@@ -1,5 +1,5 @@
 -- Lengths as they are written behind notes and rests. ABC 2.1 section 4.3.
-use Rattle.std.specs.Prelude.{◌≤◌, ◌≡◌, ℕ, ◌+◌, ◌-◌, ◌*◌, ◌^◌, ◌<◌, Bool, Option, Some, None, List, [], ◌∷◌, ◌++◌, length, take, drop, replicate, if◌then◌else◌, ◌==◌, nat_lt, fold}
+use Rattle.std.specs.Prelude.{◌≤◌, ◌≡◌, ℕ, ◌+◌, ◌^◌, ◌<◌, Bool, Option, Some, None, List, [], ◌∷◌, ◌++◌, length, take, drop, replicate, if◌then◌else◌, ◌==◌, nat_lt}
 use Rattle.std.specs.List.{prefix_len, AllPass}
 use Rattle.abc_text.specs.Digit.{is_digit, decimal}
 use Rattle.abc_scan.specs.declared.length.WrittenLength.{WrittenLength}

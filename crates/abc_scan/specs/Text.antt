@@ -1,5 +1,5 @@
 -- The part of a line that is read.
-use Rattle.std.specs.Prelude.{◌≡◌, ◌≢◌, ◌⊎◌, ℕ, ◌-◌, ◌&&◌, not, List, [], ◌∷◌, ◌++◌, length, take, if◌then◌else◌, ◌==◌, nat_eq}
+use Rattle.std.specs.Prelude.{◌≡◌, ◌≢◌, ◌⊎◌, ℕ, ◌&&◌, not, List, [], ◌∷◌, ◌++◌, if◌then◌else◌, ◌==◌}
 use Rattle.abc_text.specs.Ending.{without_return}
 
 -- What stands before the comment in a text that follows this byte: a comment begins at a `%` (37)
