@@ -1,6 +1,7 @@
 -- Lengths as they are written behind notes and rests. ABC 2.1 section 4.3.
 use Rattle.std.specs.Prelude.{◌≤◌, ◌≡◌, ℕ, ◌+◌, ◌^◌, ◌<◌, Bool, Option, Some, None, List, [], ◌∷◌, ◌++◌, length, take, drop, replicate, if◌then◌else◌, ◌==◌, nat_lt}
 use Rattle.std.specs.List.{prefix_len, AllPass}
+use Rattle.abc_text.specs.declared.digit.TheConstants.{LONGEST_NUMBER, LARGEST_NUMBER}
 use Rattle.abc_text.specs.Digit.{is_digit, decimal}
 use Rattle.abc_scan.specs.declared.length.WrittenLength.{WrittenLength}
 use Rattle.abc_scan.specs.declared.length.WrittenLength.TheVariants.{Factor, Refused}
@@ -14,7 +15,7 @@ is_slash b = b == 47
 abbrev pub number_or : List ℕ → ℕ → Option ℕ
 number_or [] other = Some other
 number_or (d ∷ ds) other =
-    if nat_lt 9 (length (d ∷ ds)) then None
+    if nat_lt LONGEST_NUMBER (length (d ∷ ds)) then None
     else (if decimal (d ∷ ds) == 0 then None else Some (decimal (d ∷ ds)))
 
 -- Two accepted numbers, or refused.
@@ -40,12 +41,12 @@ pub record IsLength (text : List ℕ) (value : WrittenLength) : Type 0 where
   pub one_slash : 0 < length under → slashes ≡ 1
   pub value_is : value ≡ written_length over slashes under
 
--- Both parts of an accepted length are from 1 to 999,999,999, nine digits. Our own.
+-- Both parts of an accepted length are from 1 to the largest number of nine digits. Our own.
 pub record IsFactor (num den : ℕ) : Type 0 where
   pub num_least : 1 ≤ num
-  pub num_most : num ≤ 999999999
+  pub num_most : num ≤ LARGEST_NUMBER
   pub den_least : 1 ≤ den
-  pub den_most : den ≤ 999999999
+  pub den_most : den ≤ LARGEST_NUMBER
 
 -- A written length is refused or has such parts.
 abbrev pub HasFactor : WrittenLength → Type 0

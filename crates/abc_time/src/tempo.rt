@@ -1,4 +1,5 @@
 ghost use Rattle.std.specs.Prelude.{◌≡◌, ◌≤◌, ◌↔◌, ℕ, SomeIff};
+ghost use Rattle.abc_text.specs.declared.digit.TheConstants.{LARGEST_NUMBER};
 ghost use Rattle.abc_time.specs.Ratio.{IsRatio};
 ghost use Rattle.abc_time.specs.Tempo.{in_tempo_event, quarter_micros_of, quarter_of, FitsInTempoEvent, IsQuarter};
 
@@ -16,7 +17,7 @@ const LONGEST_QUARTER: u64 = 16_777_215;
 pub fn quarter_micros(beat: Ratio, per_minute: u32) -> Option<u32>
     requires beat { IsRatio beat }
     requires some { 1 ≤ per_minute }
-    requires few { per_minute ≤ 999999999 }
+    requires few { per_minute ≤ LARGEST_NUMBER }
     ensures exact { result ≡ quarter_micros_of beat per_minute }
     ensures iff { SomeIff result (FitsInTempoEvent (quarter_of beat per_minute)) (quarter_of beat per_minute) }
 

@@ -3,6 +3,7 @@ use Rattle.std.specs.Prelude.{ℕ, ◌^◌, ◌<◌, ◌≤◌, ◌≤ℤ◌, po
 use Rattle.abc_text.specs.Power.{IsPowerUpTo}
 use Rattle.abc_time.specs.declared.grains.Grains.{Grains}
 use Rattle.abc_time.specs.Grains.{grains_of_the_latest_end}
+use Rattle.smf_bytes.specs.declared.limits.TheConstants.{LONGEST_TITLE, MOST_CHANGES, MOST_NOTES, MOST_VOICES}
 use Rattle.smf_bytes.specs.declared.score.Score.{Score}
 use Rattle.smf_bytes.specs.declared.score.Change.{Change}
 use Rattle.smf_bytes.specs.declared.score.ChangeKind.{ChangeKind}
@@ -27,18 +28,18 @@ pub record IsSoundingWithin (end : Grains) (note : Sounding) : Type 0 where
   pub before_end : note.off.0 ≤ end.0
   pub key : note.key ≤ 127
 
--- At most 16,000,000 notes. Our own.
+-- So many notes at most. Our own.
 pub record IsVoiceWithin (end : Grains) (notes : List Sounding) : Type 0 where
-  pub count : length notes ≤ 16000000
+  pub count : length notes ≤ MOST_NOTES
   pub each : All (IsSoundingWithin end) notes
 
 -- The end at most 131,072 whole notes, and counts that keep a track's length within 32 bits (SMF 1.0;
 -- the counts are our own).
 pub record AreCountsWithin (score : Score) : Type 0 where
   pub end : score.end.0 ≤ grains_of_the_latest_end
-  pub title : length score.title ≤ 65535
-  pub changes : length score.conductor ≤ 1000003
-  pub voices : length score.voices ≤ 15
+  pub title : length score.title ≤ LONGEST_TITLE
+  pub changes : length score.conductor ≤ MOST_CHANGES
+  pub voices : length score.voices ≤ MOST_VOICES
 
 -- A score that a file can hold.
 pub record IsWithinLimits (score : Score) : Type 0 where

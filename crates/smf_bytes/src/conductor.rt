@@ -1,6 +1,7 @@
 //! The events of the first track: the title, and the changes of tempo, meter and key.
 ghost use Rattle.std.specs.Prelude.{◌≡◌, ◌≤◌, ◌^◌, ◌<◌, ◌++◌, ◌∷◌, [], length, All, IfOk, OnOk};
 ghost use Rattle.abc_time.specs.Grains.{grains_of_the_latest_end};
+ghost use Rattle.smf_bytes.specs.declared.limits.TheConstants.{LONGEST_TITLE};
 ghost use Rattle.smf_bytes.specs.Event.{title_events, class_of, change_bytes, change_event};
 ghost use Rattle.smf_bytes.specs.Limits.{IsWritable, IsChangeWithin};
 ghost use Rattle.smf_bytes.specs.Track.{conductor_events};
@@ -20,7 +21,7 @@ pub(crate) fn conductor(
     changes: &[Change],
 ) -> Result<Vec<Event>, AllocError>
     requires end { end.0 ≤ grains_of_the_latest_end }
-    requires title { length title.now ≤ 65535 }
+    requires title { length title.now ≤ LONGEST_TITLE }
     requires changes { All (IsChangeWithin end) changes.now }
     ensures { IfOk result (λ events. events.items ≡ conductor_events title.now changes.now) }
 {
@@ -37,7 +38,7 @@ pub(crate) fn conductor(
 /// The event of a title.
 fn title_event(alloc: Global, title: &[u8]) -> Result<Event, AllocError>
     requires some { 0 < length title.now }
-    requires short { length title.now ≤ 65535 }
+    requires short { length title.now ≤ LONGEST_TITLE }
     ensures { IfOk result (λ event. event ∷ [] ≡ title_events title.now) }
 {
     Ok(Event {

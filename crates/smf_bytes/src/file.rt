@@ -1,6 +1,7 @@
 //! The file of a score.
 ghost use Rattle.std.specs.Prelude.{◌≡◌, ◌≤◌, ◌<◌, ◌^◌, ◌+◌, ◌++◌, length, IfOk, OnOk};
 ghost use Rattle.abc_time.specs.Grains.{grains_of_the_latest_end, tick_at};
+ghost use Rattle.smf_bytes.specs.declared.limits.TheConstants.{MOST_VOICES};
 ghost use Rattle.smf_bytes.specs.File.{header, voice_tracks, file_bytes};
 ghost use Rattle.smf_bytes.specs.Limits.{IsWithinLimits, IsVoiceWithin};
 ghost use Rattle.smf_bytes.specs.Track.{track, voice_events, channel_of};
@@ -8,9 +9,9 @@ ghost use Rattle.smf_bytes.specs.Track.{track, voice_events, channel_of};
 use crate::chunk::{put_u16, put_u32};
 use crate::conductor::conductor;
 use crate::score::{Score, Sounding};
-use abc_text::Sequence;
 use crate::track::put_track;
 use crate::voice::{channel, voice};
+use abc_text::Sequence;
 use abc_time::{Grains, tick_of};
 use std::alloc::{AllocError, Global};
 
@@ -59,7 +60,7 @@ fn put_voice(
     notes: &Sequence<Sounding>,
 ) -> Result<(), AllocError>
     requires end { end.0 ≤ grains_of_the_latest_end }
-    requires place { place < 15 }
+    requires place { place < MOST_VOICES }
     requires notes { IsVoiceWithin end notes.now }
     ensures { OnOk result (out.new.items ≡ out.old.items ++ track (tick_at end.0) (voice_events (channel_of place) notes.now)) }
 {

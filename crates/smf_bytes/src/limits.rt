@@ -7,6 +7,18 @@ use crate::score::{Change, ChangeKind, Score, Sounding};
 use abc_text::{Sequence, is_power_up_to};
 use abc_time::{Grains, LATEST_END};
 
+/// How many bytes a title has at most.
+pub const LONGEST_TITLE: usize = 65_535;
+
+/// How many changes of tempo, meter and key a score has at most.
+pub const MOST_CHANGES: usize = 1_000_003;
+
+/// How many voices a score has at most: MIDI has sixteen channels, of which the drums' is left out.
+pub const MOST_VOICES: usize = 15;
+
+/// How many notes a voice has at most.
+pub const MOST_NOTES: usize = 16_000_000;
+
 /// How often a whole note may be halved: a meter counts in 64ths at the finest.
 const MOST_HALVINGS: u32 = 6;
 
@@ -25,9 +37,9 @@ fn are_counts_within(score: &Score) -> bool
     ensures { IsTrue result ↔ AreCountsWithin score.now }
 {
     is_in_time(score.end)
-        && score.title.len() <= 65_535
-        && score.conductor.len() <= 1_000_003
-        && score.voices.len() <= 15
+        && score.title.len() <= LONGEST_TITLE
+        && score.conductor.len() <= MOST_CHANGES
+        && score.voices.len() <= MOST_VOICES
 }
 
 /// Whether a tune may end then.
@@ -76,7 +88,7 @@ fn are_voices_within(end: Grains, voices: &[Sequence<Sounding>]) -> bool
 fn is_voice_within(end: Grains, notes: &[Sounding]) -> bool
     ensures { IsTrue result ↔ IsVoiceWithin end notes.now }
 {
-    notes.len() <= 16_000_000 && are_notes_within(end, notes)
+    notes.len() <= MOST_NOTES && are_notes_within(end, notes)
 }
 
 /// Whether each note is within its limits.

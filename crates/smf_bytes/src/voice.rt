@@ -1,6 +1,7 @@
 //! The events of a voice: its notes on and off.
 ghost use Rattle.std.specs.Prelude.{◌≡◌, ◌≤◌, ◌<◌, ◌++◌, All, IfOk, OnOk};
 ghost use Rattle.abc_time.specs.Grains.{grains_of_the_latest_end};
+ghost use Rattle.smf_bytes.specs.declared.limits.TheConstants.{MOST_VOICES};
 ghost use Rattle.smf_bytes.specs.Event.{note_off, note_on, note_events};
 ghost use Rattle.smf_bytes.specs.Limits.{IsSoundingWithin};
 ghost use Rattle.smf_bytes.specs.Track.{voice_events, channel_of};
@@ -13,7 +14,7 @@ use std::alloc::{AllocError, Global};
 
 /// The channel of the voice at this place, from 0. The tenth is left out: it is for percussion.
 pub(crate) fn channel(place: usize) -> u8
-    requires { place < 15 }
+    requires { place < MOST_VOICES }
     ensures { result ≡ channel_of place }
 {
     if place < 9 {
