@@ -1,6 +1,6 @@
 //! A machine that listens to a reader, from its first byte to the end of the input.
 
-ghost use Rattle.std.specs.Prelude.{◌≡◌, ◌<◌, ◌≤◌, ℕ, List, true, false, length, MatchResult, IfSome};
+ghost use Rattle.std.specs.Prelude.{◌≡◌, ◌<◌, ◌≤◌, ◌-◌, ◌^◌, ℕ, List, true, false, length, MatchResult, IfSome};
 ghost use Rattle.std.specs.Io.KnownBytes.{Appends};
 ghost use Rattle.abc2midi_live.specs.Transcript.{input_lines};
 ghost use Rattle.abc2midi_live.specs.Outcome.{read_faults, write_faults, ends, read_counts, Leaves, Reads, Turn};
@@ -15,7 +15,12 @@ use abc_fold::Work;
 use std::alloc::Global;
 
 /// How many reads are made at most.
-pub(crate) const MOST_READS: u32 = 4_294_967_295;
+pub const MOST_READS: u32 = 4_294_967_295;
+
+/// A run makes as many reads as 32 bits can count.
+pub fn run_limits()
+    ensures { MOST_READS ≡ 2 ^ 32 - 1 }
+{}
 
 // One read, and what it leads to. Whether the run goes on.
 #[tactic(auto, using(crate::proofs::Counts::raised_none))]

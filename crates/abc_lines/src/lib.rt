@@ -9,5 +9,5 @@ mod lines;
 mod moves;
 
 pub use edit_error::EditError;
-pub use limits::{LONGEST_LINE, MOST_LINES};
+pub use limits::{LONGEST_LINE, MOST_LINES, text_limits};
 pub use lines::{LineBuffer, LinePatch};

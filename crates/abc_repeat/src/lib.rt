@@ -1,5 +1,4 @@
-//! The play of a voice's section by its repeat bars and endings, and the order in which sections are
-//! played.
+//! The play of a voice's section by its repeat bars and endings.
 #![tactic(auto)]
 
 mod fault;
@@ -11,5 +10,5 @@ mod strain;
 
 pub use fault::RepeatFault;
 pub use mark::Mark;
-pub use play::{MOST_PLACES, expand};
+pub use play::{MOST_PLACES, expand, play_limits};
 pub use strain::one_reading;

@@ -14,6 +14,11 @@ use std::alloc::{AllocError, Global};
 /// How many places are played at most.
 pub const MOST_PLACES: u64 = 1_000_000;
 
+/// A play has a million places at most.
+pub fn play_limits()
+    ensures { MOST_PLACES ≡ 10 ^ 6 }
+{}
+
 /// Puts the places of what is played of some marks, of which the first stands at `from`.
 fn put_places(play: &mut Vec<usize>, marks: &[Mark], from: usize) -> Result<(), AllocError>
     requires { from + length marks.now < 2 ^ 64 }

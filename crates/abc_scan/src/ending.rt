@@ -15,6 +15,11 @@ struct PassRange {
 /// The pass with the greatest number that an ending can have.
 const LAST_PASS: u32 = 32;
 
+/// An ending has passes 1 to 32, a bit for each.
+pub fn ending_limits()
+    ensures { LAST_PASS ≡ 32 }
+{}
+
 /// Whether a range names passes in order, of those that there can be.
 fn is_accepted(range: PassRange) -> bool
     ensures { result ≡ is_accepted range }

@@ -33,6 +33,7 @@ pub use broken::{BrokenRhythm, Direction};
 pub use cell::{Cell, cells};
 pub use chord::Chord;
 pub use class::{LineClass, class_of};
+pub use ending::ending_limits;
 pub use field::Field;
 pub use length::WrittenLength;
 pub use line::{one_cutting, scan};

@@ -10,9 +10,10 @@ pub const LONGEST_NUMBER: usize = 9;
 /// The largest number of so many digits.
 pub const LARGEST_NUMBER: u32 = 999_999_999;
 
-/// The largest number is written with nines alone, as many as a number may have digits.
+/// A number has nine digits at most, and the largest is written with as many nines.
 pub fn number_limits()
-    ensures { LARGEST_NUMBER + 1 ≡ 10 ^ LONGEST_NUMBER }
+    ensures longest { LONGEST_NUMBER ≡ 9 }
+    ensures largest { LARGEST_NUMBER + 1 ≡ 10 ^ LONGEST_NUMBER }
 {}
 
 /// Whether a byte is a decimal digit.

@@ -15,7 +15,9 @@ mod voice;
 
 pub use event::Event;
 pub use file::file_of;
-pub use limits::{LONGEST_TITLE, MOST_CHANGES, MOST_NOTES, MOST_VOICES, is_within_limits};
+pub use limits::{
+    LONGEST_TITLE, MOST_CHANGES, MOST_NOTES, MOST_VOICES, is_within_limits, score_limits,
+};
 pub use number::{NumberFault, number_texts, put_number, read_number};
 pub use order::{one_order, order_events};
 pub use score::{Change, ChangeKind, Score, Sounding};

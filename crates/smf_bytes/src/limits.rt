@@ -1,5 +1,5 @@
 //! The limits within which a file can hold a score.
-ghost use Rattle.std.specs.Prelude.{◌≤◌, ◌↔◌, All, IsTrue};
+ghost use Rattle.std.specs.Prelude.{◌≡◌, ◌≤◌, ◌↔◌, ◌-◌, ◌^◌, All, IsTrue};
 ghost use Rattle.abc_time.specs.Grains.{grains_of_the_latest_end};
 ghost use Rattle.smf_bytes.specs.Limits.{IsWritable, IsChangeWithin, IsSoundingWithin, IsVoiceWithin, AreCountsWithin, IsWithinLimits};
 
@@ -18,6 +18,14 @@ pub const MOST_VOICES: usize = 15;
 
 /// How many notes a voice has at most.
 pub const MOST_NOTES: usize = 16_000_000;
+
+/// The limits are these numbers. A title is as long as sixteen bits can say.
+pub fn score_limits()
+    ensures title { LONGEST_TITLE ≡ 2 ^ 16 - 1 }
+    ensures changes { MOST_CHANGES ≡ 1000003 }
+    ensures voices { MOST_VOICES ≡ 15 }
+    ensures notes { MOST_NOTES ≡ 16000000 }
+{}
 
 /// How often a whole note may be halved: a meter counts in 64ths at the finest.
 const MOST_HALVINGS: u32 = 6;
