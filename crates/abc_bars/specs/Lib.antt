@@ -1,0 +1,3 @@
+pub mod Column
+pub mod Unit
+pub mod Tempo

@@ -1,0 +1,12 @@
+//! Columns of faults.
+
+ghost use Rattle.std.specs.Prelude.{◌≡◌};
+ghost use Rattle.abc_bars.specs.Column.{column_of};
+
+/// The column of the byte at a place of a line, counted from 1. A line has at most 65,535 bytes, so that
+/// the greatest `u32` never stands for another column.
+pub(crate) fn column_of(place: usize) -> u32
+    ensures { result ≡ column_of place }
+{
+    u32::try_from(place).map_or(u32::MAX, |place| place.saturating_add(1))
+}

@@ -1,0 +1,76 @@
+//! What cells give to the score.
+
+use abc_fields::{FaultCode, Meter};
+use abc_scan::{BarLine, ShortSequence};
+use abc_text::Sequence;
+use abc_time::Grains;
+
+/// One note of a note or chord that takes time.
+#[derive(Clone, Copy, Debug, PartialEq, Eq)]
+pub struct Tone {
+    /// The key of MIDI, 60 being the middle C; None where MIDI has none for it, and it is silent.
+    pub key: Option<u8>,
+    pub length: Grains,
+    /// Whether a tie follows it.
+    pub tied: bool,
+}
+
+impl Default for Tone {
+    fn default() -> Self {
+        Tone {
+            key: None,
+            length: Grains(0),
+            tied: false,
+        }
+    }
+}
+
+/// What a cell gives to the score. `opening` marks what holds when the tune begins: each field of a
+/// header gives the tempo and meter as if the header ended behind it, of which the last counts, and the
+/// field that ends a header gives the key.
+#[derive(Clone, Debug, Drop, PartialEq, Eq)]
+pub enum Item {
+    /// The tune's reference number, 0 where X: has none.
+    Number(u32),
+    /// A note or chord, with the length that it takes.
+    Tone {
+        tones: ShortSequence<Tone>,
+        length: Grains,
+    },
+    /// A rest; `bar` where it rests for whole bars.
+    Rest { length: Grains, bar: bool },
+    Bar(BarLine),
+    /// The passes that an ending is for: bit i - 1 is set for pass i.
+    Ending(u32),
+    /// The capital letter of a part.
+    Section(u8),
+    /// Microseconds of a quarter note, None where the field sets none; `out` where its tempo is out of
+    /// range.
+    Tempo {
+        opening: bool,
+        micros: Option<u32>,
+        out: bool,
+    },
+    /// None where the field is refused.
+    Meter { opening: bool, meter: Option<Meter> },
+    /// Sharps, negative for flats, and whether the mode is minor; None where the signature stays.
+    Key {
+        opening: bool,
+        key: Option<(i8, bool)>,
+    },
+    /// The name of a voice: a header's V: declares it, another one makes it the current one.
+    Voice { opening: bool, name: Sequence<u8> },
+    Title(Sequence<u8>),
+    /// The order of the parts.
+    Order(Sequence<u8>),
+}
+
+/// A fault of a cell: its column, counted from 1, and its code.
+pub type LocalFault = (u32, FaultCode);
+
+/// What a cell gives: its items, and its faults in the order of their columns and codes.
+#[derive(Clone, Debug, Drop, PartialEq, Eq)]
+pub struct Items {
+    pub items: Sequence<Item>,
+    pub faults: Sequence<LocalFault>,
+}

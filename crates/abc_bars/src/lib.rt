@@ -1,0 +1,19 @@
+//! The music inside bars: what holds for each voice at a place of a tune, what each cell gives there,
+//! and its faults.
+#![tactic(auto)]
+
+mod accidentals;
+mod column;
+mod item;
+mod meter;
+mod settings;
+mod tempo;
+mod tied;
+mod tuplet;
+mod unit;
+mod voice_shift;
+
+pub use item::{Item, Items, LocalFault, Tone};
+pub use meter::TuneMeter;
+pub use tempo::TuneTempo;
+pub use unit::UnitLength;
