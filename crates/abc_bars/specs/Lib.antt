@@ -1,3 +1,5 @@
 pub mod Column
+pub mod Defaults
+pub mod FieldKind
 pub mod Unit
 pub mod Tempo

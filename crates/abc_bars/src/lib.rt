@@ -4,6 +4,8 @@
 
 mod accidentals;
 mod column;
+mod defaults;
+mod field_kind;
 mod item;
 mod meter;
 mod settings;
@@ -13,6 +15,7 @@ mod tuplet;
 mod unit;
 mod voice_shift;
 
+pub use defaults::Defaults;
 pub use item::{Item, Items, LocalFault, Tone};
 pub use meter::TuneMeter;
 pub use tempo::TuneTempo;

@@ -1,0 +1,63 @@
+-- The values that a file header sets for all tunes, and a tune's header for its own. ABC 2.1 section 3.1.
+use Rattle.std.specs.Prelude.{ℕ, List, Option, Some, None, unwrap_or, Result, Ok, Err}
+use Rattle.abc_fields.specs.declared.fault.FaultCode.{FaultCode}
+use Rattle.abc_fields.specs.declared.meter.Meter.{Meter}
+use Rattle.abc_fields.specs.declared.meter.Meter.TheVariants.{Free}
+use Rattle.abc_fields.specs.declared.tempo.Tempo.{Tempo}
+use Rattle.abc_fields.specs.declared.tempo.Tempo.TheVariants.{Unset, Units, Beat}
+use Rattle.abc_fields.specs.Meter.{meter_of}
+use Rattle.abc_fields.specs.Tempo.{tempo_of}
+use Rattle.abc_fields.specs.Unit.{unit_of}
+use Rattle.abc_time.specs.declared.ratio.Ratio.{Ratio}
+use Rattle.abc_bars.specs.Unit.{unit_by}
+use Rattle.abc_bars.specs.declared.defaults.Defaults.{Defaults}
+use Rattle.abc_bars.specs.declared.defaults.SettingGiven.{SettingGiven}
+use Rattle.abc_bars.specs.declared.field_kind.FieldKind.{FieldKind}
+use Rattle.abc_bars.specs.declared.field_kind.FieldKind.TheVariants as kinds
+
+-- No values, as at the beginning of a file header.
+abbrev pub no_defaults : Defaults
+no_defaults = record { meter = None; unit = None; tempo = None }
+
+-- The values behind a field that is accepted, or those before it and its fault.
+abbrev pub set_or_refused : {V : Type 0} → Defaults → (V → Defaults) → Result V FaultCode → SettingGiven
+set_or_refused defaults set (Ok value) = record { defaults = set value; fault = None }
+set_or_refused defaults set (Err fault) = record { defaults = defaults; fault = Some fault }
+
+-- The values behind an M:.
+abbrev pub meter_set : Defaults → List ℕ → SettingGiven
+meter_set defaults value = set_or_refused defaults (λ meter. record defaults { meter = Some meter }) (meter_of value)
+
+-- The values behind an L:.
+abbrev pub unit_set : Defaults → List ℕ → SettingGiven
+unit_set defaults value = set_or_refused defaults (λ unit. record defaults { unit = Some unit }) (unit_of value)
+
+-- The tempo behind an accepted Q:. One that is empty or a text alone counts as none. Our own.
+abbrev pub tempo_or : Option Tempo → Tempo → Option Tempo
+tempo_or before Unset = before
+tempo_or before (Units n) = Some (Units n)
+tempo_or before (Beat beat n) = Some (Beat beat n)
+
+-- The values behind a Q:.
+abbrev pub tempo_set : Defaults → List ℕ → SettingGiven
+tempo_set defaults value = set_or_refused defaults (λ tempo. record defaults { tempo = tempo_or defaults.tempo tempo }) (tempo_of value)
+
+-- The values behind a field with this value, of which only M:, L: and Q: set any.
+abbrev pub setting_given : Defaults → FieldKind → List ℕ → SettingGiven
+setting_given defaults kinds.Reference value = record { defaults = defaults; fault = None }
+setting_given defaults kinds.Title value = record { defaults = defaults; fault = None }
+setting_given defaults kinds.Meter value = meter_set defaults value
+setting_given defaults kinds.UnitLength value = unit_set defaults value
+setting_given defaults kinds.Tempo value = tempo_set defaults value
+setting_given defaults kinds.Parts value = record { defaults = defaults; fault = None }
+setting_given defaults kinds.Voice value = record { defaults = defaults; fault = None }
+setting_given defaults kinds.Key value = record { defaults = defaults; fault = None }
+setting_given defaults kinds.Other value = record { defaults = defaults; fault = None }
+
+-- The meter that holds where a header with these values ends: free meter without an M:.
+abbrev pub meter_in : Defaults → Meter
+meter_in defaults = unwrap_or defaults.meter Free
+
+-- The unit note length that holds where a header with these values ends: without an L: that of the meter.
+abbrev pub unit_in : Defaults → Ratio
+unit_in defaults = unwrap_or defaults.unit (unit_by (meter_in defaults))
