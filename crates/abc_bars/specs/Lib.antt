@@ -1,5 +1,9 @@
+pub mod BarRest
+pub mod Broken
 pub mod Column
 pub mod Defaults
 pub mod FieldKind
-pub mod Unit
+pub mod Lengths
 pub mod Tempo
+pub mod Tuplet
+pub mod Unit

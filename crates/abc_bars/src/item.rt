@@ -38,7 +38,10 @@ pub enum Item {
         length: Grains,
     },
     /// A rest; `bar` where it rests for whole bars.
-    Rest { length: Grains, bar: bool },
+    Rest {
+        length: Grains,
+        bar: bool,
+    },
     Bar(BarLine),
     /// The passes that an ending is for: bit i - 1 is set for pass i.
     Ending(u32),
@@ -52,14 +55,20 @@ pub enum Item {
         out: bool,
     },
     /// None where the field is refused.
-    Meter { opening: bool, meter: Option<Meter> },
+    Meter {
+        opening: bool,
+        meter: Option<Meter>,
+    },
     /// Sharps, negative for flats, and whether the mode is minor; None where the signature stays.
     Key {
         opening: bool,
         key: Option<(i8, bool)>,
     },
     /// The name of a voice: a header's V: declares it, another one makes it the current one.
-    Voice { opening: bool, name: Sequence<u8> },
+    Voice {
+        opening: bool,
+        name: Sequence<u8>,
+    },
     Title(Sequence<u8>),
     /// The order of the parts.
     Order(Sequence<u8>),

@@ -3,6 +3,7 @@
 #![tactic(auto)]
 
 mod accidentals;
+mod broken;
 mod column;
 mod defaults;
 mod field_kind;
