@@ -1,9 +1,13 @@
+pub mod Accidentals
+pub mod Alteration
 pub mod BarRest
 pub mod Broken
 pub mod Column
 pub mod Defaults
 pub mod FieldKind
+pub mod Item
 pub mod Lengths
+pub mod Pitch
 pub mod Tempo
 pub mod Tuplet
 pub mod Unit

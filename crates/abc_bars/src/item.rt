@@ -5,6 +5,12 @@ use abc_scan::{BarLine, ShortSequence};
 use abc_text::Sequence;
 use abc_time::Grains;
 
+/// The highest key of MIDI (SMF 1.0).
+pub const HIGHEST_KEY: u8 = 127;
+
+/// The most notes of a chord that count.
+pub const MOST_NOTES: usize = 16;
+
 /// One note of a note or chord that takes time.
 #[derive(Clone, Copy, Debug, PartialEq, Eq)]
 pub struct Tone {

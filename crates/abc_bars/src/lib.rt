@@ -3,12 +3,14 @@
 #![tactic(auto)]
 
 mod accidentals;
+mod alteration;
 mod broken;
 mod column;
 mod defaults;
 mod field_kind;
 mod item;
 mod meter;
+mod pitch;
 mod settings;
 mod tempo;
 mod tied;
@@ -17,7 +19,7 @@ mod unit;
 mod voice_shift;
 
 pub use defaults::Defaults;
-pub use item::{Item, Items, LocalFault, Tone};
+pub use item::{HIGHEST_KEY, Item, Items, LocalFault, MOST_NOTES, Tone};
 pub use meter::TuneMeter;
 pub use tempo::TuneTempo;
 pub use unit::UnitLength;
