@@ -1,1 +1,2 @@
 pub mod Pitches
+pub mod VoicesLemmas

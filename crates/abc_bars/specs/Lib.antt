@@ -11,3 +11,5 @@ pub mod Pitch
 pub mod Tempo
 pub mod Tuplet
 pub mod Unit
+pub mod Voices
+pub mod VoicesLent

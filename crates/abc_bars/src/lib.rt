@@ -16,10 +16,14 @@ mod tempo;
 mod tied;
 mod tuplet;
 mod unit;
+mod voice_name;
 mod voice_shift;
+mod voices;
 
 pub use defaults::Defaults;
 pub use item::{HIGHEST_KEY, Item, Items, LocalFault, MOST_NOTES, Tone};
 pub use meter::TuneMeter;
 pub use tempo::TuneTempo;
 pub use unit::UnitLength;
+pub use voice_name::VoiceName;
+pub use voices::Voices;
