@@ -1,2 +1,3 @@
+pub mod HeaderViews
 pub mod Pitches
 pub mod VoicesLemmas

@@ -7,8 +7,12 @@ pub mod Defaults
 pub mod FieldKind
 pub mod Item
 pub mod Lengths
+pub mod LookBack
+pub mod Opening
 pub mod Pitch
+pub mod Reference
 pub mod Tempo
+pub mod TempoItem
 pub mod Tuplet
 pub mod Unit
 pub mod Voices

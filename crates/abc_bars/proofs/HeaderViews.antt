@@ -1,0 +1,68 @@
+-- The values behind one more field are those that the field gives from the ones before it.
+use Rattle.std.proofs.Common.{◌≡◌, ℕ, List, ◌∷◌, Some, Result, Ok, Err, refl}
+use Rattle.abc_fields.specs.declared.fault.FaultCode.{FaultCode}
+use Rattle.abc_fields.specs.declared.meter.Meter.{Meter}
+use Rattle.abc_fields.specs.declared.tempo.Tempo.{Tempo}
+use Rattle.abc_fields.specs.declared.tempo.Tempo.TheVariants.{Unset, Units, Beat}
+use Rattle.abc_fields.specs.Meter.{meter_of}
+use Rattle.abc_fields.specs.Tempo.{tempo_of}
+use Rattle.abc_fields.specs.Unit.{unit_of}
+use Rattle.abc_scan.specs.declared.field.Field.{Field}
+use Rattle.abc_time.specs.declared.ratio.Ratio.{Ratio}
+use Rattle.abc_bars.specs.Defaults.{set_or_refused, tempo_or, setting_given}
+use Rattle.abc_bars.specs.FieldKind.{kind_of}
+use Rattle.abc_bars.specs.LookBack.Defaults.{here_or, if_set, meter_by, unit_by, tempo_by, defaults_at}
+use Rattle.abc_bars.specs.declared.defaults.Defaults.{Defaults}
+use Rattle.abc_bars.specs.declared.field_kind.FieldKind.{FieldKind}
+use Rattle.abc_bars.specs.declared.field_kind.FieldKind.TheVariants as kinds
+use Rattle.std.specs.Result.{result_ok}
+
+-- The values before a field, with what it says of each.
+abbrev said : Defaults → FieldKind → List ℕ → Defaults
+said defaults kind value = record {
+  meter = here_or (meter_by kind value) defaults.meter;
+  unit = here_or (unit_by kind value) defaults.unit;
+  tempo = here_or (tempo_by kind value) defaults.tempo;
+}
+
+-- A reading of M: sets what it says.
+meter_read : (defaults : Defaults) (reading : Result Meter FaultCode) →
+    record defaults { meter = here_or (result_ok reading) defaults.meter }
+    ≡ (set_or_refused defaults (λ meter. record defaults { meter = Some meter }) reading).defaults
+meter_read defaults (Ok meter) = refl
+meter_read defaults (Err fault) = refl
+
+-- A reading of L: sets what it says.
+unit_read : (defaults : Defaults) (reading : Result Ratio FaultCode) →
+    record defaults { unit = here_or (result_ok reading) defaults.unit }
+    ≡ (set_or_refused defaults (λ unit. record defaults { unit = Some unit }) reading).defaults
+unit_read defaults (Ok unit) = refl
+unit_read defaults (Err fault) = refl
+
+-- A reading of Q: sets what it says, if it says something.
+tempo_read : (defaults : Defaults) (reading : Result Tempo FaultCode) →
+    record defaults { tempo = here_or (if_set (result_ok reading)) defaults.tempo }
+    ≡ (set_or_refused defaults (λ tempo. record defaults { tempo = tempo_or defaults.tempo tempo }) reading).defaults
+tempo_read defaults (Ok Unset) = refl
+tempo_read defaults (Ok (Units n)) = refl
+tempo_read defaults (Ok (Beat beat n)) = refl
+tempo_read defaults (Err fault) = refl
+
+-- A field of each kind sets what it says.
+setting_said : (defaults : Defaults) (kind : FieldKind) (value : List ℕ) →
+    said defaults kind value ≡ (setting_given defaults kind value).defaults
+setting_said defaults kinds.Reference value = refl
+setting_said defaults kinds.Title value = refl
+setting_said defaults kinds.Meter value = meter_read defaults (meter_of value)
+setting_said defaults kinds.UnitLength value = unit_read defaults (unit_of value)
+setting_said defaults kinds.Tempo value = tempo_read defaults (tempo_of value)
+setting_said defaults kinds.Parts value = refl
+setting_said defaults kinds.Voice value = refl
+setting_said defaults kinds.Key value = refl
+setting_said defaults kinds.Other value = refl
+
+-- The values behind one more field are those that it gives from the ones before it.
+pub defaults_behind : (opening : Defaults) (before : List Field) (field : Field) →
+    defaults_at opening (field ∷ before)
+    ≡ (setting_given (defaults_at opening before) (kind_of field.letter) field.value).defaults
+defaults_behind opening before field = setting_said (defaults_at opening before) (kind_of field.letter) field.value

@@ -1,0 +1,32 @@
+//! What holds when a tune begins.
+
+ghost use Rattle.std.specs.Prelude.{◌≡◌};
+ghost use Rattle.abc_bars.specs.Opening.{opening_tempo, opening_meter};
+
+use crate::defaults::{Defaults, meter_in, unit_in};
+use crate::item::Item;
+use crate::tempo_item::tempo_item;
+
+/// The tempo with which a tune begins whose header ends with these values.
+pub(crate) fn opening_tempo(defaults: Defaults) -> Item
+    ensures { result ≡ opening_tempo defaults }
+{
+    match defaults.tempo {
+        Some(tempo) => tempo_item(true, unit_in(defaults), tempo),
+        None => Item::Tempo {
+            opening: true,
+            micros: None,
+            out: false,
+        },
+    }
+}
+
+/// The meter with which a tune begins whose header ends with these values.
+pub(crate) fn opening_meter(defaults: Defaults) -> Item
+    ensures { result ≡ opening_meter defaults }
+{
+    Item::Meter {
+        opening: true,
+        meter: Some(meter_in(defaults).get()),
+    }
+}
