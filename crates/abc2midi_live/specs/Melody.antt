@@ -4,7 +4,7 @@ use Rattle.abc_time.specs.declared.grains.Grains.{Grains}
 use Rattle.abc_time.specs.Grains.{grains_of_the_latest_end}
 use Rattle.abc2midi_live.specs.declared.melody.TheConstants.{MOST_TIME_TOKENS}
 use Rattle.abc2midi_live.specs.declared.melody.TimeToken.{TimeToken}
-use Rattle.smf_bytes.specs.declared.score.Sounding.{Sounding}
+use Rattle.abc_voices.specs.declared.score.Sounding.{Sounding}
 
 -- a silent token, or one whose key MIDI has (SMF 1.0)
 abbrev pub HasMidiKey : TimeToken → Type 0

@@ -7,12 +7,12 @@ use Rattle.abc2midi_live.specs.declared.melody.TimeToken.{TimeToken}
 use Rattle.abc2midi_live.specs.Melody.{notes_from}
 use Rattle.abc2midi_live.specs.declared.opening.Opening.{Opening}
 use Rattle.abc2midi_live.specs.PlainTune.{Heading}
-use Rattle.smf_bytes.specs.Limits.{IsWritable}
-use Rattle.smf_bytes.specs.declared.score.Change.{Change}
-use Rattle.smf_bytes.specs.declared.score.ChangeKind.{ChangeKind}
-use Rattle.smf_bytes.specs.declared.score.ChangeKind.TheVariants.{Tempo, Meter, Key}
-use Rattle.smf_bytes.specs.declared.score.Score.{Score}
-use Rattle.smf_bytes.specs.declared.score.Sounding.{Sounding}
+use Rattle.abc_voices.specs.Limits.{IsWritable}
+use Rattle.abc_voices.specs.declared.score.Change.{Change}
+use Rattle.abc_voices.specs.declared.score.ChangeKind.{ChangeKind}
+use Rattle.abc_voices.specs.declared.score.ChangeKind.TheVariants.{Tempo, Meter, Key}
+use Rattle.abc_voices.specs.declared.score.Score.{Score}
+use Rattle.abc_voices.specs.declared.score.Sounding.{Sounding}
 
 -- a change at the start of a tune
 abbrev pub at_start : ChangeKind → Change

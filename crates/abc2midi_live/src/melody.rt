@@ -3,7 +3,7 @@
 ghost use Rattle.std.specs.Prelude.{◌≡◌, ◌≤◌, length, All, IfOk, IfSome, OnSome};
 ghost use Rattle.abc_time.specs.Grains.{grains_of_the_latest_end};
 ghost use Rattle.abc2midi_live.specs.Melody.{total, notes_from, end_of, HasMidiKey};
-ghost use Rattle.smf_bytes.specs.Limits.{IsSoundingWithin};
+ghost use Rattle.abc_voices.specs.Limits.{IsSoundingWithin};
 
 use abc_text::Sequence;
 use abc_time::{Grains, LATEST_END};

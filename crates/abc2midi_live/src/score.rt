@@ -2,7 +2,7 @@
 
 ghost use Rattle.std.specs.Prelude.{◌≡◌, ◌≤◌, [], ◌∷◌, ◌++◌, length, All, IfOk, OnOk};
 ghost use Rattle.abc_time.specs.Grains.{grains_of_the_latest_end};
-ghost use Rattle.smf_bytes.specs.Limits.{IsVoiceWithin, IsWithinLimits, IsWritable};
+ghost use Rattle.abc_voices.specs.Limits.{IsVoiceWithin, IsWithinLimits, IsWritable};
 ghost use Rattle.abc2midi_live.specs.Heading.{seen};
 ghost use Rattle.abc2midi_live.specs.Melody.{total, HasMidiKey};
 ghost use Rattle.abc2midi_live.specs.Opening.{IsOpening};

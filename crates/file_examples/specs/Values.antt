@@ -1,9 +1,9 @@
 -- Values as the worked examples write them: a tick is 484,323,840 grains. Our own.
 use Rattle.std.specs.Prelude.{ℕ, ◌+◌, ◌*◌}
 use Rattle.abc_time.specs.declared.grains.Grains.{Grains}
-use Rattle.smf_bytes.specs.declared.score.Change.{Change}
-use Rattle.smf_bytes.specs.declared.score.ChangeKind.{ChangeKind}
-use Rattle.smf_bytes.specs.declared.score.Sounding.{Sounding}
+use Rattle.abc_voices.specs.declared.score.Change.{Change}
+use Rattle.abc_voices.specs.declared.score.ChangeKind.{ChangeKind}
+use Rattle.abc_voices.specs.declared.score.Sounding.{Sounding}
 
 -- the moment of a tick
 abbrev pub at_tick : ℕ → Grains

@@ -8,14 +8,14 @@ use Rattle.std.proofs.lemmas.List.Elements.{All-nil, All-cons, All-head, All-tai
 use Rattle.abc_time.specs.declared.grains.Grains.{Grains}
 use Rattle.abc_time.specs.Grains.{tick_at, tick_at-le}
 use Rattle.smf_bytes.specs.declared.event.Event.{Event}
-use Rattle.smf_bytes.specs.declared.score.Change.{Change}
-use Rattle.smf_bytes.specs.declared.score.ChangeKind.{ChangeKind}
-use Rattle.smf_bytes.specs.declared.score.ChangeKind.TheVariants.{Tempo, Meter, Key}
-use Rattle.smf_bytes.specs.declared.score.Sounding.{Sounding}
+use Rattle.abc_voices.specs.declared.score.Change.{Change}
+use Rattle.abc_voices.specs.declared.score.ChangeKind.{ChangeKind}
+use Rattle.abc_voices.specs.declared.score.ChangeKind.TheVariants.{Tempo, Meter, Key}
+use Rattle.abc_voices.specs.declared.score.Sounding.{Sounding}
 use Rattle.smf_bytes.specs.Number.{leading_bytes, number_text}
 use Rattle.smf_bytes.specs.Order.{insert_event, in_order}
 use Rattle.smf_bytes.specs.Event.{meta_event, title_events, change_bytes, change_event, note_events, note_off, note_on, end_event}
-use Rattle.smf_bytes.specs.Limits.{IsChangeWithin, IsSoundingWithin}
+use Rattle.abc_voices.specs.Limits.{IsChangeWithin, IsSoundingWithin}
 use Rattle.smf_bytes.specs.Track.{timed, track_body, conductor_events, voice_events}
 use Rattle.smf_bytes.proofs.Ordered.{less, past, here}
 

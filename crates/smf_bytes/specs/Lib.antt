@@ -1,6 +1,5 @@
 pub mod Event
 pub mod File
-pub mod Limits
 pub mod Number
 pub mod Order
 pub mod Track

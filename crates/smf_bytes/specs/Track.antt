@@ -2,8 +2,8 @@
 use Rattle.std.specs.Prelude.{ℕ, ◌+◌, ◌-◌, nat_lt, if◌then◌else◌, List, [], ◌∷◌, ◌++◌, length, flat_map, map, codes}
 use Rattle.byteorder.specs.Endian.{big_bytes}
 use Rattle.smf_bytes.specs.declared.event.Event.{Event}
-use Rattle.smf_bytes.specs.declared.score.Change.{Change}
-use Rattle.smf_bytes.specs.declared.score.Sounding.{Sounding}
+use Rattle.abc_voices.specs.declared.score.Change.{Change}
+use Rattle.abc_voices.specs.declared.score.Sounding.{Sounding}
 use Rattle.smf_bytes.specs.Number.{number_text}
 use Rattle.smf_bytes.specs.Order.{in_order}
 use Rattle.smf_bytes.specs.Event.{title_events, change_event, note_events, end_event}

@@ -1,18 +1,18 @@
 //! The file of a score.
 ghost use Rattle.std.specs.Prelude.{◌≡◌, ◌≤◌, ◌<◌, ◌^◌, ◌+◌, ◌++◌, length, IfOk, OnOk};
 ghost use Rattle.abc_time.specs.Grains.{grains_of_the_latest_end, tick_at};
-ghost use Rattle.smf_bytes.specs.declared.limits.TheConstants.{MOST_VOICES};
+ghost use Rattle.abc_voices.specs.declared.limits.TheConstants.{MOST_VOICES};
 ghost use Rattle.smf_bytes.specs.File.{header, voice_tracks, file_bytes};
-ghost use Rattle.smf_bytes.specs.Limits.{IsWithinLimits, IsVoiceWithin};
+ghost use Rattle.abc_voices.specs.Limits.{IsWithinLimits, IsVoiceWithin};
 ghost use Rattle.smf_bytes.specs.Track.{track, voice_events, channel_of};
 
 use crate::chunk::{put_u16, put_u32};
 use crate::conductor::conductor;
-use crate::score::{Score, Sounding};
 use crate::track::put_track;
 use crate::voice::{channel, voice};
 use abc_text::Sequence;
 use abc_time::{Grains, tick_of};
+use abc_voices::{Score, Sounding};
 use std::alloc::{AllocError, Global};
 
 /// The Standard MIDI File of a score: format 1, 480 ticks to a quarter note, first the title and the

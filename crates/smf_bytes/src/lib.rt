@@ -6,18 +6,16 @@ mod chunk;
 mod conductor;
 mod event;
 mod file;
-mod limits;
 mod number;
 mod order;
-mod score;
 mod track;
 mod voice;
 
+pub use abc_voices::{
+    Change, ChangeKind, LONGEST_TITLE, MOST_CHANGES, MOST_NOTES, MOST_VOICES, Score, Sounding,
+    is_within_limits, score_limits,
+};
 pub use event::Event;
 pub use file::file_of;
-pub use limits::{
-    LONGEST_TITLE, MOST_CHANGES, MOST_NOTES, MOST_VOICES, is_within_limits, score_limits,
-};
 pub use number::{NumberFault, number_texts, put_number, read_number};
 pub use order::{one_order, order_events};
-pub use score::{Change, ChangeKind, Score, Sounding};

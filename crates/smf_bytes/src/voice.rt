@@ -1,15 +1,15 @@
 //! The events of a voice: its notes on and off.
 ghost use Rattle.std.specs.Prelude.{◌≡◌, ◌≤◌, ◌<◌, ◌++◌, All, IfOk, OnOk};
 ghost use Rattle.abc_time.specs.Grains.{grains_of_the_latest_end};
-ghost use Rattle.smf_bytes.specs.declared.limits.TheConstants.{MOST_VOICES};
+ghost use Rattle.abc_voices.specs.declared.limits.TheConstants.{MOST_VOICES};
 ghost use Rattle.smf_bytes.specs.Event.{note_off, note_on, note_events};
-ghost use Rattle.smf_bytes.specs.Limits.{IsSoundingWithin};
+ghost use Rattle.abc_voices.specs.Limits.{IsSoundingWithin};
 ghost use Rattle.smf_bytes.specs.Track.{voice_events, channel_of};
 
 use crate::event::Event;
-use crate::score::Sounding;
 use abc_text::Sequence;
 use abc_time::{Grains, tick_of};
+use abc_voices::Sounding;
 use std::alloc::{AllocError, Global};
 
 /// The channel of the voice at this place, from 0. The tenth is left out: it is for percussion.

@@ -1,6 +1,6 @@
 use Rattle.std.proofs.Common.{◌≡◌, ◌+◌, ◌≤◌, ◌++◌, All, length, drop}
 use Rattle.abc2midi_live.specs.Melody.{total, notes_from}
-use Rattle.smf_bytes.specs.Limits.{IsSoundingWithin}
+use Rattle.abc_voices.specs.Limits.{IsSoundingWithin}
 use Rattle.abc2midi_live.proofs.melody.notes_of.Given as goal
 
 abbrev pub invariant-loop-token : goal.invariant-loop-token

@@ -1,7 +1,7 @@
 //! The limits within which a file can hold a score.
 ghost use Rattle.std.specs.Prelude.{◌≡◌, ◌≤◌, ◌↔◌, ◌-◌, ◌^◌, All, IsTrue};
 ghost use Rattle.abc_time.specs.Grains.{grains_of_the_latest_end};
-ghost use Rattle.smf_bytes.specs.Limits.{IsWritable, IsChangeWithin, IsSoundingWithin, IsVoiceWithin, AreCountsWithin, IsWithinLimits};
+ghost use Rattle.abc_voices.specs.Limits.{IsWritable, IsChangeWithin, IsSoundingWithin, IsVoiceWithin, AreCountsWithin, IsWithinLimits};
 
 use crate::score::{Change, ChangeKind, Score, Sounding};
 use abc_text::{Sequence, is_power_up_to};

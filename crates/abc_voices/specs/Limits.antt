@@ -3,12 +3,12 @@ use Rattle.std.specs.Prelude.{ℕ, ◌^◌, ◌<◌, ◌≤◌, ◌≤ℤ◌, po
 use Rattle.abc_text.specs.Power.{IsPowerUpTo}
 use Rattle.abc_time.specs.declared.grains.Grains.{Grains}
 use Rattle.abc_time.specs.Grains.{grains_of_the_latest_end}
-use Rattle.smf_bytes.specs.declared.limits.TheConstants.{LONGEST_TITLE, MOST_CHANGES, MOST_NOTES, MOST_VOICES}
-use Rattle.smf_bytes.specs.declared.score.Score.{Score}
-use Rattle.smf_bytes.specs.declared.score.Change.{Change}
-use Rattle.smf_bytes.specs.declared.score.ChangeKind.{ChangeKind}
-use Rattle.smf_bytes.specs.declared.score.ChangeKind.TheVariants.{Tempo, Meter, Key}
-use Rattle.smf_bytes.specs.declared.score.Sounding.{Sounding}
+use Rattle.abc_voices.specs.declared.limits.TheConstants.{LONGEST_TITLE, MOST_CHANGES, MOST_NOTES, MOST_VOICES}
+use Rattle.abc_voices.specs.declared.score.Score.{Score}
+use Rattle.abc_voices.specs.declared.score.Change.{Change}
+use Rattle.abc_voices.specs.declared.score.ChangeKind.{ChangeKind}
+use Rattle.abc_voices.specs.declared.score.ChangeKind.TheVariants.{Tempo, Meter, Key}
+use Rattle.abc_voices.specs.declared.score.Sounding.{Sounding}
 
 -- A tempo of one to 2^24 - 1 microseconds to a quarter, a meter over a power of two up to 64, a key of at
 -- most seven sharps or flats (SMF 1.0).
