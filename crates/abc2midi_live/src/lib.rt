@@ -28,6 +28,7 @@ mod transcript;
 pub use abc_lines::EditError;
 pub use edit::{Edit, Report};
 pub use fault::RunFault;
+pub use melody::melody_limits;
 pub use reading::{MOST_READS, run_limits};
 pub use session::Session;
 pub use streams::{Piped, Sink, Source, Store, StoreFault, StreamFault};

@@ -1,6 +1,6 @@
 //! The time tokens of a tune, one after another.
 
-ghost use Rattle.std.specs.Prelude.{◌≡◌, ◌≤◌, length, All, IfOk, IfSome, OnSome};
+ghost use Rattle.std.specs.Prelude.{◌≡◌, ◌≤◌, ◌^◌, length, All, IfOk, IfSome, OnSome};
 ghost use Rattle.abc_time.specs.Grains.{grains_of_the_latest_end};
 ghost use Rattle.abc2midi_live.specs.Melody.{total, notes_from, end_of, HasMidiKey};
 ghost use Rattle.abc_voices.specs.Limits.{IsSoundingWithin};
@@ -19,6 +19,11 @@ pub(crate) struct TimeToken {
 
 /// The most notes and rests that a tune plays.
 pub(crate) const MOST_TIME_TOKENS: usize = 1_000_000;
+
+/// A tune plays a million notes and rests at most.
+pub fn melody_limits()
+    ensures { MOST_TIME_TOKENS ≡ 10 ^ 6 }
+{}
 
 /// The moment at which the tokens end, if it is within the limits of a tune.
 #[tactic(auto, unfolding(crate::specs::Melody::end_of))]
