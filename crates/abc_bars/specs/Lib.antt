@@ -2,6 +2,7 @@ pub mod Accidentals
 pub mod Alteration
 pub mod BarRest
 pub mod Broken
+pub mod Chords
 pub mod Column
 pub mod Defaults
 pub mod FieldKind
@@ -11,8 +12,10 @@ pub mod LookBack
 pub mod Opening
 pub mod Pitch
 pub mod Reference
+pub mod Sound
 pub mod Tempo
 pub mod TempoItem
+pub mod TimeTokens
 pub mod Tuplet
 pub mod Unit
 pub mod Voices
