@@ -1,3 +1,5 @@
+pub mod Factors
 pub mod HeaderViews
 pub mod Pitches
 pub mod VoicesLemmas
+pub mod WholeParts

@@ -1,7 +1,7 @@
 //! Broken rhythm: which marks act, and what they multiply the lengths beside them by.
 
-ghost use Rattle.std.specs.Prelude.{◌≡◌};
-ghost use Rattle.abc_bars.specs.Broken.{has_note, role_of, is_time_token, behind_after, time_follows, mark_ahead, halved, first_factor, second_factor, factors_of, is_bad_mark};
+ghost use Rattle.std.specs.Prelude.{◌≡◌, ◌≤◌, ◌^◌};
+ghost use Rattle.abc_bars.specs.Broken.{has_note, role_of, is_time_token, behind_after, time_follows, mark_ahead, mark_behind, halved, shorter, longer, first_factor, second_factor, factors_of, is_bad_mark};
 ghost use Rattle.abc_time.specs.Ratio.{IsRatio};
 
 use abc_scan::{BrokenRhythm, ChordPart, ChordPartKind, Direction, Token, TokenKind};
@@ -38,9 +38,9 @@ pub(crate) enum Role {
 #[derive(Debug, Drop)]
 pub(crate) struct BrokenFactors {
     /// From the mark before it.
-    behind: Option<Ratio>,
+    pub(crate) behind: Option<Ratio>,
     /// From the mark that comes next.
-    ahead: Option<Ratio>,
+    pub(crate) ahead: Option<Ratio>,
 }
 
 impl Model for BrokenFactors {
@@ -53,4 +53,155 @@ impl Model for BrokenFactors {
     ghost view = { λ f. option_to_list f.behind ++ option_to_list f.ahead };
 
     ghost invariant = { λ f. IfSome f.behind IsRatio × IfSome f.ahead IsRatio };
+}
+
+impl BrokenFactors {
+    /// The factors of a note, chord or rest behind which these tokens stand, up to the cell's end.
+    pub(crate) fn of(behind: Behind, ahead: &[Token]) -> BrokenFactors
+        ensures { result ≡ factors_of behind ahead.now }
+    {
+        BrokenFactors {
+            behind: mark_behind(behind).map(second_factor),
+            ahead: mark_ahead(ahead).map(first_factor),
+        }
+    }
+}
+
+/// Whether a chord has a note.
+fn has_note(inside: &[ChordPart]) -> bool
+    ensures { result ≡ has_note inside.now }
+{
+    inside
+        .iter()
+        .any(|part| matches!(part.kind, ChordPartKind::Note(_)))
+}
+
+/// What a token is to broken rhythm.
+fn role_of(kind: &TokenKind) -> Role
+    ensures { result ≡ role_of kind.now }
+{
+    match kind {
+        TokenKind::Note(_) | TokenKind::Rest(_) => Role::Time,
+        TokenKind::Chord(chord) if has_note(chord.parts.as_slice()) => Role::Time,
+        TokenKind::Broken(mark) => Role::Mark(*mark),
+        TokenKind::BarRest(_) | TokenKind::InlineField(_) | TokenKind::Field(_) => Role::Hindrance,
+        _ => Role::Silent,
+    }
+}
+
+/// Whether a token is a time token: a note, a rest, or a chord with a note.
+pub(crate) fn is_time_token(kind: &TokenKind) -> bool
+    ensures { result ≡ is_time_token kind.now }
+{
+    matches!(role_of(kind), Role::Time)
+}
+
+/// What stands nearest before the next place, of what matters.
+pub(crate) fn behind_after(behind: Behind, kind: &TokenKind) -> Behind
+    ensures { result ≡ behind_after behind kind.now }
+{
+    match (role_of(kind), behind) {
+        (Role::Time, _) => Behind::TimeToken,
+        (Role::Mark(mark), Behind::TimeToken) => Behind::Mark(mark),
+        (Role::Mark(_) | Role::Hindrance, _) => Behind::Nothing,
+        (Role::Silent, _) => behind,
+    }
+}
+
+/// Whether a time token comes first of what matters.
+fn time_follows(tokens: &[Token]) -> bool
+    ensures { result ≡ time_follows tokens.now }
+{
+    for token in tokens {
+        match role_of(&token.kind) {
+            Role::Time => return true,
+            Role::Mark(_) | Role::Hindrance => return false,
+            Role::Silent => {}
+        }
+    }
+    false
+}
+
+/// The mark that comes first of what matters, where a time token follows it.
+fn mark_ahead(tokens: &[Token]) -> Option<BrokenRhythm>
+    ensures { result ≡ mark_ahead tokens.now }
+{
+    for (i, token) in tokens.iter().enumerate() {
+        match role_of(&token.kind) {
+            Role::Mark(mark) if time_follows(&tokens[i + 1..]) => return Some(mark),
+            Role::Silent => {}
+            Role::Time | Role::Mark(_) | Role::Hindrance => return None,
+        }
+    }
+    None
+}
+
+/// The mark that a place stands behind, which had a time token before it.
+fn mark_behind(behind: Behind) -> Option<BrokenRhythm>
+    ensures { result ≡ mark_behind behind }
+{
+    match behind {
+        Behind::Mark(mark) => Some(mark),
+        Behind::Nothing | Behind::TimeToken => None,
+    }
+}
+
+/// Two to the number of marks.
+fn halved(mark: BrokenRhythm) -> u32
+    ensures value { result ≡ halved mark }
+    ensures range { (1 ≤ result) × (result ≤ 2 ^ MOST_MARKS) }
+{
+    1 << mark.marks.min(MOST_MARKS)
+}
+
+/// 1/2^k: what k marks make of the shorter one.
+fn shorter(mark: BrokenRhythm) -> Ratio
+    ensures value { result ≡ shorter mark }
+    ensures range { IsRatio result }
+{
+    Ratio {
+        num: 1,
+        den: halved(mark),
+    }
+}
+
+/// 2 - 1/2^k: what k marks make of the longer one.
+fn longer(mark: BrokenRhythm) -> Ratio
+    ensures value { result ≡ longer mark }
+    ensures range { IsRatio result }
+{
+    let den = halved(mark);
+    Ratio {
+        num: 2 * den - 1,
+        den,
+    }
+}
+
+/// What a mark multiplies the note, chord or rest before it by (ABC 2.1 section 4.4).
+fn first_factor(mark: BrokenRhythm) -> Ratio
+    ensures value { result ≡ first_factor mark }
+    ensures range { IsRatio result }
+{
+    match mark.direction {
+        Direction::Right => longer(mark),
+        Direction::Left => shorter(mark),
+    }
+}
+
+/// What a mark multiplies the note, chord or rest behind it by.
+fn second_factor(mark: BrokenRhythm) -> Ratio
+    ensures value { result ≡ second_factor mark }
+    ensures range { IsRatio result }
+{
+    match mark.direction {
+        Direction::Right => shorter(mark),
+        Direction::Left => longer(mark),
+    }
+}
+
+/// Whether a mark has no two notes, chords or rests to act on.
+pub(crate) fn is_bad_mark(behind: Behind, ahead: &[Token]) -> bool
+    ensures { result ≡ is_bad_mark behind ahead.now }
+{
+    !(behind == Behind::TimeToken && time_follows(ahead))
 }

@@ -4,6 +4,7 @@
 
 mod accidentals;
 mod alteration;
+mod bar_rest;
 mod broken;
 mod chords;
 mod column;
@@ -11,6 +12,7 @@ mod defaults;
 mod field_kind;
 mod header_laws;
 mod item;
+mod lengths;
 mod meter;
 mod opening;
 mod pitch;

@@ -60,21 +60,6 @@ impl OpenTuplet {
         }
     }
 
-    /// What is left of it behind one more note, chord or rest.
-    pub(crate) fn counted_down(self) -> Option<OpenTuplet>
-        ensures { result ≡ counted_down (Some self) }
-    {
-        if self.left > 1 {
-            Some(OpenTuplet {
-                p: self.p,
-                q: self.q,
-                left: self.left - 1,
-            })
-        } else {
-            None
-        }
-    }
-
     /// What it multiplies a length by.
     pub(crate) fn ratio(self) -> Ratio
         ensures value { result ≡ tuplet_ratio self }
@@ -130,5 +115,21 @@ pub(crate) fn tuplet_opened(
         (None, _) => (before, Some(FaultCode::BadTuplet)),
         (new, None) => (new, None),
         (new, Some(_)) => (new, Some(FaultCode::NestedTuplet)),
+    }
+}
+
+/// What is left of the open tuplet behind one more note, chord or rest.
+pub(crate) fn counted_down(before: Option<OpenTuplet>) -> Option<OpenTuplet>
+    ensures { result ≡ counted_down before }
+{
+    let open = before?;
+    if open.left > 1 {
+        Some(OpenTuplet {
+            p: open.p,
+            q: open.q,
+            left: open.left - 1,
+        })
+    } else {
+        None
     }
 }

@@ -1,13 +1,15 @@
 //! The unit note length that holds.
 
-ghost use Rattle.std.specs.Prelude.{◌≡◌, IfOk};
+ghost use Rattle.std.specs.Prelude.{◌≡◌, ◌≤◌, [], IfOk};
 ghost use Rattle.abc_fields.specs.Unit.{unit_of};
+ghost use Rattle.abc_time.specs.Grains.{grains_of_the_longest_length};
+ghost use Rattle.abc_time.specs.Length.{IsLength};
 ghost use Rattle.abc_time.specs.Ratio.{IsRatio};
-ghost use Rattle.abc_bars.specs.Unit.{unit_by};
+ghost use Rattle.abc_bars.specs.Unit.{unit_by, unit_grains, IsUnitPart};
 
 use crate::meter::TuneMeter;
 use abc_fields::{FaultCode, Meter, read_unit};
-use abc_time::Ratio;
+use abc_time::{Grains, Ratio, WHOLE_NOTE};
 use std::marker::Model;
 
 /// A unit note length, as a part of a whole note (ABC 2.1 section 3.1.7). Contracts see the part.
@@ -18,13 +20,13 @@ pub struct UnitLength {
 
 impl Model for UnitLength {
     ghost use Rattle.abc_time.specs.declared.ratio.Ratio.{Ratio};
-    ghost use Rattle.abc_time.specs.Ratio.{IsRatio};
+    ghost use Rattle.abc_bars.specs.Unit.{IsUnitPart};
 
     ghost Value = { Ratio };
 
     ghost view = { λ u. u.part };
 
-    ghost invariant = { λ u. IsRatio u.part };
+    ghost invariant = { λ u. IsUnitPart u.part };
 
     ghost inverse = { λ part. record { part = part } };
 }
@@ -56,7 +58,17 @@ impl UnitLength {
     pub fn get(self) -> Ratio
         ensures value { result ≡ self }
         ensures range { IsRatio result }
+        ensures part { IsUnitPart result }
     {
         self.part
+    }
+
+    /// The length of one unit, exactly.
+    pub(crate) fn grains(self) -> Grains
+        ensures value { result ≡ unit_grains self }
+        ensures exact { IsLength self [] result.0 }
+        ensures range { result.0 ≤ grains_of_the_longest_length }
+    {
+        Grains(WHOLE_NOTE.0 / u64::from(self.part.den))
     }
 }

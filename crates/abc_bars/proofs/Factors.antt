@@ -1,0 +1,71 @@
+-- Factors that change nothing.
+use Rattle.std.proofs.Common.{◌≡◌, ◌*◌, List, [], ◌∷◌, ◌++◌, map, Option, Some, None, refl, sym, ap, subst, arith}
+use Rattle.std.specs.Prelude.{unwrap_or, option_to_list, All, IfSome}
+use Rattle.std.specs.Option.{ForSome}
+use Rattle.std.proofs.lemmas.List.Elements.{All-nil, All-cons}
+use Rattle.abc_time.specs.declared.ratio.Ratio.{Ratio}
+use Rattle.abc_time.specs.Grains.{grains_of_a_whole_note}
+use Rattle.abc_time.specs.Length.{length_of, quotient_of}
+use Rattle.abc_time.specs.Product.{product_of}
+use Rattle.abc_time.specs.Ratio.{IsRatio}
+
+-- the factor that changes nothing
+abbrev pub once : Ratio
+once = record { num = 1; den = 1 }
+
+-- two lists of factors have the same products
+pub record SameProducts (these those : List Ratio) : Type 0 where
+  pub nums : product_of (map (λ r. r.num) these) ≡ product_of (map (λ r. r.num) those)
+  pub dens : product_of (map (λ r. r.den) these) ≡ product_of (map (λ r. r.den) those)
+
+pub same_length : (unit : Ratio) (these those : List Ratio) → SameProducts these those → length_of unit these ≡ length_of unit those
+unfolding length_of
+same_length unit these those h =
+    λ i. quotient_of (grains_of_a_whole_note * (unit.num * h.nums i)) (unit.den * h.dens i)
+
+pub one_more : (factor : Ratio) (these those : List Ratio) → SameProducts these those → SameProducts (factor ∷ these) (factor ∷ those)
+one_more factor these those h = record { nums = ap (λ n. factor.num * n) h.nums; dens = ap (λ n. factor.den * n) h.dens }
+
+pub or_once : (factor : Option Ratio) (these those : List Ratio) → SameProducts these those → SameProducts (unwrap_or factor once ∷ these) (option_to_list factor ++ those)
+or_once None these those h = let nums = h.nums in let dens = h.dens in record { nums = omega arith; dens = omega arith }
+or_once (Some factor) these those h = one_more factor these those h
+
+pub nothing : SameProducts [] []
+nothing = record { nums = refl; dens = refl }
+
+last : (factor : Option Ratio) → SameProducts (unwrap_or factor once ∷ []) (option_to_list factor)
+last None = record { nums = refl; dens = refl }
+last (Some factor) = record { nums = refl; dens = refl }
+
+-- five factors, of which those that are wanting change nothing
+pub same_products : (own outer tuplet behind ahead : Ratio) (o t b a : Option Ratio)
+    → outer ≡ unwrap_or o once → tuplet ≡ unwrap_or t once → behind ≡ unwrap_or b once → ahead ≡ unwrap_or a once
+    → SameProducts (own ∷ outer ∷ tuplet ∷ behind ∷ ahead ∷ []) (own ∷ (option_to_list o ++ (option_to_list t ++ (option_to_list b ++ option_to_list a))))
+same_products own outer tuplet behind ahead o t b a eo et eb ea =
+    let list : List Ratio = own ∷ (option_to_list o ++ (option_to_list t ++ (option_to_list b ++ option_to_list a))) in
+    let is : own ∷ unwrap_or o once ∷ unwrap_or t once ∷ unwrap_or b once ∷ unwrap_or a once ∷ [] ≡ own ∷ outer ∷ tuplet ∷ behind ∷ ahead ∷ [] =
+    λ i. own ∷ sym eo i ∷ sym et i ∷ sym eb i ∷ sym ea i ∷ [] in
+    subst (λ l. SameProducts l list) is (one_more own _ _ (or_once o _ _ (or_once t _ _ (or_once b _ _ (last a)))))
+
+once_is : IsRatio once
+once_is = record { num_least = omega arith; num_most = omega arith; den_least = omega arith; den_most = omega arith }
+
+or_once_is : (o : Option Ratio) (r : Ratio) → r ≡ unwrap_or o once → IfSome o IsRatio → IsRatio r
+or_once_is None r e h = subst IsRatio (sym e) once_is
+or_once_is (Some x) r e h = subst IsRatio (sym e) h
+
+pub for_some : (o : Option Ratio) → ForSome o IsRatio → IfSome o IsRatio
+for_some None h = tt
+for_some (Some x) h = h x refl
+
+-- each of them is a ratio in range
+pub all_ratios : (own outer tuplet behind ahead : Ratio) (o t b a : Option Ratio)
+    → outer ≡ unwrap_or o once → tuplet ≡ unwrap_or t once → behind ≡ unwrap_or b once → ahead ≡ unwrap_or a once
+    → IsRatio own → IfSome o IsRatio → IfSome t IsRatio → IfSome b IsRatio → IfSome a IsRatio
+    → All IsRatio (own ∷ outer ∷ tuplet ∷ behind ∷ ahead ∷ [])
+all_ratios own outer tuplet behind ahead o t b a eo et eb ea h ho ht hb ha =
+    All-cons IsRatio own (outer ∷ tuplet ∷ behind ∷ ahead ∷ []) h
+    (All-cons IsRatio outer (tuplet ∷ behind ∷ ahead ∷ []) (or_once_is o outer eo ho)
+    (All-cons IsRatio tuplet (behind ∷ ahead ∷ []) (or_once_is t tuplet et ht)
+    (All-cons IsRatio behind (ahead ∷ []) (or_once_is b behind eb hb)
+    (All-cons IsRatio ahead [] (or_once_is a ahead ea ha) (All-nil IsRatio)))))
