@@ -1,5 +1,7 @@
 -- The values behind one more field are those that the field gives from the ones before it.
 use Rattle.std.proofs.Common.{◌≡◌, ℕ, List, ◌∷◌, Some, Result, Ok, Err, refl}
+use Rattle.std.specs.Option.{option_or}
+use Rattle.std.specs.Result.{result_ok}
 use Rattle.abc_fields.specs.declared.fault.FaultCode.{FaultCode}
 use Rattle.abc_fields.specs.declared.meter.Meter.{Meter}
 use Rattle.abc_fields.specs.declared.tempo.Tempo.{Tempo}
@@ -11,37 +13,36 @@ use Rattle.abc_scan.specs.declared.field.Field.{Field}
 use Rattle.abc_time.specs.declared.ratio.Ratio.{Ratio}
 use Rattle.abc_bars.specs.Defaults.{set_or_refused, tempo_or, setting_given}
 use Rattle.abc_bars.specs.FieldKind.{kind_of}
-use Rattle.abc_bars.specs.LookBack.Defaults.{here_or, if_set, meter_by, unit_by, tempo_by, defaults_at}
+use Rattle.abc_bars.specs.LookBack.Defaults.{if_set, meter_by, unit_by, tempo_by, defaults_at}
 use Rattle.abc_bars.specs.declared.defaults.Defaults.{Defaults}
 use Rattle.abc_bars.specs.declared.field_kind.FieldKind.{FieldKind}
 use Rattle.abc_bars.specs.declared.field_kind.FieldKind.TheVariants as kinds
-use Rattle.std.specs.Result.{result_ok}
 
 -- The values before a field, with what it says of each.
 abbrev said : Defaults → FieldKind → List ℕ → Defaults
 said defaults kind value = record {
-  meter = here_or (meter_by kind value) defaults.meter;
-  unit = here_or (unit_by kind value) defaults.unit;
-  tempo = here_or (tempo_by kind value) defaults.tempo;
+  meter = option_or (meter_by kind value) defaults.meter;
+  unit = option_or (unit_by kind value) defaults.unit;
+  tempo = option_or (tempo_by kind value) defaults.tempo;
 }
 
 -- A reading of M: sets what it says.
 meter_read : (defaults : Defaults) (reading : Result Meter FaultCode) →
-    record defaults { meter = here_or (result_ok reading) defaults.meter }
+    record defaults { meter = option_or (result_ok reading) defaults.meter }
     ≡ (set_or_refused defaults (λ meter. record defaults { meter = Some meter }) reading).defaults
 meter_read defaults (Ok meter) = refl
 meter_read defaults (Err fault) = refl
 
 -- A reading of L: sets what it says.
 unit_read : (defaults : Defaults) (reading : Result Ratio FaultCode) →
-    record defaults { unit = here_or (result_ok reading) defaults.unit }
+    record defaults { unit = option_or (result_ok reading) defaults.unit }
     ≡ (set_or_refused defaults (λ unit. record defaults { unit = Some unit }) reading).defaults
 unit_read defaults (Ok unit) = refl
 unit_read defaults (Err fault) = refl
 
 -- A reading of Q: sets what it says, if it says something.
 tempo_read : (defaults : Defaults) (reading : Result Tempo FaultCode) →
-    record defaults { tempo = here_or (if_set (result_ok reading)) defaults.tempo }
+    record defaults { tempo = option_or (if_set (result_ok reading)) defaults.tempo }
     ≡ (set_or_refused defaults (λ tempo. record defaults { tempo = tempo_or defaults.tempo tempo }) reading).defaults
 tempo_read defaults (Ok Unset) = refl
 tempo_read defaults (Ok (Units n)) = refl

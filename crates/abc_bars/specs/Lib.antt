@@ -5,7 +5,9 @@ pub mod Broken
 pub mod Chords
 pub mod Column
 pub mod Defaults
+pub mod FieldFault
 pub mod FieldKind
+pub mod Header
 pub mod Item
 pub mod Lengths
 pub mod LookBack

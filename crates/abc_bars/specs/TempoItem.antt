@@ -1,5 +1,5 @@
 -- What a tempo gives to the score.
-use Rattle.std.specs.Prelude.{ℕ, Bool, false, is_none}
+use Rattle.std.specs.Prelude.{Bool, false, is_none}
 use Rattle.abc_fields.specs.declared.tempo.Tempo.{Tempo}
 use Rattle.abc_fields.specs.declared.tempo.Tempo.TheVariants.{Unset, Units, Beat}
 use Rattle.abc_time.specs.declared.ratio.Ratio.{Ratio}

@@ -122,15 +122,15 @@ pub(crate) fn setting_given(defaults: Defaults, kind: FieldKind, value: &[u8]) -
 }
 
 /// The meter that holds where a header with these values ends.
-pub(crate) fn meter_in(defaults: Defaults) -> TuneMeter
-    ensures { result ≡ meter_in defaults }
+pub(crate) fn meter_in(defaults: &Defaults) -> TuneMeter
+    ensures { result ≡ meter_in defaults.now }
 {
     defaults.meter.unwrap_or(TuneMeter::free())
 }
 
 /// The unit note length that holds where a header with these values ends.
-pub(crate) fn unit_in(defaults: Defaults) -> UnitLength
-    ensures { result ≡ unit_in defaults }
+pub(crate) fn unit_in(defaults: &Defaults) -> UnitLength
+    ensures { result ≡ unit_in defaults.now }
 {
     match defaults.unit {
         Some(unit) => unit,

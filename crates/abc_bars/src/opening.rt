@@ -1,6 +1,7 @@
 //! What holds when a tune begins.
 
 ghost use Rattle.std.specs.Prelude.{◌≡◌};
+ghost use Rattle.abc_bars.specs.Item.{IsItem};
 ghost use Rattle.abc_bars.specs.Opening.{opening_tempo, opening_meter};
 
 use crate::defaults::{Defaults, meter_in, unit_in};
@@ -8,8 +9,9 @@ use crate::item::Item;
 use crate::tempo_item::tempo_item;
 
 /// The tempo with which a tune begins whose header ends with these values.
-pub(crate) fn opening_tempo(defaults: Defaults) -> Item
-    ensures { result ≡ opening_tempo defaults }
+pub(crate) fn opening_tempo(defaults: &Defaults) -> Item
+    ensures value { result ≡ opening_tempo defaults.now }
+    ensures range { IsItem result }
 {
     match defaults.tempo {
         Some(tempo) => tempo_item(true, unit_in(defaults), tempo),
@@ -22,8 +24,9 @@ pub(crate) fn opening_tempo(defaults: Defaults) -> Item
 }
 
 /// The meter with which a tune begins whose header ends with these values.
-pub(crate) fn opening_meter(defaults: Defaults) -> Item
-    ensures { result ≡ opening_meter defaults }
+pub(crate) fn opening_meter(defaults: &Defaults) -> Item
+    ensures value { result ≡ opening_meter defaults.now }
+    ensures range { IsItem result }
 {
     Item::Meter {
         opening: true,

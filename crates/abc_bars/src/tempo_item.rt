@@ -1,6 +1,7 @@
 //! What a tempo gives to the score.
 
 ghost use Rattle.std.specs.Prelude.{◌≡◌};
+ghost use Rattle.abc_bars.specs.Item.{IsItem};
 ghost use Rattle.abc_bars.specs.TempoItem.{is_out, tempo_item};
 
 use crate::item::Item;
@@ -20,7 +21,8 @@ pub(crate) fn is_out(unit: UnitLength, tempo: TuneTempo) -> bool
 
 /// What an accepted tempo gives to the score; a number alone counts units.
 pub(crate) fn tempo_item(opening: bool, unit: UnitLength, tempo: TuneTempo) -> Item
-    ensures { result ≡ tempo_item opening unit tempo }
+    ensures value { result ≡ tempo_item opening unit tempo }
+    ensures range { IsItem result }
 {
     Item::Tempo {
         opening,

@@ -1,6 +1,7 @@
 -- What the fields before a place of a file header or of a tune's header set, the newest first. ABC 2.1
 -- section 3.1.
 use Rattle.std.specs.Prelude.{ℕ, List, [], ◌∷◌, Option, Some, None}
+use Rattle.std.specs.Option.{option_or}
 use Rattle.std.specs.Result.{result_ok}
 use Rattle.abc_fields.specs.declared.meter.Meter.{Meter}
 use Rattle.abc_fields.specs.declared.tempo.Tempo.{Tempo}
@@ -37,25 +38,20 @@ abbrev pub tempo_by : FieldKind → List ℕ → Option Tempo
 tempo_by kinds.Tempo value = if_set (result_ok (tempo_of value))
 tempo_by _ value = None
 
--- What is said here, else what was said before.
-abbrev pub here_or : {V : Type 0} → Option V → Option V → Option V
-here_or None before = before
-here_or (Some here) before = Some here
-
 -- The last accepted meter of the fields before a place, else that with which they open.
 abbrev pub last_meter : Option Meter → List Field → Option Meter
 last_meter opening [] = opening
-last_meter opening (field ∷ before) = here_or (meter_by (kind_of field.letter) field.value) (last_meter opening before)
+last_meter opening (field ∷ before) = option_or (meter_by (kind_of field.letter) field.value) (last_meter opening before)
 
 -- The last accepted unit note length of the fields before a place, else that with which they open.
 abbrev pub last_unit : Option Ratio → List Field → Option Ratio
 last_unit opening [] = opening
-last_unit opening (field ∷ before) = here_or (unit_by (kind_of field.letter) field.value) (last_unit opening before)
+last_unit opening (field ∷ before) = option_or (unit_by (kind_of field.letter) field.value) (last_unit opening before)
 
 -- The last tempo that the fields before a place set, else that with which they open.
 abbrev pub last_tempo : Option Tempo → List Field → Option Tempo
 last_tempo opening [] = opening
-last_tempo opening (field ∷ before) = here_or (tempo_by (kind_of field.letter) field.value) (last_tempo opening before)
+last_tempo opening (field ∷ before) = option_or (tempo_by (kind_of field.letter) field.value) (last_tempo opening before)
 
 -- The values at a place, by the fields before it and the values with which they open.
 abbrev pub defaults_at : Defaults → List Field → Defaults

@@ -1,0 +1,286 @@
+//! The header of a tune.
+
+ghost use Rattle.std.specs.Prelude.{◌≡◌, IfOk, IfSome, All, Some, None};
+ghost use Rattle.abc_fields.specs.Key.{IsInRange, key_of};
+ghost use Rattle.abc_fields.specs.Parts.{parts_of};
+ghost use Rattle.abc_fields.specs.Voice.{voice_of};
+ghost use Rattle.abc_bars.specs.Header.{opening_header, shift_said, said_at, declared, unchanged, reference_by, order_by, voice_by, key_item, key_by, own_given, setting_by, items_with, header_given};
+ghost use Rattle.abc_bars.specs.Item.{IsItem};
+ghost use Rattle.abc_bars.specs.declared.item.Item.TheVariants as items;
+ghost use Rattle.abc_bars.specs.Defaults.{setting_given};
+ghost use Rattle.abc_bars.specs.Reference.{reference_of};
+
+use crate::defaults::{Defaults, setting_given};
+use crate::field_fault::faults_of;
+use crate::field_kind::{FieldKind, kind_of};
+use crate::item::{Item, LocalFault};
+use crate::opening::{opening_meter, opening_tempo};
+use crate::reference::reference_of;
+use crate::voice_name::VoiceName;
+use crate::voices::Voices;
+use abc_fields::{EMPTY_SIGNATURE, FaultCode, Key, Shift, Voice, read_key, read_parts, read_voice};
+use abc_scan::Field;
+use abc_text::Sequence;
+use std::alloc::{AllocError, Global};
+
+/// How many voices a tune has at most.
+pub(crate) const MOST_VOICES: usize = 15;
+
+/// What holds at a place of a tune's header: the values so far, else the file header's, and the voices
+/// that are declared, each with the parts of its shift that were said for it.
+#[derive(Clone, Debug, Drop, PartialEq, Eq)]
+pub struct Header {
+    pub(crate) defaults: Defaults,
+    pub(crate) voices: Voices<Shift>,
+}
+
+/// What a field of a header gives.
+#[derive(Debug, Drop)]
+pub(crate) struct HeaderGiven {
+    pub(crate) header: Header,
+    pub(crate) items: Sequence<Item>,
+    pub(crate) faults: Sequence<LocalFault>,
+}
+
+/// What a field gives of its own: what holds behind it, its item and its fault.
+#[derive(Debug, Drop)]
+struct OwnGiven {
+    header: Header,
+    item: Option<Item>,
+    fault: Option<FaultCode>,
+}
+
+impl Header {
+    /// The header of a tune before its first field, with the file header's values.
+    pub(crate) fn opening(alloc: Global, defaults: Defaults) -> Header
+        ensures { result ≡ opening_header defaults }
+    {
+        Header {
+            defaults,
+            voices: Voices::new(alloc),
+        }
+    }
+
+    /// A copy of it.
+    pub(crate) fn copied(&self) -> Result<Header, AllocError>
+        ensures { IfOk result (λ copy. copy ≡ self.now) }
+    {
+        self.clone()
+    }
+}
+
+/// A shift of which each part that is said here goes before the one that was said before.
+fn shift_said(here: Shift, before: Shift) -> Shift
+    ensures { result ≡ shift_said here before }
+{
+    Shift {
+        clef: here.clef.or(before.clef),
+        octave: here.octave.or(before.octave),
+        transpose: here.transpose.or(before.transpose),
+    }
+}
+
+/// Says a shift for the voice at a place.
+fn say_at(voices: &mut Voices<Shift>, at: usize, shift: Shift)
+    ensures { voices.new ≡ said_at voices.old at shift }
+{
+    if let Some(known) = voices.get_mut(at) {
+        *known = shift_said(shift, *known);
+    }
+}
+
+/// Declares a voice, or says a shift for one that is declared; the fault where there are too many.
+fn declare(
+    voices: &mut Voices<Shift>,
+    name: VoiceName,
+    shift: Shift,
+) -> Result<Option<FaultCode>, AllocError>
+    ensures { IfOk result (λ fault. (voices.new, fault) ≡ declared voices.old name shift) }
+{
+    if let Some(at) = voices.place_of(&name) {
+        say_at(voices, at, shift);
+        return Ok(None);
+    }
+    if voices.len() >= MOST_VOICES {
+        return Ok(Some(FaultCode::TooManyVoices));
+    }
+    voices.push(name, shift)?;
+    Ok(None)
+}
+
+impl OwnGiven {
+    /// The header as it is, with an item and a fault.
+    fn unchanged(header: Header, item: Option<Item>, fault: Option<FaultCode>) -> OwnGiven
+        ensures { result ≡ unchanged header item fault }
+    {
+        OwnGiven {
+            header,
+            item,
+            fault,
+        }
+    }
+}
+
+/// What an X: gives.
+fn reference_given(header: Header, value: &[u8]) -> OwnGiven
+    ensures value { result ≡ reference_by header (reference_of value.now) }
+    ensures range { IfSome result.item IsItem }
+{
+    match reference_of(value) {
+        Ok(number) => OwnGiven::unchanged(header, Some(Item::Number(number)), None),
+        Err(fault) => OwnGiven::unchanged(header, Some(Item::Number(0)), Some(fault)),
+    }
+}
+
+/// What a T: gives.
+fn title_given(alloc: Global, header: Header, value: &[u8]) -> Result<OwnGiven, AllocError>
+    ensures value { IfOk result (λ own. own ≡ unchanged header (Some (items.Title value.now)) None) }
+    ensures range { IfOk result (λ own. IfSome own.item IsItem) }
+{
+    let title = Sequence::from_slice(alloc, value)?;
+    Ok(OwnGiven::unchanged(header, Some(Item::Title(title)), None))
+}
+
+/// What an M:, L: or Q: gives.
+fn setting_own(header: Header, kind: FieldKind, value: &[u8]) -> OwnGiven
+    ensures value { result ≡ setting_by header (setting_given header.defaults kind value.now) }
+    ensures range { IfSome result.item IsItem }
+{
+    let given = setting_given(header.defaults, kind, value);
+    let mut header = header;
+    header.defaults = given.defaults;
+    OwnGiven::unchanged(header, None, given.fault)
+}
+
+/// What a P: gives.
+fn order_given(alloc: Global, header: Header, value: &[u8]) -> Result<OwnGiven, AllocError>
+    ensures value { IfOk result (λ own. own ≡ order_by header value.now (parts_of value.now)) }
+    ensures range { IfOk result (λ own. IfSome own.item IsItem) }
+{
+    match read_parts(value) {
+        Ok(()) => {
+            let order = Sequence::from_slice(alloc, value)?;
+            Ok(OwnGiven::unchanged(header, Some(Item::Order(order)), None))
+        }
+        Err(fault) => Ok(OwnGiven::unchanged(header, None, Some(fault))),
+    }
+}
+
+/// What a V: gives.
+fn voice_given(alloc: Global, header: Header, value: &[u8]) -> Result<OwnGiven, AllocError>
+    ensures value { IfOk result (λ own. own ≡ voice_by header value.now (voice_of value.now)) }
+    ensures range { IfOk result (λ own. IfSome own.item IsItem) }
+{
+    let voice = match read_voice(value) {
+        Ok(voice) => voice,
+        Err(fault) => return Ok(OwnGiven::unchanged(header, None, Some(fault))),
+    };
+    let name = &value[voice.from..voice.to];
+    let mut header = header;
+    let fault = declare(
+        &mut header.voices,
+        VoiceName::new(alloc, name)?,
+        voice.shift,
+    )?;
+    if fault.is_some() {
+        return Ok(OwnGiven::unchanged(header, None, fault));
+    }
+    let name = Sequence::from_slice(alloc, name)?;
+    let item = Item::Voice {
+        opening: true,
+        name,
+    };
+    Ok(OwnGiven::unchanged(header, Some(item), None))
+}
+
+/// The key with which a tune begins.
+fn key_item(key: Key) -> Item
+    requires { IsInRange key }
+    ensures value { result ≡ key_item key }
+    ensures range { IsItem result }
+{
+    Item::Key {
+        opening: true,
+        key: Some((key.sharps, key.minor)),
+    }
+}
+
+/// What a K: gives.
+fn key_given(header: Header, value: &[u8]) -> OwnGiven
+    ensures value { result ≡ key_by header (key_of value.now) }
+    ensures range { IfSome result.item IsItem }
+{
+    match read_key(value) {
+        Ok(key) => OwnGiven::unchanged(header, Some(key_item(key)), None),
+        Err(fault) => { OwnGiven::unchanged(header, Some(key_item(EMPTY_SIGNATURE)), Some(fault)) }
+    }
+}
+
+/// What a field gives of its own.
+fn own_given(
+    alloc: Global,
+    header: Header,
+    kind: FieldKind,
+    value: &[u8],
+) -> Result<OwnGiven, AllocError>
+    ensures value { IfOk result (λ own. own ≡ own_given header kind value.now) }
+    ensures range { IfOk result (λ own. IfSome own.item IsItem) }
+{
+    match kind {
+        FieldKind::Reference => Ok(reference_given(header, value)),
+        FieldKind::Title => title_given(alloc, header, value),
+        FieldKind::Meter | FieldKind::UnitLength | FieldKind::Tempo => {
+            Ok(setting_own(header, kind, value))
+        }
+        FieldKind::Parts => order_given(alloc, header, value),
+        FieldKind::Voice => voice_given(alloc, header, value),
+        FieldKind::Key => Ok(key_given(header, value)),
+        FieldKind::Other => Ok(OwnGiven::unchanged(header, None, None)),
+    }
+}
+
+/// An item, if there is one, and behind it the tempo and the meter of a tune whose header ends with these
+/// values.
+fn items_with(
+    alloc: Global,
+    item: Option<Item>,
+    defaults: &Defaults,
+) -> Result<Sequence<Item>, AllocError>
+    requires { IfSome item IsItem }
+    ensures value { IfOk result (λ items. items ≡ items_with item defaults.now) }
+    ensures range { IfOk result (λ items. All IsItem items) }
+{
+    let mut items = Sequence::new(alloc);
+    if let Some(own) = item {
+        items.push(own)?;
+    }
+    items.push(opening_tempo(defaults))?;
+    items.push(opening_meter(defaults))?;
+    Ok(items)
+}
+
+/// What a field of a header gives: its own item, and then the tempo and meter with which the tune begins
+/// if its header ends behind it.
+pub(crate) fn header_given(
+    alloc: Global,
+    header: Header,
+    field: &Field,
+) -> Result<HeaderGiven, AllocError>
+    ensures value { IfOk result (λ given. given ≡ header_given header field.now) }
+    ensures range { IfOk result (λ given. All IsItem given.items) }
+{
+    let kind = kind_of(field.letter);
+    let own = own_given(alloc, header, kind, field.value.as_slice())?;
+    let OwnGiven {
+        header,
+        item,
+        fault,
+    } = own;
+    let items = items_with(alloc, item, &header.defaults)?;
+    let faults = faults_of(alloc, fault)?;
+    Ok(HeaderGiven {
+        header,
+        items,
+        faults,
+    })
+}
