@@ -1,6 +1,9 @@
 pub mod Accidentals
 pub mod Alteration
 pub mod BarRest
+pub mod Body
+pub mod BodyFields
+pub mod BodyLent
 pub mod Broken
 pub mod Chords
 pub mod Column
@@ -14,11 +17,13 @@ pub mod LookBack
 pub mod Opening
 pub mod Pitch
 pub mod Reference
+pub mod Settings
 pub mod Sound
 pub mod Tempo
 pub mod TempoItem
 pub mod TimeTokens
 pub mod Tuplet
 pub mod Unit
+pub mod VoiceShift
 pub mod Voices
 pub mod VoicesLent

@@ -5,6 +5,7 @@
 mod accidentals;
 mod alteration;
 mod bar_rest;
+mod body;
 mod broken;
 mod chords;
 mod column;
@@ -31,6 +32,7 @@ mod voice_name;
 mod voice_shift;
 mod voices;
 
+pub use body::{Body, MOST_VOICES};
 pub use defaults::Defaults;
 pub use header_laws::header_views;
 pub use item::{HIGHEST_KEY, Item, Items, LocalFault, MOST_NOTES, Tone};

@@ -1,6 +1,9 @@
 //! What holds for a voice.
 
-use crate::accidentals::Accidentals;
+ghost use Rattle.std.specs.Prelude.{◌≡◌};
+ghost use Rattle.abc_bars.specs.Settings.{without_accidentals};
+
+use crate::accidentals::{Accidentals, NO_ACCIDENTALS};
 use crate::meter::TuneMeter;
 use crate::tied::TiedNote;
 use crate::tuplet::OpenTuplet;
@@ -23,4 +26,13 @@ pub struct Settings {
     pub tuplet: Option<OpenTuplet>,
     /// The tied notes of the last note, chord or rest.
     pub tied: ShortSequence<TiedNote>,
+}
+
+impl Settings {
+    /// A bar line, a key or a part ends the accidentals.
+    pub(crate) fn clear_accidentals(&mut self)
+        ensures { self.new ≡ without_accidentals self.old }
+    {
+        self.accidentals = NO_ACCIDENTALS;
+    }
 }

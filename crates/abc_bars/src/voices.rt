@@ -1,6 +1,6 @@
 //! The voices of a tune.
 
-ghost use Rattle.std.specs.Prelude.{◌≡◌, ◌==◌, ◌<◌, ◌&&◌, [], ◌∷◌, ◌++◌, bytes_eq, length, slice_get, None, IfSome, OnOk};
+ghost use Rattle.std.specs.Prelude.{◌≡◌, ◌==◌, ◌<◌, ◌&&◌, [], ◌∷◌, ◌++◌, bytes_eq, length, slice_get, None, Some, IfSome, OnOk};
 ghost use Rattle.std.specs.Borrow.{sem};
 ghost use Rattle.std.specs.Cmp.{and_equiv, and_per, on_equiv, on_per, partial_equiv_from_equiv};
 ghost use Rattle.std.specs.Cmp.Lexicographic.{lists_equiv, lists_per, nat_list_eq_equiv, pointwise};
@@ -9,7 +9,7 @@ ghost use Rattle.std.specs.Map.{keys_of};
 ghost use Rattle.std.specs.Map.Iter.{deref_pair};
 ghost use Rattle.std.specs.Option.{option_copied, option_copied_mut, option_map};
 ghost use Rattle.abc_bars.specs.Voices.{place_of, voice_at};
-ghost use Rattle.abc_bars.specs.VoicesLent.{lends_voice};
+ghost use Rattle.abc_bars.specs.VoicesLent.{lends_known, lends_voice};
 
 use crate::voice_name::VoiceName;
 use indexmap::IndexMap;
@@ -90,6 +90,15 @@ impl<S> Voices<S> {
         ensures value { option_copied_mut result ≡ voice_at self.old at }
     {
         self.map.get_index_mut(at)
+    }
+
+    /// What is known of the voice at a place that there is, to be changed.
+    pub fn known_mut(&mut self, at: usize) -> &mut S
+        requires { at < length self.old }
+        ensures* writes_back { sem 𝓛 (lends_known S.row self.entry at result) }
+        ensures value { voice_at self.old at ≡ Some result.now }
+    {
+        &mut self.map[at]
     }
 
     /// Puts one more voice at the end.
