@@ -10,6 +10,7 @@ pub mod Column
 pub mod Defaults
 pub mod FieldFault
 pub mod FieldKind
+pub mod FileHeader
 pub mod Header
 pub mod Item
 pub mod Lengths

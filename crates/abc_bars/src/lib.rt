@@ -12,6 +12,7 @@ mod column;
 mod defaults;
 mod field_fault;
 mod field_kind;
+mod file_header;
 mod header;
 mod header_laws;
 mod item;
