@@ -12,19 +12,19 @@ use Rattle.abc_fields.specs.Letters.{Played, nothing_played, letters_so_far, wit
 use Rattle.abc_fields.proofs.Orders.{below_upper, number_after}
 
 -- the four kinds of bytes
-plays_letter : (played : Played) (letter : ℕ) → is_ascii_uppercase letter ≡ true → play_on played letter ≡ with_item played.around (letters_so_far played) (letter ∷ [])
+pub plays_letter : (played : Played) (letter : ℕ) → is_ascii_uppercase letter ≡ true → play_on played letter ≡ with_item played.around (letters_so_far played) (letter ∷ [])
 unfolding play_on
 plays_letter played letter upper = rw upper refl
 
-plays_open : (played : Played) → play_on played 40 ≡ with_item (letters_so_far played ∷ played.around) [] []
+pub plays_open : (played : Played) → play_on played 40 ≡ with_item (letters_so_far played ∷ played.around) [] []
 unfolding play_on
 plays_open played = refl
 
-plays_close : (played : Played) → play_on played 41 ≡ close_group played.around (letters_so_far played)
+pub plays_close : (played : Played) → play_on played 41 ≡ close_group played.around (letters_so_far played)
 unfolding play_on
 plays_close played = refl
 
-plays_digit : (played : Played) (b : ℕ) → is_ascii_digit b ≡ true → play_on played b ≡ record played { count = Some (count_on played.count b) }
+pub plays_digit : (played : Played) (b : ℕ) → is_ascii_digit b ≡ true → play_on played b ≡ record played { count = Some (count_on played.count b) }
 unfolding play_on
 plays_digit played b digit =
     let range = digit_range b digit in

@@ -1,8 +1,10 @@
 pub mod Accidentals
 pub mod BeatSums
+pub mod Capitals
 pub mod Clefs
 pub mod Faults
 pub mod Fractions
+pub mod Fronts
 pub mod Keys
 pub mod LetterLaws
 pub mod Listings

@@ -72,11 +72,11 @@ order_step place value i inside =
 abbrev Ends : ℕ → Option Place → Type 0
 Ends depth place = (before : Before) × (place ≡ Some (at depth before)) × (ends_item before ≡ true)
 
-begins_too : (before : Before) → ends_item before ≡ true → begins_item before ≡ true
+pub begins_too : (before : Before) → ends_item before ≡ true → begins_item before ≡ true
 begins_too Nothing h = cc
 begins_too (Item digits positive) h = h
 
-positive_step : (b n : ℕ) → 48 ≤ b → (ltb 0 n || not (b == 48)) ≡ ltb 0 (n * 10 + (b - 48))
+pub positive_step : (b n : ℕ) → 48 ≤ b → (ltb 0 n || not (b == 48)) ≡ ltb 0 (n * 10 + (b - 48))
 positive_step b n low = grind (arith, nat_tests)
 
 -- the number that digits write behind this one
@@ -275,15 +275,15 @@ after_digit b (at_item {depth} {digits} {positive} {outer} {inner} {bare} {count
 abbrev Leads : List ℕ → Place → Type 0
 Leads text place = Reached place.depth place.before text
 
-guarded : (t : Bool) (x after : Place) → ◌≡◌ {A = Option Place} (cond t (Some x) None) (Some after) → (t ≡ true) × (x ≡ after)
+pub guarded : (t : Bool) (x after : Place) → ◌≡◌ {A = Option Place} (cond t (Some x) None) (Some after) → (t ≡ true) × (x ≡ after)
 guarded true x after e = (refl, cc)
 guarded false x after e = cc
 
-branches : (t : Bool) (x y : Option Place) (after : Place) → cond t x y ≡ Some after → ((t ≡ true) × (x ≡ Some after)) ⊎ ((t ≡ false) × (y ≡ Some after))
+pub branches : (t : Bool) (x y : Option Place) (after : Place) → cond t x y ≡ Some after → ((t ≡ true) × (x ≡ Some after)) ⊎ ((t ≡ false) × (y ≡ Some after))
 branches true x y after e = inl (refl, e)
 branches false x y after e = inr (refl, e)
 
-guarded_digit : (t : Bool) (depth : ℕ) (before : Before) (after : Place) → behind_digit depth (cond t (Some before) None) ≡ Some after → (t ≡ true) × (at depth before ≡ after)
+pub guarded_digit : (t : Bool) (depth : ℕ) (before : Before) (after : Place) → behind_digit depth (cond t (Some before) None) ≡ Some after → (t ≡ true) × (at depth before ≡ after)
 guarded_digit true depth before after e = (refl, cc)
 guarded_digit false depth before after e = cc
 
@@ -349,12 +349,12 @@ last_of (Some last) e = (last, refl, e)
 order_accepted : (value letters : List ℕ) → IsParts value letters → is_order value ≡ true
 order_accepted value letters order = ends_well (place_behind value) (order_ends order Nothing refl)
 
-accepted_order : (value : List ℕ) → is_order value ≡ true → (letters : List ℕ) × IsParts value letters
+pub accepted_order : (value : List ℕ) → is_order value ≡ true → (letters : List ℕ) × IsParts value letters
 accepted_order value e =
     let h = last_of (place_behind value) e in
     order_from (order_bytes value) h.0 (leads_through (order_bytes value) [] (at 0 Nothing) h.0 (at_front outside) h.1) h.2
 
-accepts : (whole : Bool) → ◌≡◌ {A = Result (Unit {0}) FaultCode} (cond whole (Ok tt) (Err BadOrder)) (Ok tt) → whole ≡ true
+pub accepts : (whole : Bool) → ◌≡◌ {A = Result (Unit {0}) FaultCode} (cond whole (Ok tt) (Err BadOrder)) (Ok tt) → whole ≡ true
 accepts true e = refl
 accepts false e = cc
 

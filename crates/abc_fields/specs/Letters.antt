@@ -1,7 +1,7 @@
 -- The letters of the parts that an order plays. ABC 2.1 section 3.1.9.
-use Rattle.std.specs.Prelude.{ℕ, ◌+◌, ◌-◌, ◌*◌, ◌==◌, if◌then◌else◌, List, [], ◌∷◌, ◌++◌, fold, replicate, Option, Some, None}
+use Rattle.std.specs.Prelude.{ℕ, Bool, ◌+◌, ◌-◌, ◌*◌, ◌==◌, ◌||◌, if◌then◌else◌, List, [], ◌∷◌, ◌++◌, fold, take, replicate, Option, Some, None}
 use Rattle.std.specs.List.{concat}
-use Rattle.std.specs.Char.{is_ascii_uppercase}
+use Rattle.std.specs.Char.{is_ascii_digit, is_ascii_uppercase}
 use Rattle.abc_fields.specs.Parts.{order_bytes}
 use Rattle.abc_text.specs.Byte.{open_parenthesis, close_parenthesis, digit_zero}
 
@@ -52,3 +52,15 @@ play_on played b =
 -- The letters of the parts that an order plays; of another text it says nothing.
 abbrev pub letters_of : List ℕ → List ℕ
 letters_of value = letters_so_far (fold play_on nothing_played (order_bytes value))
+
+-- A byte that says something in an order: a letter, a parenthesis or a digit.
+abbrev pub is_order_byte : ℕ → Bool
+is_order_byte b = is_ascii_uppercase b || (b == open_parenthesis) || (b == close_parenthesis) || is_ascii_digit b
+
+-- With one byte of a text more: one that says nothing changes nothing.
+unfoldable pub read_on : Played → ℕ → Played
+read_on played b = if is_order_byte b then play_on played b else played
+
+-- What the front of a text up to this byte plays.
+abbrev pub front_of : List ℕ → ℕ → Played
+front_of text i = fold read_on nothing_played (take i text)

@@ -8,8 +8,8 @@ ghost use Rattle.abc_fields.specs.Spelling.Parts.{IsParts};
 use crate::fault::FaultCode;
 use abc_text::is_blank;
 
-/// How many groups stand within one another at most.
-const DEEPEST_GROUP: u8 = 32;
+/// How many groups of an order stand within one another at most.
+pub const DEEPEST_GROUP: u8 = 32;
 
 /// How many digits a count has at most.
 const LONGEST_COUNT: u8 = 9;

@@ -1,8 +1,13 @@
+pub mod Copies
 pub mod Cuts
 pub mod Existence
 pub mod Greatest
 pub mod Lying
 pub mod Numbers
+pub mod OrderFaults
+pub mod OrderLists
+pub mod OrderPlays
+pub mod OrderSizes
 pub mod Passes
 pub mod Places
 pub mod Readings
@@ -10,3 +15,4 @@ pub mod Rests
 pub mod Rounds
 pub mod Runs
 pub mod Sizes
+pub mod Tables

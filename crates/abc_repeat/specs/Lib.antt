@@ -1,3 +1,7 @@
 pub mod Mark
+pub mod Order
+pub mod OrderPlay
+pub mod OrderSize
 pub mod Play
+pub mod Section
 pub mod Strain

@@ -1,14 +1,20 @@
-//! The play of a voice's section by its repeat bars and endings.
+//! The play of a voice's section by its repeat bars and endings, and the order in which sections are played.
 #![tactic(auto)]
 
+mod count;
 mod fault;
 mod mark;
+mod order;
+mod order_play;
+mod order_size;
 mod pass;
 mod play;
+mod section;
 mod size;
 mod strain;
 
-pub use fault::RepeatFault;
+pub use fault::{OrderFault, RepeatFault};
 pub use mark::Mark;
+pub use order::{MOST_SECTIONS, Played, order_limits, play_order};
 pub use play::{MOST_PLACES, expand, play_limits};
 pub use strain::one_reading;
