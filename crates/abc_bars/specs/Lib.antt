@@ -4,10 +4,12 @@ pub mod BarRest
 pub mod Body
 pub mod BodyFields
 pub mod BodyLent
+pub mod BodyOpening
 pub mod Broken
 pub mod Chords
 pub mod Column
 pub mod Defaults
+pub mod Entry
 pub mod FieldFault
 pub mod FieldKind
 pub mod FileHeader

@@ -10,6 +10,7 @@ ghost use Rattle.abc_bars.specs.declared.item.Item.TheVariants as items;
 ghost use Rattle.abc_bars.specs.Defaults.{setting_given};
 ghost use Rattle.abc_bars.specs.Reference.{reference_of};
 
+use crate::body::MOST_VOICES;
 use crate::defaults::{Defaults, setting_given};
 use crate::field_fault::faults_of;
 use crate::field_kind::{FieldKind, kind_of};
@@ -22,9 +23,6 @@ use abc_fields::{EMPTY_SIGNATURE, FaultCode, Key, Shift, Voice, read_key, read_p
 use abc_scan::Field;
 use abc_text::Sequence;
 use std::alloc::{AllocError, Global};
-
-/// How many voices a tune has at most.
-pub(crate) const MOST_VOICES: usize = 15;
 
 /// What holds at a place of a tune's header: the values so far, else the file header's, and the voices
 /// that are declared, each with the parts of its shift that were said for it.

@@ -10,6 +10,7 @@ mod broken;
 mod chords;
 mod column;
 mod defaults;
+mod entry;
 mod field_fault;
 mod field_kind;
 mod file_header;
@@ -35,6 +36,7 @@ mod voices;
 
 pub use body::{Body, MOST_VOICES};
 pub use defaults::Defaults;
+pub use entry::Entry;
 pub use header_laws::header_views;
 pub use item::{HIGHEST_KEY, Item, Items, LocalFault, MOST_NOTES, Tone};
 pub use meter::TuneMeter;

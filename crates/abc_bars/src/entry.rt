@@ -1,0 +1,51 @@
+//! What holds at a place of a file header or of a tune.
+
+ghost use Rattle.std.specs.Prelude.{◌≡◌};
+ghost use Rattle.std.specs.Option.{option_copied};
+ghost use Rattle.abc_bars.specs.Entry.{defaults_of, opening_after};
+ghost use Rattle.abc_bars.specs.Defaults.{no_defaults};
+
+use crate::body::Body;
+use crate::defaults::{Defaults, NO_DEFAULTS};
+use crate::header::Header;
+use std::alloc::Global;
+
+/// All that what follows a place of a file header or of a tune can depend on.
+#[derive(Clone, Debug, Drop, PartialEq, Eq)]
+pub enum Entry {
+    /// In a file header: its values so far.
+    FileHeader(Defaults),
+    /// Before the first field of a tune: the file header's values.
+    Opening(Defaults),
+    /// In a tune's header, also where a line of music ends it.
+    Header(Header),
+    /// In a tune's body.
+    Body(Body),
+}
+
+impl Entry {
+    /// What holds where a file header begins. No memory is taken.
+    pub fn header(_alloc: Global) -> Entry
+        ensures { result ≡ Entry.FileHeader no_defaults }
+    {
+        Entry::FileHeader(NO_DEFAULTS)
+    }
+
+    /// What holds where a tune begins, by what holds behind the file header, if there is one. No memory is
+    /// taken.
+    pub fn tune(_alloc: Global, after: Option<&Entry>) -> Entry
+        ensures { result ≡ opening_after (option_copied after.entry) }
+    {
+        Entry::Opening(after.map_or(NO_DEFAULTS, Entry::defaults))
+    }
+
+    /// The values in a file header; elsewhere none.
+    pub fn defaults(&self) -> Defaults
+        ensures { result ≡ defaults_of self.now }
+    {
+        match self {
+            Entry::FileHeader(defaults) => *defaults,
+            Entry::Opening(_) | Entry::Header(_) | Entry::Body(_) => NO_DEFAULTS,
+        }
+    }
+}
