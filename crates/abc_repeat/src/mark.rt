@@ -45,14 +45,14 @@ impl Mark {
         matches!(self, Mark::Play)
     }
 
-    pub(crate) fn is_ending(self) -> bool
+    pub fn is_ending(self) -> bool
         ensures { result ≡ is_ending self }
     {
         matches!(self, Mark::Ending(_))
     }
 
     /// Whether it is a bar line that neither repeats nor is double.
-    pub(crate) fn is_single(self) -> bool
+    pub fn is_single(self) -> bool
         ensures { result ≡ is_single self }
     {
         match self {
@@ -66,7 +66,7 @@ impl Mark {
     }
 
     /// Whether it is a repeat bar that opens the strain behind it.
-    pub(crate) fn opens_next(self) -> bool
+    pub fn opens_next(self) -> bool
         ensures { result ≡ opens_next self }
     {
         match self {
@@ -90,7 +90,7 @@ impl Mark {
     }
 
     /// Whether it is a bar line that ends an ending.
-    pub(crate) fn closes_ending(self) -> bool
+    pub fn closes_ending(self) -> bool
         ensures { result ≡ closes_ending self }
     {
         self.closes_common(false)

@@ -1,5 +1,5 @@
 -- What a file can hold, and the limits that are our own.
-use Rattle.std.specs.Prelude.{ℕ, ◌^◌, ◌<◌, ◌≤◌, ◌≤ℤ◌, pos, negsuc, List, length, All}
+use Rattle.std.specs.Prelude.{◌^◌, ◌<◌, ◌≤◌, ◌≤ℤ◌, pos, negsuc, List, length, All}
 use Rattle.abc_text.specs.Power.{IsPowerUpTo}
 use Rattle.abc_time.specs.declared.grains.Grains.{Grains}
 use Rattle.abc_time.specs.Grains.{grains_of_the_latest_end}

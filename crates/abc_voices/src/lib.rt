@@ -1,10 +1,20 @@
-//! The voices of a tune: the score that a file is written from, and its limits.
+//! The voices of a tune: what each plays of a section, its notes, the changes that stand, the score that a
+//! file is written from, and its limits.
 #![tactic(auto)]
 
 mod limits;
+mod linked;
+mod moved;
+mod notes;
+mod play;
 mod score;
+mod settle;
+mod step;
 
 pub use limits::{
     LONGEST_TITLE, MOST_CHANGES, MOST_NOTES, MOST_VOICES, is_within_limits, score_limits,
 };
+pub use notes::put_notes;
+pub use play::{duration, played};
 pub use score::{Change, ChangeKind, Score, Sounding};
+pub use settle::settled;

@@ -1,0 +1,7 @@
+use Rattle.std.proofs.Common.{◌≡◌, ◌++◌, drop}
+use Rattle.std.specs.Prelude.{filter_map, slice_get}
+use Rattle.abc_voices.proofs.play.chosen.Given as goal
+
+-- what is chosen, and what stands at the other places
+abbrev pub invariant-loop-place : goal.invariant-loop-place
+invariant-loop-place l = l.items.items ++ filter_map (slice_get l.steps) (drop l.place-index l.places) ≡ filter_map (slice_get l.steps) l.places

@@ -1,0 +1,23 @@
+-- What a voice plays of a section, and how long that takes. ABC 2.1 sections 4.8 to 4.10.
+use Rattle.std.specs.Prelude.{ℕ, List, map, sum_by, filter_map, slice_get}
+use Rattle.abc_bars.specs.declared.item.Item.{Item}
+use Rattle.abc_repeat.specs.declared.mark.Mark.{Mark}
+use Rattle.abc_repeat.specs.Play.{play_of}
+use Rattle.abc_voices.specs.Moved.{moved}
+use Rattle.abc_voices.specs.Step.{mark_of, length_of}
+
+-- The marks of steps.
+abbrev pub marks_of : {A : Type 0} → (A → Item) → List A → List Mark
+marks_of item_of steps = map (λ step. mark_of (item_of step)) steps
+
+-- The places of what is played of steps that stand in the order of their play.
+abbrev pub places_of : {A : Type 0} → (A → Item) → List A → List ℕ
+places_of item_of steps = play_of (marks_of item_of steps)
+
+-- What is played of a voice's steps in a section, in order of play.
+abbrev pub played : {A : Type 0} → (A → Item) → List A → List A
+played item_of part = filter_map (slice_get (moved item_of part)) (places_of item_of (moved item_of part))
+
+-- How many grains steps take one after another.
+abbrev pub duration : {A : Type 0} → (A → Item) → List A → ℕ
+duration item_of steps = sum_by (λ step. length_of (item_of step)) steps

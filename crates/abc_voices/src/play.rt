@@ -1,0 +1,74 @@
+//! What a voice plays of a section.
+
+ghost use Rattle.std.specs.Prelude.{◌≡◌, ◌<◌, ◌≤◌, length, All, IfOk, IfSome, MatchOption, filter_map, slice_get};
+ghost use Rattle.abc_repeat.specs.declared.play.TheConstants.{MOST_PLACES};
+ghost use Rattle.abc_repeat.specs.declared.fault.RepeatFault.TheVariants.{TooLong};
+ghost use Rattle.abc_time.specs.Grains.{grains_of_the_latest_end};
+ghost use Rattle.abc_voices.specs.Moved.{moved};
+ghost use Rattle.abc_voices.specs.Play.{marks_of, places_of, played, duration};
+
+use crate::moved::moved;
+use crate::step::{length_of, mark_of};
+use abc_bars::Item;
+use abc_repeat::{Mark, RepeatFault, expand};
+use abc_time::{Grains, LATEST_END};
+use std::alloc::{AllocError, Global};
+
+/// The marks of a voice in a section.
+fn marks_of(alloc: Global, steps: &[&Item]) -> Result<Vec<Mark>, AllocError>
+    ensures { IfOk result (λ marks. marks.items ≡ marks_of (λ step. step.now) steps.now) }
+{
+    let mut marks = Vec::with_capacity(alloc, steps.len())?;
+    for step in steps {
+        marks.push(mark_of(step))?;
+    }
+    Ok(marks)
+}
+
+/// What stands at each of some places.
+fn chosen<'a>(
+    alloc: Global,
+    steps: &[&'a Item],
+    places: &[usize],
+) -> Result<Vec<&'a Item>, AllocError>
+    requires { All (λ place. place < length steps.now) places.now }
+    ensures { IfOk result (λ items. items.items ≡ filter_map (slice_get steps.now) places.now) }
+{
+    let mut items = Vec::with_capacity(alloc, places.len())?;
+    for place in places {
+        items.push(steps[*place])?;
+    }
+    Ok(items)
+}
+
+/// What is played of the items of a voice in a section, in order of play.
+pub fn played<'a>(alloc: Global, part: &[&'a Item]) -> Result<Vec<&'a Item>, RepeatFault>
+    ensures value { IfOk result (λ items. items.items ≡ played (λ step. step.now) part.now) }
+    ensures short { IfOk result (λ _. length (places_of (λ step. step.now) (moved (λ step. step.now) part.now)) ≤ MOST_PLACES) }
+    ensures too_long { result ≡ Err TooLong
+        → MOST_PLACES < length (places_of (λ step. step.now) (moved (λ step. step.now) part.now)) }
+{
+    let steps = moved(alloc, part)?;
+    let marks = marks_of(alloc, &steps)?;
+    let places = expand(alloc, &marks)?;
+    let items = chosen(alloc, &steps, &places)?;
+    Ok(items)
+}
+
+/// How long items take one after another, unless that is later than a tune may end.
+#[tactic(auto, unfolding(abc_time::specs::Grains::grains_of_a_whole_note, abc_time::specs::Grains::grains_of_the_latest_end))]
+pub fn duration(steps: &[&Item]) -> Option<Grains>
+    ensures { MatchOption result
+        (grains_of_the_latest_end < duration (λ step. step.now) steps.now)
+        (λ grains. (grains.0 ≡ duration (λ step. step.now) steps.now) × (grains.0 ≤ grains_of_the_latest_end)) }
+{
+    let mut sum: u64 = 0;
+    for step in steps {
+        sum = sum.saturating_add(length_of(step).0);
+    }
+    if sum <= LATEST_END.0 {
+        Some(Grains(sum))
+    } else {
+        None
+    }
+}
