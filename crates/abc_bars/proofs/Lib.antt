@@ -1,5 +1,6 @@
 pub mod Factors
 pub mod HeaderViews
+pub mod LookBack
 pub mod Pitches
 pub mod VoicesLemmas
 pub mod WholeParts

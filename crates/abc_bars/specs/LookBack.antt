@@ -1,1 +1,4 @@
+pub mod After
 pub mod Defaults
+pub mod Element
+pub mod Voice

@@ -1,0 +1,4 @@
+pub mod Accidentals
+pub mod Tied
+pub mod Tuplets
+pub mod Voice

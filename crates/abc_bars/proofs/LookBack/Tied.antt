@@ -1,0 +1,144 @@
+-- Tied notes and the accidentals of chords, looked back for.
+use Rattle.std.proofs.Common.{◌≡◌, ℕ, suc, zero, ◌+◌, nat_lt, ℤ, Bool, true, false, ◌||◌, cond, List, [], ◌∷◌, ◌++◌, length, take, Option, Some, None, unwrap_or, refl, sym, ap, ◌∙◌, arith, append_assoc, length-append, subst, append-nil}
+use Rattle.std.proofs.lemmas.Bool.Decides.{nat_tests}
+use Rattle.std.specs.Option.{option_or}
+use Rattle.abc_fields.specs.declared.fault.FaultCode.TheVariants.{BadByte, BigChord, LooseTie}
+use Rattle.abc_fields.specs.Signature.{alteration as signature_alteration}
+use Rattle.abc_scan.specs.declared.chord.Chord.{Chord}
+use Rattle.abc_scan.specs.declared.note.Note.{Note}
+use Rattle.abc_scan.specs.declared.parts.ChordPartKind.{ChordPartKind}
+use Rattle.abc_scan.specs.declared.parts.ChordPartKind.TheVariants as parts
+use Rattle.abc_scan.specs.declared.spanned.Spanned.{Spanned}
+use Rattle.abc_text.specs.declared.letter.Letter.{Letter}
+use Rattle.abc_time.specs.declared.ratio.Ratio.{Ratio}
+use Rattle.abc_bars.specs.declared.accidentals.Accidentals.{Accidentals}
+use Rattle.abc_bars.specs.declared.chords.Outside.{Outside}
+use Rattle.abc_bars.specs.declared.item.Tone.{Tone}
+use Rattle.abc_bars.specs.declared.item.TheConstants.{MOST_NOTES}
+use Rattle.abc_bars.specs.declared.settings.Settings.{Settings}
+use Rattle.abc_bars.specs.declared.sound.Inside.{Inside}
+use Rattle.abc_bars.specs.declared.tied.TiedNote.{TiedNote}
+use Rattle.abc_bars.specs.Accidentals.{written_on}
+use Rattle.abc_bars.specs.Alteration.{alteration_of, own_alteration, tied_alteration, with_own}
+use Rattle.abc_bars.specs.Chords.{inside_from, inside_of, tie_follows, with_fault, with_dropped}
+use Rattle.abc_bars.specs.Column.{column_of}
+use Rattle.abc_bars.specs.Sound.{no_notes, with_note}
+use Rattle.abc_bars.specs.LookBack.Element.{Element}
+use Rattle.abc_bars.specs.LookBack.Voice.{accidental_at, accidentals_at, alteration_at, as_tied, counted_notes, newest_written, notes_among, settings_at, signature_at, tied_among, tied_at, written_by}
+use Rattle.abc_bars.proofs.LookBack.Accidentals.{or_or, with_each, written_on-at, written_on-with_own}
+
+unwrap_or-or : (a b : Option ℤ) (d : ℤ) → unwrap_or (option_or a b) d ≡ unwrap_or a (unwrap_or b d)
+unwrap_or-or None b d = refl
+unwrap_or-or (Some x) b d = refl
+
+-- The accidentals are those of these notes of a chord, newest first, and of what stands before the chord.
+abbrev pub AreBehind : List Element → Accidentals → List Note → Type 0
+AreBehind before accidentals earlier =
+    (letter : Letter) → written_on accidentals letter ≡ option_or (newest_written letter earlier) (accidental_at letter before)
+
+-- One note more, and it is so behind it.
+behind-own : (before : List Element) (accidentals : Accidentals) (earlier : List Note) (note : Note)
+    → AreBehind before accidentals earlier → AreBehind before (with_own accidentals note) (note ∷ earlier)
+behind-own before accidentals earlier note h letter =
+    written_on-with_own accidentals note letter
+    ∙ ap (option_or (written_by letter note)) (h letter)
+    ∙ sym (or_or (written_by letter note) (newest_written letter earlier) (accidental_at letter before))
+
+-- A note is altered as looking back says.
+pub alteration-at : (opening : Settings) (before : List Element) (accidentals : Accidentals) (earlier : List Note) (note : Note)
+    → AreBehind before accidentals earlier
+    → alteration_of (settings_at opening before) accidentals note ≡ alteration_at opening (tied_at opening before) before earlier note
+unfolding settings_at
+alteration-at opening before accidentals earlier note h =
+    let rest : ℤ = unwrap_or (tied_alteration (tied_at opening before) note) (signature_alteration (signature_at opening.signature before) note.letter) in
+    ap (unwrap_or (own_alteration note))
+    (ap (λ (w : Option ℤ). unwrap_or w rest) (h note.letter)
+    ∙ unwrap_or-or (newest_written note.letter earlier) (accidental_at note.letter before) rest)
+
+either : (b : Bool) (x y : Inside) (P : Inside → Type 0) → P x → P y → P (cond b x y)
+either true x y P p q = p
+either false x y P p q = q
+
+tied-step : (b : Bool) (xs : List TiedNote) (x y : TiedNote) (rest : List TiedNote) → x ≡ y
+    → (cond b (xs ++ x ∷ []) xs) ++ rest ≡ xs ++ cond b (y ∷ rest) rest
+tied-step true xs x y rest e = append_assoc xs (x ∷ []) rest ∙ ap (λ (z : TiedNote). xs ++ (z ∷ rest)) e
+tied-step false xs x y rest e = refl
+
+room-left : (n m : ℕ) → n + suc m ≡ MOST_NOTES → nat_lt n MOST_NOTES ≡ true
+room-left n m h = grind (arith, nat_tests)
+
+no-room : (n : ℕ) → n + 0 ≡ MOST_NOTES → nat_lt n MOST_NOTES ≡ false
+no-room n h = grind (arith, nat_tests)
+
+one-more : (xs : List Tone) (x : Tone) (room : ℕ) → length xs + suc room ≡ MOST_NOTES → length (xs ++ x ∷ []) + room ≡ MOST_NOTES
+one-more xs x room h = simp length-append (omega arith)
+
+module _ (opening : Settings) (before : List Element) (broken : List Ratio) (outside : Outside) where
+  -- What some parts of a chord leave, where so many more of its notes count.
+  abbrev Leaves : List (Spanned ChordPartKind) → ℕ → Inside → Inside → List Note → Type 0
+  Leaves rest room start inside earlier =
+      ((inside_from (settings_at opening before) broken outside rest start).accidentals ≡ with_each inside.accidentals (take room (notes_among rest)))
+      × ((inside_from (settings_at opening before) broken outside rest start).tied
+      ≡ inside.tied ++ tied_among opening (tied_at opening before) before outside.tied earlier (take room (notes_among rest)))
+
+  step : (kind : ChordPartKind) (from to : ℕ) (rest : List (Spanned ChordPartKind))
+      → ((room : ℕ) (inside : Inside) (earlier : List Note) → length inside.tones + room ≡ MOST_NOTES → AreBehind before inside.accidentals earlier → Leaves rest room inside inside earlier)
+      → (room : ℕ) (inside : Inside) (earlier : List Note)
+      → length inside.tones + room ≡ MOST_NOTES → AreBehind before inside.accidentals earlier
+      → Leaves (record { kind = kind; from = from; to = to } ∷ rest) room inside inside earlier
+  step (parts.Note note) from to rest ih zero inside earlier size h =
+      let column : ℕ = column_of (outside.from + from) in
+      let settings : Settings = settings_at opening before in
+      let full : Inside = with_note settings broken (Some outside.length) column note (outside.tied || tie_follows rest) inside in
+      let P : Inside → Type 0 = λ i. Leaves rest 0 (record i { after_note = true }) inside earlier in
+      let Q : Bool → Type 0 = λ b. P (cond b full (with_dropped column inside)) in
+      subst Q (sym (no-room (length inside.tones) size))
+      (either inside.big inside (record (with_fault column BigChord inside) { big = true }) P
+      (ih 0 (record inside { after_note = true }) earlier size h)
+      (ih 0 (record (with_fault column BigChord inside) { big = true; after_note = true }) earlier size h))
+  step (parts.Note note) from to rest ih (suc room) inside earlier size h =
+      let column : ℕ = column_of (outside.from + from) in
+      let settings : Settings = settings_at opening before in
+      let tied : Bool = outside.tied || tie_follows rest in
+      let full : Inside = with_note settings broken (Some outside.length) column note tied inside in
+      let Q : Bool → Type 0 = λ b.
+      ((inside_from settings broken outside rest (record (cond b full (with_dropped column inside)) { after_note = true })).accidentals
+      ≡ with_each (with_own inside.accidentals note) (take room (notes_among rest)))
+      × ((inside_from settings broken outside rest (record (cond b full (with_dropped column inside)) { after_note = true })).tied
+      ≡ inside.tied ++ tied_among opening (tied_at opening before) before outside.tied earlier ((note, tie_follows rest) ∷ take room (notes_among rest))) in
+      let r : Leaves rest room (record full { after_note = true }) full (note ∷ earlier) =
+      ih room (record full { after_note = true }) (note ∷ earlier) (one-more inside.tones _ room size)
+      (behind-own before inside.accidentals earlier note h) in
+      subst Q (sym (room-left (length inside.tones) room size)) (
+        r.0,
+        r.1 ∙ tied-step tied inside.tied _ _ (tied_among opening (tied_at opening before) before outside.tied (note ∷ earlier) (take room (notes_among rest)))
+            (ap (as_tied note) (alteration-at opening before inside.accidentals earlier note h)),
+      )
+  step parts.Tie from to rest ih room inside earlier size h =
+      let column : ℕ = column_of (outside.from + from) in
+      let P : Inside → Type 0 = λ i. Leaves rest room (record i { after_note = false }) inside earlier in
+      either inside.after_note inside (with_fault column LooseTie inside) P
+      (ih room (record inside { after_note = false }) earlier size h)
+      (ih room (record (with_fault column LooseTie inside) { after_note = false }) earlier size h)
+  step parts.NoEffect from to rest ih room inside earlier size h = ih room (record inside { after_note = false }) earlier size h
+  step parts.BadByte from to rest ih room inside earlier size h =
+      ih room (record (with_fault (column_of (outside.from + from)) BadByte inside) { after_note = false }) earlier size h
+
+  leaves : (rest : List (Spanned ChordPartKind)) (room : ℕ) (inside : Inside) (earlier : List Note)
+      → length inside.tones + room ≡ MOST_NOTES → AreBehind before inside.accidentals earlier → Leaves rest room inside inside earlier
+  leaves [] zero inside earlier size h = (refl, sym (append-nil inside.tied))
+  leaves [] (suc room) inside earlier size h = (refl, sym (append-nil inside.tied))
+  leaves (part ∷ rest) room inside earlier size h = step part.kind part.from part.to rest (leaves rest) room inside earlier size h
+
+-- What stands before a place of a chord, where none of its notes does.
+pub behind-none : (before : List Element) → AreBehind before (accidentals_at before) []
+behind-none before letter = written_on-at letter before
+
+-- What the parts of a chord leave.
+pub chord-leaves : (opening : Settings) (before : List Element) (broken : List Ratio) (outside : Outside) (chord : Chord)
+    → ((inside_of (settings_at opening before) broken outside chord.parts).accidentals ≡ with_each (accidentals_at before) (counted_notes chord))
+    × ((inside_of (settings_at opening before) broken outside chord.parts).tied
+    ≡ tied_among opening (tied_at opening before) before outside.tied [] (counted_notes chord))
+unfolding settings_at counted_notes
+chord-leaves opening before broken outside chord =
+    leaves opening before broken outside chord.parts MOST_NOTES (no_notes (settings_at opening before)) [] refl (behind-none before)
