@@ -1,5 +1,8 @@
+pub mod AddedNotes
+pub mod ChordTones
 pub mod Factors
 pub mod HeaderViews
+pub mod InsideLoop
 pub mod LookBack
 pub mod Pitches
 pub mod VoicesLemmas

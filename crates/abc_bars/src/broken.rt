@@ -68,7 +68,7 @@ impl BrokenFactors {
 }
 
 /// Whether a chord has a note.
-fn has_note(inside: &[ChordPart]) -> bool
+pub(crate) fn has_note(inside: &[ChordPart]) -> bool
     ensures { result ≡ has_note inside.now }
 {
     inside

@@ -1,13 +1,21 @@
 //! Notes, chords and rests: what each gives and what it leaves for its voice.
 
 ghost use Rattle.std.specs.Prelude.{◌≡◌, ◌++◌, All, OnOk};
-ghost use Rattle.abc_bars.specs.Item.{IsTone, IsWithinLongest};
-ghost use Rattle.abc_bars.specs.TimeTokens.{first_length};
+ghost use Rattle.abc_bars.specs.Item.{AreTones, IsItem, IsTone, IsWithinLongest};
+ghost use Rattle.abc_bars.specs.TimeTokens.{first_length, sounded, note_played, chord_played, rest_played, with_played};
 
-use crate::item::{LocalFault, Tone};
+use crate::broken::{BrokenFactors, has_note};
+use crate::chords::{Outside, inside_of};
+use crate::column::column_of;
+use crate::item::{Item, Items, LocalFault, Tone};
+use crate::settings::Settings;
+use crate::sound::{Inside, add_note, length_in, push_fault_if};
+use crate::tuplet::counted_down;
+use abc_fields::FaultCode;
+use abc_scan::{Chord, Note, ShortSequence, WrittenLength};
 use abc_text::Sequence;
 use abc_time::Grains;
-use std::alloc::AllocError;
+use std::alloc::{AllocError, Global};
 
 /// The length of the first tone.
 fn first_length(tones: &[Tone]) -> Grains
@@ -27,5 +35,113 @@ fn push_faults(faults: &mut Sequence<LocalFault>, more: &[LocalFault]) -> Result
     for fault in more {
         faults.push(*fault)?;
     }
+    Ok(())
+}
+
+/// Gives notes that sound together (ABC 2.1 sections 4.1 and 4.17).
+fn sound(settings: &mut Settings, items: &mut Items, inside: Inside) -> Result<(), AllocError>
+    requires { AreTones inside.tones }
+    ensures settings { OnOk result (settings.new ≡ (sounded settings.old inside).settings) }
+    ensures items { OnOk result (items.new ≡ with_played items.old (sounded settings.old inside)) }
+    ensures range { All IsItem (sounded settings.old inside).items }
+{
+    let Inside {
+        accidentals,
+        tones,
+        tied,
+        faults,
+        after_note: _,
+        big: _,
+    } = inside;
+    let length = first_length(tones.as_slice());
+    push_faults(&mut items.faults, faults.as_slice())?;
+    items.items.push(Item::Tone { tones, length })?;
+    settings.accidentals = accidentals;
+    settings.tuplet = counted_down(settings.tuplet);
+    settings.tied = tied;
+    Ok(())
+}
+
+/// Gives a note at a place of its line, which is tied or not.
+pub(crate) fn note_played(
+    alloc: Global,
+    settings: &mut Settings,
+    items: &mut Items,
+    note: Note,
+    broken: &BrokenFactors,
+    tied: bool,
+    from: usize,
+) -> Result<(), AllocError>
+    ensures settings { OnOk result (settings.new ≡ (note_played settings.old broken.now tied from note).settings) }
+    ensures items { OnOk result (items.new ≡ with_played items.old (note_played settings.old broken.now tied from note)) }
+    ensures range { OnOk result (All IsItem (note_played settings.old broken.now tied from note).items) }
+{
+    let mut inside = Inside::new(alloc, settings);
+    add_note(
+        settings,
+        broken,
+        None,
+        column_of(from),
+        note,
+        tied,
+        &mut inside,
+    )?;
+    sound(settings, items, inside)?;
+    Ok(())
+}
+
+/// Gives a chord at a place of its line, which is tied or not: one that has no note takes no time.
+pub(crate) fn chord_played(
+    alloc: Global,
+    settings: &mut Settings,
+    items: &mut Items,
+    chord: &Chord,
+    broken: &BrokenFactors,
+    tied: bool,
+    from: usize,
+) -> Result<(), AllocError>
+    ensures settings { OnOk result (settings.new ≡ (chord_played settings.old broken.now tied from chord.now).settings) }
+    ensures items { OnOk result (items.new ≡ with_played items.old (chord_played settings.old broken.now tied from chord.now)) }
+    ensures range { OnOk result (All IsItem (chord_played settings.old broken.now tied from chord.now).items) }
+{
+    let outside = Outside {
+        length: chord.length,
+        tied,
+        from,
+    };
+    let parts = chord.parts.as_slice();
+    let inside = inside_of(alloc, settings, broken, outside, parts)?;
+    if has_note(parts) {
+        sound(settings, items, inside)?;
+    } else {
+        items.faults.push((column_of(from), FaultCode::EmptyChord))?;
+        push_faults(&mut items.faults, inside.faults.as_slice())?;
+    }
+    Ok(())
+}
+
+/// Gives a rest at a place of its line (ABC 2.1 section 4.5).
+pub(crate) fn rest_played(
+    alloc: Global,
+    settings: &mut Settings,
+    items: &mut Items,
+    written: WrittenLength,
+    broken: &BrokenFactors,
+    from: usize,
+) -> Result<(), AllocError>
+    ensures settings { OnOk result (settings.new ≡ (rest_played settings.old broken.now from written).settings) }
+    ensures items { OnOk result (items.new ≡ with_played items.old (rest_played settings.old broken.now from written)) }
+    ensures range { OnOk result (All IsItem (rest_played settings.old broken.now from written).items) }
+{
+    let (length, refused) = length_in(settings, broken, written, None);
+    push_fault_if(
+        &mut items.faults,
+        refused,
+        column_of(from),
+        FaultCode::BadLength,
+    )?;
+    items.items.push(Item::Rest { length, bar: false })?;
+    settings.tuplet = counted_down(settings.tuplet);
+    settings.tied = ShortSequence::new(alloc);
     Ok(())
 }
