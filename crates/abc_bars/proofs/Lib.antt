@@ -4,6 +4,7 @@ pub mod Factors
 pub mod HeaderViews
 pub mod InsideLoop
 pub mod LookBack
+pub mod NamePlaces
 pub mod Pitches
 pub mod VoicesLemmas
 pub mod WholeParts

@@ -6,6 +6,7 @@ mod accidentals;
 mod alteration;
 mod bar_rest;
 mod body;
+mod body_opening;
 mod broken;
 mod chords;
 mod column;
