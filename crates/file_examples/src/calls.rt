@@ -1,7 +1,7 @@
 use abc_text::Sequence;
 use abc_time::{Grains, TICK};
 use smf_bytes::{
-    Change, ChangeKind, Event, NumberFault, Score, Sounding, file_of, is_within_limits,
+    Change, ChangeKind, Event, EventBytes, NumberFault, Score, Sounding, file_of, is_within_limits,
     number_texts, one_order, order_events, put_number, read_number,
 };
 use std::alloc::{AllocError, Global};
@@ -27,7 +27,7 @@ fn events_stand_in_one_order(rt: HostRuntime) -> Result<(), Fail> {
     one_order();
     let mut events = Vec::new(rt.alloc());
     for (class, key) in [(2, 60), (1, 64)] {
-        let bytes = Sequence::from_slice(rt.alloc(), &[key])?;
+        let bytes = EventBytes::from_slice(rt.alloc(), &[key])?;
         events.push(Event {
             tick: 240,
             class,

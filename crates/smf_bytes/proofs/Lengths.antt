@@ -97,8 +97,8 @@ conductor_length end title changes short few =
 note_room : (channel : ℕ) (note : Sounding) → room (note_events channel note) ≤ 14
 note_room channel note =
     elim (cases_Bool (tick_at note.on.0 == tick_at note.off.0)) [
-      | inl same ↦ omega (arith, ap room (ap (λ b. cond b [] (note_off channel note.key (tick_at note.off.0) ∷ note_on channel note.key (tick_at note.on.0) ∷ [])) same))
-      | inr other ↦ omega (arith, ap room (ap (λ b. cond b [] (note_off channel note.key (tick_at note.off.0) ∷ note_on channel note.key (tick_at note.on.0) ∷ [])) other))
+      | inl same ↦ omega (arith, ap room (ap (λ b. cond b [] (note_on channel note.key (tick_at note.on.0) ∷ note_off channel note.key (tick_at note.off.0) ∷ [])) same))
+      | inr other ↦ omega (arith, ap room (ap (λ b. cond b [] (note_on channel note.key (tick_at note.on.0) ∷ note_off channel note.key (tick_at note.off.0) ∷ [])) other))
     ]
 
 notes_room : (channel : ℕ) (notes : List Sounding) → room (voice_events channel notes) ≤ 14 * length notes
@@ -138,8 +138,8 @@ note_ticks end channel note within =
     let off_in_time : tick_at note.off.0 ≤ tick_at end.0 = tick_at-le note.off.0 end.0 within.before_end in
     let on_in_time : tick_at note.on.0 ≤ tick_at end.0 = tick_at-le note.on.0 end.0 (omega (arith, within.forward, within.before_end)) in
     elim (cases_Bool (tick_at note.on.0 == tick_at note.off.0)) [
-      | inl same ↦ subst (All P) (sym (ap (λ b. cond b [] (off ∷ on ∷ [])) same)) (All-nil P)
-      | inr other ↦ subst (All P) (sym (ap (λ b. cond b [] (off ∷ on ∷ [])) other)) (All-cons P off (on ∷ []) off_in_time (All-cons P on [] on_in_time (All-nil P)))
+      | inl same ↦ subst (All P) (sym (ap (λ b. cond b [] (on ∷ off ∷ [])) same)) (All-nil P)
+      | inr other ↦ subst (All P) (sym (ap (λ b. cond b [] (on ∷ off ∷ [])) other)) (All-cons P on (off ∷ []) on_in_time (All-cons P off [] off_in_time (All-nil P)))
     ]
 
 pub voice_ticks : (end : Grains) (channel : ℕ) (notes : List Sounding) → All (IsSoundingWithin end) notes → EndBy (tick_at end.0) (voice_events channel notes)

@@ -46,11 +46,11 @@ note_off channel key tick = record { tick = tick; class = 1; key = key; bytes = 
 abbrev pub note_on : ℕ → ℕ → ℕ → Event
 note_on channel key tick = record { tick = tick; class = 2; key = key; bytes = (144 + channel) ∷ key ∷ 80 ∷ [] }
 
--- A note is its off and its on, unless both fall on one tick: then it is not written. Our own.
+-- A note is its on and its off, unless both fall on one tick: then it is not written. Our own.
 abbrev pub note_events : ℕ → Sounding → List Event
 note_events channel note =
     if tick_at note.on.0 == tick_at note.off.0 then [] else
-    note_off channel note.key (tick_at note.off.0) ∷ note_on channel note.key (tick_at note.on.0) ∷ []
+    note_on channel note.key (tick_at note.on.0) ∷ note_off channel note.key (tick_at note.off.0) ∷ []
 
 -- The end of a track, FF 2F 00 (SMF 1.0).
 abbrev pub end_event : ℕ → Event

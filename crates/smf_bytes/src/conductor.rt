@@ -7,7 +7,7 @@ ghost use Rattle.abc_voices.specs.Limits.{IsWritable, IsChangeWithin};
 ghost use Rattle.smf_bytes.specs.Track.{conductor_events};
 
 use crate::event::{Event, meta};
-use abc_text::Sequence;
+use crate::event_bytes::EventBytes;
 use abc_time::{Grains, tick_of};
 use abc_voices::{Change, ChangeKind};
 use byteorder::{BigEndian, ByteOrder};
@@ -75,7 +75,7 @@ fn class(what: ChangeKind) -> u8
 }
 
 /// The bytes of a change.
-fn bytes_of(alloc: Global, what: ChangeKind) -> Result<Sequence<u8>, AllocError>
+fn bytes_of(alloc: Global, what: ChangeKind) -> Result<EventBytes, AllocError>
     requires { IsWritable what }
     ensures { IfOk result (λ bytes. bytes ≡ change_bytes what) }
 {

@@ -2,8 +2,8 @@
 ghost use Rattle.std.specs.Prelude.{◌≡◌, ◌≤◌, ◌^◌, ◌<◌, length, IfOk};
 ghost use Rattle.smf_bytes.specs.Event.{meta_event};
 
+use crate::event_bytes::EventBytes;
 use crate::number::put_number;
-use abc_text::Sequence;
 use std::alloc::{AllocError, Global};
 
 /// An event of a track. Events compare as they stand in a track: by tick, then class, then key, then
@@ -18,11 +18,11 @@ pub struct Event {
     /// The key of a note, else 0.
     pub key: u8,
     /// What the track holds of it after its delta time.
-    pub bytes: Sequence<u8>,
+    pub bytes: EventBytes,
 }
 
 /// The bytes of a meta event of this type.
-pub(crate) fn meta(alloc: Global, kind: u8, content: &[u8]) -> Result<Sequence<u8>, AllocError>
+pub(crate) fn meta(alloc: Global, kind: u8, content: &[u8]) -> Result<EventBytes, AllocError>
     requires { length content.now < 2 ^ 28 }
     ensures { IfOk result (λ bytes. bytes ≡ meta_event kind content.now) }
 {
@@ -30,5 +30,5 @@ pub(crate) fn meta(alloc: Global, kind: u8, content: &[u8]) -> Result<Sequence<u
     bytes.extend_from_slice(&[0xFF, kind])?;
     put_number(&mut bytes, content.len() as u32)?;
     bytes.extend_from_slice(content)?;
-    Ok(Sequence::from(bytes))
+    EventBytes::from_slice(alloc, &bytes)
 }

@@ -5,6 +5,7 @@
 mod chunk;
 mod conductor;
 mod event;
+mod event_bytes;
 mod file;
 mod number;
 mod order;
@@ -16,6 +17,7 @@ pub use abc_voices::{
     is_within_limits, score_limits,
 };
 pub use event::Event;
+pub use event_bytes::{EventBytes, ROOM_IN_PLACE};
 pub use file::file_of;
 pub use number::{NumberFault, number_texts, put_number, read_number};
 pub use order::{one_order, order_events};

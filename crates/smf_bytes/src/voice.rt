@@ -7,7 +7,7 @@ ghost use Rattle.abc_voices.specs.Limits.{IsSoundingWithin};
 ghost use Rattle.smf_bytes.specs.Track.{voice_events, channel_of};
 
 use crate::event::Event;
-use abc_text::Sequence;
+use crate::event_bytes::EventBytes;
 use abc_time::{Grains, tick_of};
 use abc_voices::Sounding;
 use std::alloc::{AllocError, Global};
@@ -43,7 +43,8 @@ pub(crate) fn voice(
     Ok(events)
 }
 
-/// Appends the off and the on of a note, unless both fall on one tick.
+/// Appends the on and the off of a note, unless both fall on one tick. In this order notes that do not
+/// overlap give their events sorted.
 fn push_note(
     alloc: Global,
     events: &mut Vec<Event>,
@@ -59,36 +60,34 @@ fn push_note(
     let on = tick_of(note.on);
     let off = tick_of(note.off);
     if on != off {
-        events.push(off_event(alloc, channel, note.key, off)?)?;
-        events.push(on_event(alloc, channel, note.key, on)?)?;
+        events.push(on_event(alloc, channel, note.key, on))?;
+        events.push(off_event(alloc, channel, note.key, off))?;
     }
     Ok(())
 }
 
 /// The event that ends a note.
-fn off_event(alloc: Global, channel: u8, key: u8, tick: u32) -> Result<Event, AllocError>
+fn off_event(alloc: Global, channel: u8, key: u8, tick: u32) -> Event
     requires { channel < 16 }
-    ensures { IfOk result (λ event. event ≡ note_off channel key tick) }
+    ensures { result ≡ note_off channel key tick }
 {
-    let bytes = Sequence::from_slice(alloc, &[0x80 + channel, key, 64])?;
-    Ok(Event {
+    Event {
         tick,
         class: 1,
         key,
-        bytes,
-    })
+        bytes: EventBytes::in_place(alloc, &[0x80 + channel, key, 64]),
+    }
 }
 
 /// The event that begins a note.
-fn on_event(alloc: Global, channel: u8, key: u8, tick: u32) -> Result<Event, AllocError>
+fn on_event(alloc: Global, channel: u8, key: u8, tick: u32) -> Event
     requires { channel < 16 }
-    ensures { IfOk result (λ event. event ≡ note_on channel key tick) }
+    ensures { result ≡ note_on channel key tick }
 {
-    let bytes = Sequence::from_slice(alloc, &[0x90 + channel, key, 80])?;
-    Ok(Event {
+    Event {
         tick,
         class: 2,
         key,
-        bytes,
-    })
+        bytes: EventBytes::in_place(alloc, &[0x90 + channel, key, 80]),
+    }
 }
