@@ -1,3 +1,4 @@
+pub mod Acting
 pub mod AddedNotes
 pub mod ChordTones
 pub mod Factors

@@ -45,16 +45,23 @@ role_of (kinds.Field field) = roles.Hindrance
 role_of kinds.Unclosed = roles.Silent
 role_of kinds.BadByte = roles.Silent
 
--- Whether the role is that of a time token.
-abbrev pub is_time : Role → Bool
-is_time roles.Time = true
-is_time (roles.Mark mark) = false
-is_time roles.Hindrance = false
-is_time roles.Silent = false
-
 -- Whether a token is a time token: a note, a rest, or a chord with a note. Our own.
 abbrev pub is_time_token : TokenKind → Bool
-is_time_token kind = is_time (role_of kind)
+is_time_token (kinds.Note note) = true
+is_time_token (kinds.Rest length) = true
+is_time_token (kinds.BarRest bars) = false
+is_time_token (kinds.Chord chord) = has_note chord.parts
+is_time_token (kinds.InlineField field) = false
+is_time_token (kinds.Bar bar) = false
+is_time_token (kinds.Ending passes) = false
+is_time_token (kinds.Tuplet tuplet) = false
+is_time_token (kinds.Broken mark) = false
+is_time_token kinds.Tie = false
+is_time_token kinds.Blank = false
+is_time_token kinds.NoEffect = false
+is_time_token (kinds.Field field) = false
+is_time_token kinds.Unclosed = false
+is_time_token kinds.BadByte = false
 
 -- Behind a time token a mark may act, behind anything else it does not.
 abbrev pub behind_mark : Behind → BrokenRhythm → Behind
@@ -111,10 +118,11 @@ mark_behind (behinds.Mark mark) = Some mark
 abbrev pub halved : BrokenRhythm → ℕ
 halved mark = 2 ^ min mark.marks MOST_MARKS
 
--- What is left of the shorter one, 1/2^k, and what the longer one is: 2 - 1/2^k.
+-- What k marks make of the shorter one: 1/2^k.
 abbrev pub shorter : BrokenRhythm → Ratio
 shorter mark = record { num = 1; den = halved mark }
 
+-- What k marks make of the longer one: 2 - 1/2^k.
 abbrev pub longer : BrokenRhythm → Ratio
 longer mark = record { num = 2 * halved mark - 1; den = halved mark }
 

@@ -1,4 +1,5 @@
 pub mod Accidentals
+pub mod Acting
 pub mod Alteration
 pub mod BarRest
 pub mod Body

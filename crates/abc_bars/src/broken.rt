@@ -2,6 +2,7 @@
 
 ghost use Rattle.std.specs.Prelude.{◌≡◌, ◌≤◌, ◌^◌};
 ghost use Rattle.abc_bars.specs.Broken.{has_note, role_of, is_time_token, behind_after, time_follows, mark_ahead, mark_behind, halved, shorter, longer, first_factor, second_factor, factors_of, is_bad_mark};
+ghost use Rattle.abc_bars.specs.Acting.{ActsAsRead, GivesFactorsAsRead};
 ghost use Rattle.abc_time.specs.Ratio.{IsRatio};
 
 use abc_scan::{BrokenRhythm, ChordPart, ChordPartKind, Direction, Token, TokenKind};
@@ -46,6 +47,7 @@ pub(crate) struct BrokenFactors {
 impl Model for BrokenFactors {
     ghost use Rattle.std.specs.Prelude.{List, ◌++◌, option_to_list, IfSome};
     ghost use Rattle.abc_time.specs.declared.ratio.Ratio.{Ratio};
+    ghost use Rattle.abc_bars.specs.Acting.{ActsAsRead, GivesFactorsAsRead};
     ghost use Rattle.abc_time.specs.Ratio.{IsRatio};
 
     ghost Value = { List Ratio };
@@ -93,7 +95,11 @@ fn role_of(kind: &TokenKind) -> Role
 pub(crate) fn is_time_token(kind: &TokenKind) -> bool
     ensures { result ≡ is_time_token kind.now }
 {
-    matches!(role_of(kind), Role::Time)
+    match kind {
+        TokenKind::Note(_) | TokenKind::Rest(_) => true,
+        TokenKind::Chord(chord) => has_note(chord.parts.as_slice()),
+        _ => false,
+    }
 }
 
 /// What stands nearest before the next place, of what matters.
@@ -205,3 +211,10 @@ pub(crate) fn is_bad_mark(behind: Behind, ahead: &[Token]) -> bool
 {
     !(behind == Behind::TimeToken && time_follows(ahead))
 }
+
+/// What is read of broken rhythm token by token is what acts: a mark is bad where it acts on nothing, and
+/// a note, chord or rest has the factors of the marks that act on it.
+pub fn acting_marks()
+    ensures marks { ActsAsRead }
+    ensures factors { GivesFactorsAsRead }
+{}
