@@ -5,6 +5,7 @@ ghost use Rattle.abc_fields.specs.Meter.{HasMeterRange};
 ghost use Rattle.abc_time.specs.Grains.{grains_of_the_longest_length};
 ghost use Rattle.abc_time.specs.Length.{IsLength};
 ghost use Rattle.abc_bars.specs.BarRest.{bar_grains, bars_of, bar_rest_length, bar_rest_of};
+ghost use Rattle.abc_bars.specs.Item.{IsItem};
 
 use crate::item::Item;
 use crate::lengths::ratio_of;
@@ -54,7 +55,8 @@ fn bar_rest_length(meter: TuneMeter, bars: Option<u32>) -> (Grains, Option<Fault
 
 /// What a rest of bars gives, and its fault (ABC 2.1 section 4.5).
 pub(crate) fn bar_rest_of(meter: TuneMeter, bars: Option<u32>) -> (Item, Option<FaultCode>)
-    ensures { result ≡ bar_rest_of meter bars }
+    ensures value { result ≡ bar_rest_of meter bars }
+    ensures range { IsItem result.0 }
 {
     let (length, fault) = bar_rest_length(meter, bars);
     (Item::Rest { length, bar: true }, fault)

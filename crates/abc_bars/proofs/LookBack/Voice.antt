@@ -28,8 +28,7 @@ use Rattle.abc_time.specs.declared.ratio.Ratio.{Ratio}
 use Rattle.abc_bars.specs.declared.settings.Settings.{Settings}
 use Rattle.abc_bars.specs.Alteration.{alteration_of}
 use Rattle.abc_bars.specs.Settings.{without_accidentals}
-use Rattle.abc_bars.specs.Broken.{has_note, is_note_part, is_time}
-use Rattle.abc_bars.specs.declared.broken.Role.TheVariants as roles
+use Rattle.abc_bars.specs.Broken.{has_note, is_note_part}
 use Rattle.abc_bars.specs.declared.chords.Outside.{Outside}
 use Rattle.abc_bars.specs.declared.sound.Inside.{Inside}
 use Rattle.abc_bars.specs.declared.item.TheConstants.{MOST_NOTES}
@@ -102,7 +101,7 @@ chord-by opening before broken tied from chord true e =
     let accidentals : accidentals_at (record { kind = kinds.Chord chord; tied = tied } ∷ before) ≡ inside.accidentals =
     at-chord chord tied before ∙ sym (chord-leaves opening before broken outside chord).0 in
     let tuplet : tuplet_from opening.meter 0 (record { kind = kinds.Chord chord; tied = tied } ∷ before) ≡ counted_down (tuplet_from opening.meter 0 before) =
-    ap (λ (b : Bool). tuplet_from opening.meter (passing (is_time (cond b roles.Time roles.Silent)) 0) before) e ∙ tuplet_from-suc opening.meter 0 before in
+    ap (λ (b : Bool). tuplet_from opening.meter (passing b 0) before) e ∙ tuplet_from-suc opening.meter 0 before in
     let ties : tied_said opening (tied_at opening before) before (kinds.Chord chord) tied ≡ inside.tied =
     ap (λ (b : Bool). cond b (tied_among opening (tied_at opening before) before tied [] (counted_notes chord)) (tied_at opening before)) e
     ∙ sym (chord-leaves opening before broken outside chord).1 in
@@ -119,7 +118,7 @@ chord-by opening before broken tied from chord false e =
     let accidentals : accidentals_at (record { kind = kinds.Chord chord; tied = tied } ∷ before) ≡ accidentals_at before =
     at-chord chord tied before ∙ ap (with_each (accidentals_at before)) (counted-none chord e) in
     let tuplet : tuplet_from opening.meter 0 (record { kind = kinds.Chord chord; tied = tied } ∷ before) ≡ tuplet_from opening.meter 0 before =
-    ap (λ (b : Bool). tuplet_from opening.meter (passing (is_time (cond b roles.Time roles.Silent)) 0) before) e in
+    ap (λ (b : Bool). tuplet_from opening.meter (passing b 0) before) e in
     let ties : tied_said opening (tied_at opening before) before (kinds.Chord chord) tied ≡ tied_at opening before =
     ap (λ (b : Bool). cond b (tied_among opening (tied_at opening before) before tied [] (counted_notes chord)) (tied_at opening before)) e in
     λ i. record {
