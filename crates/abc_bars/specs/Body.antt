@@ -4,7 +4,7 @@ use Rattle.abc_fields.specs.declared.shift.Shift.{Shift}
 use Rattle.abc_bars.specs.declared.body.Body.{Body}
 use Rattle.abc_bars.specs.declared.body.Current.{Current}
 use Rattle.abc_bars.specs.declared.body.Current.TheVariants.{Unnamed, At}
-use Rattle.abc_bars.specs.declared.body.TheConstants.{MOST_VOICES}
+use Rattle.abc_bars.specs.declared.voices.TheConstants.{MOST_VOICES}
 use Rattle.abc_bars.specs.declared.settings.Settings.{Settings}
 use Rattle.abc_bars.specs.Settings.{without_accidentals}
 use Rattle.abc_bars.specs.VoiceShift.{with_properties}

@@ -1,5 +1,5 @@
 -- The fields of a tune's body: what holds behind each, and what it gives.
-use Rattle.std.specs.Prelude.{ℕ, ℤ, Bool, false, if◌then◌else◌, List, [], ◌∷◌, slice_range, Option, Some, None, unwrap_or, Result, Ok, Err}
+use Rattle.std.specs.Prelude.{ℕ, false, if◌then◌else◌, List, [], ◌∷◌, slice_range, Option, Some, None, unwrap_or, Result, Ok, Err}
 use Rattle.std.specs.Char.{is_ascii_uppercase}
 use Rattle.std.specs.Option.{option_map}
 use Rattle.abc_fields.specs.declared.fault.FaultCode.{FaultCode}
@@ -15,6 +15,7 @@ use Rattle.abc_fields.specs.Unit.{unit_of}
 use Rattle.abc_fields.specs.Voice.{voice_of}
 use Rattle.abc_time.specs.declared.ratio.Ratio.{Ratio}
 use Rattle.abc_bars.specs.declared.body.Body.{Body}
+use Rattle.abc_bars.specs.declared.body_fields.FieldItem.{FieldItem}
 use Rattle.abc_bars.specs.declared.field_kind.FieldKind.{FieldKind}
 use Rattle.abc_bars.specs.declared.field_kind.FieldKind.TheVariants as kinds
 use Rattle.abc_bars.specs.declared.item.Item.{Item}
@@ -32,6 +33,15 @@ pub record FieldGiven : Type 0 where
   pub body : Body
   pub items : List Item
   pub faults : List (ℕ × FaultCode)
+
+-- What there is, as a list.
+abbrev pub listed : {X : Type 0} → Option X → List X
+listed None = []
+listed (Some x) = x ∷ []
+
+-- What holds behind a field, and what it gives.
+abbrev pub given_as : Body → FieldItem → FieldGiven
+given_as body given = record { body = body; items = listed given.item; faults = listed given.fault }
 
 -- Behind a field that is accepted and gives an item.
 abbrev pub accepted : Body → Item → FieldGiven

@@ -23,7 +23,7 @@ use Rattle.abc_bars.specs.declared.field_kind.FieldKind.TheVariants as kinds
 use Rattle.abc_bars.specs.declared.header.Header.{Header}
 use Rattle.abc_bars.specs.declared.header.HeaderGiven.{HeaderGiven}
 use Rattle.abc_bars.specs.declared.header.OwnGiven.{OwnGiven}
-use Rattle.abc_bars.specs.declared.body.TheConstants.{MOST_VOICES}
+use Rattle.abc_bars.specs.declared.voices.TheConstants.{MOST_VOICES}
 use Rattle.abc_bars.specs.declared.item.Item.{Item}
 use Rattle.abc_bars.specs.declared.item.Item.TheVariants as items
 

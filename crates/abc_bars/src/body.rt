@@ -1,22 +1,21 @@
 //! What holds at a place of a tune's body.
 
-ghost use Rattle.std.specs.Prelude.{◌≡◌, OnOk};
+ghost use Rattle.std.specs.Prelude.{◌≡◌, false, if◌then◌else◌, None, Some, IfOk, OnOk};
 ghost use Rattle.std.specs.Borrow.{sem};
-ghost use Rattle.abc_bars.specs.Body.{IsUnnamed, here, mentioned};
+ghost use Rattle.abc_bars.specs.Body.{IsUnnamed, here, joined_by, moved_to, mentioned, made_current, after_part, all_without_accidentals};
 ghost use Rattle.abc_bars.specs.declared.body.Current.TheVariants as Current;
+ghost use Rattle.abc_bars.specs.Voices.{place_of};
 ghost use Rattle.abc_bars.specs.BodyLent.{LendsHere, LendsUnnamed};
 
 use crate::settings::Settings;
 use crate::voice_name::VoiceName;
-use crate::voices::Voices;
+use crate::voices::{MOST_VOICES, Voices};
+use abc_fields::Shift;
 use std::alloc::{AllocError, Global};
 use std::mem;
 
-/// The most voices of a tune. Our own.
-pub const MOST_VOICES: usize = 15;
-
 /// The voice that is the current one.
-#[derive(Clone, Debug, Drop, PartialEq, Eq)]
+#[derive(Debug, Drop, PartialEq, Eq)]
 pub(crate) enum Current {
     /// The voice without a name, which is not mentioned yet. As long as it is the current one, no other
     /// voice is mentioned.
@@ -39,8 +38,22 @@ impl Current {
     }
 }
 
+impl Clone for Current {
+    ghost is_clone = { λ current copy. copy ≡ current };
+
+    fn clone(&self) -> Result<Current, AllocError> {
+        match self {
+            Current::Unnamed(settings) => {
+                let settings = settings.clone()?;
+                Ok(Current::Unnamed(settings))
+            }
+            Current::At(at) => Ok(Current::At(*at)),
+        }
+    }
+}
+
 /// What holds at a place of a tune's body.
-#[derive(Clone, Debug, Drop, PartialEq, Eq)]
+#[derive(Debug, Drop, PartialEq, Eq)]
 pub struct Body {
     /// The voices that are mentioned, at most fifteen.
     pub(crate) voices: Voices<Settings>,
@@ -87,5 +100,97 @@ impl Body {
             Current::At(at) => self.current = Current::At(at),
         }
         Ok(())
+    }
+
+    /// Makes the voice of this name the current one, with these properties; or not, where it would be
+    /// one too many.
+    pub(crate) fn make_current(
+        &mut self,
+        alloc: Global,
+        name: &[u8],
+        said: Shift,
+    ) -> Result<bool, AllocError>
+        ensures value { IfOk result (λ made. made_current self.old name.now said ≡ (if made then Some self.new else None)) }
+        ensures refused { IfOk result (λ made. made ≡ false → self.new ≡ self.old) }
+    {
+        let name = VoiceName::new(alloc, name)?;
+        match self.voices.place_of(&name) {
+            Some(at) => {
+                self.move_to(at, said);
+                Ok(true)
+            }
+            None if self.voices.len() < MOST_VOICES => {
+                self.join(name, said)?;
+                Ok(true)
+            }
+            None => Ok(false),
+        }
+    }
+
+    /// Makes the voice at a place the current one, with these properties.
+    fn move_to(&mut self, at: usize, said: Shift)
+        ensures { self.new ≡ moved_to self.old at said }
+    {
+        self.current = Current::At(at);
+        let settings = self.here_mut();
+        settings.shift = settings.shift.with_properties(said);
+    }
+
+    /// Mentions another voice, which becomes the current one, with these properties.
+    fn join(&mut self, name: VoiceName, said: Shift) -> Result<(), AllocError>
+        requires { place_of name self.old.voices ≡ None }
+        ensures { OnOk result (self.new ≡ joined_by self.old name said) }
+    {
+        let mut settings = self.another.clone()?;
+        settings.shift = settings.shift.with_properties(said);
+        let at = self.voices.len();
+        self.voices.push(name, settings)?;
+        self.current = Current::At(at);
+        Ok(())
+    }
+
+    /// A part begins: no voice has accidentals.
+    pub(crate) fn begin_part(&mut self)
+        ensures { self.new ≡ after_part self.old }
+    {
+        self.voices.clear_accidentals();
+        if let Current::Unnamed(settings) = &mut self.current {
+            settings.clear_accidentals();
+        }
+    }
+}
+
+impl Clone for Body {
+    ghost is_clone = { λ body copy. copy ≡ body };
+
+    fn clone(&self) -> Result<Body, AllocError> {
+        let voices = self.voices.copied()?;
+        let current = self.current.clone()?;
+        let another = self.another.clone()?;
+        Ok(Body {
+            voices,
+            current,
+            another,
+        })
+    }
+}
+
+impl Voices<Settings> {
+    /// A copy of the voices, with what holds for each.
+    #[tactic(auto, using(crate::proofs::VoicesLemmas::copies_same))]
+    fn copied(&self) -> Result<Self, AllocError>
+        ensures { IfOk result (λ copy. copy ≡ self.now) }
+    {
+        let copy = self.clone()?;
+        Ok(copy)
+    }
+
+    /// No voice has accidentals any more.
+    fn clear_accidentals(&mut self)
+        ensures { self.new ≡ all_without_accidentals self.old }
+    {
+        for at in 0..self.len() {
+            self.known_mut(at).clear_accidentals();
+        }
     }
 }

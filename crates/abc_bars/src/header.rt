@@ -18,7 +18,7 @@ use crate::item::{Item, LocalFault};
 use crate::opening::{opening_meter, opening_tempo};
 use crate::reference::reference_of;
 use crate::voice_name::VoiceName;
-use crate::voices::Voices;
+use crate::voices::{MOST_VOICES, Voices};
 use abc_fields::{EMPTY_SIGNATURE, FaultCode, Key, Shift, Voice, read_key, read_parts, read_voice};
 use abc_scan::Field;
 use abc_text::Sequence;

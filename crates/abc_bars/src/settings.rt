@@ -11,9 +11,10 @@ use crate::unit::UnitLength;
 use crate::voice_shift::VoiceShift;
 use abc_fields::Signature;
 use abc_scan::ShortSequence;
+use std::alloc::AllocError;
 
 /// What holds for a voice at a place of a tune.
-#[derive(Clone, Debug, Drop, PartialEq, Eq)]
+#[derive(Debug, Drop, PartialEq, Eq)]
 pub struct Settings {
     pub meter: TuneMeter,
     /// The unit note length.
@@ -34,5 +35,21 @@ impl Settings {
         ensures { self.new ≡ without_accidentals self.old }
     {
         self.accidentals = NO_ACCIDENTALS;
+    }
+}
+
+impl Clone for Settings {
+    ghost is_clone = { λ settings copy. copy ≡ settings };
+
+    fn clone(&self) -> Result<Settings, AllocError> {
+        Ok(Settings {
+            meter: self.meter,
+            unit: self.unit,
+            signature: self.signature,
+            shift: self.shift,
+            accidentals: self.accidentals,
+            tuplet: self.tuplet,
+            tied: self.tied.clone()?,
+        })
     }
 }
