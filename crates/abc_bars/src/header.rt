@@ -10,7 +10,6 @@ ghost use Rattle.abc_bars.specs.declared.item.Item.TheVariants as items;
 ghost use Rattle.abc_bars.specs.Defaults.{setting_given};
 ghost use Rattle.abc_bars.specs.Reference.{reference_of};
 
-use crate::body::MOST_VOICES;
 use crate::defaults::{Defaults, setting_given};
 use crate::field_fault::faults_of;
 use crate::field_kind::{FieldKind, kind_of};
