@@ -37,9 +37,8 @@ mod voice_name;
 mod voice_shift;
 mod voices;
 
-pub use body::{Body, MOST_VOICES};
-pub use broken::acting_marks;
 pub use body::Body;
+pub use broken::acting_marks;
 pub use defaults::Defaults;
 pub use entry::Entry;
 pub use header_laws::header_views;
