@@ -1,6 +1,9 @@
+pub mod Change
 pub mod Limits
 pub mod Linked
 pub mod Moved
 pub mod Play
+pub mod Section
 pub mod Settle
 pub mod Step
+pub mod Track

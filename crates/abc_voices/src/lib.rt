@@ -2,19 +2,25 @@
 //! file is written from, and its limits.
 #![tactic(auto)]
 
+mod change;
 mod limits;
 mod linked;
 mod moved;
 mod notes;
 mod play;
 mod score;
+mod section;
 mod settle;
 mod step;
+mod track;
 
+pub use change::{put_keys, put_meters, put_tempos};
 pub use limits::{
     LONGEST_TITLE, MOST_CHANGES, MOST_NOTES, MOST_VOICES, is_within_limits, score_limits,
 };
 pub use notes::put_notes;
 pub use play::{duration, played};
 pub use score::{Change, ChangeKind, Score, Sounding};
+pub use section::{Section, letters, part, sections};
 pub use settle::settled;
+pub use track::{everyone, nameless_plays};

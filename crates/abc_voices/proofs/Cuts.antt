@@ -1,0 +1,51 @@
+-- The sections of a tune, one item further.
+use Rattle.std.proofs.Common.{◌≡◌, ℕ, ◌+◌, ◌-◌, ◌<◌, ◌≤◌, true, false, cond, List, [], ◌∷◌, ◌++◌, length, take, drop, get_or, sym, ap, ◌∙◌, arith, append_assoc, length-drop}
+use Rattle.std.proofs.lemmas.List.{drop_more, take_more, get_or-drop}
+use Rattle.abc_bars.specs.declared.item.Item.{Item}
+use Rattle.abc_voices.specs.Section.{is_section, voice_past, sections_from}
+
+-- what is left of a list, from an element on
+front : {X : Type 0} (xs : List X) (i : ℕ) (x : X) → i < length xs → x ≡ get_or xs i x → drop i xs ≡ x ∷ drop (i + 1) xs
+front xs i x within is = drop_more xs i x within ∙ ap (λ y. y ∷ drop (i + 1) xs) (sym is)
+
+-- one element more
+held_more : {X : Type 0} (xs : List X) (begin at : ℕ) (x : X) → begin ≤ at → at < length xs → x ≡ get_or xs at x
+    → take (at + 1 - begin) (drop begin xs) ≡ take (at - begin) (drop begin xs) ++ x ∷ []
+held_more xs begin at x inside within is =
+    let next : at + 1 - begin ≡ (at - begin) + 1 = omega arith in
+    let place : begin + (at - begin) ≡ at = omega arith in
+    let short : at - begin < length (drop begin xs) = omega (arith, length-drop begin xs) in
+    ap (λ k. take k (drop begin xs)) next ∙ take_more (drop begin xs) (at - begin) x short
+    ∙ ap (λ y. take (at - begin) (drop begin xs) ++ y ∷ []) (get_or-drop begin xs (at - begin) x ∙ ap (λ k. get_or xs k x) place ∙ sym is)
+
+-- a section ends in front of an item with a letter
+pub ends_more : {A : Type 0} (item_of : A → Item) (tune : List A) (seen : List (List ℕ × List A)) (opening voice : List ℕ) (begin at : ℕ) (x : A) (whole : List (List ℕ × List A))
+    → at < length tune → x ≡ get_or tune at x → is_section (item_of x) ≡ true
+    → seen ++ sections_from item_of opening (take (at - begin) (drop begin tune)) voice (drop at tune) ≡ whole
+    → (seen ++ (opening, take (at - begin) (drop begin tune)) ∷ []) ++ sections_from item_of voice (take (at + 1 - (at + 1)) (drop (at + 1) tune)) voice (drop (at + 1) tune) ≡ whole
+ends_more item_of tune seen opening voice begin at x whole within is known before =
+    let held = take (at - begin) (drop begin tune) in
+    let rest = drop (at + 1) tune in
+    let none : at + 1 - (at + 1) ≡ 0 = omega arith in
+    let ends : sections_from item_of opening held voice (drop at tune) ≡ (opening, held) ∷ sections_from item_of voice [] voice rest =
+    ap (sections_from item_of opening held voice) (front tune at x within is)
+    ∙ ap (λ b. cond b ((opening, held) ∷ sections_from item_of voice [] voice rest) (sections_from item_of opening (held ++ x ∷ []) (voice_past voice (item_of x)) rest)) known in
+    append_assoc seen ((opening, held) ∷ []) (sections_from item_of voice (take (at + 1 - (at + 1)) rest) voice rest)
+    ∙ ap (λ k. seen ++ ((opening, held) ∷ sections_from item_of voice (take k rest) voice rest)) none
+    ∙ ap (λ l. seen ++ l) (sym ends)
+    ∙ before
+
+-- another item stands in the section that goes on
+pub goes_more : {A : Type 0} (item_of : A → Item) (tune : List A) (seen : List (List ℕ × List A)) (opening voice : List ℕ) (begin at : ℕ) (x : A) (whole : List (List ℕ × List A))
+    → begin ≤ at → at < length tune → x ≡ get_or tune at x → is_section (item_of x) ≡ false
+    → seen ++ sections_from item_of opening (take (at - begin) (drop begin tune)) voice (drop at tune) ≡ whole
+    → seen ++ sections_from item_of opening (take (at + 1 - begin) (drop begin tune)) (voice_past voice (item_of x)) (drop (at + 1) tune) ≡ whole
+goes_more item_of tune seen opening voice begin at x whole inside within is known before =
+    let held = take (at - begin) (drop begin tune) in
+    let rest = drop (at + 1) tune in
+    let goes : sections_from item_of opening held voice (drop at tune) ≡ sections_from item_of opening (held ++ x ∷ []) (voice_past voice (item_of x)) rest =
+    ap (sections_from item_of opening held voice) (front tune at x within is)
+    ∙ ap (λ b. cond b ((opening, held) ∷ sections_from item_of voice [] voice rest) (sections_from item_of opening (held ++ x ∷ []) (voice_past voice (item_of x)) rest)) known in
+    ap (λ h. seen ++ sections_from item_of opening h (voice_past voice (item_of x)) rest) (held_more tune begin at x inside within is)
+    ∙ ap (λ l. seen ++ l) (sym goes)
+    ∙ before

@@ -1,0 +1,7 @@
+use Rattle.std.proofs.Common.{◌≡◌, drop, map}
+use Rattle.abc_voices.specs.Track.{everyone, names_from}
+use Rattle.abc_voices.proofs.track.everyone.Given as goal
+
+-- the names so far, and those of the rest
+abbrev pub invariant-loop-item : goal.invariant-loop-item
+invariant-loop-item l = names_from (λ step. step.now) (map (λ voice. voice.now) l.voices.items) (drop l.item-index l.tune) ≡ everyone (λ step. step.now) l.tune

@@ -1,0 +1,128 @@
+//! The sections of a tune, and what a voice has in each.
+
+ghost use Rattle.std.specs.Prelude.{◌≡◌, IfOk, map};
+ghost use Rattle.abc_voices.specs.Section.{is_step, is_section, letters, voice_past, opening_voice, sections, part_from};
+
+use abc_bars::Item;
+use std::alloc::{AllocError, Global};
+
+/// A section of a tune.
+#[derive(Clone, Copy, Debug)]
+pub struct Section<'s, 't> {
+    /// The current voice where it begins.
+    pub voice: &'t [u8],
+    /// What stands in it.
+    pub items: &'s [&'t Item],
+}
+
+/// Whether a section begins behind it.
+fn is_section(item: &Item) -> bool
+    ensures { result ≡ is_section item.now }
+{
+    matches!(item, Item::Section(_))
+}
+
+/// Whether it is played, or a mark that says how.
+fn is_step(item: &Item) -> bool
+    ensures { result ≡ is_step item.now }
+{
+    match item {
+        Item::Tone { .. } | Item::Rest { .. } | Item::Bar(_) | Item::Ending(_) => true,
+        Item::Tempo { opening, .. } | Item::Meter { opening, .. } | Item::Key { opening, .. } => {
+            !*opening
+        }
+        _ => false,
+    }
+}
+
+/// The current voice behind an item.
+fn voice_past<'a>(voice: &'a [u8], item: &'a Item) -> &'a [u8]
+    ensures { result.now ≡ voice_past voice.now item.now }
+{
+    match item {
+        Item::Voice {
+            opening: false,
+            name,
+        } => name.as_slice(),
+        _ => voice,
+    }
+}
+
+/// The current voice before the first V: of the body.
+pub(crate) fn opening_voice<'a>(tune: &[&'a Item]) -> &'a [u8]
+    ensures { result.now ≡ opening_voice (λ step. step.now) tune.now }
+{
+    for item in tune {
+        if let Item::Voice {
+            opening: true,
+            name,
+        } = item
+        {
+            return name.as_slice();
+        }
+    }
+    &[]
+}
+
+/// The items of a voice, of those from a place on where a voice is the current one.
+pub fn part<'a>(
+    alloc: Global,
+    voice: &[u8],
+    opening: &'a [u8],
+    steps: &[&'a Item],
+) -> Result<Vec<&'a Item>, AllocError>
+    ensures { IfOk result (λ part. part.items ≡ part_from (λ step. step.now) voice.now opening.now steps.now) }
+{
+    let mut part = Vec::new(alloc);
+    let mut current = opening;
+    for item in steps {
+        if is_step(item) && current == voice {
+            part.push(*item)?;
+        }
+        current = voice_past(current, item);
+    }
+    Ok(part)
+}
+
+/// The sections of a tune, the opening one first.
+pub fn sections<'s, 't>(
+    alloc: Global,
+    tune: &'s [&'t Item],
+) -> Result<Vec<Section<'s, 't>>, AllocError>
+    ensures { IfOk result (λ found. map (λ section. (section.voice.now, section.items.now)) found.items ≡ sections (λ step. step.now) tune.entry.now) }
+{
+    let mut found = Vec::new(alloc);
+    let mut voice = opening_voice(tune);
+    let mut opening = voice;
+    let mut begin = 0;
+    for (at, item) in tune.iter().enumerate() {
+        if is_section(item) {
+            found.push(Section {
+                voice: opening,
+                items: &tune[begin..at],
+            })?;
+            begin = at + 1;
+            opening = voice;
+        } else {
+            voice = voice_past(voice, item);
+        }
+    }
+    found.push(Section {
+        voice: opening,
+        items: &tune[begin..],
+    })?;
+    Ok(found)
+}
+
+/// The letters of the sections behind the opening one.
+pub fn letters(alloc: Global, tune: &[&Item]) -> Result<Vec<u8>, AllocError>
+    ensures { IfOk result (λ found. found.items ≡ letters (λ step. step.now) tune.now) }
+{
+    let mut found = Vec::new(alloc);
+    for item in tune {
+        if let Item::Section(letter) = item {
+            found.push(*letter)?;
+        }
+    }
+    Ok(found)
+}

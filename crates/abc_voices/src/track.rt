@@ -1,0 +1,67 @@
+//! The voices of a tune.
+
+ghost use Rattle.std.specs.Prelude.{◌≡◌, [], ◌∷◌, IfOk, OnOk, map, bytes_eq};
+ghost use Rattle.std.specs.List.{list_any};
+ghost use Rattle.abc_voices.specs.Track.{with_name, everyone, plays_first, nameless_plays};
+
+use crate::section::opening_voice;
+use abc_bars::Item;
+use std::alloc::{AllocError, Global};
+
+/// Whether a name is one of some others.
+fn is_known(known: &[&[u8]], name: &[u8]) -> bool
+    ensures { result ≡ list_any (bytes_eq name.now) (map (λ other. other.now) known.now) }
+{
+    for other in known {
+        if name == *other {
+            return true;
+        }
+    }
+    false
+}
+
+/// Puts the name of a voice behind those that are known, unless it is one of them.
+fn put_name<'a>(known: &mut Vec<&'a [u8]>, name: &'a [u8]) -> Result<(), AllocError>
+    ensures { OnOk result (map (λ voice. voice.now) known.new.items ≡ with_name (map (λ voice. voice.now) known.old.items) name.entry.now) }
+{
+    if !is_known(known, name) {
+        known.push(name)?;
+    }
+    Ok(())
+}
+
+/// The voices of a tune, that without a name before those that have one.
+pub fn everyone<'a>(alloc: Global, tune: &[&'a Item]) -> Result<Vec<&'a [u8]>, AllocError>
+    ensures { IfOk result (λ voices. map (λ voice. voice.now) voices.items ≡ everyone (λ step. step.now) tune.now) }
+{
+    let mut voices = Vec::new(alloc);
+    let nameless: &[u8] = &[];
+    voices.push(nameless)?;
+    for item in tune {
+        if let Item::Voice { name, .. } = item {
+            put_name(&mut voices, name.as_slice())?;
+        }
+    }
+    Ok(voices)
+}
+
+/// Whether a note, chord, rest or bar rest stands before the first V: of the body.
+fn plays_first(tune: &[&Item]) -> bool
+    ensures { result ≡ plays_first (λ step. step.now) tune.now }
+{
+    for item in tune {
+        match item {
+            Item::Tone { .. } | Item::Rest { .. } => return true,
+            Item::Voice { opening: false, .. } => return false,
+            _ => {}
+        }
+    }
+    false
+}
+
+/// Whether the voice without a name has a track.
+pub fn nameless_plays(tune: &[&Item]) -> bool
+    ensures { result ≡ nameless_plays (λ step. step.now) tune.now }
+{
+    opening_voice(tune).is_empty() && plays_first(tune)
+}
