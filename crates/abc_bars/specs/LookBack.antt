@@ -1,4 +1,6 @@
 pub mod After
+pub mod AfterBody
 pub mod Defaults
 pub mod Element
 pub mod Voice
+pub mod Voices

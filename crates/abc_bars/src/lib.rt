@@ -7,6 +7,7 @@ mod alteration;
 mod bar_rest;
 mod body;
 mod body_fields;
+mod body_laws;
 mod body_opening;
 mod broken;
 mod chords;
@@ -38,6 +39,7 @@ mod voice_shift;
 mod voices;
 
 pub use body::Body;
+pub use body_laws::body_views;
 pub use broken::acting_marks;
 pub use defaults::Defaults;
 pub use entry::Entry;

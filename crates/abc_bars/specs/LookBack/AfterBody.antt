@@ -1,0 +1,31 @@
+-- What holds in a tune's body behind one element more.
+use Rattle.std.specs.Prelude.{Bool, true, false}
+use Rattle.abc_scan.specs.declared.token.TokenKind.{TokenKind}
+use Rattle.abc_scan.specs.declared.token.TokenKind.TheVariants as kinds
+use Rattle.abc_bars.specs.declared.body.Body.{Body}
+use Rattle.abc_bars.specs.Body.{here, mentioned, with_here}
+use Rattle.abc_bars.specs.BodyFields.{field_given}
+use Rattle.abc_bars.specs.LookBack.After.{after}
+use Rattle.abc_bars.specs.LookBack.Element.{Element}
+use Rattle.abc_bars.specs.LookBack.Voices.{mentions}
+
+-- The current voice is mentioned, where a token mentions it.
+abbrev pub mentioned_if : Bool → Body → Body
+mentioned_if true body = mentioned body
+mentioned_if false body = body
+
+-- Behind a note, a rest or a mark, which is the current voice's.
+abbrev pub after_sound : Body → Element → Body
+after_sound body element =
+    let body = mentioned_if (mentions element.kind) body in
+    with_here body (after (here body) element)
+
+-- Behind a token, which a tie directly follows or not.
+abbrev pub after_token : Body → Element → TokenKind → Body
+after_token body element (kinds.InlineField field) = (field_given body field.letter field.value 0).body
+after_token body element (kinds.Field field) = (field_given body field.letter field.value 0).body
+after_token body element _ = after_sound body element
+
+-- Behind one element more. The place of a field changes nothing of what it leaves.
+abbrev pub body_after : Body → Element → Body
+body_after body element = after_token body element element.kind
