@@ -19,7 +19,7 @@ use Rattle.abc_bars.specs.declared.field_kind.FieldKind.{FieldKind}
 use Rattle.abc_bars.specs.declared.field_kind.FieldKind.TheVariants as kinds
 
 -- The values before a field, with what it says of each.
-abbrev said : Defaults → FieldKind → List ℕ → Defaults
+abbrev pub said : Defaults → FieldKind → List ℕ → Defaults
 said defaults kind value = record {
   meter = option_or (meter_by kind value) defaults.meter;
   unit = option_or (unit_by kind value) defaults.unit;
@@ -50,7 +50,7 @@ tempo_read defaults (Ok (Beat beat n)) = refl
 tempo_read defaults (Err fault) = refl
 
 -- A field of each kind sets what it says.
-setting_said : (defaults : Defaults) (kind : FieldKind) (value : List ℕ) →
+pub setting_said : (defaults : Defaults) (kind : FieldKind) (value : List ℕ) →
     said defaults kind value ≡ (setting_given defaults kind value).defaults
 setting_said defaults kinds.Reference value = refl
 setting_said defaults kinds.Title value = refl

@@ -1,7 +1,9 @@
 pub mod Acting
 pub mod AddedNotes
 pub mod ChordTones
+pub mod DeclaredVoices
 pub mod Factors
+pub mod HeaderLaws
 pub mod HeaderViews
 pub mod InsideLoop
 pub mod LookBack

@@ -2,5 +2,6 @@ pub mod After
 pub mod AfterBody
 pub mod Defaults
 pub mod Element
+pub mod Header
 pub mod Voice
 pub mod Voices

@@ -1,0 +1,106 @@
+-- What holds behind one more field of a header is what the field gives from what held before it.
+use Rattle.std.proofs.Common.{◌≡◌, ℕ, nat_lt, Bool, true, false, cond, List, [], ◌∷◌, ◌++◌, length, map, Option, Some, None, Result, Ok, Err, refl, ◌∙◌}
+use Rattle.std.specs.Option.{option_map, option_or}
+use Rattle.std.specs.Result.{result_ok}
+use Rattle.abc_fields.specs.declared.fault.FaultCode.{FaultCode}
+use Rattle.abc_fields.specs.declared.fault.FaultCode.TheVariants.{TooManyVoices}
+use Rattle.abc_fields.specs.declared.key.Key.{Key}
+use Rattle.abc_fields.specs.declared.shift.Shift.{Shift}
+use Rattle.abc_fields.specs.declared.voice.Voice.{Voice}
+use Rattle.abc_fields.specs.Key.{key_of}
+use Rattle.abc_fields.specs.Parts.{parts_of}
+use Rattle.abc_fields.specs.Voice.{voice_of}
+use Rattle.abc_scan.specs.declared.field.Field.{Field}
+use Rattle.abc_bars.specs.FieldKind.{kind_of}
+use Rattle.abc_bars.specs.Header.{declared_by, declared_given, header_given, key_by, order_by, own_given, reference_by, voice_by}
+use Rattle.abc_bars.specs.LookBack.Header as back
+use Rattle.abc_bars.specs.LookBack.Header.{declared_names, header_at, named_in, part_by, shift_at, voices_at, with_named}
+use Rattle.abc_bars.specs.Reference.{reference_of}
+use Rattle.abc_bars.specs.Voices.{place_of}
+use Rattle.abc_bars.specs.declared.body.TheConstants.{MOST_VOICES}
+use Rattle.abc_bars.specs.declared.defaults.Defaults.{Defaults}
+use Rattle.abc_bars.specs.declared.field_kind.FieldKind.{FieldKind}
+use Rattle.abc_bars.specs.declared.field_kind.FieldKind.TheVariants as kinds
+use Rattle.abc_bars.specs.declared.header.Header.{Header}
+use Rattle.abc_bars.specs.LookBack.Defaults.{defaults_at}
+use Rattle.abc_bars.proofs.DeclaredVoices.{voice_with, voices_named}
+use Rattle.abc_bars.proofs.HeaderViews.{said, setting_said}
+
+-- What is said for a name, where one more voice may be said.
+abbrev shift_on : Option (List ℕ × Shift) → (List ℕ → Shift) → List ℕ → Shift
+shift_on voice before name = record {
+  clef = option_or (part_by (λ shift. shift.clef) name voice) (before name).clef;
+  octave = option_or (part_by (λ shift. shift.octave) name voice) (before name).octave;
+  transpose = option_or (part_by (λ shift. shift.transpose) name voice) (before name).transpose;
+}
+
+-- The voices behind a field that may name one.
+abbrev voices_on : List Field → Option (List ℕ × Shift) → List (List ℕ × Shift)
+voices_on before voice = map (voice_with (shift_on voice (shift_at before))) (with_named (declared_names before) voice)
+
+-- What holds behind a field of this kind, looking back.
+abbrev header_on : Defaults → List Field → FieldKind → List ℕ → Header
+header_on opening before kind value = record {
+  defaults = said (defaults_at opening before) kind value;
+  voices = voices_on before (back.voice_by kind value);
+}
+
+-- A reference number leaves the header as it is.
+reference_keeps : (header : Header) (reading : Result ℕ FaultCode) → header ≡ (reference_by header reading).header
+reference_keeps header (Ok number) = refl
+reference_keeps header (Err fault) = refl
+
+-- An order of parts leaves the header as it is.
+order_keeps : (header : Header) (value : List ℕ) (reading : Result (Unit {0}) FaultCode) → header ≡ (order_by header value reading).header
+order_keeps header value (Ok accepted) = refl
+order_keeps header value (Err fault) = refl
+
+-- A key leaves the header as it is.
+key_keeps : (header : Header) (reading : Result Key FaultCode) → header ≡ (key_by header reading).header
+key_keeps header (Ok key) = refl
+key_keeps header (Err fault) = refl
+
+-- A voice that is one too many leaves the voices as they are.
+declares : (header : Header) (name : List ℕ) (shift : Shift) (place : Option ℕ) →
+    record header { voices = (declared_by header.voices name shift place).0 } ≡ (declared_given header name (declared_by header.voices name shift place)).header
+declares header name shift (Some at) = refl
+declares header name shift None = either (nat_lt (length header.voices) MOST_VOICES)
+  where
+    either : (b : Bool) →
+        (let made = cond {A = List (List ℕ × Shift) × Option FaultCode} b (header.voices ++ (name, shift) ∷ [], None) (header.voices, Some TooManyVoices) in
+        record header { voices = made.0 } ≡ (declared_given header name made).header)
+    either true = refl
+    either false = refl
+
+-- A V: declares the voice that it names.
+voice_declares : (opening : Defaults) (before : List Field) (value : List ℕ) (reading : Result Voice FaultCode) →
+    record { defaults = defaults_at opening before; voices = voices_on before (option_map (named_in value) (result_ok reading)) }
+    ≡ (voice_by (header_at opening before) value reading).header
+voice_declares opening before value (Err fault) = refl
+voice_declares opening before value (Ok voice) =
+    let header = header_at opening before in
+    let named = named_in value voice in
+    let voices = voices_named before named.0 named.1 in
+    (λ i. record { defaults = defaults_at opening before; voices = voices i })
+    ∙ declares header named.0 named.1 (place_of named.0 header.voices)
+
+-- What holds behind a field of each kind.
+behind_kind : (opening : Defaults) (before : List Field) (kind : FieldKind) (value : List ℕ) →
+    header_on opening before kind value ≡ (own_given (header_at opening before) kind value).header
+behind_kind opening before kinds.Reference value = reference_keeps (header_at opening before) (reference_of value)
+behind_kind opening before kinds.Title value = refl
+behind_kind opening before kinds.Meter value =
+    let set = setting_said (defaults_at opening before) kinds.Meter value in λ i. record { defaults = set i; voices = voices_at before }
+behind_kind opening before kinds.UnitLength value =
+    let set = setting_said (defaults_at opening before) kinds.UnitLength value in λ i. record { defaults = set i; voices = voices_at before }
+behind_kind opening before kinds.Tempo value =
+    let set = setting_said (defaults_at opening before) kinds.Tempo value in λ i. record { defaults = set i; voices = voices_at before }
+behind_kind opening before kinds.Parts value = order_keeps (header_at opening before) value (parts_of value)
+behind_kind opening before kinds.Voice value = voice_declares opening before value (voice_of value)
+behind_kind opening before kinds.Key value = key_keeps (header_at opening before) (key_of value)
+behind_kind opening before kinds.Other value = refl
+
+-- What holds behind one more field of a header is what the field gives from what held before it.
+pub header_behind : (opening : Defaults) (before : List Field) (field : Field) →
+    header_at opening (field ∷ before) ≡ (header_given (header_at opening before) field).header
+header_behind opening before field = behind_kind opening before (kind_of field.letter) field.value
