@@ -1,11 +1,14 @@
 -- Factors that change nothing.
-use Rattle.std.proofs.Common.{◌≡◌, ◌*◌, List, [], ◌∷◌, ◌++◌, map, Option, Some, None, refl, sym, ap, subst, arith}
+use Rattle.std.proofs.Common.{◌≡◌, ◌∙◌, ℕ, ◌*◌, List, [], ◌∷◌, ◌++◌, map, ◌≤◌, ◌↔◌, Option, Some, None, Result, Ok, Err, refl, sym, ap, subst, arith}
 use Rattle.std.specs.Prelude.{unwrap_or, option_to_list, All, IfSome}
 use Rattle.std.specs.Option.{ForSome}
+use Rattle.std.specs.Result.{result_ok}
 use Rattle.std.proofs.lemmas.List.Elements.{All-nil, All-cons}
+use Rattle.abc_time.specs.declared.grains.Grains.{Grains}
+use Rattle.abc_time.specs.declared.lengths.LengthFault.{LengthFault}
 use Rattle.abc_time.specs.declared.ratio.Ratio.{Ratio}
-use Rattle.abc_time.specs.Grains.{grains_of_a_whole_note}
-use Rattle.abc_time.specs.Length.{length_of, quotient_of}
+use Rattle.abc_time.specs.Grains.{grains_of_a_whole_note, grains_of_the_longest_length}
+use Rattle.abc_time.specs.Length.{IsLength, length_of, quotient_of}
 use Rattle.abc_time.specs.Product.{product_of}
 use Rattle.abc_time.specs.Ratio.{IsRatio}
 
@@ -69,3 +72,29 @@ all_ratios own outer tuplet behind ahead o t b a eo et eb ea h ho ht hb ha =
     (All-cons IsRatio tuplet (behind ∷ ahead ∷ []) (or_once_is t tuplet et ht)
     (All-cons IsRatio behind (ahead ∷ []) (or_once_is b behind eb hb)
     (All-cons IsRatio ahead [] (or_once_is a ahead ea ha) (All-nil IsRatio)))))
+
+-- factors with the same products make the same lengths
+is_length_along : (unit : Ratio) (these those : List Ratio) (g : ℕ) → SameProducts these those → IsLength unit these g → IsLength unit those g
+is_length_along unit these those g h is =
+    ap (λ n. g * (unit.den * n)) (sym h.dens) ∙ is ∙ ap (λ n. grains_of_a_whole_note * (unit.num * n)) h.nums
+
+other_way : (these those : List Ratio) → SameProducts these those → SameProducts those these
+other_way these those h = record { nums = sym h.nums; dens = sym h.dens }
+
+-- an accepted length is one exactly
+ok_or_none : (r : Result Grains LengthFault) (grains : Grains) → (result_ok r ≡ Some grains) ↔ (r ≡ Ok grains)
+ok_or_none (Ok x) grains = (λ e. cc, λ e. cc)
+ok_or_none (Err f) grains = (λ e. cc, λ e. cc)
+
+abbrev pub IsExactly : Ratio → List Ratio → ℕ → Type 0
+IsExactly unit factors g = IsLength unit factors g × (g ≤ grains_of_the_longest_length)
+
+pub exact_along : (unit at : Ratio) (these those : List Ratio) (r : Result Grains LengthFault) (found : Option Grains) → at ≡ unit → SameProducts these those → found ≡ result_ok r
+    → ((g : ℕ) → (r ≡ Ok (record { 0 = g })) ↔ IsExactly at these g) → (g : ℕ) → (found ≡ Some (record { 0 = g })) ↔ IsExactly unit those g
+exact_along unit at these those r found same h is ok g =
+    let to : found ≡ Some (record { 0 = g }) → IsExactly unit those g = λ e.
+    let exactly = (ok g).0 ((ok_or_none r (record { 0 = g })).0 (sym is ∙ e)) in
+    (is_length_along unit these those g h (subst (λ u. IsLength u these g) same exactly.0), exactly.1) in
+    let from : IsExactly unit those g → found ≡ Some (record { 0 = g }) = λ e.
+    is ∙ (ok_or_none r (record { 0 = g })).1 ((ok g).1 (subst (λ u. IsLength u these g) (sym same) (is_length_along unit those these g (other_way these those h) e.0), e.1)) in
+    (to, from)

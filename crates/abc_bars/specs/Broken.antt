@@ -69,13 +69,14 @@ behind_mark behinds.Nothing mark = behinds.Nothing
 behind_mark behinds.TimeToken mark = behinds.Mark mark
 behind_mark (behinds.Mark other) mark = behinds.Nothing
 
--- What stands nearest before a place, of what matters, behind one token more.
+-- What stands nearest, of what matters, behind one token more of this role.
 abbrev pub behind_by : Behind → Role → Behind
 behind_by behind roles.Time = behinds.TimeToken
 behind_by behind (roles.Mark mark) = behind_mark behind mark
 behind_by behind roles.Hindrance = behinds.Nothing
 behind_by behind roles.Silent = behind
 
+-- What stands nearest, of what matters, behind one token more.
 abbrev pub behind_after : Behind → TokenKind → Behind
 behind_after behind kind = behind_by behind (role_of kind)
 
@@ -126,11 +127,12 @@ shorter mark = record { num = 1; den = halved mark }
 abbrev pub longer : BrokenRhythm → Ratio
 longer mark = record { num = 2 * halved mark - 1; den = halved mark }
 
--- What marks multiply by in a direction: the time token before them, and the one behind them.
+-- What marks of this direction multiply the time token before them by.
 abbrev pub first_by : Direction → BrokenRhythm → Ratio
 first_by Right mark = longer mark
 first_by Left mark = shorter mark
 
+-- What marks of this direction multiply the time token behind them by.
 abbrev pub second_by : Direction → BrokenRhythm → Ratio
 second_by Right mark = shorter mark
 second_by Left mark = longer mark

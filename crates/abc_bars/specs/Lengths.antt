@@ -1,12 +1,13 @@
 -- Lengths of notes and rests. ABC 2.1 section 4.3.
-use Rattle.std.specs.Prelude.{ℕ, ◌&&◌, nat_le, Bool, true, false, if◌then◌else◌, List, [], ◌∷◌, ◌++◌, Option, Some, None, option_map, option_and_then}
+use Rattle.std.specs.Prelude.{◌≤◌, ℕ, ◌&&◌, nat_le, Bool, true, false, if◌then◌else◌, List, [], ◌∷◌, ◌++◌, Option, Some, None, option_map, option_and_then, IsSomeAnd}
 use Rattle.std.specs.Result.{result_ok}
 use Rattle.abc_scan.specs.declared.length.WrittenLength.{WrittenLength}
 use Rattle.abc_scan.specs.declared.length.WrittenLength.TheVariants.{Factor, Refused}
 use Rattle.abc_text.specs.declared.digit.TheConstants.{LARGEST_NUMBER}
 use Rattle.abc_time.specs.declared.grains.Grains.{Grains}
 use Rattle.abc_time.specs.declared.ratio.Ratio.{Ratio}
-use Rattle.abc_time.specs.Length.{length_of}
+use Rattle.abc_time.specs.Grains.{grains_of_the_longest_length}
+use Rattle.abc_time.specs.Length.{IsLength, length_of}
 use Rattle.abc_bars.specs.Unit.{unit_grains}
 
 -- Whether a part of a ratio is in range.
@@ -37,6 +38,12 @@ all_ratios (Some ratio ∷ rest) = option_map (λ ratios. ratio ∷ ratios) (all
 -- a whole number of grains and not above 1,024 whole notes. Our own.
 abbrev pub length_by : Ratio → List (Option Ratio) → List Ratio → Option Grains
 length_by unit texts factors = option_and_then (λ written. result_ok (length_of unit (written ++ factors))) (all_ratios texts)
+
+-- So many grains are the length: no text is refused, and the unit times the factors of texts and those of
+-- the note's place is exactly as long, and not above 1,024 whole notes.
+abbrev pub HasLength : Ratio → List (Option Ratio) → List Ratio → ℕ → Type 0
+HasLength unit texts factors g =
+    IsSomeAnd (all_ratios texts) (λ written. IsLength unit (written ++ factors) g × (g ≤ grains_of_the_longest_length))
 
 -- A length and that it is not refused, or the plain unit and that it is.
 abbrev pub or_unit : Ratio → Option Grains → Grains × Bool

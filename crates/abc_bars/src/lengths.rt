@@ -1,12 +1,12 @@
 //! Lengths of notes and rests.
 
-ghost use Rattle.std.specs.Prelude.{◌≡◌, ◌≤◌, ◌∷◌, ◌++◌, option_to_list, IfSome};
+ghost use Rattle.std.specs.Prelude.{◌≡◌, ◌≤◌, ◌↔◌, ℕ, ◌∷◌, ◌++◌, false, option_to_list, IfSome};
 ghost use Rattle.std.specs.Option.{ForSome};
 ghost use Rattle.std.specs.Result.{result_ok};
 ghost use Rattle.abc_time.specs.Grains.{grains_of_the_longest_length};
-ghost use Rattle.abc_time.specs.Length.{length_of};
+ghost use Rattle.abc_time.specs.Length.{IsLength, length_of};
 ghost use Rattle.abc_time.specs.Ratio.{IsRatio};
-ghost use Rattle.abc_bars.specs.Lengths.{is_ratio_part, ratio_of, written_ratio, texts_of, length_by, length_or_unit};
+ghost use Rattle.abc_bars.specs.Lengths.{is_ratio_part, ratio_of, written_ratio, texts_of, length_by, HasLength, length_or_unit};
 ghost use Rattle.abc_bars.specs.Tuplet.{tuplet_factors};
 
 use crate::broken::BrokenFactors;
@@ -72,6 +72,8 @@ fn product_of(
     requires own { IsRatio own }
     requires outer { ForSome outer IsRatio }
     ensures value { result ≡ result_ok (length_of unit ((own ∷ option_to_list outer) ++ (tuplet_factors tuplet ++ broken.now))) }
+    ensures exact { (g : ℕ) → (result ≡ Some (record { 0 = g }))
+        ↔ (IsLength unit ((own ∷ option_to_list outer) ++ (tuplet_factors tuplet ++ broken.now)) g × (g ≤ grains_of_the_longest_length)) }
     ensures range { IfSome result (λ length. length.0 ≤ grains_of_the_longest_length) }
 {
     let factors = [
@@ -93,14 +95,18 @@ fn length_by(
     broken: &BrokenFactors,
 ) -> Option<Grains>
     ensures value { result ≡ length_by unit (texts_of own outer) (tuplet_factors tuplet ++ broken.now) }
+    ensures exact { (g : ℕ) → (result ≡ Some (record { 0 = g }))
+        ↔ HasLength unit (texts_of own outer) (tuplet_factors tuplet ++ broken.now) g }
     ensures range { IfSome result (λ length. length.0 ≤ grains_of_the_longest_length) }
 {
     let own = written_ratio(own)?;
-    let Some(outer) = outer else {
-        return product_of(unit, own, None, tuplet, broken);
-    };
-    let outer = written_ratio(outer)?;
-    product_of(unit, own, Some(outer), tuplet, broken)
+    match outer {
+        None => product_of(unit, own, None, tuplet, broken),
+        Some(outer) => {
+            let outer = written_ratio(outer)?;
+            product_of(unit, own, Some(outer), tuplet, broken)
+        }
+    }
 }
 
 /// The length of a note or rest, and whether what is written is refused: then it is one unit long. `outer`
@@ -113,6 +119,8 @@ pub(crate) fn length_or_unit(
     broken: &BrokenFactors,
 ) -> (Grains, bool)
     ensures value { result ≡ length_or_unit unit (texts_of own outer) (tuplet_factors tuplet ++ broken.now) }
+    ensures exact { (g : ℕ) → (result ≡ (record { 0 = g }, false))
+        ↔ HasLength unit (texts_of own outer) (tuplet_factors tuplet ++ broken.now) g }
     ensures range { result.0.0 ≤ grains_of_the_longest_length }
 {
     match length_by(unit, own, outer, tuplet, broken) {
