@@ -17,7 +17,7 @@ use Rattle.abc_bars.specs.LookBack.Header as back
 use Rattle.abc_bars.specs.LookBack.Header.{declared_names, header_at, named_in, part_by, shift_at, voices_at, with_named}
 use Rattle.abc_bars.specs.Reference.{reference_of}
 use Rattle.abc_bars.specs.Voices.{place_of}
-use Rattle.abc_bars.specs.declared.body.TheConstants.{MOST_VOICES}
+use Rattle.abc_bars.specs.declared.voices.TheConstants.{MOST_VOICES}
 use Rattle.abc_bars.specs.declared.defaults.Defaults.{Defaults}
 use Rattle.abc_bars.specs.declared.field_kind.FieldKind.{FieldKind}
 use Rattle.abc_bars.specs.declared.field_kind.FieldKind.TheVariants as kinds
