@@ -5,6 +5,7 @@ pub mod blocks;
 pub mod counters;
 pub mod fields;
 pub mod lengths;
+pub mod orders;
 pub mod repeats;
 pub mod scanning;
 pub mod texts;

@@ -19,6 +19,8 @@ mod lines;
 #[cfg(test)]
 mod music_tokens;
 #[cfg(test)]
+mod orders;
+#[cfg(test)]
 mod repeats;
 #[cfg(test)]
 mod scanning;

@@ -1,5 +1,6 @@
 use Rattle.std.proofs.Common.{refl, ◌∙◌, None, arith}
 use Rattle.abc_repeat.specs.Order.{has_unknown}
+use Rattle.abc_repeat.specs.declared.order.TheConstants.{MOST_SECTIONS}
 use Rattle.abc_repeat.proofs.OrderFaults.{all_of, all_length, told_too_long, not_too_long}
 use Rattle.abc_repeat.proofs.order.play_all.Goals as goal
 
@@ -7,12 +8,12 @@ pub returns-then-letters-ge-MOST_SECTIONS-clause-too_long : goal.returns-then-le
 unfolding has_unknown
 returns-then-letters-ge-MOST_SECTIONS-clause-too_long c =
     let letters = c.args.letters.now in
-    told_too_long 4096 None letters _ (omega (arith, all_length letters)) refl
+    told_too_long MOST_SECTIONS None letters _ (omega (arith, all_length letters)) refl
 
 pub returns-in_err-sections-clause-too_long : goal.returns-in_err-sections-clause-too_long
 returns-in_err-sections-clause-too_long c =
     let letters = c.args.letters.now in
-    not_too_long 4096 None letters c.from_residual.result (omega (arith, all_length letters)) (λ unknown e. let told = rw e at c.from_residual.ensures.1 in cc)
+    not_too_long MOST_SECTIONS None letters c.from_residual.result (omega (arith, all_length letters)) (λ unknown e. let told = rw e at c.from_residual.ensures.1 in cc)
 
 pub returns-clause-sections : goal.returns-clause-sections
 returns-clause-sections c = c.in_ok-sections.ensures ∙ all_of c.args.letters.now
@@ -20,4 +21,4 @@ returns-clause-sections c = c.in_ok-sections.ensures ∙ all_of c.args.letters.n
 pub returns-clause-too_long : goal.returns-clause-too_long
 returns-clause-too_long c =
     let letters = c.args.letters.now in
-    not_too_long 4096 None letters _ (omega (arith, all_length letters)) (λ unknown e. cc)
+    not_too_long MOST_SECTIONS None letters _ (omega (arith, all_length letters)) (λ unknown e. cc)
