@@ -82,7 +82,7 @@ other_way : (these those : List Ratio) → SameProducts these those → SameProd
 other_way these those h = record { nums = sym h.nums; dens = sym h.dens }
 
 -- an accepted length is one exactly
-ok_or_none : (r : Result Grains LengthFault) (grains : Grains) → (result_ok r ≡ Some grains) ↔ (r ≡ Ok grains)
+pub ok_or_none : (r : Result Grains LengthFault) (grains : Grains) → (result_ok r ≡ Some grains) ↔ (r ≡ Ok grains)
 ok_or_none (Ok x) grains = (λ e. cc, λ e. cc)
 ok_or_none (Err f) grains = (λ e. cc, λ e. cc)
 

@@ -1,10 +1,10 @@
 //! Rests of whole bars.
 
-ghost use Rattle.std.specs.Prelude.{◌≡◌, ◌≤◌, [], IfSome};
+ghost use Rattle.std.specs.Prelude.{◌≡◌, ◌≤◌, ◌↔◌, ℕ, [], IfSome};
 ghost use Rattle.abc_fields.specs.Meter.{HasMeterRange};
 ghost use Rattle.abc_time.specs.Grains.{grains_of_the_longest_length};
 ghost use Rattle.abc_time.specs.Length.{IsLength};
-ghost use Rattle.abc_bars.specs.BarRest.{bar_grains, bars_of, bar_rest_length, bar_rest_of};
+ghost use Rattle.abc_bars.specs.BarRest.{AreBars, bar_grains, bars_of, bar_rest_length, bar_rest_of};
 ghost use Rattle.abc_bars.specs.Item.{IsItem};
 
 use crate::item::Item;
@@ -28,6 +28,7 @@ fn bar_grains(num: u8, den: u8) -> Grains
 fn bars_of(num: u8, den: u8, bars: u32) -> Option<Grains>
     requires { HasMeterRange num den }
     ensures value { result ≡ bars_of num den bars }
+    ensures exact { (g : ℕ) → (result ≡ Some (record { 0 = g })) ↔ AreBars num den bars g }
     ensures range { IfSome result (λ length. length.0 ≤ grains_of_the_longest_length) }
 {
     let bar = Ratio {
