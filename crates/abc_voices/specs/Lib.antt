@@ -1,7 +1,9 @@
 pub mod Change
+pub mod Conduct
 pub mod Limits
 pub mod Linked
 pub mod Moved
+pub mod Opening
 pub mod Play
 pub mod Section
 pub mod Settle

@@ -3,10 +3,12 @@
 #![tactic(auto)]
 
 mod change;
+mod conduct;
 mod limits;
 mod linked;
 mod moved;
 mod notes;
+mod opening;
 mod play;
 mod score;
 mod section;
@@ -15,10 +17,12 @@ mod step;
 mod track;
 
 pub use change::{put_keys, put_meters, put_tempos};
+pub use conduct::conductor;
 pub use limits::{
     LONGEST_TITLE, MOST_CHANGES, MOST_NOTES, MOST_VOICES, is_within_limits, score_limits,
 };
 pub use notes::put_notes;
+pub use opening::{opening_key, opening_meter, opening_tempo, order_of, title_of};
 pub use play::{duration, played};
 pub use score::{Change, ChangeKind, Score, Sounding};
 pub use section::{Section, letters, part, sections};

@@ -1,0 +1,40 @@
+-- What a tune opens with, by the items of its header.
+use Rattle.std.specs.Prelude.{ℕ, ℤ, Bool, true, List, [], ◌∷◌, Option, Some}
+use Rattle.abc_bars.specs.declared.item.Item.{Item}
+use Rattle.abc_bars.specs.declared.item.Item.TheVariants as items
+use Rattle.abc_fields.specs.declared.meter.Meter.{Meter}
+
+-- The tempo behind an item: each field of the header says with which the tune opens.
+abbrev pub tempo_past : Option ℕ → Item → Option ℕ
+tempo_past tempo (items.Tempo true micros out) = micros
+tempo_past tempo _ = tempo
+
+-- The meter behind an item, likewise.
+abbrev pub meter_past : Option Meter → Item → Option Meter
+meter_past meter (items.Meter true opening) = opening
+meter_past meter _ = meter
+
+-- The key behind an item: the field that ends the header says it.
+abbrev pub key_past : Option (ℤ × Bool) → Item → Option (ℤ × Bool)
+key_past key (items.Key true opening) = opening
+key_past key _ = key
+
+-- The order of the parts behind an item: the last one counts. Our own.
+abbrev pub order_past : Option (List ℕ) → Item → Option (List ℕ)
+order_past order (items.Order text) = Some text
+order_past order _ = order
+
+-- What holds behind a tune, of what holds before it.
+abbrev pub past_all : {A V : Type 0} → (A → Item) → (V → Item → V) → V → List A → V
+past_all item_of past value [] = value
+past_all item_of past value (step ∷ tune) = past_all item_of past (past value (item_of step)) tune
+
+-- The title in front of an item: the first T: counts. ABC 2.1 section 3.1.2.
+abbrev pub title_before : List ℕ → Item → List ℕ
+title_before later (items.Title text) = text
+title_before later _ = later
+
+-- The title of a tune, empty where it has none.
+abbrev pub title_of : {A : Type 0} → (A → Item) → List A → List ℕ
+title_of item_of [] = []
+title_of item_of (step ∷ tune) = title_before (title_of item_of tune) (item_of step)
