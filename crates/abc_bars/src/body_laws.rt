@@ -1,16 +1,16 @@
 //! Laws of what holds at the places of a tune's body.
 
-ghost use Rattle.std.specs.Prelude.{◌≡◌, [], List};
-ghost use Rattle.abc_bars.specs.BodyOpening.{body_from};
-ghost use Rattle.abc_bars.specs.LookBack.AfterBody.{body_after};
+ghost use Rattle.std.specs.Prelude.{◌≤◌, ℕ, List, bytes_eq, length};
+ghost use Rattle.std.specs.List.{IsDistinct};
 ghost use Rattle.abc_bars.specs.LookBack.Element.{Element};
-ghost use Rattle.abc_bars.specs.LookBack.Voices.{body_at, current_of, voices_of};
-ghost use Rattle.abc_bars.specs.declared.body.Body.{Body};
-ghost use Rattle.abc_bars.specs.declared.header.Header.{Header};
-ghost use Rattle.abc_fields.specs.declared.key.Key.{Key};
+ghost use Rattle.abc_bars.specs.LookBack.Voices.{IsCurrent, current_of, voices_of};
+ghost use Rattle.abc_bars.specs.declared.voices.TheConstants.{MOST_VOICES};
 
-/// What holds for a voice that is not mentioned yet is the same at each place of a body.
-#[tactic(auto, unfolding(crate::specs::LookBack::Voices::body_at))]
-pub fn body_views()
-    ensures another { (opening : Body) (before : List Element) → (body_at opening before).another ≡ opening.another }
+/// The voices that are mentioned before a place of a body: no two have the same name, there are at most
+/// fifteen, and the current voice is one of them, or the one without a name as long as there is none.
+#[tactic(auto, using(crate::proofs::LookBack::Voices::voices_distinct, crate::proofs::LookBack::Voices::voices_few, crate::proofs::LookBack::Voices::current_is))]
+pub fn mentioned_voices()
+    ensures distinct { (declared : List (List ℕ)) (before : List Element) → IsDistinct bytes_eq declared → IsDistinct bytes_eq (voices_of declared before) }
+    ensures few { (declared : List (List ℕ)) (before : List Element) → length declared ≤ MOST_VOICES → length (voices_of declared before) ≤ MOST_VOICES }
+    ensures current { (declared : List (List ℕ)) (before : List Element) → IsCurrent (voices_of declared before) (current_of declared before) }
 {}

@@ -1,6 +1,6 @@
 -- The voices of a tune at a place of its body, by looking back over what stands before the place, newest
 -- first. `declared` are the voices that the tune's header declares, in order. ABC 2.1 section 7.1.
-use Rattle.std.specs.Prelude.{ℕ, ◌++◌, Bool, true, false, ◌||◌, if◌then◌else◌, nat_lt, List, [], ◌∷◌, length, map, slice_range, position, bytes_eq, Option, Some, None, unwrap_or, option_map, is_some}
+use Rattle.std.specs.Prelude.{◌≡◌, ℕ, ◌++◌, Bool, true, false, ◌||◌, if◌then◌else◌, nat_lt, List, [], ◌∷◌, length, map, slice_range, position, bytes_eq, Option, Some, None, unwrap_or, option_map, is_some}
 use Rattle.std.specs.List.{list_any}
 use Rattle.std.specs.Map.{keys_of, lookup}
 use Rattle.std.specs.Result.{result_ok}
@@ -81,6 +81,11 @@ abbrev pub current_of : List (List ℕ) → List Element → List ℕ
 current_of declared [] = first_of declared
 current_of declared (element ∷ before) =
     unwrap_or (made_current_by (voices_of declared before) element.kind) (current_of declared before)
+
+-- A voice is one of those that are mentioned, or it is the one without a name and none is mentioned.
+abbrev pub IsCurrent : List (List ℕ) → List ℕ → Type 0
+IsCurrent [] name = name ≡ []
+IsCurrent (first ∷ rest) name = list_any (bytes_eq name) (first ∷ rest) ≡ true
 
 -- A V: that counts belongs to the voice that it names, another V: to none.
 abbrev pub is_named : List ℕ → Option (List ℕ) → Bool
