@@ -30,7 +30,7 @@ pub fn file_of(alloc: Global, score: &Score) -> Result<Vec<u8>, AllocError>
         score.title.as_slice(),
         score.conductor.as_slice(),
     )?;
-    put_track(alloc, &mut file, end, changes)?;
+    put_track(&mut file, end, changes)?;
     for (place, notes) in score.voices.as_slice().iter().enumerate() {
         put_voice(alloc, &mut file, score.end, place, notes)?;
     }
@@ -65,5 +65,5 @@ fn put_voice(
     ensures { OnOk result (out.new.items ≡ out.old.items ++ track (tick_at end.0) (voice_events (channel_of place) notes.now)) }
 {
     let events = voice(alloc, end, channel(place), notes.as_slice())?;
-    put_track(alloc, out, tick_of(end), events)
+    put_track(out, tick_of(end), events)
 }

@@ -1,15 +1,15 @@
-use Rattle.std.proofs.Common.{◌≡◌, [], ◌∷◌, ◌++◌, arith, drop, subst, sym, ap, ◌∙◌}
+use Rattle.std.proofs.Common.{◌≡◌, [], ◌∷◌, ◌++◌, arith, drop, refl, subst, sym, ap, ◌∙◌}
 use Rattle.std.proofs.lemmas.List.{drop_all}
 use Rattle.smf_bytes.specs.Order.{in_order}
 use Rattle.smf_bytes.specs.Event.{end_event}
 use Rattle.smf_bytes.specs.Track.{timed, track_body}
 use Rattle.smf_bytes.proofs.Timed.{Follows, follows_sorted, closed}
-use Rattle.smf_bytes.proofs.track.body.Goals as goal
+use Rattle.smf_bytes.proofs.track.put_body.Goals as goal
 
 pub loop-event-init : goal.loop-event-init
 loop-event-init c =
     record {
-      written = ap (λ l. l ++ timed 0 (c.deref-event-items.result.now ++ end_event c.args.end ∷ [])) c.new-body.ensures.items;
+      written = refl;
       follows =
           subst (Follows c.args.end 0) (sym c.deref-event-items.ensures.value)
           (follows_sorted c.args.end c.args.events.items c.in_ok-ordered.ordered.items c.requires.before_end
@@ -20,11 +20,11 @@ pub returns : goal.returns
 unfolding track_body
 returns c =
     let items = c.deref-event-items.result.now in
-    let whole = timed 0 (items ++ end_event c.args.end ∷ []) in
+    let whole = c.args.out.now.items ++ timed 0 (items ++ end_event c.args.end ∷ []) in
     let done : drop c.loop-event.event-index items ≡ [] = drop_all c.loop-event.event-index items (omega arith) in
     let shut =
-    closed c.loop-event.body.items whole c.loop-event.before c.args.end
-    (ap (λ l. c.loop-event.body.items ++ timed c.loop-event.before (l ++ end_event c.args.end ∷ [])) (sym done) ∙ c.loop-event.invariant.written) in
+    closed c.loop-event.out.items whole c.loop-event.before c.args.end
+    (ap (λ l. c.loop-event.out.items ++ timed c.loop-event.before (l ++ end_event c.args.end ∷ [])) (sym done) ∙ c.loop-event.invariant.written) in
     let same : items ≡ in_order c.args.events.items = c.deref-event-items.ensures.value ∙ c.in_ok-ordered.ensures.exact in
     let last = c.in_ok-extend_from_slice-2.ensures.items in
     let delta = c.in_ok-put_number-2.ensures.ok in
