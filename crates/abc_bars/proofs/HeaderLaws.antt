@@ -1,5 +1,5 @@
 -- What holds behind one more field of a header is what the field gives from what held before it.
-use Rattle.std.proofs.Common.{◌≡◌, ℕ, nat_lt, Bool, true, false, cond, List, [], ◌∷◌, ◌++◌, length, map, Option, Some, None, Result, Ok, Err, refl, ◌∙◌}
+use Rattle.std.proofs.Common.{◌≡◌, ℕ, nat_lt, Bool, true, false, cond, List, [], ◌∷◌, ◌++◌, length, map, Option, Some, None, Result, Ok, Err, refl, ap, sym, ◌∙◌}
 use Rattle.std.specs.Option.{option_map, option_or}
 use Rattle.std.specs.Result.{result_ok}
 use Rattle.abc_fields.specs.declared.fault.FaultCode.{FaultCode}
@@ -11,14 +11,16 @@ use Rattle.abc_fields.specs.Key.{key_of}
 use Rattle.abc_fields.specs.Parts.{parts_of}
 use Rattle.abc_fields.specs.Voice.{voice_of}
 use Rattle.abc_scan.specs.declared.field.Field.{Field}
+use Rattle.abc_bars.specs.Entry.{header_in}
 use Rattle.abc_bars.specs.FieldKind.{kind_of}
 use Rattle.abc_bars.specs.Header.{declared_by, declared_given, header_given, key_by, order_by, own_given, reference_by, voice_by}
 use Rattle.abc_bars.specs.LookBack.Header as back
-use Rattle.abc_bars.specs.LookBack.Header.{declared_names, header_at, named_in, part_by, shift_at, voices_at, with_named}
+use Rattle.abc_bars.specs.LookBack.Header.{declared_names, header_at, header_view, named_in, part_by, shift_at, voices_at, with_named}
 use Rattle.abc_bars.specs.Reference.{reference_of}
 use Rattle.abc_bars.specs.Voices.{place_of}
 use Rattle.abc_bars.specs.declared.voices.TheConstants.{MOST_VOICES}
 use Rattle.abc_bars.specs.declared.defaults.Defaults.{Defaults}
+use Rattle.abc_bars.specs.declared.entry.Entry.TheVariants as entries
 use Rattle.abc_bars.specs.declared.field_kind.FieldKind.{FieldKind}
 use Rattle.abc_bars.specs.declared.field_kind.FieldKind.TheVariants as kinds
 use Rattle.abc_bars.specs.declared.header.Header.{Header}
@@ -104,3 +106,15 @@ behind_kind opening before kinds.Other value = refl
 pub header_behind : (opening : Defaults) (before : List Field) (field : Field) →
     header_at opening (field ∷ before) ≡ (header_given (header_at opening before) field).header
 header_behind opening before field = behind_kind opening before (kind_of field.letter) field.value
+
+-- The header of a view is that which looking back finds.
+pub header_view_is : (opening : Defaults) (before : List Field) → header_in (header_view opening before) ≡ header_at opening before
+header_view_is opening [] = refl
+header_view_is opening (field ∷ before) = refl
+
+-- The view behind one more field of a tune's header.
+pub header_view_behind : (opening : Defaults) (before : List Field) (field : Field) →
+    header_view opening (field ∷ before) ≡ entries.Header (header_given (header_in (header_view opening before)) field).header
+header_view_behind opening before field =
+    ap entries.Header (header_behind opening before field
+    ∙ ap (λ header. (header_given header field).header) (sym (header_view_is opening before)))

@@ -1,5 +1,5 @@
 -- The values behind one more field are those that the field gives from the ones before it.
-use Rattle.std.proofs.Common.{◌≡◌, ℕ, List, ◌∷◌, Some, Result, Ok, Err, refl}
+use Rattle.std.proofs.Common.{◌≡◌, ℕ, List, ◌∷◌, Some, Result, Ok, Err, refl, ap}
 use Rattle.std.specs.Option.{option_or}
 use Rattle.std.specs.Result.{result_ok}
 use Rattle.abc_fields.specs.declared.fault.FaultCode.{FaultCode}
@@ -11,10 +11,12 @@ use Rattle.abc_fields.specs.Tempo.{tempo_of}
 use Rattle.abc_fields.specs.Unit.{unit_of}
 use Rattle.abc_scan.specs.declared.field.Field.{Field}
 use Rattle.abc_time.specs.declared.ratio.Ratio.{Ratio}
-use Rattle.abc_bars.specs.Defaults.{set_or_refused, tempo_or, setting_given}
+use Rattle.abc_bars.specs.Defaults.{no_defaults, set_or_refused, tempo_or, setting_given}
 use Rattle.abc_bars.specs.FieldKind.{kind_of}
 use Rattle.abc_bars.specs.LookBack.Defaults.{if_set, meter_by, unit_by, tempo_by, defaults_at}
+use Rattle.abc_bars.specs.LookBack.Header.{file_header_view}
 use Rattle.abc_bars.specs.declared.defaults.Defaults.{Defaults}
+use Rattle.abc_bars.specs.declared.entry.Entry.TheVariants as entries
 use Rattle.abc_bars.specs.declared.field_kind.FieldKind.{FieldKind}
 use Rattle.abc_bars.specs.declared.field_kind.FieldKind.TheVariants as kinds
 
@@ -67,3 +69,8 @@ pub defaults_behind : (opening : Defaults) (before : List Field) (field : Field)
     defaults_at opening (field ∷ before)
     ≡ (setting_given (defaults_at opening before) (kind_of field.letter) field.value).defaults
 defaults_behind opening before field = setting_said (defaults_at opening before) (kind_of field.letter) field.value
+
+-- The view behind one more field of a file header.
+pub file_header_view_behind : (before : List Field) (field : Field) →
+    file_header_view (field ∷ before) ≡ entries.FileHeader (setting_given (defaults_at no_defaults before) (kind_of field.letter) field.value).defaults
+file_header_view_behind before field = ap entries.FileHeader (defaults_behind no_defaults before field)

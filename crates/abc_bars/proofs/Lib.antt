@@ -3,6 +3,7 @@ pub mod AddedNotes
 pub mod BarCounts
 pub mod ChordTones
 pub mod DeclaredVoices
+pub mod EntryLaws
 pub mod Factors
 pub mod HeaderLaws
 pub mod HeaderViews
