@@ -1,5 +1,5 @@
 -- The voices that a header declares: one more field says of them what it gives.
-use Rattle.std.proofs.Common.{◌≡◌, ℕ, ℤ, suc, ◌+◌, ◌||◌, nat_lt, nat_le, Bool, true, false, cond, is_some, List, [], ◌∷◌, ◌++◌, length, map, Option, Some, None, bytes_eq, refl, sym, ap, subst, ◌∙◌, add-one, arith}
+use Rattle.std.proofs.Common.{◌≡◌, ℕ, ℤ, suc, ◌+◌, ◌||◌, nat_lt, nat_le, Bool, true, false, cond, is_some, List, [], ◌∷◌, ◌++◌, length, map, Option, Some, None, bytes_eq, refl, sym, ap, subst, ◌∙◌, add-one, length-append, lit≤, arith, ◌≤◌}
 use Rattle.std.proofs.lemmas.Bool.Decides.{nat_tests}
 use Rattle.std.proofs.lemmas.Cmp.{nat_list_eq_equiv}
 use Rattle.std.proofs.lemmas.List.{map-append}
@@ -123,11 +123,12 @@ said_again (here ∷ names) name shift said at distinct found =
     by_test (bytes_eq name here) (again_first here names name shift said at distinct)
     (again_behind here names name shift said at (λ k. said_again names name shift said k (IsDistinct-tail bytes_eq here names distinct))) found
 
--- A name is among others where it has a place.
+-- A place further on is a place.
 mapped : (place : Option ℕ) → is_some place ≡ is_some (option_map (λ k. k + 1) place)
 mapped None = refl
 mapped (Some k) = refl
 
+-- A name is among others where it has a place.
 among_by_place : (name : List ℕ) (names : List (List ℕ)) → list_any (bytes_eq name) names ≡ is_some (position (bytes_eq name) names)
 among_by_place name [] = refl
 among_by_place name (here ∷ names) = by_test (bytes_eq name here)
@@ -135,11 +136,12 @@ among_by_place name (here ∷ names) = by_test (bytes_eq name here)
     (λ differs. ap (λ b. b || list_any (bytes_eq name) names) differs ∙ among_by_place name names ∙ mapped (position (bytes_eq name) names)
     ∙ sym (ap is_some (place_behind (bytes_eq name) here names differs)))
 
--- Of two tests of which neither passes, each does not.
+-- Of two tests of which neither passes, the first does not.
 neither_first : (a b : Bool) → (a || b) ≡ false → a ≡ false
 neither_first true b none = none
 neither_first false b none = refl
 
+-- The second does not.
 neither_second : (a b : Bool) → (a || b) ≡ false → b ≡ false
 neither_second true b none = absurd (cc)
 neither_second false b none = none
@@ -172,6 +174,7 @@ as_many said (name ∷ names) = ap suc (as_many said names)
 room : (n : ℕ) → nat_le MOST_VOICES n ≡ false → nat_lt n MOST_VOICES ≡ true
 room n free = grind (arith, nat_tests)
 
+-- There is none where they are.
 no_room : (n : ℕ) → nat_le MOST_VOICES n ≡ true → nat_lt n MOST_VOICES ≡ false
 no_room n full = grind (arith, nat_tests)
 
@@ -218,6 +221,7 @@ distinct_on names name distinct = by_test (list_any (bytes_eq name) names)
         IsDistinct bytes_eq (cond b names (names ++ name ∷ [])) → IsDistinct bytes_eq (with_name names name)
     kept b known distinct = subst (λ v. IsDistinct bytes_eq (cond v names (names ++ name ∷ []))) (sym known) distinct
 
+-- Neither does it with the name of a voice.
 distinct_with : (names : List (List ℕ)) (voice : Option (List ℕ × Shift)) → IsDistinct bytes_eq names → IsDistinct bytes_eq (with_named names voice)
 distinct_with names None distinct = distinct
 distinct_with names (Some voice) distinct = distinct_on names voice.0 distinct
@@ -227,6 +231,35 @@ pub distinct_names : (before : List Field) → IsDistinct bytes_eq (declared_nam
 unfolding IsDistinct
 distinct_names [] = tt
 distinct_names (field ∷ before) = distinct_with (declared_names before) (voice_on field) (distinct_names before)
+
+-- One more is no more than the most where they are not reached.
+one_fits : (n : ℕ) → nat_le MOST_VOICES n ≡ false → n + 1 ≤ MOST_VOICES
+one_fits n free = grind (arith, nat_tests)
+
+-- Names with one more are no more than the most.
+one_longer : (names : List (List ℕ)) (name : List ℕ) → nat_le MOST_VOICES (length names) ≡ false → length (names ++ name ∷ []) ≤ MOST_VOICES
+one_longer names name free = rw length-append (one_fits (length names) free)
+
+-- One more name is no more than there is room for.
+few_on : (names : List (List ℕ)) (name : List ℕ) → length names ≤ MOST_VOICES → length (with_name names name) ≤ MOST_VOICES
+few_on names name few = by_test (list_any (bytes_eq name) names || nat_le MOST_VOICES (length names))
+    (λ kept. subst (λ b. length (cond b names (names ++ name ∷ [])) ≤ MOST_VOICES) (sym kept) few)
+    (λ more. let free = neither_second (list_any (bytes_eq name) names) _ more in
+    subst (λ b. length (cond b names (names ++ name ∷ [])) ≤ MOST_VOICES) (sym more) (one_longer names name free))
+
+-- The names with that of a voice are no more than there is room for.
+few_with : (names : List (List ℕ)) (voice : Option (List ℕ × Shift)) → length names ≤ MOST_VOICES → length (with_named names voice) ≤ MOST_VOICES
+few_with names None few = few
+few_with names (Some voice) few = few_on names voice.0 few
+
+-- A header declares no more voices than a tune may have.
+pub few_names : (before : List Field) → length (declared_names before) ≤ MOST_VOICES
+few_names [] = lit≤ tt
+few_names (field ∷ before) = few_with (declared_names before) (voice_on field) (few_names before)
+
+-- The names of what is known of voices.
+pub declared_keys : (before : List Field) → keys_of (voices_at before) ≡ declared_names before
+declared_keys before = names_with (shift_at before) (declared_names before)
 
 -- Equal names are among the same names.
 same_among : (name other : List ℕ) (names : List (List ℕ)) → bytes_eq name other ≡ true → list_any (bytes_eq name) names ≡ list_any (bytes_eq other) names

@@ -1,6 +1,7 @@
 pub mod Acting
 pub mod AddedNotes
 pub mod BarCounts
+pub mod BodyOpenings
 pub mod ChordTones
 pub mod DeclaredVoices
 pub mod EntryLaws

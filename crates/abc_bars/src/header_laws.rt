@@ -1,18 +1,22 @@
 //! Laws of what holds at the places of headers.
 
-ghost use Rattle.std.specs.Prelude.{◌≡◌, [], ◌∷◌, List};
+ghost use Rattle.std.specs.Prelude.{◌≡◌, ◌≤◌, [], ◌∷◌, List, bytes_eq, length};
+ghost use Rattle.std.specs.List.{IsDistinct};
+ghost use Rattle.std.specs.Map.{keys_of};
+ghost use Rattle.abc_fields.specs.declared.key.Key.{Key};
 ghost use Rattle.abc_scan.specs.declared.field.Field.{Field};
-ghost use Rattle.abc_bars.specs.declared.body.Body.{Body};
 ghost use Rattle.abc_bars.specs.declared.defaults.Defaults.{Defaults};
 ghost use Rattle.abc_bars.specs.declared.entry.Entry.{Entry};
 ghost use Rattle.abc_bars.specs.declared.entry.Entry.TheVariants as entries;
 ghost use Rattle.abc_bars.specs.declared.header.Header.{Header};
+ghost use Rattle.abc_bars.specs.declared.voices.TheConstants.{MOST_VOICES};
+ghost use Rattle.abc_bars.specs.BodyOpening.{body_from};
 ghost use Rattle.abc_bars.specs.Defaults.{no_defaults};
 ghost use Rattle.abc_bars.specs.Entry.{AreApart, header_in};
 ghost use Rattle.abc_bars.specs.FileHeader.{file_header_given};
 ghost use Rattle.abc_bars.specs.Header.{header_given, opening_header};
 ghost use Rattle.abc_bars.specs.LookBack.Defaults.{defaults_at};
-ghost use Rattle.abc_bars.specs.LookBack.Header.{file_header_view, header_at, header_view};
+ghost use Rattle.abc_bars.specs.LookBack.Header.{declared_names, file_header_view, header_at, header_view};
 
 /// What holds at a place of a file header or of a tune's header is what looking back over the fields before
 /// it finds: before the first field the values with which it opens, and behind one more field what that
@@ -44,4 +48,14 @@ pub fn entry_views()
 #[tactic(auto, using(crate::proofs::EntryLaws::entries_apart))]
 pub fn entries_apart()
     ensures { (a b : Entry) → AreApart a b → ¬ (a ≡ b) }
+{}
+
+/// The voices that a header declares, with which its body begins: no two have the same name, and there are no
+/// more than a tune may have.
+#[tactic(auto, using(crate::proofs::DeclaredVoices::declared_keys, crate::proofs::DeclaredVoices::distinct_names, crate::proofs::DeclaredVoices::few_names, crate::proofs::BodyOpenings::opening_names))]
+pub fn declared_voices()
+    ensures names { (opening : Defaults) (before : List Field) → keys_of (header_at opening before).voices ≡ declared_names before }
+    ensures distinct { (before : List Field) → IsDistinct bytes_eq (declared_names before) }
+    ensures few { (before : List Field) → length (declared_names before) ≤ MOST_VOICES }
+    ensures body { (header : Header) (key : Key) → keys_of (body_from header key).voices ≡ keys_of header.voices }
 {}

@@ -43,7 +43,7 @@ pub use body_laws::mentioned_voices;
 pub use broken::acting_marks;
 pub use defaults::Defaults;
 pub use entry::Entry;
-pub use header_laws::{entries_apart, entry_views, header_views};
+pub use header_laws::{declared_voices, entries_apart, entry_views, header_views};
 pub use item::{HIGHEST_KEY, Item, Items, LocalFault, MOST_NOTES, Tone};
 pub use meter::TuneMeter;
 pub use tempo::TuneTempo;
