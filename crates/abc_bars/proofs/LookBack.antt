@@ -1,4 +1,6 @@
 pub mod Accidentals
+pub mod Body
+pub mod Names
 pub mod Tied
 pub mod Tuplets
 pub mod Voice

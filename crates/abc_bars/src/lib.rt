@@ -39,7 +39,7 @@ mod voice_shift;
 mod voices;
 
 pub use body::Body;
-pub use body_laws::mentioned_voices;
+pub use body_laws::{body_views, mentioned_voices};
 pub use broken::acting_marks;
 pub use defaults::Defaults;
 pub use entry::Entry;
