@@ -1,13 +1,14 @@
 //! Laws of what holds at the places of a tune's body.
 
-ghost use Rattle.std.specs.Prelude.{◌≡◌, ◌≤◌, ℕ, Bool, false, List, ◌∷◌, bytes_eq, length};
+ghost use Rattle.std.specs.Prelude.{◌≡◌, ◌≤◌, ℕ, Bool, List, None, ◌∷◌, bytes_eq, length};
 ghost use Rattle.std.specs.List.{IsDistinct};
 ghost use Rattle.abc_bars.specs.LookBack.Element.{Element};
 ghost use Rattle.std.specs.Map.{keys_of};
 ghost use Rattle.abc_scan.specs.declared.token.TokenKind.{TokenKind};
 ghost use Rattle.abc_bars.specs.declared.body.Body.{Body};
-ghost use Rattle.abc_bars.specs.LookBack.AfterBody.{body_after, is_field};
-ghost use Rattle.abc_bars.specs.LookBack.Voices.{IsCurrent, body_at, current_of, voices_of};
+ghost use Rattle.abc_bars.specs.LookBack.AfterBody.{body_after};
+ghost use Rattle.abc_bars.specs.LookBack.Voice.{said_by_field};
+ghost use Rattle.abc_bars.specs.LookBack.Voices.{IsCurrent, body_at, current_of, name_said, voices_of};
 ghost use Rattle.abc_bars.specs.declared.voices.TheConstants.{MOST_VOICES};
 
 /// The voices that are mentioned before a place of a body: no two have the same name, there are at most
@@ -19,12 +20,12 @@ pub fn mentioned_voices()
     ensures current { (declared : List (List ℕ)) (before : List Element) → IsCurrent (voices_of declared before) (current_of declared before) }
 {}
 
-/// What holds at a place of a body is what looking back finds for its voices: behind a note, a rest or a
-/// mark it is what that leaves of what was found before.
-#[tactic(auto, using(crate::proofs::LookBack::Body::sound_behind))]
+/// What holds at a place of a body is what looking back finds for its voices: behind a token other than a
+/// V: with a name it is what that leaves of what was found before.
+#[tactic(auto, using(crate::proofs::LookBack::Body::unnamed_behind))]
 pub fn body_views()
-    ensures sounds { (opening : Body) (before : List Element) (kind : TokenKind) (tied : Bool)
-        → IsDistinct bytes_eq (keys_of opening.voices) → is_field kind ≡ false
+    ensures unnamed { (opening : Body) (before : List Element) (kind : TokenKind) (tied : Bool)
+        → IsDistinct bytes_eq (keys_of opening.voices) → said_by_field name_said kind ≡ None
         → body_at opening (record { kind = kind; tied = tied } ∷ before)
         ≡ body_after (body_at opening before) (record { kind = kind; tied = tied }) }
 {}

@@ -29,9 +29,3 @@ after_token body element _ = after_sound body element
 -- Behind one element more. The place of a field changes nothing of what it leaves.
 abbrev pub body_after : Body → Element → Body
 body_after body element = after_token body element element.kind
-
--- Whether a token is a field.
-abbrev pub is_field : TokenKind → Bool
-is_field (kinds.InlineField field) = true
-is_field (kinds.Field field) = true
-is_field _ = false
