@@ -1,6 +1,10 @@
 pub mod Accidentals
 pub mod Body
+pub mod Heard
+pub mod Known
 pub mod Names
+pub mod Placed
+pub mod Step
 pub mod Tied
 pub mod Tuplets
 pub mod Voice

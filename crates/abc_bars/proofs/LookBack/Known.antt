@@ -1,0 +1,50 @@
+-- Voices by their places, and what holds for each.
+use Rattle.std.proofs.Common.{◌≡◌, ℕ, zero, suc, ◌<◌, cond, List, [], ◌∷◌, ◌++◌, length, Some, refl, ap, arith}
+use Rattle.std.specs.Map.{keys_of}
+use Rattle.abc_bars.specs.declared.settings.Settings.{Settings}
+use Rattle.abc_bars.specs.Body.{all_without_accidentals}
+use Rattle.abc_bars.specs.Settings.{without_accidentals}
+use Rattle.abc_bars.specs.Voices.{voice_at, with_voice_at}
+use Rattle.abc_bars.specs.LookBack.Heard.{is_place, voices_by}
+
+-- The names are those of the voices.
+pub keys-by : (known : ℕ → Settings) (names : List (List ℕ)) → keys_of (voices_by known names) ≡ names
+keys-by known [] = refl
+keys-by known (name ∷ names) = ap (λ (rest : List (List ℕ)). name ∷ rest) (keys-by (λ at. known (suc at)) names)
+
+pub length-by : (known : ℕ → Settings) (names : List (List ℕ)) → length (voices_by known names) ≡ length names
+length-by known [] = refl
+length-by known (name ∷ names) = ap suc (length-by (λ at. known (suc at)) names)
+
+-- The same holds for each.
+pub same-by : (f g : ℕ → Settings) (names : List (List ℕ)) → ((at : ℕ) → f at ≡ g at) → voices_by f names ≡ voices_by g names
+same-by f g [] same = refl
+same-by f g (name ∷ names) same = λ i. (name, same 0 i) ∷ same-by (λ at. f (suc at)) (λ at. g (suc at)) names (λ at. same (suc at)) i
+
+-- What holds for the voice at a place.
+pub at-by : (known : ℕ → Settings) (names : List (List ℕ)) (place : ℕ) → place < length names → voice_at (voices_by known names) place ≡ Some (known place)
+at-by known [] place below = absurd (omega arith)
+at-by known (name ∷ names) zero below = refl
+at-by known (name ∷ names) (suc place) below = at-by (λ at. known (suc at)) names place (omega arith)
+
+-- Something else holds for the voice at a place.
+pub set-by : (new known : ℕ → Settings) (names : List (List ℕ)) (place : ℕ)
+    → voices_by (λ at. cond (is_place at place) (new at) (known at)) names ≡ with_voice_at (voices_by known names) place (new place)
+set-by new known [] place = refl
+set-by new known (name ∷ names) zero = refl
+set-by new known (name ∷ names) (suc place) =
+    ap (λ (rest : List (List ℕ × Settings)). (name, known 0) ∷ rest) (set-by (λ at. new (suc at)) (λ at. known (suc at)) names place)
+
+-- No accidentals hold for any.
+pub each-by : (known : ℕ → Settings) (names : List (List ℕ))
+    → voices_by (λ at. without_accidentals (known at)) names ≡ all_without_accidentals (voices_by known names)
+each-by known [] = refl
+each-by known (name ∷ names) =
+    ap (λ (rest : List (List ℕ × Settings)). (name, without_accidentals (known 0)) ∷ rest) (each-by (λ at. known (suc at)) names)
+
+-- One voice more.
+pub new-by : (new : Settings) (known : ℕ → Settings) (names : List (List ℕ)) (name : List ℕ)
+    → voices_by (λ at. cond (is_place at (length names)) new (known at)) (names ++ name ∷ []) ≡ voices_by known names ++ (name, new) ∷ []
+new-by new known [] name = refl
+new-by new known (first ∷ names) name =
+    ap (λ (rest : List (List ℕ × Settings)). (first, known 0) ∷ rest) (new-by new (λ at. known (suc at)) names name)
