@@ -2,6 +2,7 @@ pub mod Acting
 pub mod AddedNotes
 pub mod BarCounts
 pub mod BodyOpenings
+pub mod CellLoop
 pub mod ChordTones
 pub mod DeclaredVoices
 pub mod EntryLaws

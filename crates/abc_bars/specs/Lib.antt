@@ -7,6 +7,7 @@ pub mod BodyFields
 pub mod BodyLent
 pub mod BodyOpening
 pub mod Broken
+pub mod Cell
 pub mod Chords
 pub mod Column
 pub mod Defaults
@@ -23,6 +24,7 @@ pub mod Pitch
 pub mod Reference
 pub mod Settings
 pub mod Sound
+pub mod Step
 pub mod Tempo
 pub mod TempoItem
 pub mod TimeTokens

@@ -4,12 +4,14 @@
 
 mod accidentals;
 mod alteration;
+mod bar_fold;
 mod bar_rest;
 mod body;
 mod body_fields;
 mod body_laws;
 mod body_opening;
 mod broken;
+mod cell;
 mod chords;
 mod column;
 mod defaults;
@@ -39,6 +41,7 @@ mod voice_name;
 mod voice_shift;
 mod voices;
 
+pub use bar_fold::BarFold;
 pub use body::Body;
 pub use body_laws::{body_views, mentioned_voices};
 pub use broken::acting_marks;

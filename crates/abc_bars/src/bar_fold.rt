@@ -1,0 +1,154 @@
+//! The fold over the cells of file headers and of tunes.
+
+ghost use Rattle.std.specs.Prelude.{◌≡◌, All, IfOk};
+ghost use Rattle.std.specs.Option.{option_copied};
+ghost use Rattle.abc_bars.specs.Cell.{cell_given};
+ghost use Rattle.abc_bars.specs.Item.{IsItem};
+ghost use Rattle.abc_bars.specs.Step.{field_line, field_in, body_stepped, behind_field, header_stepped, file_header_stepped, stepped};
+
+use crate::body::Body;
+use crate::body_opening::body_from;
+use crate::cell::{Given, cell_given};
+use crate::defaults::Defaults;
+use crate::entry::Entry;
+use crate::field_kind::{FieldKind, kind_of};
+use crate::file_header::file_header_given;
+use crate::header::{Header, HeaderGiven, header_given};
+use crate::item::Items;
+use abc_fields::{EMPTY_SIGNATURE, key_set_by};
+use abc_fold::{Fold, Work};
+use abc_scan::{Cell, Field, Token, TokenKind};
+use abc_text::Sequence;
+use std::alloc::{AllocError, Global};
+
+/// What holds behind a cell, and what it gives.
+type Stepped = Result<(Entry, Items), AllocError>;
+
+/// The field that a token is, if it is a field line.
+fn field_line(kind: &TokenKind) -> Option<&Field>
+    ensures { option_copied result ≡ field_line kind.now }
+{
+    match kind {
+        TokenKind::Field(field) => Some(field),
+        _ => None,
+    }
+}
+
+/// The field that a cell is, if it is a field line.
+fn field_in(cell: &[Token]) -> Option<&Field>
+    ensures { option_copied result ≡ field_in cell.now }
+{
+    match cell {
+        [token, ..] => field_line(&token.kind),
+        [] => None,
+    }
+}
+
+/// A cell of a body.
+fn body_stepped(alloc: Global, body: Body, cell: &[Token]) -> Stepped
+    ensures value { IfOk result (λ made. made ≡ body_stepped body cell.now) }
+    ensures range { IfOk result (λ made. All IsItem made.1.items) }
+{
+    let Given { body, items, .. } = cell_given(alloc, body, cell)?;
+    Ok((Entry::Body(body), items))
+}
+
+/// What holds behind a field of a header, of which a K: ends it.
+fn behind_field(alloc: Global, given: HeaderGiven, field: &Field) -> Stepped
+    requires { All IsItem given.items }
+    ensures value { IfOk result (λ made. made ≡ behind_field given field.now) }
+    ensures range { IfOk result (λ made. All IsItem made.1.items) }
+{
+    let HeaderGiven {
+        header,
+        items,
+        faults,
+    } = given;
+    let entry = match kind_of(field.letter) {
+        FieldKind::Key => {
+            let key = key_set_by(field.value.as_slice());
+            Entry::Body(body_from(alloc, &header, &key)?)
+        }
+        _ => Entry::Header(header),
+    };
+    Ok((entry, Items { items, faults }))
+}
+
+/// A cell of a header: a line of music ends it, and is a cell of the body.
+fn header_stepped(alloc: Global, header: Header, cell: &[Token]) -> Stepped
+    ensures value { IfOk result (λ made. made ≡ header_stepped header cell.now (field_in cell.now)) }
+    ensures range { IfOk result (λ made. All IsItem made.1.items) }
+{
+    match field_in(cell) {
+        Some(field) => {
+            let given = header_given(alloc, header, field)?;
+            behind_field(alloc, given, field)
+        }
+        None => {
+            let body = body_from(alloc, &header, &EMPTY_SIGNATURE)?;
+            body_stepped(alloc, body, cell)
+        }
+    }
+}
+
+/// A cell of a file header.
+fn file_header_stepped(alloc: Global, defaults: Defaults, cell: &[Token]) -> Stepped
+    ensures value { IfOk result (λ made. made ≡ file_header_stepped defaults (field_in cell.now)) }
+    ensures range { IfOk result (λ made. All IsItem made.1.items) }
+{
+    let items = Sequence::new(alloc);
+    match field_in(cell) {
+        Some(field) => {
+            let given = file_header_given(alloc, defaults, field)?;
+            let faults = given.faults;
+            Ok((Entry::FileHeader(given.defaults), Items { items, faults }))
+        }
+        None => {
+            let faults = Sequence::new(alloc);
+            Ok((Entry::FileHeader(defaults), Items { items, faults }))
+        }
+    }
+}
+
+/// A cell that is entered there.
+#[tactic(auto, unfolding(crate::specs::Step::stepped))]
+fn stepped(alloc: Global, entry: &Entry, cell: &[Token]) -> Stepped
+    ensures value { IfOk result (λ made. made ≡ stepped entry.now cell.now) }
+    ensures range { IfOk result (λ made. All IsItem made.1.items) }
+{
+    match entry {
+        Entry::FileHeader(defaults) => file_header_stepped(alloc, *defaults, cell),
+        Entry::Opening(defaults) => {
+            header_stepped(alloc, Header::opening(alloc, *defaults), cell)
+        }
+        Entry::Header(header) => header_stepped(alloc, header.copied()?, cell),
+        Entry::Body(body) => body_stepped(alloc, body.clone()?, cell),
+    }
+}
+
+/// The fold over the cells of a file header or of a tune, from `Entry::header` or `Entry::tune` on: what each
+/// cell gives and what holds behind it depend on what holds where it is entered, and on nothing else.
+#[derive(Clone, Copy, Debug, Drop)]
+pub struct BarFold;
+
+impl Fold for BarFold {
+    type State = Entry;
+    type Cell = Cell;
+    type Items = Items;
+    type Work = Work;
+
+    ghost next = { λ _ entry cell. (stepped entry cell).0 };
+
+    ghost gives = { λ _ entry cell. (stepped entry cell).1 };
+
+    fn step(
+        &self,
+        alloc: Global,
+        state: &Entry,
+        cell: &Cell,
+        work: &mut Work,
+    ) -> Result<(Entry, Items), AllocError> {
+        work.count_folded();
+        stepped(alloc, state, cell.as_slice())
+    }
+}

@@ -1,0 +1,327 @@
+//! The cells of a tune's body.
+
+ghost use Rattle.std.specs.Prelude.{◌≡◌, All, IfOk, IfSome, OnOk};
+ghost use Rattle.abc_bars.specs.BodyFields.{listed};
+ghost use Rattle.abc_bars.specs.Cell.{is_tie_token, tie_ahead, may_be_tied, nothing_given, with_item, with_items, with_faults, with_fault, with_fault_if, with_some_fault, with_note, with_rest, with_chord, with_bar_rest, with_field, with_bar, with_ending, with_tuplet, with_tie, with_kind, with_token, given_from, cell_given};
+ghost use Rattle.abc_bars.specs.Item.{IsItem};
+
+use crate::accidentals::NO_ACCIDENTALS;
+use crate::bar_rest::bar_rest_of;
+use crate::body::Body;
+use crate::body_fields::{FieldItem, field_given};
+use crate::broken::{Behind, BrokenFactors, behind_after, has_note, is_bad_mark};
+use crate::column::column_of;
+use crate::item::{Item, Items, LocalFault};
+use crate::time_tokens::{chord_played, note_played, rest_played};
+use crate::tuplet::tuplet_opened;
+use abc_fields::FaultCode;
+use abc_scan::{BarLine, Chord, Field, Note, Token, TokenKind, Tuplet, WrittenLength};
+use abc_text::Sequence;
+use std::alloc::{AllocError, Global};
+
+/// Whether a token is a tie.
+fn is_tie_token(kind: &TokenKind) -> bool
+    ensures { result ≡ is_tie_token kind.now }
+{
+    matches!(kind, TokenKind::Tie)
+}
+
+/// Whether a tie comes first.
+fn tie_ahead(ahead: &[Token]) -> bool
+    ensures { result ≡ tie_ahead ahead.now }
+{
+    match ahead {
+        [token, ..] => is_tie_token(&token.kind),
+        [] => false,
+    }
+}
+
+/// Whether a tie may stand directly behind a token.
+fn may_be_tied(kind: &TokenKind) -> bool
+    ensures { result ≡ may_be_tied kind.now }
+{
+    matches!(kind, TokenKind::Note(_) | TokenKind::Chord(_))
+}
+
+/// What holds behind some tokens of a cell, and what they gave.
+#[derive(Debug, Drop)]
+pub(crate) struct Given {
+    pub(crate) body: Body,
+    pub(crate) items: Items,
+    /// What stands nearest before, of what matters to broken rhythm.
+    pub(crate) behind: Behind,
+    /// Whether a note or chord stands directly before.
+    pub(crate) after_note: bool,
+}
+
+impl Given {
+    /// Before the first token of a cell.
+    fn nothing(alloc: Global, body: Body) -> Given
+        ensures { result ≡ nothing_given body }
+    {
+        Given {
+            body,
+            items: Items {
+                items: Sequence::new(alloc),
+                faults: Sequence::new(alloc),
+            },
+            behind: Behind::Nothing,
+            after_note: false,
+        }
+    }
+
+    /// A token gives an item.
+    fn item(&mut self, item: Item) -> Result<(), AllocError>
+        requires item { IsItem item }
+        requires items { All IsItem self.old.items.items }
+        ensures value { OnOk result (self.new ≡ with_item self.old item) }
+        ensures range { OnOk result (All IsItem self.new.items.items) }
+    {
+        self.items.items.push(item)?;
+        Ok(())
+    }
+
+    /// A token gives this item or none.
+    fn some_item(&mut self, item: Option<Item>) -> Result<(), AllocError>
+        requires item { IfSome item IsItem }
+        requires items { All IsItem self.old.items.items }
+        ensures value { OnOk result (self.new ≡ with_items self.old (listed item)) }
+        ensures range { OnOk result (All IsItem self.new.items.items) }
+    {
+        if let Some(item) = item {
+            self.item(item)?;
+        }
+        Ok(())
+    }
+
+    /// A token has this fault, with its column, or none.
+    fn some_local_fault(&mut self, fault: Option<LocalFault>) -> Result<(), AllocError>
+        ensures { OnOk result (self.new ≡ with_faults self.old (listed fault)) }
+    {
+        if let Some(fault) = fault {
+            self.items.faults.push(fault)?;
+        }
+        Ok(())
+    }
+
+    /// A token has a fault.
+    fn fault(&mut self, place: usize, code: FaultCode) -> Result<(), AllocError>
+        ensures value { OnOk result (self.new ≡ with_fault self.old place code) }
+    {
+        self.items.faults.push((column_of(place), code))?;
+        Ok(())
+    }
+
+    /// A token has a fault, if it has one.
+    fn fault_if(&mut self, is_fault: bool, place: usize, code: FaultCode) -> Result<(), AllocError>
+        ensures { OnOk result (self.new ≡ with_fault_if self.old is_fault place code) }
+    {
+        if is_fault {
+            self.fault(place, code)?;
+        }
+        Ok(())
+    }
+
+    /// A token has this fault or none.
+    fn some_fault(&mut self, place: usize, fault: Option<FaultCode>) -> Result<(), AllocError>
+        ensures { OnOk result (self.new ≡ with_some_fault self.old place fault) }
+    {
+        if let Some(code) = fault {
+            self.fault(place, code)?;
+        }
+        Ok(())
+    }
+
+    /// A note, which mentions its voice.
+    fn note(
+        &mut self,
+        alloc: Global,
+        place: usize,
+        note: Note,
+        ahead: &[Token],
+    ) -> Result<(), AllocError>
+        requires { All IsItem self.old.items.items }
+        ensures value { OnOk result (self.new ≡ with_note self.old place note ahead.now) }
+        ensures range { OnOk result (All IsItem self.new.items.items) }
+    {
+        let factors = BrokenFactors::of(self.behind, ahead);
+        let tied = tie_ahead(ahead);
+        self.body.mention(alloc)?;
+        let here = self.body.here_mut();
+        note_played(alloc, here, &mut self.items, note, &factors, tied, place)?;
+        Ok(())
+    }
+
+    /// A rest, which mentions its voice.
+    fn rest(
+        &mut self,
+        alloc: Global,
+        place: usize,
+        written: WrittenLength,
+        ahead: &[Token],
+    ) -> Result<(), AllocError>
+        requires { All IsItem self.old.items.items }
+        ensures value { OnOk result (self.new ≡ with_rest self.old place written ahead.now) }
+        ensures range { OnOk result (All IsItem self.new.items.items) }
+    {
+        let factors = BrokenFactors::of(self.behind, ahead);
+        self.body.mention(alloc)?;
+        let here = self.body.here_mut();
+        rest_played(alloc, here, &mut self.items, written, &factors, place)?;
+        Ok(())
+    }
+
+    /// A chord, which mentions its voice if it has a note.
+    fn chord(
+        &mut self,
+        alloc: Global,
+        place: usize,
+        chord: &Chord,
+        ahead: &[Token],
+    ) -> Result<(), AllocError>
+        requires { All IsItem self.old.items.items }
+        ensures value { OnOk result (self.new ≡ with_chord self.old place chord.now ahead.now) }
+        ensures range { OnOk result (All IsItem self.new.items.items) }
+    {
+        let factors = BrokenFactors::of(self.behind, ahead);
+        let tied = tie_ahead(ahead);
+        if has_note(chord.parts.as_slice()) {
+            self.body.mention(alloc)?;
+        }
+        let here = self.body.here_mut();
+        chord_played(alloc, here, &mut self.items, chord, &factors, tied, place)?;
+        Ok(())
+    }
+
+    /// A rest of bars, which mentions its voice.
+    fn bar_rest(
+        &mut self,
+        alloc: Global,
+        place: usize,
+        bars: Option<u32>,
+    ) -> Result<(), AllocError>
+        requires { All IsItem self.old.items.items }
+        ensures value { OnOk result (self.new ≡ with_bar_rest self.old place bars) }
+        ensures range { OnOk result (All IsItem self.new.items.items) }
+    {
+        self.body.mention(alloc)?;
+        let (item, fault) = bar_rest_of(self.body.here().meter, bars);
+        self.item(item)?;
+        self.some_fault(place, fault)?;
+        Ok(())
+    }
+
+    /// A field line or an inline field.
+    fn field(&mut self, alloc: Global, place: usize, field: &Field) -> Result<(), AllocError>
+        requires { All IsItem self.old.items.items }
+        ensures value { OnOk result (self.new ≡ with_field self.old place field.now) }
+        ensures range { OnOk result (All IsItem self.new.items.items) }
+    {
+        let FieldItem { item, fault } = field_given(alloc, &mut self.body, field, place)?;
+        self.some_item(item)?;
+        self.some_local_fault(fault)?;
+        Ok(())
+    }
+
+    /// A bar line, which ends the accidentals of its voice (ABC 2.1 section 4.2).
+    fn bar(&mut self, bar: BarLine) -> Result<(), AllocError>
+        requires { All IsItem self.old.items.items }
+        ensures value { OnOk result (self.new ≡ with_bar self.old bar) }
+        ensures range { OnOk result (All IsItem self.new.items.items) }
+    {
+        self.body.here_mut().accidentals = NO_ACCIDENTALS;
+        self.item(Item::Bar(bar))?;
+        Ok(())
+    }
+
+    /// The mark of an ending.
+    fn ending(&mut self, place: usize, passes: Option<u32>) -> Result<(), AllocError>
+        requires { All IsItem self.old.items.items }
+        ensures value { OnOk result (self.new ≡ with_ending self.old place passes) }
+        ensures range { OnOk result (All IsItem self.new.items.items) }
+    {
+        match passes {
+            Some(passes) => self.item(Item::Ending(passes))?,
+            None => self.fault(place, FaultCode::BadEnding)?,
+        }
+        Ok(())
+    }
+
+    /// A tuplet mark.
+    fn tuplet(&mut self, place: usize, mark: Tuplet) -> Result<(), AllocError>
+        ensures { OnOk result (self.new ≡ with_tuplet self.old place mark) }
+    {
+        let here = self.body.here_mut();
+        let (open, fault) = tuplet_opened(here.meter, here.tuplet, mark);
+        here.tuplet = open;
+        self.some_fault(place, fault)?;
+        Ok(())
+    }
+
+    /// A tie.
+    fn tie(&mut self, place: usize) -> Result<(), AllocError>
+        ensures { OnOk result (self.new ≡ with_tie self.old place) }
+    {
+        if !self.after_note {
+            self.fault(place, FaultCode::LooseTie)?;
+        }
+        Ok(())
+    }
+
+    /// A token at a place of its line, with the tokens behind it in its cell.
+    fn kind(
+        &mut self,
+        alloc: Global,
+        place: usize,
+        kind: &TokenKind,
+        ahead: &[Token],
+    ) -> Result<(), AllocError>
+        requires { All IsItem self.old.items.items }
+        ensures value { OnOk result (self.new ≡ with_kind self.old place kind.now ahead.now) }
+        ensures range { OnOk result (All IsItem self.new.items.items) }
+    {
+        match kind {
+            TokenKind::Note(note) => self.note(alloc, place, *note, ahead),
+            TokenKind::Rest(written) => self.rest(alloc, place, *written, ahead),
+            TokenKind::BarRest(bars) => self.bar_rest(alloc, place, *bars),
+            TokenKind::Chord(chord) => self.chord(alloc, place, chord, ahead),
+            TokenKind::InlineField(field) | TokenKind::Field(field) => {
+                self.field(alloc, place, field)
+            }
+            TokenKind::Bar(bar) => self.bar(*bar),
+            TokenKind::Ending(passes) => self.ending(place, *passes),
+            TokenKind::Tuplet(mark) => self.tuplet(place, *mark),
+            TokenKind::Broken(_) => {
+                self.fault_if(is_bad_mark(self.behind, ahead), place, FaultCode::BadBroken)
+            }
+            TokenKind::Tie => self.tie(place),
+            TokenKind::Blank | TokenKind::NoEffect => Ok(()),
+            TokenKind::Unclosed => self.fault(place, FaultCode::Unclosed),
+            TokenKind::BadByte => self.fault(place, FaultCode::BadByte),
+        }
+    }
+
+    /// One more token of the cell, with those behind it.
+    fn token(&mut self, alloc: Global, token: &Token, ahead: &[Token]) -> Result<(), AllocError>
+        requires { All IsItem self.old.items.items }
+        ensures value { OnOk result (self.new ≡ with_token self.old token.now ahead.now) }
+        ensures range { OnOk result (All IsItem self.new.items.items) }
+    {
+        self.kind(alloc, token.from, &token.kind, ahead)?;
+        self.behind = behind_after(self.behind, &token.kind);
+        self.after_note = may_be_tied(&token.kind);
+        Ok(())
+    }
+}
+
+/// What holds behind a cell that is entered in a body, and what it gives.
+pub(crate) fn cell_given(alloc: Global, body: Body, cell: &[Token]) -> Result<Given, AllocError>
+    ensures value { IfOk result (λ given. given ≡ cell_given body cell.now) }
+    ensures range { IfOk result (λ given. All IsItem given.items.items) }
+{
+    let mut given = Given::nothing(alloc, body);
+    for (at, token) in cell.iter().enumerate() {
+        given.token(alloc, token, &cell[at + 1..])?;
+    }
+    Ok(given)
+}
