@@ -1,7 +1,7 @@
 //! Laws of what holds at the places of a tune's body.
 
-ghost use Rattle.std.specs.Prelude.{◌≡◌, ◌≤◌, ℕ, Bool, List, None, ◌∷◌, bytes_eq, length};
-ghost use Rattle.std.specs.List.{IsDistinct};
+ghost use Rattle.std.specs.Prelude.{◌≡◌, ◌≤◌, ℕ, Bool, List, None, Some, true, ◌∷◌, bytes_eq, length};
+ghost use Rattle.std.specs.List.{IsDistinct, list_any};
 ghost use Rattle.abc_bars.specs.LookBack.Element.{Element};
 ghost use Rattle.std.specs.Map.{keys_of};
 ghost use Rattle.abc_scan.specs.declared.token.TokenKind.{TokenKind};
@@ -21,11 +21,16 @@ pub fn mentioned_voices()
 {}
 
 /// What holds at a place of a body is what looking back finds for its voices: behind a token other than a
-/// V: with a name it is what that leaves of what was found before.
-#[tactic(auto, using(crate::proofs::LookBack::Body::unnamed_behind))]
+/// V: that names a new voice it is what that leaves of what was found before.
+#[tactic(auto, using(crate::proofs::LookBack::Body::unnamed_behind, crate::proofs::LookBack::Body::named_behind))]
 pub fn body_views()
     ensures unnamed { (opening : Body) (before : List Element) (kind : TokenKind) (tied : Bool)
         → IsDistinct bytes_eq (keys_of opening.voices) → said_by_field name_said kind ≡ None
+        → body_at opening (record { kind = kind; tied = tied } ∷ before)
+        ≡ body_after (body_at opening before) (record { kind = kind; tied = tied }) }
+    ensures named { (opening : Body) (before : List Element) (kind : TokenKind) (tied : Bool) (said : List ℕ)
+        → IsDistinct bytes_eq (keys_of opening.voices) → said_by_field name_said kind ≡ Some said
+        → list_any (bytes_eq said) (voices_of (keys_of opening.voices) before) ≡ true
         → body_at opening (record { kind = kind; tied = tied } ∷ before)
         ≡ body_after (body_at opening before) (record { kind = kind; tied = tied }) }
 {}

@@ -5,7 +5,7 @@ use Rattle.std.specs.Cmp.Lexicographic.{bytes_decides}
 use Rattle.std.specs.List.{AllByRecursion, IsDistinct, list_any}
 use Rattle.std.specs.Map.{keys_of}
 use Rattle.std.specs.Option.{option_map}
-use Rattle.std.specs.Prelude.{slice_range, is_some, Option, Result, Ok, Err}
+use Rattle.std.specs.Prelude.{◌++◌, slice_range, is_some, Option, Result, Ok, Err}
 use Rattle.std.specs.Result.{result_ok}
 use Rattle.abc_fields.specs.declared.fault.FaultCode.{FaultCode}
 use Rattle.abc_fields.specs.declared.fault.FaultCode.TheVariants.{TempoRange}
@@ -21,7 +21,7 @@ use Rattle.abc_fields.specs.Voice.{voice_of}
 use Rattle.abc_time.specs.declared.ratio.Ratio.{Ratio}
 use Rattle.abc_bars.specs.declared.field_kind.FieldKind.{FieldKind}
 use Rattle.abc_bars.specs.declared.field_kind.FieldKind.TheVariants as fields
-use Rattle.abc_bars.specs.BodyFields.{accepted, faulty, in_key, key_by, kind_given, meter_by, part_by, part_of, tempo_by, unit_by, voice_by}
+use Rattle.abc_bars.specs.BodyFields.{accepted, faulty, in_key, key_by, kind_given, meter_by, part_by, part_of, tempo_by, unit_by, voice_by, voice_made}
 use Rattle.abc_bars.specs.FieldKind.{kind_of}
 use Rattle.abc_bars.specs.Settings.{without_accidentals}
 use Rattle.abc_bars.specs.TempoItem.{is_out, tempo_item}
@@ -30,9 +30,12 @@ use Rattle.abc_scan.specs.declared.token.TokenKind.TheVariants as kinds
 use Rattle.abc_bars.specs.declared.body.Body.{Body}
 use Rattle.abc_bars.specs.declared.body.Current.TheVariants.{At}
 use Rattle.abc_bars.specs.declared.settings.Settings.{Settings}
-use Rattle.abc_bars.specs.Body.{after_part, all_without_accidentals, current_without_accidentals, here, with_here}
+use Rattle.abc_fields.specs.declared.shift.Shift.{Shift}
+use Rattle.abc_bars.specs.VoiceShift.{with_properties}
+use Rattle.abc_bars.specs.declared.voices.TheConstants.{MOST_VOICES}
+use Rattle.abc_bars.specs.Body.{made_current, made_current_at, after_part, all_without_accidentals, current_without_accidentals, here, with_here}
 use Rattle.abc_bars.specs.Voices.{with_voice_at}
-use Rattle.abc_bars.specs.LookBack.After.{after, after_field, in_meter, in_part, in_unit}
+use Rattle.abc_bars.specs.LookBack.After.{after, after_field, in_meter, in_part, in_unit, in_voice}
 use Rattle.abc_bars.specs.LookBack.AfterBody.{body_after, mentioned_if}
 use Rattle.abc_bars.specs.LookBack.Element.{Element}
 use Rattle.abc_bars.specs.LookBack.Voice.{said_by_field, settings_at}
@@ -370,3 +373,114 @@ unnamed_behind opening before kinds.Blank tied distinct none = owned_behind open
 unnamed_behind opening before kinds.NoEffect tied distinct none = owned_behind opening before (record { kind = kinds.NoEffect; tied = tied }) distinct (λ name. refl) refl
 unnamed_behind opening before kinds.Unclosed tied distinct none = owned_behind opening before (record { kind = kinds.Unclosed; tied = tied }) distinct (λ name. refl) refl
 unnamed_behind opening before kinds.BadByte tied distinct none = owned_behind opening before (record { kind = kinds.BadByte; tied = tied }) distinct (λ name. refl) refl
+
+-- The names of the voices.
+keys_known : (f : List ℕ → Settings) (names : List (List ℕ)) → keys_of (known_of f names) ≡ names
+keys_known f [] = refl
+keys_known f (name ∷ names) = ap (λ rest. name ∷ rest) (keys_known f names)
+
+module _ (opening : Body) (before : List Element) (element : Element) (distinct : IsDistinct bytes_eq (keys_of opening.voices))
+    (said : List ℕ) (shift : Shift) where
+  -- What looking back finds for each voice behind a V: of a mentioned one.
+  renamed_is : ((name : List ℕ) → is_of name (voices_of (keys_of opening.voices) before) (current_of (keys_of opening.voices) before) element.kind ≡ bytes_eq name said)
+      → (name : List ℕ) → voice_at_place opening (element ∷ before) name ≡ behind opening.another (voice_at_place opening before) element said name
+  renamed_is owns name =
+      let declared = keys_of opening.voices in
+      let current = current_of declared before in
+      let f = voice_at_place opening before in
+      kept-after (opening_of opening name) (is_of name (voices_of declared before) current element.kind) element (of_voice name declared before)
+      ∙ ap (λ b. cond b (after (f name) element) (f name)) (owns name)
+      ∙ by (bytes_eq name said) refl
+    where
+      by : (b : Bool) → bytes_eq name said ≡ b
+          → cond b (after (voice_at_place opening before name) element) (voice_at_place opening before name)
+          ≡ cond b (after (voice_at_place opening before said) element) (voice_at_place opening before name)
+      by true is = ap (λ n. after (voice_at_place opening before n) element) ((bytes_decides name said).0 is)
+      by false is = refl
+
+  -- Behind a V: of a voice that is mentioned.
+  pub renamed_behind : ((name : List ℕ) → is_of name (voices_of (keys_of opening.voices) before) (current_of (keys_of opening.voices) before) element.kind ≡ is_named name (if_accepted (voices_of (keys_of opening.voices) before) (Some said)))
+      → made_current_by (voices_of (keys_of opening.voices) before) element.kind ≡ if_accepted (voices_of (keys_of opening.voices) before) (Some said)
+      → ((settings : Settings) → after settings element ≡ record settings { shift = with_properties settings.shift shift })
+      → list_any (bytes_eq said) (voices_of (keys_of opening.voices) before) ≡ true
+      → body_at opening (element ∷ before) ≡ (voice_made (body_at opening before) 0 said (made_current (body_at opening before) said shift)).body
+  unfolding body_at
+  renamed_behind owns makes leaves there =
+      let declared = keys_of opening.voices in
+      let names = voices_of declared before in
+      let current = current_of declared before in
+      let f = voice_at_place opening before in
+      let f' = voice_at_place opening (element ∷ before) in
+      let another = opening.another in
+      let counts : if_accepted names (Some said) ≡ Some said = ap (λ b. if b || nat_lt (length names) MOST_VOICES then Some said else None) there in
+      let place = find_place (bytes_eq said) names there in
+      let known = known_at f said names place.0 (voices_distinct declared before distinct) place.1 in
+      let body = composed another names f current in
+      let g = behind another f element said in
+      let here_is : here (placed another names f place.0) ≡ f said = ap (λ o. unwrap_or o another) known.known in
+      ap (λ made. composed another (mentioned_behind names element.kind made) f' (unwrap_or made current)) (makes ∙ counts)
+      ∙ ap (λ b. composed another (if b then names else names ++ said ∷ []) f' said) there
+      ∙ composed_same another names said f' g (renamed_is (λ name. owns name ∙ ap (is_named name) counts))
+      ∙ ap (λ found. record { voices = known_of g names; current = current_by found (g said); another = another }) place.1
+      ∙ sym (ap (λ found. (voice_made body 0 said (made_current_at body said shift found)).body) (ap (position (bytes_eq said)) (keys_known f names) ∙ place.1)
+      ∙ ap (λ settings. with_here (placed another names f place.0) (record settings { shift = with_properties settings.shift shift })) here_is
+      ∙ ap (λ settings. with_here (placed another names f place.0) settings) (sym (leaves (f said)))
+      ∙ placed_with another names f said place.0 known (after (f said) element))
+
+module _ (opening : Body) (before : List Element) (element : Element) (distinct : IsDistinct bytes_eq (keys_of opening.voices)) (said : List ℕ) where
+  -- Behind a field that names a voice that is mentioned.
+  pub named_left : (kind : FieldKind) (value : List ℕ)
+      → ((name : List ℕ) → is_of name (voices_of (keys_of opening.voices) before) (current_of (keys_of opening.voices) before) element.kind
+      ≡ field_is_of name (voices_of (keys_of opening.voices) before) (current_of (keys_of opening.voices) before) kind value)
+      → made_current_by (voices_of (keys_of opening.voices) before) element.kind ≡ if_accepted (voices_of (keys_of opening.voices) before) (name_said kind value)
+      → ((settings : Settings) → after settings element ≡ after_field settings kind value)
+      → name_said kind value ≡ Some said
+      → list_any (bytes_eq said) (voices_of (keys_of opening.voices) before) ≡ true
+      → body_at opening (element ∷ before) ≡ (kind_given (body_at opening before) kind value 0).body
+  named_left fields.Meter value owns makes leaves named there = cc
+  named_left fields.UnitLength value owns makes leaves named there = cc
+  named_left fields.Key value owns makes leaves named there = cc
+  named_left fields.Tempo value owns makes leaves named there = cc
+  named_left fields.Reference value owns makes leaves named there = cc
+  named_left fields.Title value owns makes leaves named there = cc
+  named_left fields.Other value owns makes leaves named there = cc
+  named_left fields.Parts value owns makes leaves named there = cc
+  named_left fields.Voice value owns makes leaves named there = by (voice_of value) refl
+    where
+      by : (read : Result Voice FaultCode) → voice_of value ≡ read → body_at opening (element ∷ before) ≡ (voice_by (body_at opening before) 0 value read).body
+      by (Err fault) is = absurd (some_none said (sym named ∙ ap (λ read. option_map (λ v. slice_range value v.from v.to) (result_ok read)) is))
+      by (Ok voice) is =
+          let mentioned = voices_of (keys_of opening.voices) before in
+          let name = slice_range value voice.from voice.to in
+          let says : name_said fields.Voice value ≡ Some name = ap (λ read. option_map (λ v. slice_range value v.from v.to) (result_ok read)) is in
+          let same : Some said ≡ Some name = sym named ∙ says in
+          let same_name : said ≡ name = cc in
+          renamed_behind opening before element distinct name voice.shift
+          (λ other. owns other ∙ ap (λ o. is_named other (if_accepted mentioned o)) says)
+          (makes ∙ ap (if_accepted mentioned) says)
+          (λ settings. leaves settings ∙ ap (in_voice settings) is)
+          (ap (λ n. list_any (bytes_eq n) mentioned) (sym same_name) ∙ there)
+
+-- Behind a token that names a voice that is mentioned.
+pub named_behind : (opening : Body) (before : List Element) (kind : TokenKind) (tied : Bool) (said : List ℕ) → IsDistinct bytes_eq (keys_of opening.voices) → said_by_field name_said kind ≡ Some said
+    → list_any (bytes_eq said) (voices_of (keys_of opening.voices) before) ≡ true
+    → body_at opening (record { kind = kind; tied = tied } ∷ before) ≡ body_after (body_at opening before) (record { kind = kind; tied = tied })
+named_behind opening before (kinds.InlineField field) tied said distinct named there =
+    let element : Element = record { kind = kinds.InlineField field; tied = tied } in
+    named_left opening before element distinct said (kind_of field.letter) field.value (λ name. refl) refl (λ settings. refl) named there
+named_behind opening before (kinds.Field field) tied said distinct named there =
+    let element : Element = record { kind = kinds.Field field; tied = tied } in
+    named_left opening before element distinct said (kind_of field.letter) field.value (λ name. refl) refl (λ settings. refl) named there
+named_behind opening before (kinds.Note note) tied said distinct named there = cc
+named_behind opening before (kinds.Rest length) tied said distinct named there = cc
+named_behind opening before (kinds.BarRest bars) tied said distinct named there = cc
+named_behind opening before (kinds.Chord chord) tied said distinct named there = cc
+named_behind opening before (kinds.Bar bar) tied said distinct named there = cc
+named_behind opening before (kinds.Ending passes) tied said distinct named there = cc
+named_behind opening before (kinds.Tuplet mark) tied said distinct named there = cc
+named_behind opening before (kinds.Broken mark) tied said distinct named there = cc
+named_behind opening before kinds.Tie tied said distinct named there = cc
+named_behind opening before kinds.Blank tied said distinct named there = cc
+named_behind opening before kinds.NoEffect tied said distinct named there = cc
+named_behind opening before kinds.Unclosed tied said distinct named there = cc
+named_behind opening before kinds.BadByte tied said distinct named there = cc
