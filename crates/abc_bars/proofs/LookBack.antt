@@ -1,9 +1,11 @@
 pub mod Accidentals
 pub mod Body
+pub mod Cells
 pub mod Heard
 pub mod Known
 pub mod Names
 pub mod Placed
+pub mod Places
 pub mod Step
 pub mod Tied
 pub mod Tuplets

@@ -1,8 +1,10 @@
 pub mod After
 pub mod AfterBody
+pub mod Cells
 pub mod Defaults
 pub mod Element
 pub mod Header
 pub mod Heard
+pub mod Place
 pub mod Voice
 pub mod Voices

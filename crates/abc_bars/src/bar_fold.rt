@@ -133,8 +133,11 @@ pub struct BarFold;
 
 impl Fold for BarFold {
     type State = Entry;
+
     type Cell = Cell;
+
     type Items = Items;
+
     type Work = Work;
 
     ghost next = { λ _ entry cell. (stepped entry cell).0 };

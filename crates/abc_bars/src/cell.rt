@@ -194,12 +194,7 @@ impl Given {
     }
 
     /// A rest of bars, which mentions its voice.
-    fn bar_rest(
-        &mut self,
-        alloc: Global,
-        place: usize,
-        bars: Option<u32>,
-    ) -> Result<(), AllocError>
+    fn bar_rest(&mut self, alloc: Global, place: usize, bars: Option<u32>) -> Result<(), AllocError>
         requires { All IsItem self.old.items.items }
         ensures value { OnOk result (self.new ≡ with_bar_rest self.old place bars) }
         ensures range { OnOk result (All IsItem self.new.items.items) }

@@ -1,0 +1,74 @@
+-- What each cell of a tune gives, and what holds behind it.
+use Rattle.std.proofs.Common.{◌≡◌, List, [], ◌∷◌, Option, Some, None, refl, sym, ap, ◌∙◌}
+use Rattle.abc_fields.specs.declared.key.Key.{Key}
+use Rattle.abc_fields.specs.Key.{empty_signature, key_of, key_or_empty}
+use Rattle.abc_scan.specs.declared.field.Field.{Field}
+use Rattle.abc_scan.specs.declared.spanned.Spanned.{Spanned}
+use Rattle.abc_scan.specs.declared.token.TokenKind.{TokenKind}
+use Rattle.abc_bars.specs.declared.body.Body.{Body}
+use Rattle.abc_bars.specs.declared.defaults.Defaults.{Defaults}
+use Rattle.abc_bars.specs.declared.entry.Entry.TheVariants as entries
+use Rattle.abc_bars.specs.declared.field_kind.FieldKind.{FieldKind}
+use Rattle.abc_bars.specs.declared.field_kind.FieldKind.TheVariants as fields
+use Rattle.abc_bars.specs.declared.header.Header.{Header}
+use Rattle.abc_bars.specs.BodyOpening.{body_from}
+use Rattle.abc_bars.specs.Defaults.{no_defaults}
+use Rattle.abc_bars.specs.FieldKind.{kind_of}
+use Rattle.abc_bars.specs.Header.{header_given}
+use Rattle.abc_bars.specs.Step.{behind_kind, body_stepped, field_in, file_header_stepped, header_stepped, stepped}
+use Rattle.abc_bars.specs.LookBack.Heard.{held_at}
+use Rattle.abc_bars.specs.LookBack.Cells.{behind_tokens}
+use Rattle.abc_bars.specs.LookBack.Defaults.{defaults_at}
+use Rattle.abc_bars.specs.LookBack.Element.{Element}
+use Rattle.abc_bars.specs.LookBack.Header.{header_at}
+use Rattle.abc_bars.specs.LookBack.Place.{Place, InFileHeader, InHeader, InBody, behind_field, behind_header, behind_line, given_at, given_in_body, given_in_file_header, given_in_header, opening_at, place_behind, view}
+use Rattle.abc_bars.proofs.HeaderLaws.{header_behind}
+use Rattle.abc_bars.proofs.HeaderViews.{defaults_behind}
+use Rattle.abc_bars.proofs.LookBack.Cells.{behind_cell, given_by_cell}
+use Rattle.abc_bars.proofs.LookBack.Placed.{begins}
+
+-- A cell of a file header.
+in-file-header : (before : List Field) (field : Option Field)
+    → file_header_stepped (defaults_at no_defaults before) field ≡ (view (behind_line before field), given_in_file_header before field)
+in-file-header before None = refl
+in-file-header before (Some field) = λ i. (entries.FileHeader (sym (defaults_behind no_defaults before field) i), given_in_file_header before (Some field))
+
+-- A cell of a body.
+in-body : (opening : Defaults) (before : List Field) (key : Key) (elements : List Element) (cell : List (Spanned TokenKind))
+    → body_stepped (held_at (opening_at opening before key) elements) cell
+    ≡ (entries.Body (held_at (opening_at opening before key) (behind_tokens cell elements)), given_in_body opening before key elements cell)
+in-body opening before key elements cell = λ i.
+    (entries.Body (behind_cell (header_at opening before) key elements cell i), given_by_cell (header_at opening before) key elements cell i)
+
+-- Behind a field of a header.
+behind-kind : (opening : Defaults) (before : List Field) (field : Field) (kind : FieldKind)
+    → behind_kind (header_given (header_at opening before) field).header kind field.value ≡ view (behind_field opening before field kind)
+behind-kind opening before field fields.Reference = ap entries.Header (sym (header_behind opening before field))
+behind-kind opening before field fields.Title = ap entries.Header (sym (header_behind opening before field))
+behind-kind opening before field fields.Meter = ap entries.Header (sym (header_behind opening before field))
+behind-kind opening before field fields.UnitLength = ap entries.Header (sym (header_behind opening before field))
+behind-kind opening before field fields.Tempo = ap entries.Header (sym (header_behind opening before field))
+behind-kind opening before field fields.Parts = ap entries.Header (sym (header_behind opening before field))
+behind-kind opening before field fields.Voice = ap entries.Header (sym (header_behind opening before field))
+behind-kind opening before field fields.Key =
+    let key : Key = key_or_empty (key_of field.value) in
+    ap (λ (header : Header). entries.Body (body_from header key)) (sym (header_behind opening before field))
+    ∙ ap entries.Body (sym (begins (header_at opening (field ∷ before)) key))
+behind-kind opening before field fields.Other = ap entries.Header (sym (header_behind opening before field))
+
+-- A cell of a header.
+in-header : (opening : Defaults) (before : List Field) (cell : List (Spanned TokenKind)) (field : Option Field)
+    → header_stepped (header_at opening before) cell field ≡ (view (behind_header opening before cell field), given_in_header opening before cell field)
+in-header opening before cell (Some field) = λ i.
+    (behind-kind opening before field (kind_of field.letter) i, given_in_header opening before cell (Some field))
+in-header opening before cell None =
+    ap (λ (body : Body). body_stepped body cell) (sym (begins (header_at opening before) empty_signature))
+    ∙ in-body opening before empty_signature [] cell
+
+-- A cell gives at a place what looking back says, and the view behind it is that of the place behind it.
+pub stepped_back : (place : Place) (cell : List (Spanned TokenKind)) → stepped (view place) cell ≡ (view (place_behind place cell), given_at place cell)
+unfolding stepped
+stepped_back (InFileHeader before) cell = in-file-header before (field_in cell)
+stepped_back (InHeader opening []) cell = in-header opening [] cell (field_in cell)
+stepped_back (InHeader opening (field ∷ before)) cell = in-header opening (field ∷ before) cell (field_in cell)
+stepped_back (InBody opening before key elements) cell = in-body opening before key elements cell

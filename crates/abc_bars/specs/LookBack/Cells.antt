@@ -1,0 +1,21 @@
+-- What the cells of a body give, by looking back at each of their tokens.
+use Rattle.std.specs.Prelude.{List, [], ◌∷◌}
+use Rattle.abc_scan.specs.declared.spanned.Spanned.{Spanned}
+use Rattle.abc_scan.specs.declared.token.TokenKind.{TokenKind}
+use Rattle.abc_bars.specs.declared.body.Body.{Body}
+use Rattle.abc_bars.specs.declared.cell.Given.{Given}
+use Rattle.abc_bars.specs.Cell.{tie_ahead, with_token}
+use Rattle.abc_bars.specs.LookBack.Heard.{held_at}
+use Rattle.abc_bars.specs.LookBack.Element.{Element}
+
+-- What stands before a place behind tokens of a cell.
+abbrev pub behind_tokens : List (Spanned TokenKind) → List Element → List Element
+behind_tokens [] before = before
+behind_tokens (token ∷ ahead) before = behind_tokens ahead (record { kind = token.kind; tied = tie_ahead ahead } ∷ before)
+
+-- What the tokens of a cell give, each where what looking back finds at its own place holds.
+abbrev pub looked_back : Body → List Element → Given → List (Spanned TokenKind) → Given
+looked_back opening before given [] = record given { body = held_at opening before }
+looked_back opening before given (token ∷ ahead) =
+    looked_back opening (record { kind = token.kind; tied = tie_ahead ahead } ∷ before)
+    (with_token (record given { body = held_at opening before }) token ahead) ahead
