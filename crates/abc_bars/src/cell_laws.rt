@@ -1,8 +1,12 @@
 //! Laws of what the cells of a tune give.
 
-ghost use Rattle.std.specs.Prelude.{◌≡◌, List, [], None};
+ghost use Rattle.std.specs.Prelude.{◌≡◌, List};
+ghost use Rattle.abc_bars.specs.Cell.{tie_ahead, with_token};
 ghost use Rattle.abc_bars.specs.Step.{stepped};
+ghost use Rattle.abc_bars.specs.LookBack.AfterBody.{body_after};
 ghost use Rattle.abc_bars.specs.LookBack.Place.{Place, given_at, place_behind, view};
+ghost use Rattle.abc_bars.specs.declared.body.Body.{Body};
+ghost use Rattle.abc_bars.specs.declared.cell.Given.{Given};
 ghost use Rattle.abc_scan.specs.declared.spanned.Spanned.{Spanned};
 ghost use Rattle.abc_scan.specs.declared.token.TokenKind.{TokenKind};
 
@@ -13,4 +17,13 @@ ghost use Rattle.abc_scan.specs.declared.token.TokenKind.{TokenKind};
 pub fn cell_views()
     ensures { (place : Place) (cell : List (Spanned TokenKind)) →
         stepped (view place) cell ≡ (view (place_behind place cell), given_at place cell) }
+{}
+
+/// What a token of a cell leaves, wherever it stands in its line and whatever broken rhythm it stands in, is
+/// what the element leaves that it is.
+#[tactic(auto, using(crate::proofs::LookBack::Tokens::token_leaves))]
+pub fn left_by_tokens()
+    ensures { (given : Given) (body : Body) (token : Spanned TokenKind) (ahead : List (Spanned TokenKind)) →
+        (with_token (record given { body = body }) token ahead).body
+        ≡ body_after body (record { kind = token.kind; tied = tie_ahead ahead }) }
 {}

@@ -46,7 +46,7 @@ pub use bar_fold::BarFold;
 pub use body::Body;
 pub use body_laws::{body_views, mentioned_voices};
 pub use broken::acting_marks;
-pub use cell_laws::cell_views;
+pub use cell_laws::{cell_views, left_by_tokens};
 pub use defaults::Defaults;
 pub use entry::Entry;
 pub use header_laws::{declared_voices, entries_apart, entry_views, header_views};

@@ -1,0 +1,242 @@
+-- What a token of a cell leaves is what an element leaves.
+use Rattle.std.proofs.Common.{◌≡◌, ℕ, zero, suc, ◌+◌, ◌≤◌, nat_lt, Bool, true, false, cond, ◌||◌, List, [], ◌∷◌, ◌++◌, length, Option, Some, None, unwrap_or, slice_range, Result, Ok, Err, refl, sym, ap, ◌∙◌, subst, arith, length-append}
+use Rattle.std.proofs.lemmas.Bool.Decides.{nat_tests}
+use Rattle.abc_fields.specs.declared.fault.FaultCode.{FaultCode}
+use Rattle.abc_fields.specs.declared.fault.FaultCode.TheVariants.{BadBroken, BigChord, LooseTie}
+use Rattle.abc_fields.specs.declared.key.Key.{Key}
+use Rattle.abc_fields.specs.declared.meter.Meter.{Meter}
+use Rattle.abc_fields.specs.declared.tempo.Tempo.{Tempo}
+use Rattle.abc_fields.specs.declared.voice.Voice.{Voice}
+use Rattle.abc_fields.specs.Key.{key_of}
+use Rattle.abc_fields.specs.Meter.{meter_of}
+use Rattle.abc_fields.specs.Tempo.{tempo_of}
+use Rattle.abc_fields.specs.Unit.{unit_of}
+use Rattle.abc_fields.specs.Voice.{voice_of}
+use Rattle.abc_scan.specs.declared.chord.Chord.{Chord}
+use Rattle.abc_scan.specs.declared.length.WrittenLength.{WrittenLength}
+use Rattle.abc_scan.specs.declared.note.Note.{Note}
+use Rattle.abc_scan.specs.declared.parts.ChordPartKind.{ChordPartKind}
+use Rattle.abc_scan.specs.declared.parts.ChordPartKind.TheVariants as parts
+use Rattle.abc_scan.specs.declared.spanned.Spanned.{Spanned}
+use Rattle.abc_scan.specs.declared.token.TokenKind.{TokenKind}
+use Rattle.abc_scan.specs.declared.token.TokenKind.TheVariants as kinds
+use Rattle.abc_time.specs.declared.ratio.Ratio.{Ratio}
+use Rattle.abc_bars.specs.declared.body.Body.{Body}
+use Rattle.abc_bars.specs.declared.body.Current.{Current}
+use Rattle.abc_bars.specs.declared.body.Current.TheVariants.{Unnamed, At}
+use Rattle.abc_bars.specs.declared.cell.Given.{Given}
+use Rattle.abc_bars.specs.declared.chords.Outside.{Outside}
+use Rattle.abc_bars.specs.declared.field_kind.FieldKind.{FieldKind}
+use Rattle.abc_bars.specs.declared.field_kind.FieldKind.TheVariants as fields
+use Rattle.abc_bars.specs.declared.item.Item.{Item}
+use Rattle.abc_bars.specs.declared.item.TheConstants.{MOST_NOTES}
+use Rattle.abc_bars.specs.declared.item.Tone.{Tone}
+use Rattle.abc_bars.specs.declared.settings.Settings.{Settings}
+use Rattle.abc_bars.specs.declared.sound.Inside.{Inside}
+use Rattle.abc_bars.specs.Alteration.{with_own}
+use Rattle.abc_bars.specs.BarRest.{bar_rest_of}
+use Rattle.abc_bars.specs.Body.{here, here_in, made_current, mentioned, with_here, with_here_in}
+use Rattle.abc_bars.specs.BodyFields.{accepted, faulty, key_by, kind_given, meter_by, part_by, part_of, tempo_by, unit_by, voice_by, voice_made}
+use Rattle.abc_bars.specs.Broken.{factors_of, has_note, is_bad_mark}
+use Rattle.abc_bars.specs.Cell.{mentioned_by_chord, tie_ahead, with_ending, with_fault, with_fault_if, with_item, with_kind, with_some_fault}
+use Rattle.abc_bars.specs.Chords.{inside_from, tie_follows, with_kind as with_part_kind}
+use Rattle.abc_bars.specs.Column.{column_of}
+use Rattle.abc_bars.specs.FieldKind.{kind_of}
+use Rattle.abc_bars.specs.Sound.{no_notes, tied_note_in, with_note}
+use Rattle.abc_bars.specs.TempoItem.{is_out}
+use Rattle.abc_bars.specs.TimeTokens.{chord_by, chord_played}
+use Rattle.abc_bars.specs.Tuplet.{counted_down, tuplet_opened}
+use Rattle.abc_bars.specs.Voices.{voice_at, with_voice_at}
+use Rattle.abc_bars.specs.LookBack.AfterBody.{body_after, mentioned_if}
+
+-- The same notes leave the same of two chords, whatever else is known of them.
+abbrev Agree : Inside → Inside → Type 0
+Agree i j = (i.accidentals ≡ j.accidentals) × (i.tied ≡ j.tied) × (length i.tones ≡ length j.tones)
+
+agree-if : (b : Bool) (x y z w : Inside) → Agree x z → Agree y w → Agree (cond b x y) (cond b z w)
+agree-if true x y z w p q = p
+agree-if false x y z w p q = q
+
+agree-each : (b c : Bool) (x y z w : Inside) → Agree x z → Agree y w → Agree x w → Agree y z → Agree (cond b x y) (cond c z w)
+agree-each true true x y z w p q r s = p
+agree-each true false x y z w p q r s = r
+agree-each false true x y z w p q r s = s
+agree-each false false x y z w p q r s = q
+
+longer-by : (xs ys : List Tone) (x y : Tone) → length xs ≡ length ys → length (xs ++ x ∷ []) ≡ length (ys ++ y ∷ [])
+longer-by xs ys x y e = simp length-append (omega arith)
+
+module _ (settings : Settings) (broken other : List Ratio) (outer : WrittenLength) (tied : Bool) (from place : ℕ) where
+  abbrev one : Outside
+  one = record { length = outer; tied = tied; from = from }
+
+  abbrev two : Outside
+  two = record { length = outer; tied = tied; from = place }
+
+  agree-note : (note : Note) (tie : Bool) (i j : Inside) → Agree i j → (c d : ℕ)
+      → Agree (with_note settings broken (Some outer) c note tie i) (with_note settings other (Some outer) d note tie j)
+  agree-note note tie i j h c d = (
+    ap (λ a. with_own a note) h.0,
+    (λ k. cond tie (h.1 k ++ tied_note_in settings (h.0 k) note ∷ []) (h.1 k)),
+    longer-by i.tones j.tones _ _ h.2,
+  )
+
+  agree-kind : (kind : ChordPartKind) (c d : ℕ) (tie : Bool) (i j : Inside) → Agree i j
+      → Agree (with_part_kind settings broken one c kind tie i) (with_part_kind settings other two d kind tie j)
+  agree-kind (parts.Note note) c d tie i j h =
+      let x : Inside = with_note settings broken (Some outer) c note (tied || tie) i in
+      let y : Inside = cond i.big i (record i { faults = i.faults ++ (c, BigChord) ∷ []; big = true }) in
+      let z : Inside = with_note settings other (Some outer) d note (tied || tie) j in
+      let w : Inside = cond j.big j (record j { faults = j.faults ++ (d, BigChord) ∷ []; big = true }) in
+      let P : ℕ → Type 0 = λ n. Agree (cond (nat_lt (length i.tones) MOST_NOTES) x y) (cond (nat_lt n MOST_NOTES) z w) in
+      subst P h.2 (agree-if (nat_lt (length i.tones) MOST_NOTES) x y z w (agree-note note (tied || tie) i j h c d)
+      (agree-each i.big j.big i _ j _ h h h h))
+  agree-kind parts.Tie c d tie i j h = agree-each i.after_note j.after_note i _ j _ h h h h
+  agree-kind parts.NoEffect c d tie i j h = h
+  agree-kind parts.BadByte c d tie i j h = h
+
+  agree-from : (rest : List (Spanned ChordPartKind)) (i j : Inside) → Agree i j
+      → Agree (inside_from settings broken one rest i) (inside_from settings other two rest j)
+  agree-from [] i j h = h
+  agree-from (part ∷ rest) i j h =
+      agree-from rest _ _ (agree-kind part.kind (column_of (from + part.from)) (column_of (place + part.from)) (tie_follows rest) i j h)
+
+  same-chord : (chord : Chord) (b : Bool) → Agree (inside_from settings broken one chord.parts (no_notes settings)) (inside_from settings other two chord.parts (no_notes settings))
+      → (chord_by b settings from (inside_from settings broken one chord.parts (no_notes settings))).settings
+      ≡ (chord_by b settings place (inside_from settings other two chord.parts (no_notes settings))).settings
+  same-chord chord true h = λ k. record settings { accidentals = h.0 k; tuplet = counted_down settings.tuplet; tied = h.1 k }
+  same-chord chord false h = refl
+
+-- What a chord leaves depends neither on its place nor on broken rhythm.
+chord-any : (settings : Settings) (broken other : List Ratio) (tied : Bool) (from place : ℕ) (chord : Chord)
+    → (chord_played settings broken tied from chord).settings ≡ (chord_played settings other tied place chord).settings
+chord-any settings broken other tied from place chord =
+    same-chord settings broken other chord.length tied from place chord (has_note chord.parts)
+    (agree-from settings broken other chord.length tied from place chord.parts (no_notes settings) (no_notes settings) (refl, refl, refl))
+
+set-same : (voices : List (List ℕ × Settings)) (place : ℕ) (another : Settings) → with_voice_at voices place (unwrap_or (voice_at voices place) another) ≡ voices
+set-same [] place another = refl
+set-same (voice ∷ voices) zero another = refl
+set-same (voice ∷ voices) (suc place) another = ap (λ (rest : List (List ℕ × Settings)). voice ∷ rest) (set-same voices place another)
+
+beyond : (voices : List (List ℕ × Settings)) (place : ℕ) (another : Settings) → length voices ≤ place → unwrap_or (voice_at voices place) another ≡ another
+beyond [] place another h = refl
+beyond (voice ∷ voices) zero another h = absurd (omega arith)
+beyond (voice ∷ voices) (suc place) another h = beyond voices place another (omega arith)
+
+not-below : (m n : ℕ) → nat_lt m n ≡ false → n ≤ m
+not-below m n h = grind (arith, nat_tests)
+
+here-at : (body : Body) (place : ℕ) (b : Bool) → nat_lt place (length body.voices) ≡ b
+    → body ≡ cond b (record body { voices = with_voice_at body.voices place (unwrap_or (voice_at body.voices place) body.another) })
+    (record body { another = unwrap_or (voice_at body.voices place) body.another })
+here-at body place true e = ap (λ (voices : List (List ℕ × Settings)). record body { voices = voices }) (sym (set-same body.voices place body.another))
+here-at body place false e =
+    ap (λ (another : Settings). record body { another = another }) (sym (beyond body.voices place body.another (not-below place (length body.voices) e)))
+
+-- What holds is written where it holds.
+same-in : (body : Body) (current : Current) → record body { current = current } ≡ with_here_in (record body { current = current }) current (here_in body current)
+same-in body (Unnamed settings) = refl
+same-in body (At place) = here-at (record body { current = At place }) place (nat_lt place (length body.voices)) refl
+
+same-here : (body : Body) → body ≡ with_here body (here body)
+same-here body = same-in body body.current
+
+-- The place of a field changes nothing of what it leaves.
+of-meter : (body : Body) (line place : ℕ) (r : Result Meter FaultCode) → (meter_by body line r).body ≡ (meter_by body place r).body
+of-meter body line place (Ok meter) = refl
+of-meter body line place (Err fault) = refl
+
+of-unit : (body : Body) (line place : ℕ) (r : Result Ratio FaultCode) → (unit_by body line r).body ≡ (unit_by body place r).body
+of-unit body line place (Ok unit) = refl
+of-unit body line place (Err fault) = refl
+
+of-key : (body : Body) (line place : ℕ) (r : Result Key FaultCode) → (key_by body line r).body ≡ (key_by body place r).body
+of-key body line place (Ok key) = refl
+of-key body line place (Err fault) = refl
+
+of-part : (body : Body) (line place : ℕ) (part : Option ℕ) → (part_by body line part).body ≡ (part_by body place part).body
+of-part body line place (Some letter) = refl
+of-part body line place None = refl
+
+of-out : (body : Body) (line place : ℕ) (b : Bool) (item : Item) (code : FaultCode)
+    → (cond b (faulty body line item code) (accepted body item)).body ≡ (cond b (faulty body place item code) (accepted body item)).body
+of-out body line place true item code = refl
+of-out body line place false item code = refl
+
+of-tempo : (body : Body) (line place : ℕ) (r : Result Tempo FaultCode) → (tempo_by body line r).body ≡ (tempo_by body place r).body
+of-tempo body line place (Ok tempo) = of-out body line place (is_out (here body).unit tempo) _ _
+of-tempo body line place (Err fault) = refl
+
+of-made : (body : Body) (line place : ℕ) (name : List ℕ) (made : Option Body) → (voice_made body line name made).body ≡ (voice_made body place name made).body
+of-made body line place name (Some made) = refl
+of-made body line place name None = refl
+
+of-voice : (body : Body) (line place : ℕ) (value : List ℕ) (r : Result Voice FaultCode) → (voice_by body line value r).body ≡ (voice_by body place value r).body
+of-voice body line place value (Ok voice) =
+    let name : List ℕ = slice_range value voice.from voice.to in
+    of-made body line place name (made_current body name voice.shift)
+of-voice body line place value (Err fault) = refl
+
+of-kind : (body : Body) (line place : ℕ) (kind : FieldKind) (value : List ℕ) → (kind_given body kind value line).body ≡ (kind_given body kind value place).body
+of-kind body line place fields.Meter value = of-meter body line place (meter_of value)
+of-kind body line place fields.UnitLength value = of-unit body line place (unit_of value)
+of-kind body line place fields.Key value = of-key body line place (key_of value)
+of-kind body line place fields.Parts value = of-part body line place (part_of value)
+of-kind body line place fields.Voice value = of-voice body line place value (voice_of value)
+of-kind body line place fields.Tempo value = of-tempo body line place (tempo_of value)
+of-kind body line place fields.Reference value = refl
+of-kind body line place fields.Title value = refl
+of-kind body line place fields.Other value = refl
+
+body-fault : (given : Given) (line : ℕ) (code : Option FaultCode) → (with_some_fault given line code).body ≡ given.body
+body-fault given line None = refl
+body-fault given line (Some code) = refl
+
+body-fault-if : (given : Given) (b : Bool) (line : ℕ) (code : FaultCode) → (with_fault_if given b line code).body ≡ given.body
+body-fault-if given true line code = refl
+body-fault-if given false line code = refl
+
+body-tie : (b : Bool) (given : Given) (line : ℕ) (code : FaultCode) → (cond b given (with_fault given line code)).body ≡ given.body
+body-tie true given line code = refl
+body-tie false given line code = refl
+
+body-ending : (given : Given) (line : ℕ) (passes : Option ℕ) → (with_ending given line passes).body ≡ given.body
+body-ending given line None = refl
+body-ending given line (Some passes) = refl
+
+mentioned-by : (b : Bool) (body : Body) → mentioned_by_chord b body ≡ mentioned_if b body
+mentioned-by true body = refl
+mentioned-by false body = refl
+
+-- What a token of a cell leaves.
+by-kind : (given : Given) (body : Body) (line : ℕ) (kind : TokenKind) (ahead : List (Spanned TokenKind))
+    → (with_kind (record given { body = body }) line kind ahead).body ≡ body_after body (record { kind = kind; tied = tie_ahead ahead })
+by-kind given body line (kinds.Note note) ahead = refl
+by-kind given body line (kinds.Rest length) ahead = refl
+by-kind given body line (kinds.BarRest bars) ahead =
+    body-fault (with_item (record given { body = mentioned body }) (bar_rest_of (here (mentioned body)).meter bars).0) line (bar_rest_of (here (mentioned body)).meter bars).1
+    ∙ same-here (mentioned body)
+by-kind given body line (kinds.Chord chord) ahead =
+    ap (λ (inner : Body). with_here inner (chord_played (here inner) (factors_of given.behind ahead) (tie_ahead ahead) line chord).settings) (mentioned-by (has_note chord.parts) body)
+    ∙ ap (with_here (mentioned_if (has_note chord.parts) body))
+    (chord-any (here (mentioned_if (has_note chord.parts) body)) (factors_of given.behind ahead) [] (tie_ahead ahead) line 0 chord)
+by-kind given body line (kinds.InlineField field) ahead = of-kind body line 0 (kind_of field.letter) field.value
+by-kind given body line (kinds.Field field) ahead = of-kind body line 0 (kind_of field.letter) field.value
+by-kind given body line (kinds.Bar bar) ahead = refl
+by-kind given body line (kinds.Tuplet mark) ahead =
+    body-fault (record given { body = with_here body (record (here body) { tuplet = (tuplet_opened (here body).meter (here body).tuplet mark).0 }) }) line
+    (tuplet_opened (here body).meter (here body).tuplet mark).1
+by-kind given body line (kinds.Ending passes) ahead = body-ending (record given { body = body }) line passes ∙ same-here body
+by-kind given body line (kinds.Broken mark) ahead =
+    body-fault-if (record given { body = body }) (is_bad_mark given.behind ahead) line BadBroken ∙ same-here body
+by-kind given body line kinds.Tie ahead = body-tie given.after_note (record given { body = body }) line LooseTie ∙ same-here body
+by-kind given body line kinds.Blank ahead = same-here body
+by-kind given body line kinds.NoEffect ahead = same-here body
+by-kind given body line kinds.Unclosed ahead = same-here body
+by-kind given body line kinds.BadByte ahead = same-here body
+
+-- What a token of a cell leaves is what the element leaves that it is.
+pub token_leaves : (given : Given) (body : Body) (token : Spanned TokenKind) (ahead : List (Spanned TokenKind))
+    → (with_kind (record given { body = body }) token.from token.kind ahead).body ≡ body_after body (record { kind = token.kind; tied = tie_ahead ahead })
+token_leaves given body token ahead = by-kind given body token.from token.kind ahead
