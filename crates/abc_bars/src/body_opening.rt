@@ -11,7 +11,7 @@ use crate::settings::Settings;
 use crate::voice_shift::VoiceShift;
 use crate::voices::Voices;
 use abc_fields::{Key, NATURAL, Shift};
-use abc_scan::ShortSequence;
+use abc_text::ShortSequence;
 use std::alloc::{AllocError, Global};
 
 /// The shift of a voice of which no field says any part.

@@ -1,8 +1,8 @@
 //! What cells give to the score.
 
 use abc_fields::{FaultCode, Meter};
-use abc_scan::{BarLine, ShortSequence};
-use abc_text::Sequence;
+use abc_scan::BarLine;
+use abc_text::{Sequence, ShortSequence};
 use abc_time::Grains;
 
 /// The highest key of MIDI (SMF 1.0).

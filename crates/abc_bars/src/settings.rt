@@ -10,7 +10,7 @@ use crate::tuplet::OpenTuplet;
 use crate::unit::UnitLength;
 use crate::voice_shift::VoiceShift;
 use abc_fields::Signature;
-use abc_scan::ShortSequence;
+use abc_text::ShortSequence;
 use std::alloc::AllocError;
 
 /// What holds for a voice at a place of a tune.

@@ -13,8 +13,8 @@ use crate::pitch::key_of;
 use crate::settings::Settings;
 use crate::tied::TiedNote;
 use abc_fields::FaultCode;
-use abc_scan::{Note, ShortSequence, WrittenLength};
-use abc_text::Sequence;
+use abc_scan::{Note, WrittenLength};
+use abc_text::{Sequence, ShortSequence};
 use abc_time::Grains;
 use std::alloc::{AllocError, Global};
 

@@ -12,8 +12,8 @@ use crate::settings::Settings;
 use crate::sound::{Inside, add_note, length_in, push_fault_if};
 use crate::tuplet::counted_down;
 use abc_fields::FaultCode;
-use abc_scan::{Chord, Note, ShortSequence, WrittenLength};
-use abc_text::Sequence;
+use abc_scan::{Chord, Note, WrittenLength};
+use abc_text::{Sequence, ShortSequence};
 use abc_time::Grains;
 use std::alloc::{AllocError, Global};
 

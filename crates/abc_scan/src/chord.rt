@@ -13,16 +13,16 @@ use crate::length::WrittenLength;
 use crate::no_effect::extra_space_at;
 use crate::note::note_at;
 use crate::parts::{ChordPart, ChordPartKind};
-use crate::short_sequence::ShortSequence;
 use crate::spanned::Spanned;
 use crate::start::{Start, start_of};
+use abc_text::Sequence;
 use std::alloc::{AllocError, Global};
 
 /// The notes between `[` and `]`, which sound together (ABC 2.1 section 4.17).
 #[derive(Clone, Debug, Drop, Eq, PartialEq)]
 pub struct Chord {
     /// What stands between the brackets, in order.
-    pub parts: ShortSequence<ChordPart>,
+    pub parts: Sequence<ChordPart>,
     /// The length behind the closing bracket.
     pub length: WrittenLength,
 }
@@ -68,10 +68,10 @@ fn next_part(text: &[u8], missing: &mut Missing) -> (ChordPartKind, usize)
 }
 
 /// The parts that the inside of a chord is cut into.
-fn parts_of(alloc: Global, text: &[u8]) -> Result<ShortSequence<ChordPart>, AllocError>
+fn parts_of(alloc: Global, text: &[u8]) -> Result<Sequence<ChordPart>, AllocError>
     ensures { IfOk result (λ parts. parts ≡ parts_of text.now) }
 {
-    let mut parts = ShortSequence::new(alloc);
+    let mut parts = Sequence::new(alloc);
     let mut missing = Missing::none();
     let mut at = 0;
     while at < text.len() {

@@ -14,11 +14,5 @@ pub enum ChordPartKind {
     BadByte,
 }
 
-impl Default for ChordPartKind {
-    fn default() -> Self {
-        ChordPartKind::BadByte
-    }
-}
-
 /// A part of a chord, and where it stands, counted from the chord's first byte.
 pub type ChordPart = Spanned<ChordPartKind>;

@@ -13,6 +13,7 @@ mod number;
 mod power;
 mod seen;
 mod sequence;
+mod short_sequence;
 mod word;
 
 pub use accidental::{Accidental, accidental_of};
@@ -25,4 +26,5 @@ pub use number::number_of;
 pub use power::is_power_up_to;
 pub use seen::Seen;
 pub use sequence::Sequence;
+pub use short_sequence::ShortSequence;
 pub use word::{first_word, leading_blanks, next_word};

@@ -1,5 +1,6 @@
-use Rattle.std.proofs.Common.{◌∙◌, ◌≡◌, ℕ, ◌+◌, ◌*◌, ◌/◌, ◌<◌, ◌≤◌, List, zero, suc, length, get_or, set, drop, arith, ap, sym, subst}
-use Rattle.std.proofs.Math.Nat.{mul-one, mul_comm, dvd-mul_right, eq-one_of_dvd-one, div-mul_cancel, eq_of_mul-eq-mul_right, dvd_of_mul-dvd-mul_left}
+use Rattle.std.proofs.Common.{◌∙◌, ◌≡◌, ℕ, ◌+◌, ◌*◌, ◌/◌, ◌%◌, ◌<◌, ◌≤◌, List, zero, suc, length, get_or, set, drop, arith, ap, sym, subst}
+use Rattle.std.proofs.Math.Nat.{mul-one, mul_comm, dvd-mul_right, eq-one_of_dvd-one, div_self, div-mul_cancel, eq_of_mul-eq-mul_right, mul-dvd-mul_right, dvd_of_mul-dvd-mul_left, dvd_of_mod-eq-zero}
+use Rattle.std.proofs.lemmas.Nat.Gcd.{dvd_trans}
 use Rattle.std.proofs.lemmas.List.{drop-set-lt, drop_all}
 use Rattle.std.proofs.lemmas.List.Elements.{All-set, All-get_or}
 use Rattle.std.specs.List.{All}
@@ -66,6 +67,17 @@ Cancels-step before now divisor i rest g h inside common =
     } where
       balanced : (p q d b r s g : ℕ) → p * g ≡ q → q * d ≡ b * r → s * g ≡ r → p * d * g ≡ b * s * g
       balanced p q d b r s g e f k = omega (arith, ap (λ n. n * d) e, f, ap (λ n. b * n) k)
+
+-- where b divides a, b is the greatest common divisor
+divides_itself : (a b : ℕ) → b ∣ a → IsGcdOfMultiples a b b
+divides_itself a b h = record { divisors = λ c k. (λ both. both.1, λ d. (dvd_trans c d (mul-dvd-mul_right b h k), d)) }
+
+-- the step at a numerator that what is left of the divisor divides
+pub Cancels-whole_step : (before now : List ℕ) (divisor i rest : ℕ) → Cancels before divisor now i rest → i < length now
+    → get_or now i 0 % rest ≡ 0 → Cancels before divisor (set now i (get_or now i 0 / rest)) (i + 1) 1
+Cancels-whole_step before now divisor i rest h inside e =
+    subst (Cancels before divisor (set now i (get_or now i 0 / rest)) (i + 1)) (div_self h.left_over)
+    (Cancels-step before now divisor i rest rest h inside (divides_itself (get_or now i 0) rest (dvd_of_mod-eq-zero rest e)))
 
 pub Cancels-end : (before now : List ℕ) (divisor i rest : ℕ) → Cancels before divisor now i rest → length now ≤ i → divisor ∣ product_of before → rest ≡ 1
 Cancels-end before now divisor i rest h over w =

@@ -15,9 +15,17 @@ pub fn cancel(numerators: &mut [u64], divisor: u64) -> u64
 {
     let mut rest = divisor;
     for numerator in numerators.iter_mut() {
-        let common = gcd(*numerator, rest);
-        *numerator /= common;
-        rest /= common;
+        if rest == 1 {
+            break;
+        }
+        if *numerator % rest == 0 {
+            *numerator /= rest;
+            rest = 1;
+        } else {
+            let common = gcd(*numerator, rest);
+            *numerator /= common;
+            rest /= common;
+        }
     }
     rest
 }

@@ -16,7 +16,7 @@ loop-at-preserved c =
     record {
       inside = omega (arith, c.next_part-kind.ensures.inside, ap length rest, length-drop at text);
       known = missing-behind c.next_part-kind.new.missing text at c.next_part-kind.result.1 c.next_part-kind.ensures.some (subst (λ l. IsMissing c.next_part-kind.new.missing (drop 1 l)) rest c.next_part-kind.ensures.kept);
-      cut = cut_more part_kinds part_reading_at false text c.loop-at.parts _ _ (1 + at) (1 + (at + c.next_part-kind.result.1)) at c.next_part-kind.result sum c.loop-at-test.true c.next_part-kind.ensures.some (c.next_part-kind.ensures.value ∙ ap (next part_kinds part_reading_at false) rest) c.in_ok-push.ensures c.loop-at.invariant.cut;
+      cut = cut_more part_kinds part_reading_at false text c.loop-at.parts _ _ (1 + at) (1 + (at + c.next_part-kind.result.1)) at c.next_part-kind.result sum c.loop-at-test.true c.next_part-kind.ensures.some (c.next_part-kind.ensures.value ∙ ap (next part_kinds part_reading_at false) rest) c.in_ok-push.ensures.ok c.loop-at.invariant.cut;
     }
 
 pub loop-at-init : goal.loop-at-init
