@@ -1,3 +1,4 @@
+pub mod Arrange
 pub mod Change
 pub mod Conduct
 pub mod Limits

@@ -2,6 +2,7 @@
 //! file is written from, and its limits.
 #![tactic(auto)]
 
+mod arrange;
 mod change;
 mod conduct;
 mod limits;
@@ -16,6 +17,7 @@ mod settle;
 mod step;
 mod track;
 
+pub use arrange::{last_off, plays_time};
 pub use change::{put_keys, put_meters, put_tempos};
 pub use conduct::conductor;
 pub use limits::{

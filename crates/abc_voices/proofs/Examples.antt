@@ -1,0 +1,52 @@
+-- Tunes laid out by the definitions.
+use Rattle.std.specs.Prelude.{◌≡◌, ℕ, Bool, true, false, List, [], ◌∷◌, Some, refl}
+use Rattle.abc_bars.specs.declared.item.Item.{Item}
+use Rattle.abc_bars.specs.declared.item.Item.TheVariants as items
+use Rattle.abc_repeat.specs.Mark.{names, greatest, greatest_to}
+use Rattle.abc_repeat.specs.Play.{play_of, strain_play}
+use Rattle.abc_repeat.specs.Order.{sections_of}
+use Rattle.abc_voices.specs.declared.score.Sounding.{Sounding}
+use Rattle.abc_voices.specs.Change.{tempo_of}
+use Rattle.abc_voices.specs.Arrange.{played_sections, set_in, voices_notes, is_uneven}
+use Rattle.abc_voices.specs.Track.{everyone}
+use Rattle.std.specs.List.{list_any}
+
+abbrev own : Item → Item
+own item = item
+
+abbrev tone : ℕ → Bool → Item
+tone key tied = items.Tone (record { key = Some key; length = record { 0 = 1 }; tied = tied } ∷ []) (record { 0 = 1 })
+
+abbrev bar : ℕ → ℕ → Bool → Item
+bar closes opens double = items.Bar (record { closes = closes; opens = opens; double = double })
+
+abbrev note : ℕ → ℕ → ℕ → Sounding
+note key on off = record { key = key; on = record { 0 = on }; off = record { 0 = off } }
+
+-- |:C-|1C:|2C-||C
+abbrev ties : List Item
+ties = bar 0 1 false ∷ tone 60 true ∷ bar 0 0 false ∷ items.Ending 1 ∷ tone 60 false ∷ bar 1 0 false ∷ items.Ending 2 ∷ tone 60 true ∷ bar 0 0 true ∷ tone 60 false ∷ []
+
+ties_over_a_repeat : voices_notes own ties ≡ (note 60 2 5 ∷ note 60 0 2 ∷ []) ∷ []
+unfolding play_of strain_play sections_of names greatest greatest_to
+ties_over_a_repeat = refl
+
+-- |:A|1B:|[Q:1/4=60]|2F||
+abbrev fields : List Item
+fields = bar 0 1 false ∷ tone 69 false ∷ bar 0 0 false ∷ items.Ending 1 ∷ tone 71 false ∷ bar 1 0 false ∷ items.Tempo false (Some 1000000) false ∷ bar 0 0 false ∷ items.Ending 2 ∷ tone 66 false ∷ bar 0 0 true ∷ []
+
+a_field_moves : set_in own tempo_of (everyone own fields) (everyone own fields) 0 (played_sections own fields) ≡ (record { 0 = 3 }, 1000000) ∷ []
+unfolding play_of strain_play sections_of names greatest greatest_to
+a_field_moves = refl
+
+-- P:A V:1 C- V:2 EEE P:B V:1 C
+abbrev voices : List Item
+voices = items.Section 65 ∷ items.Voice false (49 ∷ []) ∷ tone 60 true ∷ items.Voice false (50 ∷ []) ∷ tone 64 false ∷ tone 64 false ∷ items.Section 66 ∷ items.Voice false (49 ∷ []) ∷ tone 60 false ∷ []
+
+ties_over_sections : voices_notes own voices ≡ (note 60 0 3 ∷ []) ∷ (note 64 1 2 ∷ note 64 0 1 ∷ []) ∷ []
+unfolding play_of strain_play sections_of names greatest greatest_to
+ties_over_sections = refl
+
+voices_differ : list_any (is_uneven own (everyone own voices)) (played_sections own voices) ≡ true
+unfolding play_of strain_play sections_of names greatest greatest_to
+voices_differ = refl

@@ -1,0 +1,39 @@
+//! A tune laid out in time.
+
+ghost use Rattle.std.specs.Prelude.{◌≡◌};
+ghost use Rattle.std.specs.List.{list_any};
+ghost use Rattle.abc_voices.specs.Arrange.{takes_time, last_off};
+
+use crate::score::Sounding;
+use abc_bars::Item;
+use abc_time::Grains;
+
+/// When a moment and the last of some notes are over.
+pub fn last_off(at: Grains, notes: &[Sounding]) -> Grains
+    ensures { result.0 ≡ last_off at.0 notes.now }
+{
+    let mut last = at;
+    for note in notes {
+        last = last.max(note.off);
+    }
+    last
+}
+
+/// Whether it takes time: a note, a chord, a rest or a bar rest.
+fn takes_time(item: &Item) -> bool
+    ensures { result ≡ takes_time item.now }
+{
+    matches!(item, Item::Tone { .. } | Item::Rest { .. })
+}
+
+/// Whether something of a play takes time.
+pub fn plays_time(steps: &[&Item]) -> bool
+    ensures { result ≡ list_any (λ step. takes_time step.now) steps.now }
+{
+    for step in steps {
+        if takes_time(step) {
+            return true;
+        }
+    }
+    false
+}
