@@ -5,6 +5,8 @@
 #[cfg(test)]
 mod bodies;
 #[cfg(test)]
+mod entries;
+#[cfg(test)]
 mod headers;
 #[cfg(test)]
 mod item_text;
