@@ -1,9 +1,7 @@
 pub mod Accidentals
-pub mod Body
 pub mod Cells
 pub mod Heard
 pub mod Known
-pub mod Names
 pub mod Placed
 pub mod Places
 pub mod Step

@@ -1,9 +1,9 @@
 -- Places of names in lists that have no name twice.
-use Rattle.std.proofs.Common.{◌≡◌, ℕ, zero, suc, ◌+◌, ◌<◌, nat_lt, Bool, true, false, not, cond, List, [], ◌∷◌, ◌++◌, length, map, take, Some, None, refl, ap, subst, ◌∙◌, add-one, arith}
+use Rattle.std.proofs.Common.{◌≡◌, ℕ, zero, suc, ◌+◌, ◌<◌, nat_lt, Bool, true, false, not, ◌||◌, cond, List, [], ◌∷◌, ◌++◌, length, map, take, Some, None, refl, ap, subst, ◌∙◌, add-one, arith}
 use Rattle.std.proofs.lemmas.Bool.Decides.{nat_tests}
 use Rattle.std.proofs.lemmas.Map.Keys.{IsDistinct-head, IsDistinct-tail}
 use Rattle.std.specs.Cmp.{IsEquivalence}
-use Rattle.std.specs.List.{AllByRecursion, IsDistinct, position, prefix_len, slice_get}
+use Rattle.std.specs.List.{AllByRecursion, IsDistinct, list_any, position, prefix_len, slice_get}
 use Rattle.std.specs.Map.{keys_of}
 use Rattle.std.specs.Option.{option_map}
 
@@ -18,6 +18,17 @@ place_here p x xs h = rw h (grind (arith, nat_tests))
 -- The first element does not pass.
 pub place_behind : {K : Type 0} (p : K → Bool) (x : K) (xs : List K) → p x ≡ false → position p (x ∷ xs) ≡ option_map (λ k. k + 1) (position p xs)
 place_behind p x xs h = rw h (one_more (prefix_len (λ y. not (p y)) xs) (length xs))
+
+-- An element that passes has a place.
+pub find_place : {K : Type 0} (p : K → Bool) (xs : List K) → list_any p xs ≡ true → (at : ℕ) × (position p xs ≡ Some at)
+find_place p [] there = cc
+find_place {K} p (x ∷ xs) there = by (p x) refl there (find_place p xs)
+  where
+    by : (b : Bool) → p x ≡ b → (b || list_any p xs) ≡ true → (list_any p xs ≡ true → (at : ℕ) × (position p xs ≡ Some at)) → (at : ℕ) × (position p (x ∷ xs) ≡ Some at)
+    by true is found rest = (0, place_here p x xs is)
+    by false is found rest =
+        let r = rest found in
+        (r.0 + 1, place_behind p x xs is ∙ ap (option_map (λ k. k + 1)) r.1)
 
 -- No element passes.
 pub no_place : {K : Type 0} (p : K → Bool) (xs : List K) → AllByRecursion (λ x. p x ≡ false) xs → position p xs ≡ None

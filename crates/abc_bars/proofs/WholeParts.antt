@@ -33,13 +33,6 @@ cut_exactly den h =
     sym (ap (λ n. n * 1816214400) powers) ∙ (let e : 2 ^ (9 - h.power) * 2 ^ h.power * 1816214400 ≡ parts * 2 ^ h.power = omega arith in e) ∙ ap (λ n. parts * n) (sym h.value) in
     ap (λ n. n / den * den) whole ∙ ap (λ n. n * den) (mul-div_cancel parts (power_least 9 den h)) ∙ sym whole
 
-pub part_IsRatio : (part : Ratio) → IsUnitPart part → IsRatio part
-part_IsRatio part h =
-    let one = h.one in
-    let least = power_least 9 part.den h.power in
-    let most = power_most 9 part.den h.power in
-    record { num_least = omega arith; num_most = omega arith; den_least = omega arith; den_most = omega arith }
-
 pub read_part : (text : List ℕ) (part : Ratio) → IsUnit text part → IsUnitPart part
 read_part text part h = record {
   one = h.one;

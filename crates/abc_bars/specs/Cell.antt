@@ -16,7 +16,6 @@ use Rattle.abc_bars.specs.declared.broken.Behind.TheVariants.{Nothing}
 use Rattle.abc_bars.specs.declared.cell.Given.{Given}
 use Rattle.abc_bars.specs.declared.item.Item.{Item}
 use Rattle.abc_bars.specs.declared.item.Item.TheVariants as items
-use Rattle.abc_bars.specs.declared.item.Items.{Items}
 use Rattle.abc_bars.specs.BarRest.{bar_rest_of}
 use Rattle.abc_bars.specs.Body.{here, with_here, mentioned}
 use Rattle.abc_bars.specs.BodyFields.{FieldGiven, field_given}

@@ -1,6 +1,8 @@
--- What items can hold.
-use Rattle.std.specs.Prelude.{ℕ, ◌≤◌, IfSome, All, List, length}
+-- What cells give, and what items can hold.
+use Rattle.std.specs.Prelude.{ℕ, ◌≡◌, ◌≤◌, IfSome, All, List, [], ◌∷◌, ◌++◌, length, Ok}
+use Rattle.abc_fields.specs.declared.fault.FaultCode.{FaultCode}
 use Rattle.abc_fields.specs.Meter.{IsMeterInRange}
+use Rattle.abc_fields.specs.Parts.{parts_of}
 use Rattle.abc_fields.specs.Signature.{IsSharps}
 use Rattle.abc_text.specs.declared.digit.TheConstants.{LARGEST_NUMBER}
 use Rattle.abc_time.specs.declared.grains.Grains.{Grains}
@@ -10,6 +12,23 @@ use Rattle.abc_bars.specs.declared.item.Item.{Item}
 use Rattle.abc_bars.specs.declared.item.Item.TheVariants as items
 use Rattle.abc_bars.specs.declared.item.TheConstants.{HIGHEST_KEY, MOST_NOTES}
 use Rattle.abc_bars.specs.declared.item.Tone.{Tone}
+
+-- What a cell gives: its items, and its faults, each with its column, in the order of their columns and codes.
+pub record Items : Type 0 where
+  pub items : List Item
+  pub faults : List (ℕ × FaultCode)
+
+-- No item and no fault.
+abbrev pub nothing : Items
+nothing = record { items = []; faults = [] }
+
+-- The same and one more item.
+abbrev pub and_item : Items → Item → Items
+and_item given item = record given { items = given.items ++ item ∷ [] }
+
+-- The same and more faults.
+abbrev pub and_faults : Items → List (ℕ × FaultCode) → Items
+and_faults given more = record given { faults = given.faults ++ more }
 
 -- A length of at most 1,024 whole notes. Our own.
 abbrev pub IsWithinLongest : Grains → Type 0
@@ -31,7 +50,7 @@ pub record IsCapitalLetter (letter : ℕ) : Type 0 where
   pub least : 65 ≤ letter
   pub most : letter ≤ 90
 
--- What an item can hold, whatever tune it is of.
+-- What an item can hold, whatever tune it is of: an order is one that is accepted.
 abbrev pub IsItem : Item → Type 0
 IsItem (items.Number number) = number ≤ LARGEST_NUMBER
 IsItem (items.Tone tones length) = AreTones tones × IsWithinLongest length
@@ -44,4 +63,4 @@ IsItem (items.Meter opening meter) = IfSome meter IsMeterInRange
 IsItem (items.Key opening key) = IfSome key (λ k. IsSharps k.0)
 IsItem (items.Voice opening name) = Unit {0}
 IsItem (items.Title title) = Unit {0}
-IsItem (items.Order order) = Unit {0}
+IsItem (items.Order order) = parts_of order ≡ Ok tt

@@ -7,4 +7,3 @@ pub mod Header
 pub mod Heard
 pub mod Place
 pub mod Voice
-pub mod Voices

@@ -1,5 +1,5 @@
 -- What a cell gives where it is entered, and what holds behind it.
-use Rattle.std.specs.Prelude.{ℕ, if◌then◌else◌, List, [], ◌∷◌, Option, Some, None}
+use Rattle.std.specs.Prelude.{ℕ, List, [], ◌∷◌, Option, Some, None}
 use Rattle.abc_fields.specs.Key.{empty_signature, key_of, key_or_empty}
 use Rattle.abc_scan.specs.declared.field.Field.{Field}
 use Rattle.abc_scan.specs.declared.spanned.Spanned.{Spanned}
@@ -12,10 +12,9 @@ use Rattle.abc_bars.specs.declared.entry.Entry.{Entry}
 use Rattle.abc_bars.specs.declared.entry.Entry.TheVariants as entries
 use Rattle.abc_bars.specs.declared.field_kind.FieldKind.{FieldKind}
 use Rattle.abc_bars.specs.declared.field_kind.FieldKind.TheVariants as fields
-use Rattle.abc_bars.specs.declared.file_header.FileHeaderGiven.{FileHeaderGiven}
 use Rattle.abc_bars.specs.declared.header.Header.{Header}
 use Rattle.abc_bars.specs.declared.header.HeaderGiven.{HeaderGiven}
-use Rattle.abc_bars.specs.declared.item.Items.{Items}
+use Rattle.abc_bars.specs.Item.{Items}
 use Rattle.abc_bars.specs.BodyOpening.{body_from}
 use Rattle.abc_bars.specs.Cell.{cell_given}
 use Rattle.abc_bars.specs.FieldKind.{kind_of}

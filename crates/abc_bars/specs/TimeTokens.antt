@@ -9,10 +9,10 @@ use Rattle.abc_time.specs.declared.grains.Grains.{Grains}
 use Rattle.abc_time.specs.declared.ratio.Ratio.{Ratio}
 use Rattle.abc_bars.specs.declared.item.Item.{Item}
 use Rattle.abc_bars.specs.declared.item.Item.TheVariants as items
-use Rattle.abc_bars.specs.declared.item.Items.{Items}
 use Rattle.abc_bars.specs.declared.item.Tone.{Tone}
 use Rattle.abc_bars.specs.declared.settings.Settings.{Settings}
 use Rattle.abc_bars.specs.declared.sound.Inside.{Inside}
+use Rattle.abc_bars.specs.Item.{Items}
 use Rattle.abc_bars.specs.Broken.{has_note}
 use Rattle.abc_bars.specs.Chords.{inside_of}
 use Rattle.abc_bars.specs.Column.{column_of}

@@ -46,8 +46,7 @@ fn field_in(cell: &[Token]) -> Option<&Field>
 
 /// A cell of a body.
 fn body_stepped(alloc: Global, body: Body, cell: &[Token]) -> Stepped
-    ensures value { IfOk result (λ made. made ≡ body_stepped body cell.now) }
-    ensures range { IfOk result (λ made. All IsItem made.1.items) }
+    ensures { IfOk result (λ made. made ≡ body_stepped body cell.now) }
 {
     let Given { body, items, .. } = cell_given(alloc, body, cell)?;
     Ok((Entry::Body(body), items))
@@ -56,8 +55,7 @@ fn body_stepped(alloc: Global, body: Body, cell: &[Token]) -> Stepped
 /// What holds behind a field of a header, of which a K: ends it.
 fn behind_field(alloc: Global, given: HeaderGiven, field: &Field) -> Stepped
     requires { All IsItem given.items }
-    ensures value { IfOk result (λ made. made ≡ behind_field given field.now) }
-    ensures range { IfOk result (λ made. All IsItem made.1.items) }
+    ensures { IfOk result (λ made. made ≡ behind_field given field.now) }
 {
     let HeaderGiven {
         header,
@@ -71,13 +69,12 @@ fn behind_field(alloc: Global, given: HeaderGiven, field: &Field) -> Stepped
         }
         _ => Entry::Header(header),
     };
-    Ok((entry, Items { items, faults }))
+    Ok((entry, Items::of(items, faults)))
 }
 
 /// A cell of a header: a line of music ends it, and is a cell of the body.
 fn header_stepped(alloc: Global, header: Header, cell: &[Token]) -> Stepped
-    ensures value { IfOk result (λ made. made ≡ header_stepped header cell.now (field_in cell.now)) }
-    ensures range { IfOk result (λ made. All IsItem made.1.items) }
+    ensures { IfOk result (λ made. made ≡ header_stepped header cell.now (field_in cell.now)) }
 {
     match field_in(cell) {
         Some(field) => {
@@ -93,19 +90,18 @@ fn header_stepped(alloc: Global, header: Header, cell: &[Token]) -> Stepped
 
 /// A cell of a file header.
 fn file_header_stepped(alloc: Global, defaults: Defaults, cell: &[Token]) -> Stepped
-    ensures value { IfOk result (λ made. made ≡ file_header_stepped defaults (field_in cell.now)) }
-    ensures range { IfOk result (λ made. All IsItem made.1.items) }
+    ensures { IfOk result (λ made. made ≡ file_header_stepped defaults (field_in cell.now)) }
 {
     let items = Sequence::new(alloc);
     match field_in(cell) {
         Some(field) => {
             let given = file_header_given(alloc, defaults, field)?;
             let faults = given.faults;
-            Ok((Entry::FileHeader(given.defaults), Items { items, faults }))
+            Ok((Entry::FileHeader(given.defaults), Items::of(items, faults)))
         }
         None => {
             let faults = Sequence::new(alloc);
-            Ok((Entry::FileHeader(defaults), Items { items, faults }))
+            Ok((Entry::FileHeader(defaults), Items::of(items, faults)))
         }
     }
 }
@@ -113,8 +109,7 @@ fn file_header_stepped(alloc: Global, defaults: Defaults, cell: &[Token]) -> Ste
 /// A cell that is entered there.
 #[tactic(auto, unfolding(crate::specs::Step::stepped))]
 fn stepped(alloc: Global, entry: &Entry, cell: &[Token]) -> Stepped
-    ensures value { IfOk result (λ made. made ≡ stepped entry.now cell.now) }
-    ensures range { IfOk result (λ made. All IsItem made.1.items) }
+    ensures { IfOk result (λ made. made ≡ stepped entry.now cell.now) }
 {
     match entry {
         Entry::FileHeader(defaults) => file_header_stepped(alloc, *defaults, cell),

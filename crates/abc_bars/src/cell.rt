@@ -1,6 +1,6 @@
 //! The cells of a tune's body.
 
-ghost use Rattle.std.specs.Prelude.{◌≡◌, All, IfOk, IfSome, OnOk};
+ghost use Rattle.std.specs.Prelude.{◌≡◌, IfOk, IfSome, OnOk};
 ghost use Rattle.abc_bars.specs.BodyFields.{listed};
 ghost use Rattle.abc_bars.specs.Cell.{is_tie_token, tie_ahead, may_be_tied, nothing_given, with_item, with_items, with_faults, with_fault, with_fault_if, with_some_fault, with_note, with_rest, with_chord, with_bar_rest, with_field, with_bar, with_ending, with_tuplet, with_tie, with_kind, with_token, given_from, cell_given};
 ghost use Rattle.abc_bars.specs.Item.{IsItem};
@@ -16,7 +16,6 @@ use crate::time_tokens::{chord_played, note_played, rest_played};
 use crate::tuplet::tuplet_opened;
 use abc_fields::FaultCode;
 use abc_scan::{BarLine, Chord, Field, Note, Token, TokenKind, Tuplet, WrittenLength};
-use abc_text::Sequence;
 use std::alloc::{AllocError, Global};
 
 /// Whether a token is a tie.
@@ -61,10 +60,7 @@ impl Given {
     {
         Given {
             body,
-            items: Items {
-                items: Sequence::new(alloc),
-                faults: Sequence::new(alloc),
-            },
+            items: Items::new(alloc),
             behind: Behind::Nothing,
             after_note: false,
         }
@@ -72,21 +68,17 @@ impl Given {
 
     /// A token gives an item.
     fn item(&mut self, item: Item) -> Result<(), AllocError>
-        requires item { IsItem item }
-        requires items { All IsItem self.old.items.items }
-        ensures value { OnOk result (self.new ≡ with_item self.old item) }
-        ensures range { OnOk result (All IsItem self.new.items.items) }
+        requires { IsItem item }
+        ensures { OnOk result (self.new ≡ with_item self.old item) }
     {
-        self.items.items.push(item)?;
+        self.items.push_item(item)?;
         Ok(())
     }
 
     /// A token gives this item or none.
     fn some_item(&mut self, item: Option<Item>) -> Result<(), AllocError>
-        requires item { IfSome item IsItem }
-        requires items { All IsItem self.old.items.items }
-        ensures value { OnOk result (self.new ≡ with_items self.old (listed item)) }
-        ensures range { OnOk result (All IsItem self.new.items.items) }
+        requires { IfSome item IsItem }
+        ensures { OnOk result (self.new ≡ with_items self.old (listed item)) }
     {
         if let Some(item) = item {
             self.item(item)?;
@@ -99,16 +91,16 @@ impl Given {
         ensures { OnOk result (self.new ≡ with_faults self.old (listed fault)) }
     {
         if let Some(fault) = fault {
-            self.items.faults.push(fault)?;
+            self.items.push_fault(fault)?;
         }
         Ok(())
     }
 
     /// A token has a fault.
     fn fault(&mut self, place: usize, code: FaultCode) -> Result<(), AllocError>
-        ensures value { OnOk result (self.new ≡ with_fault self.old place code) }
+        ensures { OnOk result (self.new ≡ with_fault self.old place code) }
     {
-        self.items.faults.push((column_of(place), code))?;
+        self.items.push_fault((column_of(place), code))?;
         Ok(())
     }
 
@@ -140,9 +132,7 @@ impl Given {
         note: Note,
         ahead: &[Token],
     ) -> Result<(), AllocError>
-        requires { All IsItem self.old.items.items }
-        ensures value { OnOk result (self.new ≡ with_note self.old place note ahead.now) }
-        ensures range { OnOk result (All IsItem self.new.items.items) }
+        ensures { OnOk result (self.new ≡ with_note self.old place note ahead.now) }
     {
         let factors = BrokenFactors::of(self.behind, ahead);
         let tied = tie_ahead(ahead);
@@ -160,9 +150,7 @@ impl Given {
         written: WrittenLength,
         ahead: &[Token],
     ) -> Result<(), AllocError>
-        requires { All IsItem self.old.items.items }
-        ensures value { OnOk result (self.new ≡ with_rest self.old place written ahead.now) }
-        ensures range { OnOk result (All IsItem self.new.items.items) }
+        ensures { OnOk result (self.new ≡ with_rest self.old place written ahead.now) }
     {
         let factors = BrokenFactors::of(self.behind, ahead);
         self.body.mention(alloc)?;
@@ -179,9 +167,7 @@ impl Given {
         chord: &Chord,
         ahead: &[Token],
     ) -> Result<(), AllocError>
-        requires { All IsItem self.old.items.items }
-        ensures value { OnOk result (self.new ≡ with_chord self.old place chord.now ahead.now) }
-        ensures range { OnOk result (All IsItem self.new.items.items) }
+        ensures { OnOk result (self.new ≡ with_chord self.old place chord.now ahead.now) }
     {
         let factors = BrokenFactors::of(self.behind, ahead);
         let tied = tie_ahead(ahead);
@@ -195,9 +181,7 @@ impl Given {
 
     /// A rest of bars, which mentions its voice.
     fn bar_rest(&mut self, alloc: Global, place: usize, bars: Option<u32>) -> Result<(), AllocError>
-        requires { All IsItem self.old.items.items }
-        ensures value { OnOk result (self.new ≡ with_bar_rest self.old place bars) }
-        ensures range { OnOk result (All IsItem self.new.items.items) }
+        ensures { OnOk result (self.new ≡ with_bar_rest self.old place bars) }
     {
         self.body.mention(alloc)?;
         let (item, fault) = bar_rest_of(self.body.here().meter, bars);
@@ -208,9 +192,7 @@ impl Given {
 
     /// A field line or an inline field.
     fn field(&mut self, alloc: Global, place: usize, field: &Field) -> Result<(), AllocError>
-        requires { All IsItem self.old.items.items }
-        ensures value { OnOk result (self.new ≡ with_field self.old place field.now) }
-        ensures range { OnOk result (All IsItem self.new.items.items) }
+        ensures { OnOk result (self.new ≡ with_field self.old place field.now) }
     {
         let FieldItem { item, fault } = field_given(alloc, &mut self.body, field, place)?;
         self.some_item(item)?;
@@ -220,9 +202,7 @@ impl Given {
 
     /// A bar line, which ends the accidentals of its voice (ABC 2.1 section 4.2).
     fn bar(&mut self, bar: BarLine) -> Result<(), AllocError>
-        requires { All IsItem self.old.items.items }
-        ensures value { OnOk result (self.new ≡ with_bar self.old bar) }
-        ensures range { OnOk result (All IsItem self.new.items.items) }
+        ensures { OnOk result (self.new ≡ with_bar self.old bar) }
     {
         self.body.here_mut().accidentals = NO_ACCIDENTALS;
         self.item(Item::Bar(bar))?;
@@ -231,9 +211,7 @@ impl Given {
 
     /// The mark of an ending.
     fn ending(&mut self, place: usize, passes: Option<u32>) -> Result<(), AllocError>
-        requires { All IsItem self.old.items.items }
-        ensures value { OnOk result (self.new ≡ with_ending self.old place passes) }
-        ensures range { OnOk result (All IsItem self.new.items.items) }
+        ensures { OnOk result (self.new ≡ with_ending self.old place passes) }
     {
         match passes {
             Some(passes) => self.item(Item::Ending(passes))?,
@@ -271,9 +249,7 @@ impl Given {
         kind: &TokenKind,
         ahead: &[Token],
     ) -> Result<(), AllocError>
-        requires { All IsItem self.old.items.items }
-        ensures value { OnOk result (self.new ≡ with_kind self.old place kind.now ahead.now) }
-        ensures range { OnOk result (All IsItem self.new.items.items) }
+        ensures { OnOk result (self.new ≡ with_kind self.old place kind.now ahead.now) }
     {
         match kind {
             TokenKind::Note(note) => self.note(alloc, place, *note, ahead),
@@ -298,9 +274,7 @@ impl Given {
 
     /// One more token of the cell, with those behind it.
     fn token(&mut self, alloc: Global, token: &Token, ahead: &[Token]) -> Result<(), AllocError>
-        requires { All IsItem self.old.items.items }
-        ensures value { OnOk result (self.new ≡ with_token self.old token.now ahead.now) }
-        ensures range { OnOk result (All IsItem self.new.items.items) }
+        ensures { OnOk result (self.new ≡ with_token self.old token.now ahead.now) }
     {
         self.kind(alloc, token.from, &token.kind, ahead)?;
         self.behind = behind_after(self.behind, &token.kind);
@@ -311,8 +285,7 @@ impl Given {
 
 /// What holds behind a cell that is entered in a body, and what it gives.
 pub(crate) fn cell_given(alloc: Global, body: Body, cell: &[Token]) -> Result<Given, AllocError>
-    ensures value { IfOk result (λ given. given ≡ cell_given body cell.now) }
-    ensures range { IfOk result (λ given. All IsItem given.items.items) }
+    ensures { IfOk result (λ given. given ≡ cell_given body cell.now) }
 {
     let mut given = Given::nothing(alloc, body);
     for (at, token) in cell.iter().enumerate() {

@@ -1,9 +1,14 @@
 //! What cells give to the score.
 
+ghost use Rattle.std.specs.Prelude.{◌≡◌, All, [], ◌∷◌, ◌++◌, OnOk};
+ghost use Rattle.abc_bars.specs.Item.{IsItem, nothing, and_item, and_faults};
+
 use abc_fields::{FaultCode, Meter};
 use abc_scan::BarLine;
 use abc_text::{Sequence, ShortSequence};
 use abc_time::Grains;
+use std::alloc::{AllocError, Global};
+use std::marker::Model;
 
 /// The highest key of MIDI (SMF 1.0).
 pub const HIGHEST_KEY: u8 = 127;
@@ -84,8 +89,89 @@ pub enum Item {
 pub type LocalFault = (u32, FaultCode);
 
 /// What a cell gives: its items, and its faults in the order of their columns and codes.
-#[derive(Clone, Debug, Drop, PartialEq, Eq)]
+#[derive(Debug, Drop, PartialEq, Eq)]
 pub struct Items {
-    pub items: Sequence<Item>,
-    pub faults: Sequence<LocalFault>,
+    items: Sequence<Item>,
+    faults: Sequence<LocalFault>,
+}
+
+impl Model for Items {
+    ghost use Rattle.std.specs.Prelude.{All};
+    ghost use Rattle.abc_bars.specs.Item.{Items as Seen, IsItem};
+
+    ghost Value = { Seen };
+
+    ghost view = { λ given. record { items = given.items; faults = given.faults } };
+
+    ghost inverse = { λ seen. record { items = seen.items; faults = seen.faults } };
+
+    ghost invariant = { λ given. All IsItem given.items };
+}
+
+impl Items {
+    /// No item and no fault yet.
+    pub(crate) fn new(alloc: Global) -> Items
+        ensures { result ≡ nothing }
+    {
+        Items::of(Sequence::new(alloc), Sequence::new(alloc))
+    }
+
+    /// These items and these faults.
+    pub(crate) fn of(items: Sequence<Item>, faults: Sequence<LocalFault>) -> Items
+        requires { All IsItem items }
+        ensures items { result.items ≡ items }
+        ensures faults { result.faults ≡ faults }
+    {
+        Items { items, faults }
+    }
+
+    /// The items in order.
+    pub fn items(&self) -> &[Item]
+        ensures value { result.now ≡ self.now.items }
+        ensures range { All IsItem result.now }
+    {
+        self.items.as_slice()
+    }
+
+    /// The faults in the order of their columns and codes, each column counted from 1.
+    pub fn faults(&self) -> &[LocalFault]
+        ensures { result.now ≡ self.now.faults }
+    {
+        self.faults.as_slice()
+    }
+
+    /// Puts one more item behind the others.
+    pub(crate) fn push_item(&mut self, item: Item) -> Result<(), AllocError>
+        requires { IsItem item }
+        ensures { OnOk result (self.new ≡ and_item self.old item) }
+    {
+        self.items.push(item)?;
+        Ok(())
+    }
+
+    /// Puts one more fault behind the others.
+    pub(crate) fn push_fault(&mut self, fault: LocalFault) -> Result<(), AllocError>
+        ensures { OnOk result (self.new ≡ and_faults self.old (fault ∷ [])) }
+    {
+        self.faults.push(fault)?;
+        Ok(())
+    }
+
+    /// Puts faults behind the others.
+    pub(crate) fn push_faults(&mut self, more: &[LocalFault]) -> Result<(), AllocError>
+        ensures { OnOk result (self.new ≡ and_faults self.old more.now) }
+    {
+        push_faults(&mut self.faults, more)?;
+        Ok(())
+    }
+}
+
+/// Puts faults behind others.
+fn push_faults(faults: &mut Sequence<LocalFault>, more: &[LocalFault]) -> Result<(), AllocError>
+    ensures { OnOk result (faults.new ≡ faults.old ++ more.now) }
+{
+    for fault in more {
+        faults.push(*fault)?;
+    }
+    Ok(())
 }

@@ -44,7 +44,7 @@ mod voices;
 
 pub use bar_fold::BarFold;
 pub use body::Body;
-pub use body_laws::{body_views, mentioned_voices};
+pub use body_laws::mentioned_voices;
 pub use broken::acting_marks;
 pub use cell_laws::{cell_views, left_by_tokens};
 pub use defaults::Defaults;

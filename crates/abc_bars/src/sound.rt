@@ -63,7 +63,7 @@ pub(crate) fn length_in(
 }
 
 /// Puts a fault at the end, if there is one.
-pub(crate) fn push_fault_if(
+fn push_fault_if(
     faults: &mut Sequence<LocalFault>,
     is_fault: bool,
     column: u32,

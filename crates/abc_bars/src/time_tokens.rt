@@ -1,19 +1,19 @@
 //! Notes, chords and rests: what each gives and what it leaves for its voice.
 
-ghost use Rattle.std.specs.Prelude.{◌≡◌, ◌++◌, All, OnOk};
-ghost use Rattle.abc_bars.specs.Item.{AreTones, IsItem, IsTone, IsWithinLongest};
+ghost use Rattle.std.specs.Prelude.{◌≡◌, All, OnOk};
+ghost use Rattle.abc_bars.specs.Item.{AreTones, IsTone, IsWithinLongest};
 ghost use Rattle.abc_bars.specs.TimeTokens.{first_length, sounded, note_played, chord_played, rest_played, with_played};
 
 use crate::broken::{BrokenFactors, has_note};
 use crate::chords::{Outside, inside_of};
 use crate::column::column_of;
-use crate::item::{Item, Items, LocalFault, Tone};
+use crate::item::{Item, Items, Tone};
 use crate::settings::Settings;
-use crate::sound::{Inside, add_note, length_in, push_fault_if};
+use crate::sound::{Inside, add_note, length_in};
 use crate::tuplet::counted_down;
 use abc_fields::FaultCode;
 use abc_scan::{Chord, Note, WrittenLength};
-use abc_text::{Sequence, ShortSequence};
+use abc_text::ShortSequence;
 use abc_time::Grains;
 use std::alloc::{AllocError, Global};
 
@@ -28,22 +28,11 @@ fn first_length(tones: &[Tone]) -> Grains
     }
 }
 
-/// Puts faults behind others.
-fn push_faults(faults: &mut Sequence<LocalFault>, more: &[LocalFault]) -> Result<(), AllocError>
-    ensures { OnOk result (faults.new ≡ faults.old ++ more.now) }
-{
-    for fault in more {
-        faults.push(*fault)?;
-    }
-    Ok(())
-}
-
 /// Gives notes that sound together (ABC 2.1 sections 4.1 and 4.17).
 fn sound(settings: &mut Settings, items: &mut Items, inside: Inside) -> Result<(), AllocError>
     requires { AreTones inside.tones }
     ensures settings { OnOk result (settings.new ≡ (sounded settings.old inside).settings) }
     ensures items { OnOk result (items.new ≡ with_played items.old (sounded settings.old inside)) }
-    ensures range { All IsItem (sounded settings.old inside).items }
 {
     let Inside {
         accidentals,
@@ -54,8 +43,8 @@ fn sound(settings: &mut Settings, items: &mut Items, inside: Inside) -> Result<(
         big: _,
     } = inside;
     let length = first_length(tones.as_slice());
-    push_faults(&mut items.faults, faults.as_slice())?;
-    items.items.push(Item::Tone { tones, length })?;
+    items.push_faults(faults.as_slice())?;
+    items.push_item(Item::Tone { tones, length })?;
     settings.accidentals = accidentals;
     settings.tuplet = counted_down(settings.tuplet);
     settings.tied = tied;
@@ -74,7 +63,6 @@ pub(crate) fn note_played(
 ) -> Result<(), AllocError>
     ensures settings { OnOk result (settings.new ≡ (note_played settings.old broken.now tied from note).settings) }
     ensures items { OnOk result (items.new ≡ with_played items.old (note_played settings.old broken.now tied from note)) }
-    ensures range { OnOk result (All IsItem (note_played settings.old broken.now tied from note).items) }
 {
     let mut inside = Inside::new(alloc, settings);
     add_note(
@@ -102,7 +90,6 @@ pub(crate) fn chord_played(
 ) -> Result<(), AllocError>
     ensures settings { OnOk result (settings.new ≡ (chord_played settings.old broken.now tied from chord.now).settings) }
     ensures items { OnOk result (items.new ≡ with_played items.old (chord_played settings.old broken.now tied from chord.now)) }
-    ensures range { OnOk result (All IsItem (chord_played settings.old broken.now tied from chord.now).items) }
 {
     let outside = Outside {
         length: chord.length,
@@ -114,8 +101,8 @@ pub(crate) fn chord_played(
     if has_note(parts) {
         sound(settings, items, inside)?;
     } else {
-        items.faults.push((column_of(from), FaultCode::EmptyChord))?;
-        push_faults(&mut items.faults, inside.faults.as_slice())?;
+        items.push_fault((column_of(from), FaultCode::EmptyChord))?;
+        items.push_faults(inside.faults.as_slice())?;
     }
     Ok(())
 }
@@ -131,16 +118,12 @@ pub(crate) fn rest_played(
 ) -> Result<(), AllocError>
     ensures settings { OnOk result (settings.new ≡ (rest_played settings.old broken.now from written).settings) }
     ensures items { OnOk result (items.new ≡ with_played items.old (rest_played settings.old broken.now from written)) }
-    ensures range { OnOk result (All IsItem (rest_played settings.old broken.now from written).items) }
 {
     let (length, refused) = length_in(settings, broken, written, None);
-    push_fault_if(
-        &mut items.faults,
-        refused,
-        column_of(from),
-        FaultCode::BadLength,
-    )?;
-    items.items.push(Item::Rest { length, bar: false })?;
+    if refused {
+        items.push_fault((column_of(from), FaultCode::BadLength))?;
+    }
+    items.push_item(Item::Rest { length, bar: false })?;
     settings.tuplet = counted_down(settings.tuplet);
     settings.tied = ShortSequence::new(alloc);
     Ok(())

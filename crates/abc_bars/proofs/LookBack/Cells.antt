@@ -8,17 +8,16 @@ use Rattle.abc_bars.specs.declared.cell.Given.{Given}
 use Rattle.abc_bars.specs.declared.header.Header.{Header}
 use Rattle.abc_bars.specs.BodyOpening.{body_from}
 use Rattle.abc_bars.specs.Cell.{cell_given, given_from, nothing_given, tie_ahead, with_token}
-use Rattle.abc_bars.specs.LookBack.Heard.{held_at, opening_roll}
+use Rattle.abc_bars.specs.LookBack.Heard.{IsPlaced, held_at, roll_of}
 use Rattle.abc_bars.specs.LookBack.Cells.{behind_tokens, looked_back}
 use Rattle.abc_bars.specs.LookBack.Element.{Element}
 use Rattle.abc_bars.specs.LookBack.Voice.{settings_at}
-use Rattle.abc_bars.proofs.LookBack.Heard.{IsPlaced}
 use Rattle.abc_bars.proofs.LookBack.Step.{held_behind_element}
 use Rattle.abc_bars.proofs.LookBack.Tokens.{token_leaves}
 use Rattle.abc_bars.proofs.LookBack.Placed.{fresh-another, placed-opening}
 
 module _ (opening : Body) (fresh : settings_at opening.another [] ≡ opening.another)
-    (placed : IsPlaced (opening_roll opening).names (opening_roll opening).current) where
+    (placed : IsPlaced (roll_of opening).names (roll_of opening).current) where
   -- What looking back finds behind a token holds behind it.
   token-behind : (before : List Element) (given : Given) (token : Spanned TokenKind) (ahead : List (Spanned TokenKind))
       → held_at opening (record { kind = token.kind; tied = tie_ahead ahead } ∷ before)

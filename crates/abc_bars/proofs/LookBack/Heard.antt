@@ -1,5 +1,5 @@
 -- What holds in a body behind one token more.
-use Rattle.std.proofs.Common.{◌≡◌, ℕ, ◌<◌, nat_lt, Bool, true, false, cond, List, [], ◌∷◌, ◌++◌, length, Option, Some, None, unwrap_or, IfSome, position, bytes_eq, slice_range, Result, Ok, Err, is_some, refl, sym, ap, ◌∙◌, arith}
+use Rattle.std.proofs.Common.{◌≡◌, ℕ, ◌<◌, ◌==◌, nat_lt, Bool, true, false, cond, List, [], ◌∷◌, ◌++◌, length, Option, Some, None, unwrap_or, IfSome, position, bytes_eq, slice_range, Result, Ok, Err, is_some, refl, sym, ap, ◌∙◌, arith}
 use Rattle.std.proofs.lemmas.Bool.{cond-true}
 use Rattle.std.proofs.lemmas.Bool.Decides.{nat_tests}
 use Rattle.std.specs.Result.{result_ok}
@@ -31,7 +31,7 @@ use Rattle.abc_bars.specs.Settings.{without_accidentals}
 use Rattle.abc_bars.specs.VoiceShift.{with_properties}
 use Rattle.abc_bars.specs.Voices.{with_voice_at}
 use Rattle.abc_bars.specs.LookBack.After.{after_field, in_meter, in_part, in_unit, in_voice}
-use Rattle.abc_bars.specs.LookBack.Heard.{Hearing, Nobody, Here, Each, Former, New, Music, Roll, held_at, current_by, here_if, each_if, field_hearing, first_or, hearing_of, is_current, is_place, music_at, music_behind, opening_roll, roll_at, roll_behind, settings_in, unnamed_behind, unnamed_music, voice_named_by, voice_said, voices_by, with_heard}
+use Rattle.abc_bars.specs.LookBack.Heard.{Hearing, IsPlaced, Nobody, Here, Each, Former, New, Music, Roll, held_at, current_by, here_if, each_if, field_hearing, first_or, hearing_of, is_current, music_at, music_behind, roll_of, roll_at, roll_behind, settings_in, unnamed_behind, unnamed_music, voice_named_by, voice_said, voices_by, with_heard}
 use Rattle.abc_bars.specs.LookBack.Element.{Element}
 use Rattle.abc_bars.specs.LookBack.Voice.{settings_at}
 use Rattle.abc_bars.proofs.LookBack.Known.{at-by, each-by, keys-by, length-by, new-by, same-by, set-by}
@@ -44,10 +44,6 @@ held names current known unnamed another = record {
   another = another;
 }
 
--- The current voice is one of those that are mentioned, or the one without a name.
-abbrev pub IsPlaced : List (List ℕ) → Option ℕ → Type 0
-IsPlaced names current = IfSome current (λ place. place < length names)
-
 pub lt-true : (m n : ℕ) → m < n → nat_lt m n ≡ true
 lt-true m n below = grind (arith, nat_tests)
 
@@ -59,14 +55,14 @@ module _ (names : List (List ℕ)) (music : ℕ → Music) (unnamed : Music) (an
 
   -- The element belongs to the voice at a place.
   at-place : (place : ℕ) → place < length names → (left : Settings)
-      → held names (Some place) (λ at. settings_in (cond (is_place at place) (with_heard element (music at)) (music at))) left another
+      → held names (Some place) (λ at. settings_in (cond (at == place) (with_heard element (music at)) (music at))) left another
       ≡ with_here (held names (Some place) (λ at. settings_in (music at)) left another)
       (change (here (held names (Some place) (λ at. settings_in (music at)) left another)))
   at-place place below left =
       let known : ℕ → Settings = λ at. settings_in (music at) in
       let there : nat_lt place (length (voices_by known names)) ≡ true = ap (nat_lt place) (length-by known names) ∙ lt-true place (length names) below in
       ap (λ (voices : List (List ℕ × Settings)). record { voices = voices; current = At place; another = another })
-      (same-by _ _ names (λ at. if-changed (is_place at place) (music at))
+      (same-by _ _ names (λ at. if-changed (at == place) (music at))
       ∙ set-by (λ at. change (known at)) known names place
       ∙ ap (λ (settings : Settings). with_voice_at (voices_by known names) place (change settings))
       (sym (ap (λ (o : Option Settings). unwrap_or o another) (at-by known names place below))))
@@ -91,7 +87,7 @@ module _ (names : List (List ℕ)) (music : ℕ → Music) (unnamed : Music) (an
 -- What looking back finds behind an element that belongs to these.
 abbrev pub held_behind : Body → List Element → Element → Hearing → Body
 held_behind opening before element hearing =
-    let roll = roll_at (opening_roll opening) before in
+    let roll = roll_at (roll_of opening) before in
     let unnamed = unnamed_music opening before in
     held (roll_behind roll hearing).names (roll_behind roll hearing).current
     (λ at. settings_in (music_behind opening.another roll hearing element unnamed at (music_at opening at before)))
@@ -99,11 +95,11 @@ held_behind opening before element hearing =
 
 -- What looking back finds is what it finds behind the last element.
 pub behind-last : (opening : Body) (before : List Element) (element : Element)
-    → held_at opening (element ∷ before) ≡ held_behind opening before element (hearing_of (roll_at (opening_roll opening) before) element.kind)
+    → held_at opening (element ∷ before) ≡ held_behind opening before element (hearing_of (roll_at (roll_of opening) before) element.kind)
 unfolding held_at
 behind-last opening before element = refl
 
-module _ (opening : Body) (before : List Element) (element : Element) (placed : IsPlaced (roll_at (opening_roll opening) before).names (roll_at (opening_roll opening) before).current) where
+module _ (opening : Body) (before : List Element) (element : Element) (placed : IsPlaced (roll_at (roll_of opening) before).names (roll_at (roll_of opening) before).current) where
   pub behind-nobody : held_behind opening before element Nobody ≡ held_at opening before
   unfolding held_at
   behind-nobody = refl
@@ -112,7 +108,7 @@ module _ (opening : Body) (before : List Element) (element : Element) (placed : 
     pub behind-here : held_behind opening before element Here ≡ with_here (held_at opening before) (change (here (held_at opening before)))
     unfolding held_at
     behind-here =
-        let roll : Roll = roll_at (opening_roll opening) before in
+        let roll : Roll = roll_at (roll_of opening) before in
         to-current roll.names (λ at. music_at opening at before) (unnamed_music opening before) opening.another element change changes roll.current placed
 
     -- A note, chord or rest, which mentions its voice.
@@ -126,10 +122,10 @@ module _ (opening : Body) (before : List Element) (element : Element) (placed : 
     mentioning names None here_is music unnamed another = to-first names music unnamed another element change changes
     mentioning names (Some place) here_is music unnamed another = to-current names music unnamed another element change changes (Some place) here_is
 
-    pub behind-mention : held_behind opening before element (first_or (roll_at (opening_roll opening) before).current Here)
+    pub behind-mention : held_behind opening before element (first_or (roll_at (roll_of opening) before).current Here)
         ≡ with_here (mentioned (held_at opening before)) (change (here (mentioned (held_at opening before))))
     unfolding held_at
-    behind-mention = mentioning (roll_at (opening_roll opening) before).names (roll_at (opening_roll opening) before).current placed (λ at. music_at opening at before) (unnamed_music opening before) opening.another
+    behind-mention = mentioning (roll_at (roll_of opening) before).names (roll_at (roll_of opening) before).current placed (λ at. music_at opening at before) (unnamed_music opening before) opening.another
 
   -- A bar rest, which mentions its voice and changes nothing else.
   module _ (changes : (m : Music) → settings_in (with_heard element m) ≡ settings_in m) where
@@ -143,10 +139,10 @@ module _ (opening : Body) (before : List Element) (element : Element) (placed : 
         ap (λ (settings : Settings). record { voices = ([], settings) ∷ []; current = At 0; another = another }) (changes unnamed)
     resting names (Some place) music unnamed another = refl
 
-    pub behind-bar-rest : held_behind opening before element (first_or (roll_at (opening_roll opening) before).current Nobody) ≡ mentioned (held_at opening before)
+    pub behind-bar-rest : held_behind opening before element (first_or (roll_at (roll_of opening) before).current Nobody) ≡ mentioned (held_at opening before)
     unfolding held_at
     behind-bar-rest =
-        resting (roll_at (opening_roll opening) before).names (roll_at (opening_roll opening) before).current
+        resting (roll_at (roll_of opening) before).names (roll_at (roll_of opening) before).current
         (λ at. music_at opening at before) (unnamed_music opening before) opening.another
 
   -- A part, which belongs to each voice.
@@ -159,7 +155,7 @@ module _ (opening : Body) (before : List Element) (element : Element) (placed : 
     behind-each : held_behind opening before element Each ≡ after_part (held_at opening before)
     unfolding held_at
     behind-each =
-        let roll : Roll = roll_at (opening_roll opening) before in
+        let roll : Roll = roll_at (roll_of opening) before in
         λ i. record {
           voices = (same-by _ _ roll.names (λ at. changes (music_at opening at before)) ∙ each-by (λ at. settings_in (music_at opening at before)) roll.names) i;
           current = current-each roll.current (unnamed_music opening before) i;
@@ -168,11 +164,11 @@ module _ (opening : Body) (before : List Element) (element : Element) (placed : 
 
   -- A V: with these properties.
   module _ (said : Shift) (changes : (m : Music) → settings_in (with_heard element m) ≡ record (settings_in m) { shift = with_properties (settings_in m).shift said }) where
-    behind-former : (place : ℕ) → place < length (roll_at (opening_roll opening) before).names
+    behind-former : (place : ℕ) → place < length (roll_at (roll_of opening) before).names
         → held_behind opening before element (Former place) ≡ moved_to (held_at opening before) place said
     unfolding held_at
     behind-former place below =
-        at-place (roll_at (opening_roll opening) before).names (λ at. music_at opening at before) (unnamed_music opening before) opening.another element
+        at-place (roll_at (roll_of opening) before).names (λ at. music_at opening at before) (unnamed_music opening before) opening.another element
         (λ settings. record settings { shift = with_properties settings.shift said }) changes place below (settings_in (unnamed_music opening before))
 
     if-new : settings_at opening.another [] ≡ opening.another → (b : Bool) (m : Music)
@@ -187,12 +183,12 @@ module _ (opening : Body) (before : List Element) (element : Element) (placed : 
         → held_behind opening before element (New name) ≡ joined_by (held_at opening before) name said
     unfolding held_at
     behind-new fresh name =
-        let roll : Roll = roll_at (opening_roll opening) before in
+        let roll : Roll = roll_at (roll_of opening) before in
         let known : ℕ → Settings = λ at. settings_in (music_at opening at before) in
         let new : Settings = record opening.another { shift = with_properties opening.another.shift said } in
         λ i. record {
           voices =
-              (same-by _ _ (roll.names ++ name ∷ []) (λ at. if-new fresh (is_place at (length roll.names)) (music_at opening at before))
+              (same-by _ _ (roll.names ++ name ∷ []) (λ at. if-new fresh (at == length roll.names) (music_at opening at before))
               ∙ new-by new known roll.names name) i;
           current = ap At (sym (length-by known roll.names)) i;
           another = opening.another;
@@ -207,7 +203,7 @@ pub below-found : (name : List ℕ) (names : List (List ℕ)) → IfSome (positi
 below-found name names = below-by (position_or_len (bytes_eq name) names) (length names) _ refl
 
 module _ (opening : Body) (fresh : settings_at opening.another [] ≡ opening.another) (before : List Element) (element : Element)
-    (placed : IsPlaced (roll_at (opening_roll opening) before).names (roll_at (opening_roll opening) before).current) where
+    (placed : IsPlaced (roll_at (roll_of opening) before).names (roll_at (roll_of opening) before).current) where
   new-or-nobody : (said : Shift) → ((m : Music) → settings_in (with_heard element m) ≡ record (settings_in m) { shift = with_properties (settings_in m).shift said })
       → (name : List ℕ) (line : ℕ) (b : Bool)
       → held_behind opening before element (cond b (New name) Nobody)
@@ -216,13 +212,13 @@ module _ (opening : Body) (fresh : settings_at opening.another [] ≡ opening.an
   new-or-nobody said changes name line false = behind-nobody opening before element placed
 
   at-name : (said : Shift) → ((m : Music) → settings_in (with_heard element m) ≡ record (settings_in m) { shift = with_properties (settings_in m).shift said })
-      → (name : List ℕ) (line : ℕ) (place : Option ℕ) → IfSome place (λ at. at < length (roll_at (opening_roll opening) before).names)
-      → held_behind opening before element (voice_named_by (roll_at (opening_roll opening) before).names name place)
+      → (name : List ℕ) (line : ℕ) (place : Option ℕ) → IfSome place (λ at. at < length (roll_at (roll_of opening) before).names)
+      → held_behind opening before element (voice_named_by (roll_at (roll_of opening) before).names name place)
       ≡ (voice_made (held_at opening before) line name (made_current_at (held_at opening before) name said place)).body
   unfolding held_at
   at-name said changes name line (Some place) below = behind-former opening before element placed said changes place below
   at-name said changes name line None below =
-      let names : List (List ℕ) = (roll_at (opening_roll opening) before).names in
+      let names : List (List ℕ) = (roll_at (roll_of opening) before).names in
       let body : Body = held_at opening before in
       new-or-nobody said changes name line (nat_lt (length names) MOST_VOICES)
       ∙ ap (λ (n : ℕ). (voice_made body line name (cond (nat_lt n MOST_VOICES) (Some (joined_by body name said)) None)).body)
@@ -230,12 +226,12 @@ module _ (opening : Body) (fresh : settings_at opening.another [] ≡ opening.an
 
   at-voice : (value : List ℕ) (line : ℕ) (r : Result Voice FaultCode)
       → ((m : Music) → settings_in (with_heard element m) ≡ in_voice (settings_in m) r)
-      → held_behind opening before element (voice_said (roll_at (opening_roll opening) before).names value r)
+      → held_behind opening before element (voice_said (roll_at (roll_of opening) before).names value r)
       ≡ (voice_by (held_at opening before) line value r).body
   unfolding held_at
   at-voice value line (Err fault) changes = behind-nobody opening before element placed
   at-voice value line (Ok voice) changes =
-      let names : List (List ℕ) = (roll_at (opening_roll opening) before).names in
+      let names : List (List ℕ) = (roll_at (roll_of opening) before).names in
       let body : Body = held_at opening before in
       let name : List ℕ = slice_range value voice.from voice.to in
       at-name voice.shift changes name line (position (bytes_eq name) names) (below-found name names)
@@ -274,7 +270,7 @@ module _ (opening : Body) (fresh : settings_at opening.another [] ≡ opening.an
 
   -- A field of this kind with this value.
   pub at-kind : (line : ℕ) (kind : FieldKind) (value : List ℕ) → ((m : Music) → settings_in (with_heard element m) ≡ after_field (settings_in m) kind value)
-      → held_behind opening before element (field_hearing (roll_at (opening_roll opening) before).names kind value)
+      → held_behind opening before element (field_hearing (roll_at (roll_of opening) before).names kind value)
       ≡ (kind_given (held_at opening before) kind value line).body
   at-kind line fields.Meter value changes = at-meter line (meter_of value) changes
   at-kind line fields.UnitLength value changes = at-unit line (unit_of value) changes

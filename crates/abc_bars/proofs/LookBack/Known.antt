@@ -1,11 +1,12 @@
 -- Voices by their places, and what holds for each.
-use Rattle.std.proofs.Common.{◌≡◌, ℕ, zero, suc, ◌<◌, cond, List, [], ◌∷◌, ◌++◌, length, Some, refl, ap, arith}
+use Rattle.std.proofs.Common.{◌≡◌, ℕ, zero, suc, ◌<◌, ◌==◌, cond, List, [], ◌∷◌, ◌++◌, length, Some, refl, ap, ◌∙◌, arith}
+use Rattle.std.proofs.Math.Dec.{eqb-suc-suc, eqb-suc-zero, eqb-zero-suc}
 use Rattle.std.specs.Map.{keys_of}
 use Rattle.abc_bars.specs.declared.settings.Settings.{Settings}
 use Rattle.abc_bars.specs.Body.{all_without_accidentals}
 use Rattle.abc_bars.specs.Settings.{without_accidentals}
 use Rattle.abc_bars.specs.Voices.{voice_at, with_voice_at}
-use Rattle.abc_bars.specs.LookBack.Heard.{is_place, voices_by}
+use Rattle.abc_bars.specs.LookBack.Heard.{voices_by}
 
 -- The names are those of the voices.
 pub keys-by : (known : ℕ → Settings) (names : List (List ℕ)) → keys_of (voices_by known names) ≡ names
@@ -29,11 +30,15 @@ at-by known (name ∷ names) (suc place) below = at-by (λ at. known (suc at)) n
 
 -- Something else holds for the voice at a place.
 pub set-by : (new known : ℕ → Settings) (names : List (List ℕ)) (place : ℕ)
-    → voices_by (λ at. cond (is_place at place) (new at) (known at)) names ≡ with_voice_at (voices_by known names) place (new place)
+    → voices_by (λ at. cond (at == place) (new at) (known at)) names ≡ with_voice_at (voices_by known names) place (new place)
 set-by new known [] place = refl
-set-by new known (name ∷ names) zero = refl
-set-by new known (name ∷ names) (suc place) =
-    ap (λ (rest : List (List ℕ × Settings)). (name, known 0) ∷ rest) (set-by (λ at. new (suc at)) (λ at. known (suc at)) names place)
+set-by new known (name ∷ names) zero =
+    ap (λ (rest : List (List ℕ × Settings)). (name, new 0) ∷ rest)
+    (same-by _ _ names (λ at. ap (λ b. cond b (new (suc at)) (known (suc at))) (eqb-suc-zero at)))
+set-by new known (name ∷ names) (suc place) = λ i.
+    (name, cond (eqb-zero-suc place i) (new 0) (known 0))
+    ∷ (same-by _ _ names (λ at. ap (λ b. cond b (new (suc at)) (known (suc at))) (eqb-suc-suc at place))
+    ∙ set-by (λ at. new (suc at)) (λ at. known (suc at)) names place) i
 
 -- No accidentals hold for any.
 pub each-by : (known : ℕ → Settings) (names : List (List ℕ))
@@ -44,7 +49,9 @@ each-by known (name ∷ names) =
 
 -- One voice more.
 pub new-by : (new : Settings) (known : ℕ → Settings) (names : List (List ℕ)) (name : List ℕ)
-    → voices_by (λ at. cond (is_place at (length names)) new (known at)) (names ++ name ∷ []) ≡ voices_by known names ++ (name, new) ∷ []
+    → voices_by (λ at. cond (at == length names) new (known at)) (names ++ name ∷ []) ≡ voices_by known names ++ (name, new) ∷ []
 new-by new known [] name = refl
-new-by new known (first ∷ names) name =
-    ap (λ (rest : List (List ℕ × Settings)). (first, known 0) ∷ rest) (new-by new (λ at. known (suc at)) names name)
+new-by new known (first ∷ names) name = λ i.
+    (first, cond (eqb-zero-suc (length names) i) new (known 0))
+    ∷ (same-by _ _ (names ++ name ∷ []) (λ at. ap (λ b. cond b new (known (suc at))) (eqb-suc-suc at (length names)))
+    ∙ new-by new (λ at. known (suc at)) names name) i

@@ -1,5 +1,7 @@
 -- The current voice is one of those that are mentioned, and a body begins with what looking back finds there.
 use Rattle.std.proofs.Common.{◌≡◌, ℕ, ◌<◌, nat_lt, Bool, true, false, cond, List, [], ◌∷◌, length, map, Option, Some, None, unwrap_or, IfSome, position, bytes_eq, slice_range, Result, Ok, Err, is_some, refl, ap, arith, length-append}
+use Rattle.std.proofs.lemmas.Bool.Decides.{nat_tests}
+use Rattle.std.specs.List.{list_any}
 use Rattle.std.specs.Map.{keys_of}
 use Rattle.std.specs.Result.{result_ok}
 use Rattle.abc_fields.specs.declared.fault.FaultCode.{FaultCode}
@@ -24,19 +26,25 @@ use Rattle.abc_bars.specs.BodyOpening.{body_from, current_in, opening_another, o
 use Rattle.abc_bars.specs.Broken.{has_note}
 use Rattle.abc_bars.specs.FieldKind.{kind_of}
 use Rattle.abc_bars.specs.Voices.{voice_at}
-use Rattle.abc_bars.specs.LookBack.Heard.{Former, Hearing, Here, New, Nobody, Each, First, Roll, held_at, current_by, each_if, field_hearing, first_or, here_if, hearing_of, opening_roll, place_of_current, roll_at, roll_behind, voice_named_by, voice_said, voices_by}
+use Rattle.abc_bars.specs.LookBack.Heard.{Former, Hearing, Here, IsPlaced, New, Nobody, Each, First, Roll, held_at, current_by, each_if, field_hearing, first_or, here_if, hearing_of, roll_of, place_of_current, roll_at, roll_behind, voice_named_by, voice_said, voices_by}
 use Rattle.abc_bars.specs.LookBack.Element.{Element}
 use Rattle.abc_bars.specs.LookBack.Voice.{accidental_at, accidentals_at, meter_at, settings_at, shift_at, signature_at, tuplet_at, unit_at}
-use Rattle.abc_bars.proofs.LookBack.Heard.{IsPlaced, below-found}
+use Rattle.abc_bars.proofs.LookBack.Heard.{below-found}
+use Rattle.abc_bars.proofs.NamePlaces.{find_place}
 
--- A voice that was mentioned before has a place.
-abbrev IsAmong : List (List ℕ) → Hearing → Type 0
+-- A voice that is not among those that are mentioned, and is not one too many.
+pub record IsNew (names : List (List ℕ)) (name : List ℕ) : Type 0 where
+  pub apart : list_any (bytes_eq name) names ≡ false
+  pub room : length names < MOST_VOICES
+
+-- A voice that was mentioned before has a place, another one is new.
+abbrev pub IsAmong : List (List ℕ) → Hearing → Type 0
 IsAmong names Nobody = Unit {0}
 IsAmong names Here = Unit {0}
 IsAmong names First = Unit {0}
 IsAmong names Each = Unit {0}
 IsAmong names (Former place) = place < length names
-IsAmong names (New name) = Unit {0}
+IsAmong names (New name) = IsNew names name
 
 among-first : (names : List (List ℕ)) (current : Option ℕ) (hearing : Hearing) → IsAmong names hearing → IsAmong names (first_or current hearing)
 among-first names None hearing h = tt
@@ -54,14 +62,27 @@ among-if : (names : List (List ℕ)) (b : Bool) (x y : Hearing) → IsAmong name
 among-if names true x y p q = p
 among-if names false x y p q = q
 
-among-named : (names : List (List ℕ)) (name : List ℕ) (place : Option ℕ) → IfSome place (λ at. at < length names) → IsAmong names (voice_named_by names name place)
-among-named names name (Some place) below = below
-among-named names name None below = among-if names (nat_lt (length names) MOST_VOICES) (New name) Nobody tt tt
+-- A name that has no place is not there.
+apart-by : (name : List ℕ) (names : List (List ℕ)) (b : Bool) → list_any (bytes_eq name) names ≡ b → position (bytes_eq name) names ≡ None
+    → list_any (bytes_eq name) names ≡ false
+apart-by name names true there none = let found = find_place (bytes_eq name) names there in absurd (cc (found.1, none))
+apart-by name names false apart none = apart
+
+among-room : (names : List (List ℕ)) (name : List ℕ) (b : Bool) → list_any (bytes_eq name) names ≡ false → nat_lt (length names) MOST_VOICES ≡ b
+    → IsAmong names (cond b (New name) Nobody)
+among-room names name true apart room = record { apart = apart; room = grind (arith, nat_tests) }
+among-room names name false apart room = tt
+
+among-named : (names : List (List ℕ)) (name : List ℕ) (place : Option ℕ) → position (bytes_eq name) names ≡ place
+    → IfSome place (λ at. at < length names) → IsAmong names (voice_named_by names name place)
+among-named names name (Some place) is below = below
+among-named names name None is below =
+    among-room names name (nat_lt (length names) MOST_VOICES) (apart-by name names (list_any (bytes_eq name) names) refl is) refl
 
 among-voice : (names : List (List ℕ)) (value : List ℕ) (r : Result Voice FaultCode) → IsAmong names (voice_said names value r)
 among-voice names value (Ok voice) =
     let name : List ℕ = slice_range value voice.from voice.to in
-    among-named names name (position (bytes_eq name) names) (below-found name names)
+    among-named names name (position (bytes_eq name) names) refl (below-found name names)
 among-voice names value (Err fault) = tt
 
 among-field : (names : List (List ℕ)) (kind : FieldKind) (value : List ℕ) → IsAmong names (field_hearing names kind value)
@@ -75,7 +96,7 @@ among-field names fields.Reference value = tt
 among-field names fields.Title value = tt
 among-field names fields.Other value = tt
 
-among : (roll : Roll) (kind : TokenKind) → IsAmong roll.names (hearing_of roll kind)
+pub among : (roll : Roll) (kind : TokenKind) → IsAmong roll.names (hearing_of roll kind)
 among roll (kinds.Note note) = among-first roll.names roll.current Here tt
 among roll (kinds.Rest length) = among-first roll.names roll.current Here tt
 among roll (kinds.BarRest bars) = among-first roll.names roll.current Nobody tt
@@ -137,8 +158,8 @@ begins header key = λ i. record {
 
 placed-current : (header : Header) (key : Key) (voices : List (List ℕ × Shift)) (another : Settings)
     → IsPlaced (keys_of (map (opening_voice header key) voices)) (place_of_current (current_in voices another))
-placed-current header key [] another = tt
+placed-current header key [] another = refl
 placed-current header key (voice ∷ voices) another = omega arith
 
-pub placed-opening : (header : Header) (key : Key) → IsPlaced (opening_roll (body_from header key)).names (opening_roll (body_from header key)).current
+pub placed-opening : (header : Header) (key : Key) → IsPlaced (roll_of (body_from header key)).names (roll_of (body_from header key)).current
 placed-opening header key = placed-current header key header.voices (opening_another header key)

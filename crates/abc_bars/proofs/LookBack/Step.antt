@@ -1,5 +1,5 @@
 -- What looking back finds in a body behind one element more.
-use Rattle.std.proofs.Common.{◌≡◌, ℕ, nat_lt, Bool, true, false, cond, List, [], ◌∷◌, length, Option, Some, None, unwrap_or, refl, sym, ap, ◌∙◌}
+use Rattle.std.proofs.Common.{◌≡◌, ℕ, ◌==◌, nat_lt, Bool, true, false, cond, List, [], ◌∷◌, length, Option, Some, None, unwrap_or, refl, sym, ap, ◌∙◌}
 use Rattle.abc_fields.specs.declared.key.Key.{Key}
 use Rattle.abc_scan.specs.declared.token.TokenKind.{TokenKind}
 use Rattle.abc_scan.specs.declared.token.TokenKind.TheVariants as kinds
@@ -10,16 +10,16 @@ use Rattle.abc_bars.specs.Body.{here, mentioned, with_here}
 use Rattle.abc_bars.specs.BodyOpening.{body_from}
 use Rattle.abc_bars.specs.Broken.{has_note}
 use Rattle.abc_bars.specs.FieldKind.{kind_of}
-use Rattle.abc_bars.specs.LookBack.Heard.{Here, Music, Nobody, Roll, held_at, first_or, hearing_of, opening_roll, roll_at, settings_in, voices_by, with_heard}
+use Rattle.abc_bars.specs.LookBack.Heard.{Here, IsPlaced, Music, Nobody, Roll, held_at, first_or, hearing_of, roll_of, roll_at, settings_in, voices_by, with_heard}
 use Rattle.abc_bars.specs.LookBack.Element.{Element}
 use Rattle.abc_bars.specs.LookBack.Voice.{settings_at}
-use Rattle.abc_bars.proofs.LookBack.Heard.{IsPlaced, at-kind, behind-bar-rest, behind-here, behind-last, behind-mention, held_behind}
+use Rattle.abc_bars.proofs.LookBack.Heard.{at-kind, behind-bar-rest, behind-here, behind-last, behind-mention, held_behind}
 use Rattle.abc_bars.proofs.LookBack.Voice.{settings_behind}
 use Rattle.std.proofs.lemmas.Bool.{cond-true}
 use Rattle.abc_bars.specs.Voices.{with_voice_at}
 use Rattle.abc_bars.specs.LookBack.After.{after}
 use Rattle.abc_bars.specs.LookBack.AfterBody.{body_after, mentioned_if}
-use Rattle.abc_bars.specs.LookBack.Heard.{is_place, music_at, unnamed_music}
+use Rattle.abc_bars.specs.LookBack.Heard.{music_at, unnamed_music}
 use Rattle.abc_bars.proofs.LookBack.Heard.{held, lt-true}
 use Rattle.abc_bars.proofs.LookBack.Known.{at-by, length-by, same-by, set-by}
 use Rattle.abc_bars.proofs.LookBack.Placed.{fresh-another, placed-at, placed-opening}
@@ -37,7 +37,7 @@ same-here names None placed known unnamed another = refl
 same-here names (Some place) placed known unnamed another =
     let there : nat_lt place (length (voices_by known names)) ≡ true = ap (nat_lt place) (length-by known names) ∙ lt-true place (length names) placed in
     ap (λ (voices : List (List ℕ × Settings)). record { voices = voices; current = At place; another = another })
-    (same-by known (λ at. cond (is_place at place) (known at) (known at)) names (λ at. if-same (is_place at place) (known at))
+    (same-by known (λ at. cond (at == place) (known at) (known at)) names (λ at. if-same (at == place) (known at))
     ∙ set-by known known names place
     ∙ ap (λ (settings : Settings). with_voice_at (voices_by known names) place settings)
     (sym (ap (λ (o : Option Settings). unwrap_or o another) (at-by known names place placed))))
@@ -50,56 +50,56 @@ same-mentioned names None placed known unnamed another = refl
 same-mentioned names (Some place) placed known unnamed another = same-here names (Some place) placed known unnamed another
 
 module _ (opening : Body) (fresh : settings_at opening.another [] ≡ opening.another)
-    (placed : IsPlaced (opening_roll opening).names (opening_roll opening).current) where
+    (placed : IsPlaced (roll_of opening).names (roll_of opening).current) where
   chord-by : (before : List Element) (element : Element) (change : Settings → Settings) → ((m : Music) → settings_in (with_heard element m) ≡ change (settings_in m)) → (b : Bool)
-      → held_behind opening before element (cond b (first_or (roll_at (opening_roll opening) before).current Here) Here)
+      → held_behind opening before element (cond b (first_or (roll_at (roll_of opening) before).current Here) Here)
       ≡ with_here (mentioned_if b (held_at opening before)) (change (here (mentioned_if b (held_at opening before))))
-  chord-by before element change changes true = behind-mention opening before element (placed-at (opening_roll opening) placed before) change changes
-  chord-by before element change changes false = behind-here opening before element (placed-at (opening_roll opening) placed before) change changes
+  chord-by before element change changes true = behind-mention opening before element (placed-at (roll_of opening) placed before) change changes
+  chord-by before element change changes false = behind-here opening before element (placed-at (roll_of opening) placed before) change changes
 
   silent : (before : List Element) (element : Element)
       → held_behind opening before element Nobody ≡ with_here (held_at opening before) (here (held_at opening before))
   unfolding held_at
   silent before element =
-      same-here (roll_at (opening_roll opening) before).names (roll_at (opening_roll opening) before).current (placed-at (opening_roll opening) placed before)
+      same-here (roll_at (roll_of opening) before).names (roll_at (roll_of opening) before).current (placed-at (roll_of opening) placed before)
       (λ at. settings_in (music_at opening at before)) (settings_in (unnamed_music opening before)) opening.another
 
   -- A bar rest mentions its voice and changes nothing else.
   resting : (before : List Element) (bars : Option ℕ) (tied : Bool)
-      → held_behind opening before (record { kind = kinds.BarRest bars; tied = tied }) (first_or (roll_at (opening_roll opening) before).current Nobody)
+      → held_behind opening before (record { kind = kinds.BarRest bars; tied = tied }) (first_or (roll_at (roll_of opening) before).current Nobody)
       ≡ with_here (mentioned (held_at opening before)) (here (mentioned (held_at opening before)))
   unfolding held_at
   resting before bars tied =
-      let roll : Roll = roll_at (opening_roll opening) before in
-      behind-bar-rest opening before (record { kind = kinds.BarRest bars; tied = tied }) (placed-at (opening_roll opening) placed before)
+      let roll : Roll = roll_at (roll_of opening) before in
+      behind-bar-rest opening before (record { kind = kinds.BarRest bars; tied = tied }) (placed-at (roll_of opening) placed before)
       (λ m. settings_behind m.opening m.before (record { kind = kinds.BarRest bars; tied = tied }))
-      ∙ same-mentioned roll.names roll.current (placed-at (opening_roll opening) placed before)
+      ∙ same-mentioned roll.names roll.current (placed-at (roll_of opening) placed before)
       (λ at. settings_in (music_at opening at before)) (settings_in (unnamed_music opening before)) opening.another
 
   by-kind : (before : List Element) (kind : TokenKind) (tied : Bool)
-      → held_behind opening before (record { kind = kind; tied = tied }) (hearing_of (roll_at (opening_roll opening) before) kind)
+      → held_behind opening before (record { kind = kind; tied = tied }) (hearing_of (roll_at (roll_of opening) before) kind)
       ≡ body_after (held_at opening before) (record { kind = kind; tied = tied })
   by-kind before (kinds.Note note) tied =
-      behind-mention opening before (record { kind = kinds.Note note; tied = tied }) (placed-at (opening_roll opening) placed before)
+      behind-mention opening before (record { kind = kinds.Note note; tied = tied }) (placed-at (roll_of opening) placed before)
       (λ settings. after settings (record { kind = kinds.Note note; tied = tied })) (λ m. settings_behind m.opening m.before (record { kind = kinds.Note note; tied = tied }))
   by-kind before (kinds.Rest length) tied =
-      behind-mention opening before (record { kind = kinds.Rest length; tied = tied }) (placed-at (opening_roll opening) placed before)
+      behind-mention opening before (record { kind = kinds.Rest length; tied = tied }) (placed-at (roll_of opening) placed before)
       (λ settings. after settings (record { kind = kinds.Rest length; tied = tied })) (λ m. settings_behind m.opening m.before (record { kind = kinds.Rest length; tied = tied }))
   by-kind before (kinds.Chord chord) tied =
       chord-by before (record { kind = kinds.Chord chord; tied = tied })
       (λ settings. after settings (record { kind = kinds.Chord chord; tied = tied })) (λ m. settings_behind m.opening m.before (record { kind = kinds.Chord chord; tied = tied }))
       (has_note chord.parts)
   by-kind before (kinds.InlineField field) tied =
-      at-kind opening fresh before (record { kind = kinds.InlineField field; tied = tied }) (placed-at (opening_roll opening) placed before)
+      at-kind opening fresh before (record { kind = kinds.InlineField field; tied = tied }) (placed-at (roll_of opening) placed before)
       0 (kind_of field.letter) field.value (λ m. settings_behind m.opening m.before (record { kind = kinds.InlineField field; tied = tied }))
   by-kind before (kinds.Field field) tied =
-      at-kind opening fresh before (record { kind = kinds.Field field; tied = tied }) (placed-at (opening_roll opening) placed before)
+      at-kind opening fresh before (record { kind = kinds.Field field; tied = tied }) (placed-at (roll_of opening) placed before)
       0 (kind_of field.letter) field.value (λ m. settings_behind m.opening m.before (record { kind = kinds.Field field; tied = tied }))
   by-kind before (kinds.Bar bar) tied =
-      behind-here opening before (record { kind = kinds.Bar bar; tied = tied }) (placed-at (opening_roll opening) placed before)
+      behind-here opening before (record { kind = kinds.Bar bar; tied = tied }) (placed-at (roll_of opening) placed before)
       (λ settings. after settings (record { kind = kinds.Bar bar; tied = tied })) (λ m. settings_behind m.opening m.before (record { kind = kinds.Bar bar; tied = tied }))
   by-kind before (kinds.Tuplet mark) tied =
-      behind-here opening before (record { kind = kinds.Tuplet mark; tied = tied }) (placed-at (opening_roll opening) placed before)
+      behind-here opening before (record { kind = kinds.Tuplet mark; tied = tied }) (placed-at (roll_of opening) placed before)
       (λ settings. after settings (record { kind = kinds.Tuplet mark; tied = tied })) (λ m. settings_behind m.opening m.before (record { kind = kinds.Tuplet mark; tied = tied }))
   by-kind before (kinds.Ending passes) tied = silent before (record { kind = kinds.Ending passes; tied = tied })
   by-kind before (kinds.Broken mark) tied = silent before (record { kind = kinds.Broken mark; tied = tied })

@@ -149,11 +149,6 @@ after-tuplet opening before tied mark = λ i. record {
   tied = tied_at opening before;
 }
 
-pub after-bar : (opening : Settings) (before : List Element) (tied : Bool) (bar : BarLine)
-    → settings_at opening (record { kind = kinds.Bar bar; tied = tied } ∷ before) ≡ without_accidentals (settings_at opening before)
-unfolding settings_at meter_at unit_at signature_at shift_at tuplet_at accidentals_at accidental_at
-after-bar opening before tied bar = refl
-
 -- What looking back says where a field stands last.
 abbrev field_last : Settings → List Element → FieldKind → List ℕ → Settings
 field_last opening before kind value = record {

@@ -1,106 +1,88 @@
--- The voices of a tune at a place of its body.
-use Rattle.std.proofs.Common.{◌≡◌, ◌<◌, ◌≤◌, nat_lt, Bool, true, false, ◌||◌, ℕ, if◌then◌else◌, List, [], ◌∷◌, ◌++◌, length, bytes_eq, Option, Some, None, unwrap_or, refl, sym, subst, ap, arith, length-append}
-use Rattle.std.proofs.lemmas.Bool.Decides.{nat_tests}
+-- The voices at the places of a tune's body.
+use Rattle.std.proofs.Common.{◌≡◌, ◌≤◌, ℕ, List, [], ◌∷◌, length, bytes_eq, Option, Some, None, refl, sym, ◌∙◌, subst, lit≤, arith, length-append}
 use Rattle.std.proofs.lemmas.Map.Keys.{IsDistinct-cons, IsDistinct-push}
 use Rattle.std.specs.Cmp.Lexicographic.{nat_list_eq_equiv}
-use Rattle.std.specs.List.{IsDistinct, list_any}
-use Rattle.abc_scan.specs.declared.token.TokenKind.{TokenKind}
+use Rattle.std.specs.List.{IsDistinct}
+use Rattle.std.specs.Map.{keys_of}
+use Rattle.abc_fields.specs.declared.key.Key.{Key}
+use Rattle.abc_scan.specs.declared.field.Field.{Field}
+use Rattle.abc_bars.specs.declared.body.Body.{Body}
+use Rattle.abc_bars.specs.declared.defaults.Defaults.{Defaults}
+use Rattle.abc_bars.specs.declared.settings.Settings.{Settings}
 use Rattle.abc_bars.specs.declared.voices.TheConstants.{MOST_VOICES}
 use Rattle.abc_bars.specs.LookBack.Element.{Element}
-use Rattle.abc_bars.specs.LookBack.Voice.{said_by_field}
-use Rattle.abc_bars.specs.LookBack.Voices.{IsCurrent, current_of, if_accepted, made_current_by, mentioned_behind, mentions, name_said, voices_of, with_name, with_unnamed}
+use Rattle.abc_bars.specs.LookBack.Header.{header_at}
+use Rattle.abc_bars.specs.LookBack.Heard.{Each, Former, First, Hearing, Here, IsPlaced, New, Nobody, Roll, current_by, hearing_of, held_at, music_at, place_of_current, roll_at, roll_behind, roll_of, settings_in, unnamed_music}
+use Rattle.abc_bars.specs.LookBack.Place.{opening_at}
+use Rattle.abc_bars.proofs.BodyOpenings.{opening_names}
+use Rattle.abc_bars.proofs.DeclaredVoices.{declared_keys, distinct_names, few_names}
+use Rattle.abc_bars.proofs.LookBack.Known.{keys-by}
+use Rattle.abc_bars.proofs.LookBack.Placed.{IsAmong, among, placed-at, placed-opening}
 
--- What is put at the end is there.
-any_last : (p : List ℕ → Bool) (names : List (List ℕ)) (name : List ℕ) → p name ≡ true → list_any p (names ++ name ∷ []) ≡ true
-any_last p [] name passes = ap (λ b. b || false) passes
-any_last p (first ∷ names) name passes = by (p first) (any_last p names name passes)
-  where
-    by : (b : Bool) → list_any p (names ++ name ∷ []) ≡ true → (b || list_any p (names ++ name ∷ [])) ≡ true
-    by true later = refl
-    by false later = later
+current-of : (current : Option ℕ) (unnamed : Settings) → place_of_current (current_by current unnamed) ≡ current
+current-of None unnamed = refl
+current-of (Some place) unnamed = refl
 
--- A voice that is mentioned can be the current one.
-from_any : (names : List (List ℕ)) (name : List ℕ) → list_any (bytes_eq name) names ≡ true → IsCurrent names name
-from_any [] name there = cc
-from_any (first ∷ names) name there = there
+-- The voices that looking back finds in a body are those that are mentioned.
+roll-held : (opening : Body) (before : List Element) → roll_of (held_at opening before) ≡ roll_at (roll_of opening) before
+unfolding held_at
+roll-held opening before = λ i. record {
+  names = keys-by (λ at. settings_in (music_at opening at before)) (roll_at (roll_of opening) before).names i;
+  current = current-of (roll_at (roll_of opening) before).current (settings_in (unnamed_music opening before)) i;
+}
 
--- The voice that a V: names is mentioned behind it.
-named : (names : List (List ℕ)) (name : List ℕ) → IsCurrent (with_name names name) name
-named names name = by (list_any (bytes_eq name) names) refl
-  where
-    by : (b : Bool) → list_any (bytes_eq name) names ≡ b → IsCurrent (if b then names else names ++ name ∷ []) name
-    by true is = from_any names name is
-    by false is = from_any (names ++ name ∷ []) name (any_last (bytes_eq name) names name (nat_list_eq_equiv.refl name))
+no-name : IsDistinct bytes_eq []
+unfolding IsDistinct
+no-name = tt
 
--- The voice without a name is the current one where no voice is mentioned.
-unnamed : (b : Bool) (names : List (List ℕ)) (current : List ℕ) → IsCurrent names current → IsCurrent (with_unnamed b names) current
-unnamed true [] current is = ap (λ name. list_any (bytes_eq name) ([] ∷ [])) is
-unnamed true (first ∷ names) current is = is
-unnamed false names current is = is
+-- No voice is mentioned twice behind a token.
+distinct-behind : (roll : Roll) (hearing : Hearing) → IsAmong roll.names hearing → IsDistinct bytes_eq roll.names → IsDistinct bytes_eq (roll_behind roll hearing).names
+distinct-behind roll Nobody h distinct = distinct
+distinct-behind roll Here h distinct = distinct
+distinct-behind roll First h distinct = IsDistinct-cons bytes_eq [] [] tt no-name
+distinct-behind roll Each h distinct = distinct
+distinct-behind roll (Former place) h distinct = distinct
+distinct-behind roll (New name) h distinct = IsDistinct-push nat_list_eq_equiv roll.names name distinct h.apart
 
--- The current voice behind a token.
-current_behind : (names : List (List ℕ)) (current : List ℕ) (kind : TokenKind) (made : Option (List ℕ)) → IsCurrent names current
-    → IsCurrent (mentioned_behind names kind made) (unwrap_or made current)
-current_behind names current kind (Some name) is = named names name
-current_behind names current kind None is = unnamed (mentions kind) names current is
+distinct-at : (opening : Roll) → IsDistinct bytes_eq opening.names → (before : List Element) → IsDistinct bytes_eq (roll_at opening before).names
+distinct-at opening distinct [] = distinct
+distinct-at opening distinct (element ∷ before) =
+    let roll = roll_at opening before in
+    distinct-behind roll (hearing_of roll element.kind) (among roll element.kind) (distinct-at opening distinct before)
 
--- The current voice is mentioned, or it is the one without a name and no voice is mentioned.
-pub current_is : (declared : List (List ℕ)) (before : List Element) → IsCurrent (voices_of declared before) (current_of declared before)
-current_is [] [] = refl
-current_is (first ∷ rest) [] = ap (λ b. b || list_any (bytes_eq first) rest) (nat_list_eq_equiv.refl first)
-current_is declared (element ∷ before) =
-    let mentioned = voices_of declared before in
-    current_behind mentioned (current_of declared before) element.kind (made_current_by mentioned element.kind) (current_is declared before)
+-- There are at most fifteen behind a token.
+few-behind : (roll : Roll) (hearing : Hearing) → IsAmong roll.names hearing → length roll.names ≤ MOST_VOICES → length (roll_behind roll hearing).names ≤ MOST_VOICES
+few-behind roll Nobody h few = few
+few-behind roll Here h few = few
+few-behind roll First h few = lit≤ tt
+few-behind roll Each h few = few
+few-behind roll (Former place) h few = few
+few-behind roll (New name) h few = omega (arith, h.room, length-append roll.names (name ∷ []))
 
--- No voice is mentioned twice behind a V:.
-distinct_named : (names : List (List ℕ)) (name : List ℕ) → IsDistinct bytes_eq names → IsDistinct bytes_eq (with_name names name)
-distinct_named names name distinct = by (list_any (bytes_eq name) names) refl
-  where
-    by : (b : Bool) → list_any (bytes_eq name) names ≡ b → IsDistinct bytes_eq (if b then names else names ++ name ∷ [])
-    by true is = distinct
-    by false is = IsDistinct-push nat_list_eq_equiv names name distinct is
+few-at : (opening : Roll) → length opening.names ≤ MOST_VOICES → (before : List Element) → length (roll_at opening before).names ≤ MOST_VOICES
+few-at opening few [] = few
+few-at opening few (element ∷ before) =
+    let roll = roll_at opening before in
+    few-behind roll (hearing_of roll element.kind) (among roll element.kind) (few-at opening few before)
 
--- Nor behind a token that mentions the voice without a name.
-distinct_unnamed : (b : Bool) (names : List (List ℕ)) → IsDistinct bytes_eq names → IsDistinct bytes_eq (with_unnamed b names)
-distinct_unnamed true [] distinct = IsDistinct-cons bytes_eq [] [] tt distinct
-distinct_unnamed true (first ∷ names) distinct = distinct
-distinct_unnamed false names distinct = distinct
+-- A body begins with the voices that the fields of its header declare.
+opening-keys : (opening : Defaults) (fields : List Field) (key : Key) → keys_of (opening_at opening fields key).voices ≡ keys_of (header_at opening fields).voices
+opening-keys opening fields key = opening_names (header_at opening fields) key
 
--- Nor behind any token.
-distinct_behind : (names : List (List ℕ)) (kind : TokenKind) (made : Option (List ℕ)) → IsDistinct bytes_eq names → IsDistinct bytes_eq (mentioned_behind names kind made)
-distinct_behind names kind (Some name) distinct = distinct_named names name distinct
-distinct_behind names kind None distinct = distinct_unnamed (mentions kind) names distinct
+module _ (opening : Defaults) (fields : List Field) (key : Key) (before : List Element) where
+  pub voices_distinct : IsDistinct bytes_eq (roll_of (held_at (opening_at opening fields key) before)).names
+  voices_distinct =
+      subst (λ (roll : Roll). IsDistinct bytes_eq roll.names) (sym (roll-held (opening_at opening fields key) before))
+      (distinct-at (roll_of (opening_at opening fields key))
+      (subst (IsDistinct bytes_eq) (sym (opening-keys opening fields key ∙ declared_keys fields)) (distinct_names fields)) before)
 
--- No voice is mentioned twice.
-pub voices_distinct : (declared : List (List ℕ)) (before : List Element) → IsDistinct bytes_eq declared → IsDistinct bytes_eq (voices_of declared before)
-voices_distinct declared [] distinct = distinct
-voices_distinct declared (element ∷ before) distinct =
-    let mentioned = voices_of declared before in
-    distinct_behind mentioned element.kind (made_current_by mentioned element.kind) (voices_distinct declared before distinct)
+  pub voices_few : length (roll_of (held_at (opening_at opening fields key) before)).names ≤ MOST_VOICES
+  voices_few =
+      subst (λ (roll : Roll). length roll.names ≤ MOST_VOICES) (sym (roll-held (opening_at opening fields key) before))
+      (few-at (roll_of (opening_at opening fields key))
+      (subst (λ (names : List (List ℕ)). length names ≤ MOST_VOICES) (sym (opening-keys opening fields key ∙ declared_keys fields)) (few_names fields)) before)
 
--- The voice without a name is at most the first.
-few_unnamed : (b : Bool) (names : List (List ℕ)) → length names ≤ MOST_VOICES → length (with_unnamed b names) ≤ MOST_VOICES
-few_unnamed true [] few = omega arith
-few_unnamed true (first ∷ names) few = few
-few_unnamed false names few = few
-
--- A V: that counts makes no more than fifteen.
-few_behind : (names : List (List ℕ)) (kind : TokenKind) (said : Option (List ℕ)) → length names ≤ MOST_VOICES
-    → length (mentioned_behind names kind (if_accepted names said)) ≤ MOST_VOICES
-few_behind names kind None few = few_unnamed (mentions kind) names few
-few_behind names kind (Some name) few = by (list_any (bytes_eq name) names) (nat_lt (length names) MOST_VOICES) refl refl
-  where
-    by : (there room : Bool) → list_any (bytes_eq name) names ≡ there → nat_lt (length names) MOST_VOICES ≡ room
-        → length (mentioned_behind names kind (if there || room then Some name else None)) ≤ MOST_VOICES
-    by true room is fits = subst (λ b. length (if b then names else names ++ name ∷ []) ≤ MOST_VOICES) (sym is) few
-    by false true is fits =
-        let less : length names < MOST_VOICES = grind (arith, nat_tests) in
-        let more : length (names ++ name ∷ []) ≤ MOST_VOICES = omega (arith, less, length-append names (name ∷ [])) in
-        subst (λ b. length (if b then names else names ++ name ∷ []) ≤ MOST_VOICES) (sym is) more
-    by false false is fits = few_unnamed (mentions kind) names few
-
--- There are at most fifteen voices.
-pub voices_few : (declared : List (List ℕ)) (before : List Element) → length declared ≤ MOST_VOICES → length (voices_of declared before) ≤ MOST_VOICES
-voices_few declared [] few = few
-voices_few declared (element ∷ before) few =
-    few_behind (voices_of declared before) element.kind (said_by_field name_said element.kind) (voices_few declared before few)
+  pub current_placed : IsPlaced (roll_of (held_at (opening_at opening fields key) before)).names (roll_of (held_at (opening_at opening fields key) before)).current
+  current_placed =
+      subst (λ (roll : Roll). IsPlaced roll.names roll.current) (sym (roll-held (opening_at opening fields key) before))
+      (placed-at (roll_of (opening_at opening fields key)) (placed-opening (header_at opening fields) key) before)

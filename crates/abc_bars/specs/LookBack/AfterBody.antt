@@ -3,11 +3,19 @@ use Rattle.std.specs.Prelude.{Bool, true, false}
 use Rattle.abc_scan.specs.declared.token.TokenKind.{TokenKind}
 use Rattle.abc_scan.specs.declared.token.TokenKind.TheVariants as kinds
 use Rattle.abc_bars.specs.declared.body.Body.{Body}
+use Rattle.abc_bars.specs.Broken.{has_note}
 use Rattle.abc_bars.specs.Body.{here, mentioned, with_here}
 use Rattle.abc_bars.specs.BodyFields.{field_given}
 use Rattle.abc_bars.specs.LookBack.After.{after}
 use Rattle.abc_bars.specs.LookBack.Element.{Element}
-use Rattle.abc_bars.specs.LookBack.Voices.{mentions}
+
+-- Whether a token mentions its voice: a note, a chord that is not empty, a rest or a rest of bars. Our own.
+abbrev pub mentions : TokenKind → Bool
+mentions (kinds.Note note) = true
+mentions (kinds.Rest length) = true
+mentions (kinds.BarRest bars) = true
+mentions (kinds.Chord chord) = has_note chord.parts
+mentions _ = false
 
 -- The current voice is mentioned, where a token mentions it.
 abbrev pub mentioned_if : Bool → Body → Body

@@ -1,6 +1,6 @@
 -- What holds at a place of a tune's body, by looking back over what stands before it, newest first. Voices
 -- go by their places in the order of their mention.
-use Rattle.std.specs.Prelude.{ℕ, zero, suc, nat_lt, Bool, true, false, if◌then◌else◌, List, [], ◌∷◌, ◌++◌, length, position, slice_range, bytes_eq, Option, Some, None, is_some, unwrap_or, Result, Ok, Err}
+use Rattle.std.specs.Prelude.{ℕ, suc, ◌≡◌, ◌<◌, ◌==◌, nat_lt, Bool, true, false, if◌then◌else◌, List, [], ◌∷◌, ◌++◌, length, position, slice_range, bytes_eq, Option, Some, None, is_some, unwrap_or, Result, Ok, Err}
 use Rattle.std.specs.Map.{keys_of}
 use Rattle.std.specs.Result.{result_ok}
 use Rattle.abc_fields.specs.declared.fault.FaultCode.{FaultCode}
@@ -132,17 +132,10 @@ pub record Music : Type 0 where
 abbrev pub with_heard : Element → Music → Music
 with_heard element music = record { opening = music.opening; before = element ∷ music.before }
 
--- Two places are the same.
-abbrev pub is_place : ℕ → ℕ → Bool
-is_place zero zero = true
-is_place zero (suc n) = false
-is_place (suc m) zero = false
-is_place (suc m) (suc n) = is_place m n
-
 -- The voice at a place of their order is the current one.
 abbrev pub is_current : Option ℕ → ℕ → Bool
 is_current None at = false
-is_current (Some place) at = is_place at place
+is_current (Some place) at = at == place
 
 -- What belongs to the voice at a place of their order, behind a token, where so much did before it and so
 -- much to the voice without a name.
@@ -151,9 +144,9 @@ music_behind another roll Nobody element unnamed at music = music
 music_behind another roll Here element unnamed at music = if is_current roll.current at then with_heard element music else music
 music_behind another roll First element unnamed at music = with_heard element unnamed
 music_behind another roll Each element unnamed at music = with_heard element music
-music_behind another roll (Former place) element unnamed at music = if is_place at place then with_heard element music else music
+music_behind another roll (Former place) element unnamed at music = if at == place then with_heard element music else music
 music_behind another roll (New name) element unnamed at music =
-    if is_place at (length roll.names) then record { opening = another; before = element ∷ [] } else music
+    if at == length roll.names then record { opening = another; before = element ∷ [] } else music
 
 -- What belongs to the voice without a name, while it is not mentioned.
 abbrev pub unnamed_behind : Hearing → Element → Music → Music
@@ -169,21 +162,26 @@ abbrev pub place_of_current : Current → Option ℕ
 place_of_current (Unnamed settings) = None
 place_of_current (At place) = Some place
 
--- The voices where a body begins.
-abbrev pub opening_roll : Body → Roll
-opening_roll opening = record { names = keys_of opening.voices; current = place_of_current opening.current }
+-- The voices of a body.
+abbrev pub roll_of : Body → Roll
+roll_of body = record { names = keys_of body.voices; current = place_of_current body.current }
+
+-- The current voice is one of those that are mentioned, or the one without a name as long as none is.
+abbrev pub IsPlaced : List (List ℕ) → Option ℕ → Type 0
+IsPlaced names None = names ≡ []
+IsPlaced names (Some place) = place < length names
 
 -- What belongs to the voice without a name.
 abbrev pub unnamed_music : Body → List Element → Music
 unnamed_music opening [] = record { opening = opening.another; before = [] }
 unnamed_music opening (element ∷ before) =
-    unnamed_behind (hearing_of (roll_at (opening_roll opening) before) element.kind) element (unnamed_music opening before)
+    unnamed_behind (hearing_of (roll_at (roll_of opening) before) element.kind) element (unnamed_music opening before)
 
 -- What belongs to the voice at a place of their order.
 abbrev pub music_at : Body → ℕ → List Element → Music
 music_at opening at [] = record { opening = unwrap_or (voice_at opening.voices at) opening.another; before = [] }
 music_at opening at (element ∷ before) =
-    let roll = roll_at (opening_roll opening) before in
+    let roll = roll_at (roll_of opening) before in
     music_behind opening.another roll (hearing_of roll element.kind) element (unnamed_music opening before) at (music_at opening at before)
 
 -- What holds for a voice.
@@ -203,7 +201,7 @@ current_by (Some place) settings = At place
 -- What holds at a place.
 unfoldable pub held_at : Body → List Element → Body
 held_at opening before = record {
-  voices = voices_by (λ at. settings_in (music_at opening at before)) (roll_at (opening_roll opening) before).names;
-  current = current_by (roll_at (opening_roll opening) before).current (settings_in (unnamed_music opening before));
+  voices = voices_by (λ at. settings_in (music_at opening at before)) (roll_at (roll_of opening) before).names;
+  current = current_by (roll_at (roll_of opening) before).current (settings_in (unnamed_music opening before));
   another = opening.another;
 }

@@ -1,4 +1,4 @@
-use Rattle.std.proofs.Common.{rules, ◌≡◌, ◌∙◌, sym, ap, ℕ, ◌+◌, ◌-◌, ◌∷◌, length, take, drop, arith, take_all, length-drop}
+use Rattle.std.proofs.Common.{◌≡◌, ◌∙◌, sym, ap, ◌+◌, ◌-◌, ◌∷◌, length, take, drop, arith, take_all, length-drop}
 use Rattle.std.proofs.lemmas.List.{drop_more}
 use Rattle.abc_bars.specs.Cell.{given_from}
 use Rattle.abc_bars.proofs.CellLoop.{given-step}
@@ -9,10 +9,6 @@ loop-at-preserved c =
     let cell = c.args.cell.now in
     let at = c.loop-at.at in
     let behind : take (length cell - (at + 1)) (drop (at + 1) cell) ≡ drop (at + 1) cell = take_all _ _ (omega (arith, length-drop (at + 1) cell)) in
-    record {
-      rest =
-          given-step c.loop-at.given c.token.new.self c.index-cell-at.result (drop (at + 1) cell) _ behind c.in_ok-token.ensures.value
-          ∙ ap (λ l. given_from c.loop-at.given l) (sym (drop_more cell at c.index-cell-at.result c.loop-at-test.true ∙ ap (λ t. t ∷ drop (at + 1) cell) (sym c.index-cell-at.is)))
-          ∙ c.loop-at.invariant.rest;
-      range = c.in_ok-token.ensures.range;
-    }
+    given-step c.loop-at.given c.token.new.self c.index-cell-at.result (drop (at + 1) cell) _ behind c.in_ok-token.ensures
+    ∙ ap (λ l. given_from c.loop-at.given l) (sym (drop_more cell at c.index-cell-at.result c.loop-at-test.true ∙ ap (λ t. t ∷ drop (at + 1) cell) (sym c.index-cell-at.is)))
+    ∙ c.loop-at.invariant

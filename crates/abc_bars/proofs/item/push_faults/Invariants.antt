@@ -1,5 +1,5 @@
 use Rattle.std.proofs.Common.{◌≡◌, ◌++◌, take}
-use Rattle.abc_bars.proofs.time_tokens.push_faults.Given as goal
+use Rattle.abc_bars.proofs.item.push_faults.Given as goal
 
 -- the faults so far stand behind the old ones
 abbrev pub invariant-loop-fault : goal.invariant-loop-fault
