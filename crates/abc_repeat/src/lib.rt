@@ -17,4 +17,5 @@ pub use fault::{OrderFault, RepeatFault};
 pub use mark::Mark;
 pub use order::{MOST_SECTIONS, Played, order_limits, play_order};
 pub use play::{MOST_PLACES, expand, play_limits};
+pub use size::play_size;
 pub use strain::one_reading;

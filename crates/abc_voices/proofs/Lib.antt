@@ -1,2 +1,9 @@
 pub mod Cuts
 pub mod Examples
+pub mod Fitting
+pub mod Layouts
+pub mod Lengths
+pub mod Mapped
+pub mod Placed
+pub mod Staged
+pub mod Within

@@ -1,18 +1,21 @@
 -- A tune laid out in time: its sections one after another, in each its voices beside one another. Our own.
-use Rattle.std.specs.Prelude.{ℕ, pos, ◌+◌, ◌<◌, max, Bool, true, false, not, ◌&&◌, ◌==◌, List, [], ◌∷◌, ◌++◌, length, map, filter_map, slice_get, sum_by, Option, Some, None}
+use Rattle.std.specs.Prelude.{ℕ, pos, ◌+◌, max, nat_lt, Bool, true, false, not, ◌&&◌, ◌||◌, ◌==◌, List, [], ◌∷◌, ◌++◌, length, map, filter_map, slice_get, sum_by, Option, Some, None}
 use Rattle.std.specs.List.{list_any, flat_map}
 use Rattle.abc_bars.specs.declared.item.Item.{Item}
 use Rattle.abc_bars.specs.declared.item.Item.TheVariants as items
+use Rattle.abc_bars.specs.Item.{Items}
 use Rattle.abc_fields.specs.declared.meter.Meter.TheVariants as meters
 use Rattle.abc_repeat.specs.declared.order.TheConstants.{MOST_SECTIONS}
 use Rattle.abc_repeat.specs.declared.play.TheConstants.{MOST_PLACES}
 use Rattle.abc_repeat.specs.Order.{sections_of, has_unknown}
 use Rattle.abc_time.specs.declared.grains.Grains.{Grains}
 use Rattle.abc_time.specs.Grains.{grains_of_the_latest_end}
+use Rattle.abc_voices.specs.declared.arranged.Arranged.{Arranged}
 use Rattle.abc_voices.specs.declared.score.Score.{Score}
 use Rattle.abc_voices.specs.declared.score.Sounding.{Sounding}
 use Rattle.abc_voices.specs.Change.{tempo_of, meter_of, key_of, set_from}
 use Rattle.abc_voices.specs.Conduct.{conductor}
+use Rattle.abc_voices.specs.Limits.{is_within_limits}
 use Rattle.abc_voices.specs.Linked.{Notes, notes_from}
 use Rattle.abc_voices.specs.Moved.{moved}
 use Rattle.abc_voices.specs.Opening.{tempo_past, meter_past, key_past, order_past, past_all, title_of}
@@ -95,12 +98,6 @@ differ item_of section a b =
 abbrev pub is_uneven : {A : Type 0} → (A → Item) → List (List ℕ) → List ℕ × List A → Bool
 is_uneven item_of voices section = list_any (λ a. list_any (differ item_of section a) voices) voices
 
--- A tune laid out: its notes and changes, whether voices were uneven, whether a part of its order is unknown.
-pub record Layout : Type 0 where
-  pub score : Score
-  pub uneven : Bool
-  pub unknown : Bool
-
 -- The sum of the sections of a tune.
 abbrev pub total : {A : Type 0} → (A → Item) → List A → ℕ
 total item_of tune = sum_by (longest item_of (everyone item_of tune)) (played_sections item_of tune)
@@ -125,21 +122,40 @@ changes_of item_of tune =
     ((record { 0 = 0 }, or_else meters.Free (past_all item_of meter_past None tune)) ∷ set_in item_of meter_of voices first 0 played)
     ((record { 0 = 0 }, or_else (pos 0, false) (past_all item_of key_past None tune)) ∷ set_in item_of key_of voices first 0 played)
 
--- The layout of a tune.
-abbrev pub arranged_of : {A : Type 0} → (A → Item) → List A → Layout
+-- The score of a tune: its title, its end, its changes and the notes of each voice.
+abbrev pub score_of : {A : Type 0} → (A → Item) → List A → Score
+score_of item_of tune = record {
+  title = title_of item_of tune;
+  end = record { 0 = end_of item_of tune };
+  conductor = changes_of item_of tune;
+  voices = voices_notes item_of tune;
+}
+
+-- A tune laid out: its score, whether voices of a section that is played are uneven, whether the order names a
+-- part that the tune does not have.
+unfoldable pub arranged_of : {A : Type 0} → (A → Item) → List A → Arranged
 arranged_of item_of tune = record {
-  score = record {
-    title = title_of item_of tune;
-    end = record { 0 = end_of item_of tune };
-    conductor = changes_of item_of tune;
-    voices = voices_notes item_of tune;
-  };
+  score = score_of item_of tune;
   uneven = list_any (is_uneven item_of (everyone item_of tune)) (played_sections item_of tune);
   unknown = has_unknown (past_all item_of order_past None tune) (letters item_of tune);
 }
 
--- A tune that is too long to be laid out: too many sections, too many places, or a moment too late.
-pub data IsTuneTooLong {A : Type 0} (item_of : A → Item) (tune : List A) : Type 0 where
-  sections_played : MOST_SECTIONS < length (sections_of (past_all item_of order_past None tune) (letters item_of tune)) → IsTuneTooLong item_of tune
-  places_played : MOST_PLACES < sum_by (λ section. sum_by (size_in item_of section) (everyone item_of tune)) (played_sections item_of tune) → IsTuneTooLong item_of tune
-  late : grains_of_the_latest_end < end_of item_of tune → IsTuneTooLong item_of tune
+-- How many sections of a tune are played, the opening one among them.
+abbrev pub sections_played : {A : Type 0} → (A → Item) → List A → ℕ
+sections_played item_of tune = length (sections_of (past_all item_of order_past None tune) (letters item_of tune))
+
+-- How many places of a tune are played, each as often as it is, over all voices.
+abbrev pub places_played : {A : Type 0} → (A → Item) → List A → ℕ
+places_played item_of tune =
+    sum_by (λ section. sum_by (size_in item_of section) (everyone item_of tune)) (played_sections item_of tune)
+
+-- Whether a tune is too long: too many sections, too many places, a moment too late, or a score that no file
+-- can hold. Our own.
+unfoldable pub is_too_long : {A : Type 0} → (A → Item) → List A → Bool
+is_too_long item_of tune =
+    nat_lt MOST_SECTIONS (sections_played item_of tune) || nat_lt MOST_PLACES (places_played item_of tune)
+    || nat_lt grains_of_the_latest_end (end_of item_of tune) || not (is_within_limits (score_of item_of tune))
+
+-- What cells give, one after another.
+abbrev pub items_in : List Items → List Item
+items_in items = flat_map (λ one. one.items) items

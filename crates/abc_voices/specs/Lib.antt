@@ -1,3 +1,4 @@
+pub mod Along
 pub mod Arrange
 pub mod Change
 pub mod Conduct
@@ -8,5 +9,7 @@ pub mod Opening
 pub mod Play
 pub mod Section
 pub mod Settle
+pub mod Stage
+pub mod Stages
 pub mod Step
 pub mod Track

@@ -2,9 +2,12 @@
 //! file is written from, and its limits.
 #![tactic(auto)]
 
-mod arrange;
+mod along;
+mod arranged;
 mod change;
 mod conduct;
+mod laid;
+mod layout;
 mod limits;
 mod linked;
 mod moved;
@@ -12,14 +15,21 @@ mod notes;
 mod opening;
 mod play;
 mod score;
+mod score_laws;
 mod section;
+mod setting;
 mod settle;
+mod stage;
+mod stages;
 mod step;
+mod timing;
 mod track;
+mod voice;
 
-pub use arrange::{last_off, plays_time};
+pub use arranged::{Arranged, BuildFault};
 pub use change::{put_keys, put_meters, put_tempos};
 pub use conduct::conductor;
+pub use layout::arrange;
 pub use limits::{
     LONGEST_TITLE, MOST_CHANGES, MOST_NOTES, MOST_VOICES, is_within_limits, score_limits,
 };
@@ -27,6 +37,8 @@ pub use notes::put_notes;
 pub use opening::{opening_key, opening_meter, opening_tempo, order_of, title_of};
 pub use play::{duration, played};
 pub use score::{Change, ChangeKind, Score, Sounding};
+pub use score_laws::scores_fit;
 pub use section::{Section, letters, part, sections};
 pub use settle::settled;
+pub use timing::{last_off, plays_time};
 pub use track::{everyone, nameless_plays};

@@ -1,7 +1,8 @@
 //! The limits within which a file can hold a score.
-ghost use Rattle.std.specs.Prelude.{◌≡◌, ◌≤◌, ◌↔◌, ◌-◌, ◌^◌, All, IsTrue};
+ghost use Rattle.std.specs.Prelude.{◌≡◌, ◌≤◌, ◌↔◌, ◌-◌, ◌^◌, nat_le, All, IsTrue};
 ghost use Rattle.abc_time.specs.Grains.{grains_of_the_latest_end};
-ghost use Rattle.abc_voices.specs.Limits.{IsWritable, IsChangeWithin, IsSoundingWithin, IsVoiceWithin, AreCountsWithin, IsWithinLimits};
+ghost use Rattle.std.specs.List.{list_all};
+ghost use Rattle.abc_voices.specs.Limits.{IsWritable, IsChangeWithin, IsSoundingWithin, IsVoiceWithin, AreCountsWithin, IsWithinLimits, is_writable, is_change_within, is_note_within, is_voice_within, are_counts_within, is_within_limits};
 
 use crate::score::{Change, ChangeKind, Score, Sounding};
 use abc_text::{Sequence, is_power_up_to};
@@ -32,8 +33,10 @@ const MOST_HALVINGS: u32 = 6;
 
 /// Whether a file can hold the score: its end at most 131,072 whole notes, changes and notes within
 /// it, at most 15 voices, and so few events that each track's length fits 32 bits.
+#[tactic(auto, unfolding(crate::specs::Limits::is_within_limits))]
 pub fn is_within_limits(score: &Score) -> bool
-    ensures { IsTrue result ↔ IsWithinLimits score.now }
+    ensures value { result ≡ is_within_limits score.now }
+    ensures limits { IsTrue result ↔ IsWithinLimits score.now }
 {
     are_counts_within(score)
         && are_changes_within(score.end, score.conductor.as_slice())
@@ -42,7 +45,8 @@ pub fn is_within_limits(score: &Score) -> bool
 
 /// Whether the end and the counts are within their limits.
 fn are_counts_within(score: &Score) -> bool
-    ensures { IsTrue result ↔ AreCountsWithin score.now }
+    ensures value { result ≡ are_counts_within score.now }
+    ensures limits { IsTrue result ↔ AreCountsWithin score.now }
 {
     is_in_time(score.end)
         && score.title.len() <= LONGEST_TITLE
@@ -53,28 +57,32 @@ fn are_counts_within(score: &Score) -> bool
 /// Whether a tune may end then.
 #[tactic(auto, unfolding(abc_time::specs::Grains::grains_of_a_whole_note, abc_time::specs::Grains::grains_of_the_latest_end))]
 fn is_in_time(end: Grains) -> bool
-    ensures { IsTrue result ↔ (end.0 ≤ grains_of_the_latest_end) }
+    ensures value { result ≡ nat_le end.0 grains_of_the_latest_end }
+    ensures limits { IsTrue result ↔ (end.0 ≤ grains_of_the_latest_end) }
 {
     end <= LATEST_END
 }
 
 /// Whether each change is within its limits.
 fn are_changes_within(end: Grains, changes: &[Change]) -> bool
-    ensures { IsTrue result ↔ All (IsChangeWithin end) changes.now }
+    ensures value { result ≡ list_all (is_change_within end) changes.now }
+    ensures limits { IsTrue result ↔ All (IsChangeWithin end) changes.now }
 {
     changes.iter().all(|change| is_change_within(end, change))
 }
 
 /// Whether a change comes before the end or at it, and a file can say it.
 fn is_change_within(end: Grains, change: &Change) -> bool
-    ensures { IsTrue result ↔ IsChangeWithin end change.now }
+    ensures value { result ≡ is_change_within end change.now }
+    ensures limits { IsTrue result ↔ IsChangeWithin end change.now }
 {
     change.at <= end && is_writable(change.what)
 }
 
 /// Whether a file can say a change.
 fn is_writable(what: ChangeKind) -> bool
-    ensures { IsTrue result ↔ IsWritable what }
+    ensures value { result ≡ is_writable what }
+    ensures limits { IsTrue result ↔ IsWritable what }
 {
     match what {
         ChangeKind::Tempo(micros) => 1 <= micros && micros < 1 << 24,
@@ -85,7 +93,8 @@ fn is_writable(what: ChangeKind) -> bool
 
 /// Whether each voice is within its limits.
 fn are_voices_within(end: Grains, voices: &[Sequence<Sounding>]) -> bool
-    ensures { IsTrue result ↔ All (IsVoiceWithin end) voices.now }
+    ensures value { result ≡ list_all (is_voice_within end) voices.now }
+    ensures limits { IsTrue result ↔ All (IsVoiceWithin end) voices.now }
 {
     voices
         .iter()
@@ -94,21 +103,24 @@ fn are_voices_within(end: Grains, voices: &[Sequence<Sounding>]) -> bool
 
 /// Whether a voice has few enough notes, each within its limits.
 fn is_voice_within(end: Grains, notes: &[Sounding]) -> bool
-    ensures { IsTrue result ↔ IsVoiceWithin end notes.now }
+    ensures value { result ≡ is_voice_within end notes.now }
+    ensures limits { IsTrue result ↔ IsVoiceWithin end notes.now }
 {
     notes.len() <= MOST_NOTES && are_notes_within(end, notes)
 }
 
 /// Whether each note is within its limits.
 fn are_notes_within(end: Grains, notes: &[Sounding]) -> bool
-    ensures { IsTrue result ↔ All (IsSoundingWithin end) notes.now }
+    ensures value { result ≡ list_all (is_note_within end) notes.now }
+    ensures limits { IsTrue result ↔ All (IsSoundingWithin end) notes.now }
 {
     notes.iter().all(|note| is_note_within(end, note))
 }
 
 /// Whether a note has a key of MIDI, and ends before the end or at it.
 fn is_note_within(end: Grains, note: &Sounding) -> bool
-    ensures { IsTrue result ↔ IsSoundingWithin end note.now }
+    ensures value { result ≡ is_note_within end note.now }
+    ensures limits { IsTrue result ↔ IsSoundingWithin end note.now }
 {
     note.on <= note.off && note.off <= end && note.key <= 127
 }

@@ -1,6 +1,6 @@
 //! What a voice plays of a section.
 
-ghost use Rattle.std.specs.Prelude.{◌≡◌, ◌<◌, ◌≤◌, length, All, IfOk, IfSome, MatchOption, filter_map, slice_get};
+ghost use Rattle.std.specs.Prelude.{◌≡◌, ◌<◌, ◌≤◌, min, length, All, IfOk, IfSome, MatchOption, filter_map, slice_get};
 ghost use Rattle.abc_repeat.specs.declared.play.TheConstants.{MOST_PLACES};
 ghost use Rattle.abc_repeat.specs.declared.fault.RepeatFault.TheVariants.{TooLong};
 ghost use Rattle.abc_time.specs.Grains.{grains_of_the_latest_end};
@@ -10,7 +10,7 @@ ghost use Rattle.abc_voices.specs.Play.{marks_of, places_of, played, duration};
 use crate::moved::moved;
 use crate::step::{length_of, mark_of};
 use abc_bars::Item;
-use abc_repeat::{Mark, RepeatFault, expand};
+use abc_repeat::{Mark, RepeatFault, expand, play_size};
 use abc_time::{Grains, LATEST_END};
 use std::alloc::{AllocError, Global};
 
@@ -32,7 +32,8 @@ fn chosen<'a>(
     places: &[usize],
 ) -> Result<Vec<&'a Item>, AllocError>
     requires { All (λ place. place < length steps.now) places.now }
-    ensures { IfOk result (λ items. items.items ≡ filter_map (slice_get steps.now) places.now) }
+    ensures value { IfOk result (λ items. items.items ≡ filter_map (slice_get steps.now) places.now) }
+    ensures size { IfOk result (λ items. length items.items ≡ length places.now) }
 {
     let mut items = Vec::with_capacity(alloc, places.len())?;
     for place in places {
@@ -41,15 +42,20 @@ fn chosen<'a>(
     Ok(items)
 }
 
-/// What is played of the items of a voice in a section, in order of play.
-pub fn played<'a>(alloc: Global, part: &[&'a Item]) -> Result<Vec<&'a Item>, RepeatFault>
+/// What is played of the items of a voice in a section, in order of play, where there is room for so many
+/// places. Memory for the play is asked for only where there is room.
+pub fn played<'a>(alloc: Global, part: &[&'a Item], room: u64) -> Result<Vec<&'a Item>, RepeatFault>
     ensures value { IfOk result (λ items. items.items ≡ played (λ step. step.now) part.now) }
-    ensures short { IfOk result (λ _. length (places_of (λ step. step.now) (moved (λ step. step.now) part.now)) ≤ MOST_PLACES) }
+    ensures size { IfOk result (λ items. length items.items ≡ length (places_of (λ step. step.now) (moved (λ step. step.now) part.now))) }
+    ensures within { IfOk result (λ items. length items.items ≤ min room MOST_PLACES) }
     ensures too_long { result ≡ Err TooLong
-        → MOST_PLACES < length (places_of (λ step. step.now) (moved (λ step. step.now) part.now)) }
+        → min room MOST_PLACES < length (places_of (λ step. step.now) (moved (λ step. step.now) part.now)) }
 {
     let steps = moved(alloc, part)?;
     let marks = marks_of(alloc, &steps)?;
+    if play_size(&marks) > room {
+        return Err(RepeatFault::TooLong);
+    }
     let places = expand(alloc, &marks)?;
     let items = chosen(alloc, &steps, &places)?;
     Ok(items)

@@ -1,4 +1,4 @@
-//! A tune laid out in time.
+//! What takes time, and when notes are over.
 
 ghost use Rattle.std.specs.Prelude.{◌≡◌};
 ghost use Rattle.std.specs.List.{list_any};

@@ -1,7 +1,7 @@
 use Rattle.std.proofs.Common.{◌≡◌, drop}
 use Rattle.std.specs.List.{list_any}
 use Rattle.abc_voices.specs.Arrange.{takes_time}
-use Rattle.abc_voices.proofs.arrange.plays_time.Given as goal
+use Rattle.abc_voices.proofs.timing.plays_time.Given as goal
 
 -- the rest says what the whole does
 abbrev pub invariant-loop-step : goal.invariant-loop-step

@@ -1,6 +1,6 @@
 use Rattle.std.proofs.Common.{◌≡◌, drop}
 use Rattle.abc_voices.specs.Arrange.{last_off}
-use Rattle.abc_voices.proofs.arrange.last_off.Given as goal
+use Rattle.abc_voices.proofs.timing.last_off.Given as goal
 
 -- the last so far, and of the rest
 abbrev pub invariant-loop-note : goal.invariant-loop-note

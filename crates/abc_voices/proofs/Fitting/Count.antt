@@ -1,0 +1,85 @@
+-- How many notes and changes there are, by how much is played.
+use Rattle.std.proofs.Common.{ℕ, ◌+◌, ◌*◌, ◌≤◌, true, false, List, [], ◌∷◌, length, Option, Some, None, arith, zero, suc, length-append}
+use Rattle.std.specs.Prelude.{All, IfSome, remove, filter_map, slice_get}
+use Rattle.std.specs.List.{cons_option}
+use Rattle.std.proofs.lemmas.List.Elements.{All-head, All-tail}
+use Rattle.abc_bars.specs.Item.{IsItem}
+use Rattle.abc_bars.specs.declared.item.Item.{Item}
+use Rattle.abc_bars.specs.declared.item.Item.TheVariants as items
+use Rattle.abc_bars.specs.declared.item.Tone.{Tone}
+use Rattle.abc_voices.specs.declared.score.Sounding.{Sounding}
+use Rattle.abc_voices.specs.Linked.{Linked, Notes, own_note, lengthened, with_note, next_place, with_key, with_tones, before, notes_from}
+use Rattle.abc_voices.specs.Step.{length_of, tones_of}
+
+-- How many notes of both kinds there are.
+abbrev pub linked_notes : Linked → ℕ
+linked_notes linked = length linked.begun + length linked.next
+
+abbrev pub notes_of : Notes → ℕ
+notes_of notes = length notes.first + length notes.others
+
+shorter : {X : Type 0} (xs : List X) (place : ℕ) → length (remove xs place) ≤ length xs
+shorter [] zero = omega arith
+shorter [] (suc place) = omega arith
+shorter (x ∷ xs) zero = omega arith
+shorter (x ∷ xs) (suc place) = omega (arith, shorter xs place)
+
+note_more : (note : Sounding) (linked : Linked) (place : Option ℕ) → linked_notes (with_note note linked place) ≤ linked_notes linked + 1
+note_more note linked None = omega (arith, length-append linked.begun (note ∷ []))
+note_more note linked (Some place) = omega (arith, length-append linked.begun (lengthened note linked.next place ∷ []), shorter linked.next place)
+
+key_more : (at : ℕ) (tone : Tone) (linked : Linked) (key : Option ℕ) → linked_notes (with_key at tone linked key) ≤ linked_notes linked + 1
+key_more at tone linked None = omega arith
+key_more at tone linked (Some key) = note_more (own_note at tone.length.0 key) linked (next_place tone.tied key linked.next)
+
+tones_more : (at : ℕ) (linked : Linked) (tones : List Tone) → linked_notes (with_tones at linked tones) ≤ linked_notes linked + length tones
+tones_more at linked [] = omega arith
+tones_more at linked (tone ∷ tones) =
+    omega (arith, tones_more at (with_key at tone linked tone.key) tones, key_more at tone linked tone.key)
+
+-- How many tones a time token has at most.
+abbrev pub IsFew : Option (List Tone) → Type 0
+IsFew tones = IfSome tones (λ these. length these ≤ 16)
+
+before_more : (at : ℕ) (tones : Option (List Tone)) (notes : Notes) → IsFew tones → notes_of (before at tones notes) ≤ notes_of notes + 16
+before_more at None notes few = omega arith
+before_more at (Some tones) notes few =
+    let linked : Linked = with_tones at (record { begun = []; next = notes.first }) tones in
+    omega (arith, few, tones_more at (record { begun = []; next = notes.first }) tones, length-append notes.others linked.next)
+
+few_tones : (item : Item) → IsItem item → IsFew (tones_of item)
+few_tones (items.Tone tones length) is = is.0.few
+few_tones (items.Rest length true) is = tt
+few_tones (items.Rest length false) is = omega arith
+few_tones (items.Number number) is = tt
+few_tones (items.Bar bar) is = tt
+few_tones (items.Ending passes) is = tt
+few_tones (items.Section letter) is = tt
+few_tones (items.Tempo opening micros out) is = tt
+few_tones (items.Meter opening meter) is = tt
+few_tones (items.Key opening key) is = tt
+few_tones (items.Voice opening name) is = tt
+few_tones (items.Title title) is = tt
+few_tones (items.Order order) is = tt
+
+-- Each step gives sixteen notes at most.
+pub notes_few : {A : Type 0} (item_of : A → Item) (at : ℕ) (steps : List A) (notes : Notes) → All (λ step. IsItem (item_of step)) steps
+    → notes_of (notes_from item_of at steps notes) ≤ notes_of notes + 16 * length steps
+notes_few item_of at [] notes all = omega arith
+notes_few {A} item_of at (step ∷ steps) notes all =
+    let P : A → Type 0 = λ s. IsItem (item_of s) in
+    let k : ℕ = length_of (item_of step) in
+    omega (
+      arith,
+      notes_few item_of (at + k) steps notes (All-tail P step steps all),
+      before_more at (tones_of (item_of step)) (notes_from item_of (at + k) steps notes) (few_tones (item_of step) (All-head P step steps all)),
+    )
+
+one_more : {A : Type 0} (x : Option A) (xs : List A) (n : ℕ) → length xs ≤ n → length (cons_option x xs) ≤ suc n
+one_more None xs n few = omega (arith, few)
+one_more (Some x) xs n few = omega (arith, few)
+
+-- What stands at some places is no more than the places.
+pub picked_few : {A : Type 0} (xs : List A) (places : List ℕ) → length (filter_map (slice_get xs) places) ≤ length places
+picked_few xs [] = omega arith
+picked_few xs (place ∷ places) = one_more (slice_get xs place) (filter_map (slice_get xs) places) (length places) (picked_few xs places)

@@ -1,0 +1,115 @@
+-- The notes of what is played have keys of MIDI, begin when they are played or later, and end no sooner.
+use Rattle.std.proofs.Common.{◌≡◌, ℕ, ◌+◌, ◌≤◌, true, false, List, [], ◌∷◌, length, Option, Some, None, arith, refl, subst, zero, suc, take, drop}
+use Rattle.std.specs.Prelude.{All, IfSome, slice_index_or, remove}
+use Rattle.std.proofs.lemmas.List.Elements.{All-nil, All-head, All-tail, All-append, All-push, All-take, All-drop, All-weaker}
+use Rattle.abc_bars.specs.Item.{IsItem, IsTone}
+use Rattle.abc_bars.specs.declared.item.Item.{Item}
+use Rattle.abc_bars.specs.declared.item.Item.TheVariants as items
+use Rattle.abc_bars.specs.declared.item.Tone.{Tone}
+use Rattle.abc_voices.specs.declared.score.Sounding.{Sounding}
+use Rattle.abc_voices.specs.Linked.{Linked, Notes, own_note, lengthened, with_note, next_place, with_key, with_tones, before, notes_from}
+use Rattle.abc_voices.specs.Step.{length_of, tones_of}
+
+-- A note that begins then or later, ends no sooner than it begins, and has a key of MIDI.
+pub record Fits (at : ℕ) (note : Sounding) : Type 0 where
+  pub begins : at ≤ note.on.0
+  pub forward : note.on.0 ≤ note.off.0
+  pub key : note.key ≤ 127
+
+earlier : (at k : ℕ) (note : Sounding) → Fits (at + k) note → Fits at note
+earlier at k note fits = record { begins = omega (arith, fits.begins); forward = fits.forward; key = fits.key }
+
+own_fits : (at grains key : ℕ) → key ≤ 127 → Fits at (own_note at grains key)
+own_fits at grains key within = record { begins = omega arith; forward = omega arith; key = within }
+
+-- The element of a list where there is one, else a spare one.
+at_place : {X : Type 0} (P : X → Type 0) (xs : List X) (place : ℕ) (spare : X) → All P xs → P spare → P (slice_index_or xs place spare)
+at_place P [] place spare all own = own
+at_place P (x ∷ xs) zero spare all own = All-head P x xs all
+at_place P (x ∷ xs) (suc place) spare all own = at_place P xs place spare (All-tail P x xs all) own
+
+lengthened_fits : (at : ℕ) (note : Sounding) (next : List Sounding) (place : ℕ) → note.on.0 ≡ at → Fits at note → All (Fits at) next → Fits at (lengthened note next place)
+lengthened_fits at note next place begins own all =
+    let other : Fits at (slice_index_or next place note) = at_place (Fits at) next place note all own in
+    record { begins = own.begins; forward = omega (arith, begins, other.begins, other.forward); key = own.key }
+
+-- What is left of a list where one element is taken out.
+All-remove : {X : Type 0} (P : X → Type 0) (xs : List X) (place : ℕ) → All P xs → All P (remove xs place)
+All-remove P xs place all = All-append P (take place xs) (drop (suc place) xs) (All-take P place xs all) (All-drop P (suc place) xs all)
+
+-- Notes that begin at a time token, and those behind it.
+pub record AreFitting (at : ℕ) (linked : Linked) : Type 0 where
+  pub begun : All (Fits at) linked.begun
+  pub next : All (Fits at) linked.next
+
+with_note_fits : (at : ℕ) (note : Sounding) (linked : Linked) (place : Option ℕ) → note.on.0 ≡ at → Fits at note → AreFitting at linked → AreFitting at (with_note note linked place)
+with_note_fits at note linked None begins own fits =
+    record { begun = All-push (Fits at) linked.begun note fits.begun own; next = fits.next }
+with_note_fits at note linked (Some place) begins own fits =
+    record {
+      begun = All-push (Fits at) linked.begun (lengthened note linked.next place) fits.begun (lengthened_fits at note linked.next place begins own fits.next);
+      next = All-remove (Fits at) linked.next place fits.next;
+    }
+
+with_key_fits : (at : ℕ) (tone : Tone) (linked : Linked) (key : Option ℕ) → IfSome key (λ k. k ≤ 127) → AreFitting at linked → AreFitting at (with_key at tone linked key)
+with_key_fits at tone linked None within fits = fits
+with_key_fits at tone linked (Some key) within fits =
+    with_note_fits at (own_note at tone.length.0 key) linked (next_place tone.tied key linked.next) refl (own_fits at tone.length.0 key within) fits
+
+with_tones_fit : (at : ℕ) (linked : Linked) (tones : List Tone) → All IsTone tones → AreFitting at linked → AreFitting at (with_tones at linked tones)
+with_tones_fit at linked [] all fits = fits
+with_tones_fit at linked (tone ∷ tones) all fits =
+    with_tones_fit at (with_key at tone linked tone.key) tones (All-tail IsTone tone tones all)
+    (with_key_fits at tone linked tone.key (All-head IsTone tone tones all).key fits)
+
+-- Notes of a play.
+pub record AllFit (at : ℕ) (notes : Notes) : Type 0 where
+  pub first : All (Fits at) notes.first
+  pub others : All (Fits at) notes.others
+
+before_fits : (at : ℕ) (tones : Option (List Tone)) (notes : Notes) → IfSome tones (All IsTone) → AllFit at notes → AllFit at (before at tones notes)
+before_fits at None notes all fits = fits
+before_fits at (Some tones) notes all fits =
+    let linked : AreFitting at (with_tones at (record { begun = []; next = notes.first }) tones) =
+    with_tones_fit at (record { begun = []; next = notes.first }) tones all (record { begun = All-nil (Fits at); next = fits.first }) in
+    record { first = linked.begun; others = All-append (Fits at) notes.others _ fits.others linked.next }
+
+tones_within : (item : Item) → IsItem item → IfSome (tones_of item) (All IsTone)
+tones_within (items.Tone tones length) is = is.0.each
+tones_within (items.Rest length true) is = tt
+tones_within (items.Rest length false) is = All-nil IsTone
+tones_within (items.Number number) is = tt
+tones_within (items.Bar bar) is = tt
+tones_within (items.Ending passes) is = tt
+tones_within (items.Section letter) is = tt
+tones_within (items.Tempo opening micros out) is = tt
+tones_within (items.Meter opening meter) is = tt
+tones_within (items.Key opening key) is = tt
+tones_within (items.Voice opening name) is = tt
+tones_within (items.Title title) is = tt
+tones_within (items.Order order) is = tt
+
+pub all_earlier : (at k : ℕ) (notes : Notes) → AllFit (at + k) notes → AllFit at notes
+all_earlier at k notes fits = record {
+  first = All-weaker (Fits (at + k)) (Fits at) (earlier at k) notes.first fits.first;
+  others = All-weaker (Fits (at + k)) (Fits at) (earlier at k) notes.others fits.others;
+}
+
+same_moment : (a b : ℕ) → a ≡ b → (notes : Notes) → AllFit a notes → AllFit b notes
+same_moment a b same notes fits = subst (λ at. AllFit at notes) same fits
+
+-- How long steps take one after another.
+abbrev pub lasting : {A : Type 0} → (A → Item) → List A → ℕ
+lasting item_of [] = 0
+lasting item_of (step ∷ steps) = length_of (item_of step) + lasting item_of steps
+
+-- The notes of steps that are played from a moment on, in front of notes that begin behind them or later.
+pub notes_fit : {A : Type 0} (item_of : A → Item) (at : ℕ) (steps : List A) (notes : Notes) → All (λ step. IsItem (item_of step)) steps
+    → AllFit (at + lasting item_of steps) notes → AllFit at (notes_from item_of at steps notes)
+notes_fit item_of at [] notes all fits = all_earlier at 0 notes fits
+notes_fit {A} item_of at (step ∷ steps) notes all fits =
+    let P : A → Type 0 = λ s. IsItem (item_of s) in
+    let k : ℕ = length_of (item_of step) in
+    let rest : AllFit (at + k) (notes_from item_of (at + k) steps notes) =
+    notes_fit item_of (at + k) steps notes (All-tail P step steps all) (same_moment (at + (k + lasting item_of steps)) ((at + k) + lasting item_of steps) (omega arith) notes fits) in
+    before_fits at (tones_of (item_of step)) (notes_from item_of (at + k) steps notes) (tones_within (item_of step) (All-head P step steps all)) (all_earlier at k (notes_from item_of (at + k) steps notes) rest)

@@ -1,0 +1,130 @@
+-- The notes of each voice are few enough and fit a file.
+use Rattle.std.proofs.Common.{◌≡◌, ℕ, ◌+◌, ◌-◌, ◌*◌, ◌≤◌, max, Bool, true, false, cond, List, [], ◌∷◌, ◌++◌, drop, arith, refl, sym, ap, ◌∙◌, subst}
+use Rattle.std.specs.Prelude.{All, sum_by}
+use Rattle.std.specs.List.{flat_map}
+use Rattle.std.proofs.lemmas.List.Elements.{All-nil, All-cons, All-head, All-tail, All-drop, All-weaker}
+use Rattle.std.proofs.lemmas.List.Sums.{sum_by-cons}
+use Rattle.abc_bars.specs.Item.{IsItem}
+use Rattle.abc_bars.specs.declared.item.Item.{Item}
+use Rattle.abc_voices.specs.declared.score.Sounding.{Sounding}
+use Rattle.abc_voices.specs.Arrange.{play_in, size_in, length_in, longest, voice_notes, last_off}
+use Rattle.abc_voices.specs.Linked.{Notes}
+use Rattle.abc_voices.specs.Moved.{moved}
+use Rattle.abc_voices.specs.Play.{places_of, duration}
+use Rattle.abc_voices.specs.Section.{part}
+use Rattle.abc_voices.specs.Step.{length_of}
+use Rattle.abc_voices.specs.Track.{everyone, tracks, nameless_plays}
+use Rattle.abc_voices.proofs.Fitting.Count.{notes_of, notes_few, picked_few}
+use Rattle.abc_voices.proofs.Fitting.Kept.{play_kept}
+use Rattle.abc_voices.proofs.Fitting.Notes.{Fits, AllFit, all_earlier, lasting, notes_fit}
+
+module _ {A : Type 0} (item_of : A → Item) where
+  pub lasts : (steps : List A) → lasting item_of steps ≡ duration item_of steps
+  lasts [] = refl
+  lasts (step ∷ steps) = ap (λ n. length_of (item_of step) + n) (lasts steps) ∙ sym (sum_by-cons (λ s. length_of (item_of s)) step steps)
+
+  -- How many places of a section are played, over all voices.
+  abbrev pub size_of : List (List ℕ) → List ℕ × List A → ℕ
+  size_of voices section = sum_by (size_in item_of section) voices
+
+  -- A voice is no longer than the longest in each section, and plays no more than all together.
+  pub record IsHeard (voices : List (List ℕ)) (voice : List ℕ) : Type 0 where
+    pub lasts : (section : List ℕ × List A) → length_in item_of section voice ≤ longest item_of voices section
+    pub plays : (section : List ℕ × List A) → size_in item_of section voice ≤ size_of voices section
+
+  heard_first : (voice : List ℕ) (voices : List (List ℕ)) → IsHeard (voice ∷ voices) voice
+  heard_first voice voices = record {
+    lasts = λ section. omega arith;
+    plays = λ section. omega (arith, sum_by-cons (size_in item_of section) voice voices);
+  }
+
+  heard_more : (voice : List ℕ) (voices : List (List ℕ)) (other : List ℕ) → IsHeard voices other → IsHeard (voice ∷ voices) other
+  heard_more voice voices other heard = record {
+    lasts = λ section. omega (arith, heard.lasts section);
+    plays = λ section. omega (arith, heard.plays section, sum_by-cons (size_in item_of section) voice voices);
+  }
+
+  pub all_heard : (voices : List (List ℕ)) → All (IsHeard voices) voices
+  all_heard [] = All-nil (IsHeard [])
+  all_heard (voice ∷ voices) =
+      All-cons (IsHeard (voice ∷ voices)) voice voices (heard_first voice voices)
+      (All-weaker (IsHeard voices) (IsHeard (voice ∷ voices)) (heard_more voice voices) voices (all_heard voices))
+
+  chosen : (P : List ℕ → Type 0) (b : Bool) (xs ys : List (List ℕ)) → All P xs → All P ys → All P (cond b xs ys)
+  chosen P true xs ys here there = here
+  chosen P false xs ys here there = there
+
+  -- The voices that have a track are heard.
+  pub tracks_heard : (tune : List A) → All (IsHeard (everyone item_of tune)) (tracks item_of tune)
+  tracks_heard tune =
+      let P : List ℕ → Type 0 = IsHeard (everyone item_of tune) in
+      chosen P (nameless_plays item_of tune) (everyone item_of tune) (drop 1 (everyone item_of tune)) (all_heard (everyone item_of tune)) (All-drop P 1 (everyone item_of tune) (all_heard (everyone item_of tune)))
+
+  abbrev Items : A → Type 0
+  Items step = IsItem (item_of step)
+
+  abbrev pub ItemsIn : List ℕ × List A → Type 0
+  ItemsIn section = All Items section.1
+
+  moment : (at k n : ℕ) → k ≤ n → at + n ≡ (at + k) + (n - k)
+  moment at k n within = omega (arith, within)
+
+  later_fit : (at k n : ℕ) (notes : Notes) → k ≤ n → AllFit (at + n) notes → AllFit (at + k) notes
+  later_fit at k n notes within fits =
+      all_earlier (at + k) (n - k) notes (subst (λ m. AllFit m notes) (moment at k n within) fits)
+
+  -- The notes of a voice in sections that are played from a moment on.
+  pub voice_fits : (voices : List (List ℕ)) (voice : List ℕ) → IsHeard voices voice → (at : ℕ) (sections : List (List ℕ × List A)) → All ItemsIn sections
+      → AllFit at (voice_notes item_of voices voice at sections)
+  voice_fits voices voice heard at [] all = record { first = All-nil (Fits at); others = All-nil (Fits at) }
+  voice_fits voices voice heard at (section ∷ rest) all =
+      let play : List A = play_in item_of section voice in
+      let behind : Notes = voice_notes item_of voices voice (at + longest item_of voices section) rest in
+      notes_fit item_of at play behind (play_kept item_of Items section voice (All-head ItemsIn section rest all))
+      (later_fit at (lasting item_of play) (longest item_of voices section) behind (omega (arith, lasts play, heard.lasts section))
+      (voice_fits voices voice heard (at + longest item_of voices section) rest (All-tail ItemsIn section rest all)))
+
+  -- How many there are.
+  pub voice_few : (voices : List (List ℕ)) (voice : List ℕ) → IsHeard voices voice → (at : ℕ) (sections : List (List ℕ × List A)) → All ItemsIn sections
+      → notes_of (voice_notes item_of voices voice at sections) ≤ 16 * sum_by (size_of voices) sections
+  voice_few voices voice heard at [] all = omega arith
+  voice_few voices voice heard at (section ∷ rest) all =
+      let play : List A = play_in item_of section voice in
+      let behind : Notes = voice_notes item_of voices voice (at + longest item_of voices section) rest in
+      omega (
+        arith,
+        sum_by-cons (size_of voices) section rest,
+        notes_few item_of at play behind (play_kept item_of Items section voice (All-head ItemsIn section rest all)),
+        picked_few (moved item_of (part item_of voice section)) (places_of item_of (moved item_of (part item_of voice section))),
+        heard.plays section,
+        voice_few voices voice heard (at + longest item_of voices section) rest (All-tail ItemsIn section rest all),
+      )
+
+-- The latest end of notes is no sooner than where it was looked for from.
+pub last_past : (at : ℕ) (notes : List Sounding) → at ≤ last_off at notes
+last_past at [] = omega arith
+last_past at (note ∷ notes) = omega (arith, last_past (max at note.off.0) notes)
+
+-- A note that ends by a moment.
+abbrev pub EndsBy : ℕ → Sounding → Type 0
+EndsBy end note = note.off.0 ≤ end
+
+-- All notes end by the latest end.
+pub last_of_all : (at : ℕ) (notes : List Sounding) → All (EndsBy (last_off at notes)) notes
+last_of_all at [] = All-nil (EndsBy at)
+last_of_all at (note ∷ notes) =
+    All-cons (EndsBy (last_off at (note ∷ notes))) note notes (omega (arith, last_past (max at note.off.0) notes)) (last_of_all (max at note.off.0) notes)
+
+front : {X : Type 0} (P : X → Type 0) (xs ys : List X) → All P (xs ++ ys) → All P xs
+front P [] ys all = All-nil P
+front P (x ∷ xs) ys all = All-cons P x xs (All-head P x (xs ++ ys) all) (front P xs ys (All-tail P x (xs ++ ys) all))
+
+back : {X : Type 0} (P : X → Type 0) (xs ys : List X) → All P (xs ++ ys) → All P ys
+back P [] ys all = all
+back P (x ∷ xs) ys all = back P xs ys (All-tail P x (xs ++ ys) all)
+
+-- What holds of all elements of lists put end to end holds of each list's.
+pub each_list : {X : Type 0} (P : X → Type 0) (lists : List (List X)) → All P (flat_map (λ list. list) lists) → All (All P) lists
+each_list P [] all = All-nil (All P)
+each_list P (list ∷ lists) all =
+    All-cons (All P) list lists (front P list (flat_map (λ l. l) lists) all) (each_list P lists (back P list (flat_map (λ l. l) lists) all))

@@ -1,0 +1,344 @@
+-- A score within the limits of time and of places, with few enough voices and a short enough title, fits a file.
+use Rattle.std.proofs.Common.{◌≡◌, ℕ, ℤ, pos, negsuc, int_le, ◌+◌, ◌^◌, ◌≤◌, ◌&&◌, nat_le, nat_lt, Bool, true, false, List, [], ◌∷◌, ◌++◌, length, map, filter_map, Option, Some, None, arith, refl, suc, ap, length-append}
+use Rattle.std.specs.Prelude.{All, IfSome, sum_by, slice_index_or}
+use Rattle.std.specs.List.{flat_map, list_all}
+use Rattle.std.proofs.lemmas.Bool.{le-leb, lt-ltb}
+use Rattle.std.proofs.lemmas.List.Elements.{All-nil, All-cons, All-head, All-tail, All-append, All-map, All-weaker}
+use Rattle.std.proofs.lemmas.List.Sums.{list_all-from_AllPass}
+use Rattle.abc_bars.specs.Item.{IsItem}
+use Rattle.abc_bars.specs.declared.item.Item.{Item}
+use Rattle.abc_bars.specs.declared.item.Item.TheVariants as items
+use Rattle.abc_fields.specs.Meter.{IsMeterInRange}
+use Rattle.abc_fields.specs.Signature.{IsSharps}
+use Rattle.abc_fields.specs.declared.meter.Meter.{Meter}
+use Rattle.abc_fields.specs.declared.meter.Meter.TheVariants as meters
+use Rattle.abc_repeat.specs.declared.play.TheConstants.{MOST_PLACES}
+use Rattle.abc_text.proofs.Powers.{power_to}
+use Rattle.abc_text.specs.Power.{is_power_up_to}
+use Rattle.abc_time.specs.declared.grains.Grains.{Grains}
+use Rattle.abc_time.specs.Grains.{grains_of_the_latest_end}
+use Rattle.abc_time.specs.Tempo.{FitsInTempoEvent}
+use Rattle.abc_voices.specs.declared.limits.TheConstants.{LONGEST_TITLE, MOST_CHANGES, MOST_NOTES, MOST_VOICES}
+use Rattle.abc_voices.specs.declared.score.Change.{Change}
+use Rattle.abc_voices.specs.declared.score.Sounding.{Sounding}
+use Rattle.abc_voices.specs.Arrange.{played_sections, voice_notes, all_notes, set_in, or_else, usual_tempo, first_of, longest, total, voices_notes, end_of, changes_of, score_of, places_played}
+use Rattle.abc_voices.specs.Change.{tempo_of, meter_of, key_of}
+use Rattle.abc_voices.specs.Conduct.{tempo_change, meter_at, meter_change, key_change, conductor}
+use Rattle.abc_voices.specs.Linked.{Notes}
+use Rattle.abc_voices.specs.Limits.{is_note_within, is_voice_within, is_change_within, are_counts_within, is_within_limits}
+use Rattle.abc_voices.specs.Opening.{tempo_past, meter_past, key_past, past_all, title_of}
+use Rattle.abc_voices.specs.Settle.{settled}
+use Rattle.abc_voices.specs.Track.{everyone, tracks}
+use Rattle.abc_voices.proofs.Fitting.Changes.{IsSetBy, settled_kept, settled_few, sections_set, past_kept}
+use Rattle.abc_voices.proofs.Fitting.Kept.{one_more, played_kept}
+use Rattle.abc_voices.proofs.Fitting.Notes.{Fits, AllFit}
+use Rattle.abc_voices.proofs.Fitting.Three.{tracks_room, sets_few}
+use Rattle.abc_voices.proofs.Fitting.Voices.{IsHeard, ItemsIn, tracks_heard, voice_fits, voice_few, last_past, last_of_all, EndsBy, each_list, all_heard}
+
+and_true : (a b : Bool) → a ≡ true → b ≡ true → (a && b) ≡ true
+and_true true true here there = refl
+and_true true false here there = there
+and_true false b here there = here
+
+and_yes : {a b : Bool} → a ≡ true → b ≡ true → (a && b) ≡ true
+and_yes {a} {b} here there = and_true a b here there
+
+both : {X : Type 0} (P Q R : X → Type 0) → ((x : X) → P x → Q x → R x) → (xs : List X) → All P xs → All Q xs → All R xs
+both P Q R f xs p q = λ k d within. f (slice_index_or xs k d) (p k d within) (q k d within)
+
+of_map : {X Y : Type 0} (P : Y → Type 0) (f : X → Y) (xs : List X) → All P (map f xs) → All (λ x. P (f x)) xs
+of_map P f [] all = All-nil (λ x. P (f x))
+of_map P f (x ∷ xs) all = All-cons (λ y. P (f y)) x xs (All-head P (f x) (map f xs) all) (of_map P f xs (All-tail P (f x) (map f xs) all))
+
+length_map : {X Y : Type 0} (f : X → Y) (xs : List X) → length (map f xs) ≡ length xs
+length_map f [] = refl
+length_map f (x ∷ xs) = ap (λ n. suc n) (length_map f xs)
+
+-- A note of a voice.
+note_within : (end : Grains) (note : Sounding) → Fits 0 note → EndsBy end.0 note → is_note_within end note ≡ true
+note_within end note fits ends =
+    and_true (nat_le note.on.0 note.off.0 && nat_le note.off.0 end.0) (nat_le note.key 127)
+    (and_true (nat_le note.on.0 note.off.0) (nat_le note.off.0 end.0) (le-leb note.on.0 note.off.0 fits.forward) (le-leb note.off.0 end.0 ends))
+    (le-leb note.key 127 fits.key)
+
+notes_within : (end : Grains) (notes : List Sounding) → All (Fits 0) notes → All (EndsBy end.0) notes → length notes ≤ MOST_NOTES → is_voice_within end notes ≡ true
+notes_within end notes fits ends few =
+    and_true (nat_le (length notes) MOST_NOTES) (list_all (is_note_within end) notes) (le-leb (length notes) MOST_NOTES few)
+    (list_all-from_AllPass (is_note_within end) notes (both (Fits 0) (EndsBy end.0) (λ note. is_note_within end note ≡ true) (note_within end) notes fits ends))
+
+-- What the fields of a header and of a body say.
+tempo_is : (item : Item) → IsItem item → IfSome (tempo_of item) FitsInTempoEvent
+tempo_is (items.Tempo opening micros out) is = is
+tempo_is (items.Tone tones length) is = tt
+tempo_is (items.Rest length bar) is = tt
+tempo_is (items.Number number) is = tt
+tempo_is (items.Bar bar) is = tt
+tempo_is (items.Ending passes) is = tt
+tempo_is (items.Section letter) is = tt
+tempo_is (items.Meter opening meter) is = tt
+tempo_is (items.Key opening key) is = tt
+tempo_is (items.Voice opening name) is = tt
+tempo_is (items.Title title) is = tt
+tempo_is (items.Order order) is = tt
+
+meter_is : (item : Item) → IsItem item → IfSome (meter_of item) IsMeterInRange
+meter_is (items.Meter opening meter) is = is
+meter_is (items.Tone tones length) is = tt
+meter_is (items.Rest length bar) is = tt
+meter_is (items.Number number) is = tt
+meter_is (items.Bar bar) is = tt
+meter_is (items.Ending passes) is = tt
+meter_is (items.Section letter) is = tt
+meter_is (items.Tempo opening micros out) is = tt
+meter_is (items.Key opening key) is = tt
+meter_is (items.Voice opening name) is = tt
+meter_is (items.Title title) is = tt
+meter_is (items.Order order) is = tt
+
+abbrev IsKey : ℤ × Bool → Type 0
+IsKey key = IsSharps key.0
+
+key_is : (item : Item) → IsItem item → IfSome (key_of item) IsKey
+key_is (items.Key opening key) is = is
+key_is (items.Tone tones length) is = tt
+key_is (items.Rest length bar) is = tt
+key_is (items.Number number) is = tt
+key_is (items.Bar bar) is = tt
+key_is (items.Ending passes) is = tt
+key_is (items.Section letter) is = tt
+key_is (items.Tempo opening micros out) is = tt
+key_is (items.Meter opening meter) is = tt
+key_is (items.Voice opening name) is = tt
+key_is (items.Title title) is = tt
+key_is (items.Order order) is = tt
+
+tempo_past_is : (tempo : Option ℕ) (item : Item) → IfSome tempo FitsInTempoEvent → IsItem item → IfSome (tempo_past tempo item) FitsInTempoEvent
+tempo_past_is tempo (items.Tempo true micros out) was is = is
+tempo_past_is tempo (items.Tempo false micros out) was is = was
+tempo_past_is tempo (items.Tone tones length) was is = was
+tempo_past_is tempo (items.Rest length bar) was is = was
+tempo_past_is tempo (items.Number number) was is = was
+tempo_past_is tempo (items.Bar bar) was is = was
+tempo_past_is tempo (items.Ending passes) was is = was
+tempo_past_is tempo (items.Section letter) was is = was
+tempo_past_is tempo (items.Meter opening meter) was is = was
+tempo_past_is tempo (items.Key opening key) was is = was
+tempo_past_is tempo (items.Voice opening name) was is = was
+tempo_past_is tempo (items.Title title) was is = was
+tempo_past_is tempo (items.Order order) was is = was
+
+meter_past_is : (meter : Option Meter) (item : Item) → IfSome meter IsMeterInRange → IsItem item → IfSome (meter_past meter item) IsMeterInRange
+meter_past_is meter (items.Meter true set) was is = is
+meter_past_is meter (items.Meter false set) was is = was
+meter_past_is meter (items.Tone tones length) was is = was
+meter_past_is meter (items.Rest length bar) was is = was
+meter_past_is meter (items.Number number) was is = was
+meter_past_is meter (items.Bar bar) was is = was
+meter_past_is meter (items.Ending passes) was is = was
+meter_past_is meter (items.Section letter) was is = was
+meter_past_is meter (items.Tempo opening micros out) was is = was
+meter_past_is meter (items.Key opening key) was is = was
+meter_past_is meter (items.Voice opening name) was is = was
+meter_past_is meter (items.Title title) was is = was
+meter_past_is meter (items.Order order) was is = was
+
+key_past_is : (key : Option (ℤ × Bool)) (item : Item) → IfSome key IsKey → IsItem item → IfSome (key_past key item) IsKey
+key_past_is key (items.Key true set) was is = is
+key_past_is key (items.Key false set) was is = was
+key_past_is key (items.Tone tones length) was is = was
+key_past_is key (items.Rest length bar) was is = was
+key_past_is key (items.Number number) was is = was
+key_past_is key (items.Bar bar) was is = was
+key_past_is key (items.Ending passes) was is = was
+key_past_is key (items.Section letter) was is = was
+key_past_is key (items.Tempo opening micros out) was is = was
+key_past_is key (items.Meter opening meter) was is = was
+key_past_is key (items.Voice opening name) was is = was
+key_past_is key (items.Title title) was is = was
+key_past_is key (items.Order order) was is = was
+
+or_else_is : {V : Type 0} (Q : V → Type 0) (value : V) (other : Option V) → Q value → IfSome other Q → Q (or_else value other)
+or_else_is Q value None is known = is
+or_else_is Q value (Some other) is known = known
+
+-- Changes that a file can say.
+tempo_fits : (end : Grains) (set : Grains × ℕ) → IsSetBy end.0 FitsInTempoEvent set → is_change_within end (tempo_change set) ≡ true
+tempo_fits end (at, micros) set =
+    and_true (nat_le at.0 end.0) (nat_le 1 micros && nat_lt micros (2 ^ 24)) (le-leb at.0 end.0 set.before)
+    (and_true (nat_le 1 micros) (nat_lt micros (2 ^ 24)) (le-leb 1 micros set.value.least) (lt-ltb micros (2 ^ 24) (omega (arith, set.value.most))))
+
+meter_fits : (end at : Grains) (meter : Meter) → at.0 ≤ end.0 → IsMeterInRange meter → IfSome (meter_at at meter) (λ change. is_change_within end change ≡ true)
+meter_fits end at meters.Free before is = tt
+meter_fits end at (meters.Of num den) before is =
+    and_true (nat_le at.0 end.0) (is_power_up_to 6 den) (le-leb at.0 end.0 before) (power_to 6 den is.den_power)
+
+key_fits : (end : Grains) (set : Grains × (ℤ × Bool)) → IsSetBy end.0 IsKey set → is_change_within end (key_change set) ≡ true
+key_fits end (at, key) set =
+    and_true (nat_le at.0 end.0) (int_le (negsuc 6) key.0 && int_le key.0 (pos 7)) (le-leb at.0 end.0 set.before)
+    (and_true (int_le (negsuc 6) key.0) (int_le key.0 (pos 7)) (grind (arith, set.value.0)) (grind (arith, set.value.1)))
+
+meters_fit : (end : Grains) (sets : List (Grains × Meter)) → All (IsSetBy end.0 IsMeterInRange) sets → All (λ change. is_change_within end change ≡ true) (filter_map meter_change sets)
+meters_fit end [] all = All-nil (λ change. is_change_within end change ≡ true)
+meters_fit end ((at, meter) ∷ sets) all =
+    one_more (λ change. is_change_within end change ≡ true) (meter_at at meter) (filter_map meter_change sets)
+    (meter_fits end at meter (All-head (IsSetBy end.0 IsMeterInRange) (at, meter) sets all).before (All-head (IsSetBy end.0 IsMeterInRange) (at, meter) sets all).value)
+    (meters_fit end sets (All-tail (IsSetBy end.0 IsMeterInRange) (at, meter) sets all))
+
+meters_few : (sets : List (Grains × Meter)) → length (filter_map meter_change sets) ≤ length sets
+meters_few [] = omega arith
+meters_few ((at, meters.Free) ∷ sets) = omega (arith, meters_few sets)
+meters_few ((at, meters.Of num den) ∷ sets) = omega (arith, meters_few sets)
+
+conductor_fits : (end : Grains) (tempos : List (Grains × ℕ)) (meters : List (Grains × Meter)) (keys : List (Grains × (ℤ × Bool)))
+    → All (IsSetBy end.0 FitsInTempoEvent) tempos → All (IsSetBy end.0 IsMeterInRange) meters → All (IsSetBy end.0 IsKey) keys
+    → list_all (is_change_within end) (conductor tempos meters keys) ≡ true
+conductor_fits end tempos meters keys t m k =
+    let P : Change → Type 0 = λ change. is_change_within end change ≡ true in
+    list_all-from_AllPass (is_change_within end) (conductor tempos meters keys)
+    (All-append P (map tempo_change (settled tempos) ++ filter_map meter_change (settled meters)) (map key_change (settled keys))
+    (All-append P (map tempo_change (settled tempos)) (filter_map meter_change (settled meters))
+    (All-map P tempo_change (settled tempos) (All-weaker (IsSetBy end.0 FitsInTempoEvent) (λ set. P (tempo_change set)) (tempo_fits end) (settled tempos) (settled_kept (IsSetBy end.0 FitsInTempoEvent) tempos t)))
+    (meters_fit end (settled meters) (settled_kept (IsSetBy end.0 IsMeterInRange) meters m)))
+    (All-map P key_change (settled keys) (All-weaker (IsSetBy end.0 IsKey) (λ set. P (key_change set)) (key_fits end) (settled keys) (settled_kept (IsSetBy end.0 IsKey) keys k))))
+
+three_lists : {X : Type 0} (xs ys zs : List X) (x y z : ℕ) → length xs ≤ x → length ys ≤ y → length zs ≤ z → length (xs ++ ys ++ zs) ≤ x + y + z
+three_lists xs ys zs x y z first second third =
+    omega (arith, length-append (xs ++ ys) zs, length-append xs ys, first, second, third)
+
+as_few : {X Y : Type 0} (f : X → Y) (xs : List X) (n : ℕ) → length xs ≤ n → length (map f xs) ≤ n
+as_few f xs n few = omega (arith, length_map f xs, few)
+
+meters_standing : (sets : List (Grains × Meter)) → length (filter_map meter_change (settled sets)) ≤ length sets
+meters_standing sets = omega (arith, meters_few (settled sets), settled_few sets)
+
+pub conductor_few : (tempos : List (Grains × ℕ)) (meters : List (Grains × Meter)) (keys : List (Grains × (ℤ × Bool)))
+    → length (conductor tempos meters keys) ≤ length tempos + length meters + length keys
+conductor_few tempos meters keys =
+    three_lists (map tempo_change (settled tempos)) (filter_map meter_change (settled meters)) (map key_change (settled keys)) (length tempos) (length meters) (length keys)
+    (as_few tempo_change (settled tempos) (length tempos) (settled_few tempos)) (meters_standing meters)
+    (as_few key_change (settled keys) (length keys) (settled_few keys))
+
+-- What the law asks of a tune.
+pub record IsShort (tune : List Item) : Type 0 where
+  pub each : All IsItem tune
+  pub places : places_played (λ item. item) tune ≤ MOST_PLACES
+  pub end : end_of (λ item. item) tune ≤ grains_of_the_latest_end
+  pub voices : length (tracks (λ item. item) tune) ≤ MOST_VOICES
+  pub title : length (title_of (λ item. item) tune) ≤ LONGEST_TITLE
+
+with_opening : {V : Type 0} (end : ℕ) (Q : V → Type 0) (value : V) (sets : List (Grains × V)) → Q value → All (IsSetBy end Q) sets → All (IsSetBy end Q) ((record { 0 = 0 }, value) ∷ sets)
+with_opening end Q value sets is all = All-cons (IsSetBy end Q) (record { 0 = 0 }, value) sets (record { before = omega arith; value = is }) all
+
+first_heard : (P : List ℕ → Type 0) (those : List (List ℕ)) → All P those → All P (first_of those)
+first_heard P [] all = all
+first_heard P (voice ∷ those) all = All-cons P voice [] (All-head P voice those all) (All-nil P)
+
+module _ (tune : List Item) (short : IsShort tune) where
+  abbrev voices : List (List ℕ)
+  voices = everyone (λ item. item) tune
+
+  abbrev those : List (List ℕ)
+  those = tracks (λ item. item) tune
+
+  abbrev played : List (List ℕ × List Item)
+  played = played_sections (λ item. item) tune
+
+  abbrev end : Grains
+  end = record { 0 = end_of (λ item. item) tune }
+
+  all_played : All (ItemsIn (λ item. item)) played
+  all_played = played_kept (λ item. item) IsItem tune short.each
+
+  in_time : 0 + sum_by (longest (λ item. item) voices) played ≤ end.0
+  in_time = omega (arith, last_past (total (λ item. item) tune) (flat_map (λ notes. notes) (voices_notes (λ item. item) tune)))
+
+  sets : {V : Type 0} (value_of : Item → Option V) (Q : V → Type 0) → ((item : Item) → IsItem item → IfSome (value_of item) Q)
+      → (heard : List (List ℕ)) → All (IsHeard (λ item. item) voices) heard → All (IsSetBy end.0 Q) (set_in (λ item. item) value_of voices heard 0 played)
+  sets value_of Q is heard all = sections_set (λ item. item) value_of Q is end.0 0 voices heard played in_time all all_played
+
+  abbrev tempos : List (Grains × ℕ)
+  tempos = (record { 0 = 0 }, or_else usual_tempo (past_all (λ item. item) tempo_past None tune)) ∷ set_in (λ item. item) tempo_of voices voices 0 played
+
+  abbrev meter_sets : List (Grains × Meter)
+  meter_sets = (record { 0 = 0 }, or_else meters.Free (past_all (λ item. item) meter_past None tune)) ∷ set_in (λ item. item) meter_of voices (first_of those) 0 played
+
+  abbrev keys : List (Grains × (ℤ × Bool))
+  keys = (record { 0 = 0 }, or_else (pos 0, false) (past_all (λ item. item) key_past None tune)) ∷ set_in (λ item. item) key_of voices (first_of those) 0 played
+
+  first_ones : All (IsHeard (λ item. item) voices) (first_of those)
+  first_ones = first_heard (IsHeard (λ item. item) voices) those (tracks_heard (λ item. item) tune)
+
+  opening_tempo_is : FitsInTempoEvent (or_else usual_tempo (past_all (λ item. item) tempo_past None tune))
+  opening_tempo_is = or_else_is FitsInTempoEvent usual_tempo (past_all (λ item. item) tempo_past None tune) (record { least = omega arith; most = omega arith })
+      (past_kept (λ item. item) tempo_past (λ tempo. IfSome tempo FitsInTempoEvent) tempo_past_is None tune tt short.each)
+
+  opening_meter_is : IsMeterInRange (or_else meters.Free (past_all (λ item. item) meter_past None tune))
+  opening_meter_is = or_else_is IsMeterInRange meters.Free (past_all (λ item. item) meter_past None tune) tt
+      (past_kept (λ item. item) meter_past (λ meter. IfSome meter IsMeterInRange) meter_past_is None tune tt short.each)
+
+  no_sharps : IsKey (pos 0, false)
+  no_sharps = record { 0 = grind arith; 1 = grind arith }
+
+  opening_key_is : IsKey (or_else (pos 0, false) (past_all (λ item. item) key_past None tune))
+  opening_key_is = or_else_is IsKey (pos 0, false) (past_all (λ item. item) key_past None tune) no_sharps
+      (past_kept (λ item. item) key_past (λ key. IfSome key IsKey) key_past_is None tune tt short.each)
+
+  changes_fit : list_all (is_change_within end) (changes_of (λ item. item) tune) ≡ true
+  changes_fit =
+      conductor_fits end tempos meter_sets keys
+      (with_opening end.0 FitsInTempoEvent (or_else usual_tempo (past_all (λ item. item) tempo_past None tune)) (set_in (λ item. item) tempo_of voices voices 0 played)
+      opening_tempo_is (sets tempo_of FitsInTempoEvent tempo_is voices (all_heard (λ item. item) voices)))
+      (with_opening end.0 IsMeterInRange (or_else meters.Free (past_all (λ item. item) meter_past None tune)) (set_in (λ item. item) meter_of voices (first_of those) 0 played)
+      opening_meter_is (sets meter_of IsMeterInRange meter_is (first_of those) first_ones))
+      (with_opening end.0 IsKey (or_else (pos 0, false) (past_all (λ item. item) key_past None tune)) (set_in (λ item. item) key_of voices (first_of those) 0 played)
+      opening_key_is (sets key_of IsKey key_is (first_of those) first_ones))
+
+  few_changes : length (changes_of (λ item. item) tune) ≤ MOST_CHANGES
+  few_changes =
+      omega (
+        arith,
+        short.places,
+        conductor_few tempos meter_sets keys,
+        sets_few (λ item. item) voices those (tracks_room (λ item. item) tune) 0 played,
+      )
+
+  abbrev notes_of_voice : List ℕ → List Sounding
+  notes_of_voice voice = all_notes (voice_notes (λ item. item) voices voice 0 played)
+
+  abbrev Ends : List Sounding → Type 0
+  Ends notes = All (EndsBy end.0) notes
+
+  voices_end : All (λ voice. Ends (notes_of_voice voice)) those
+  voices_end = of_map Ends notes_of_voice those
+      (each_list (EndsBy end.0) (map notes_of_voice those) (last_of_all (total (λ item. item) tune) (flat_map (λ notes. notes) (map notes_of_voice those))))
+
+  voice_within : (voice : List ℕ) → IsHeard (λ item. item) voices voice → Ends (notes_of_voice voice) → is_voice_within end (notes_of_voice voice) ≡ true
+  voice_within voice heard ends =
+      let notes : Notes = voice_notes (λ item. item) voices voice 0 played in
+      let fits : AllFit 0 notes = voice_fits (λ item. item) voices voice heard 0 played all_played in
+      notes_within end (all_notes notes) (All-append (Fits 0) notes.others notes.first fits.others fits.first) ends
+      (omega (arith, short.places, length-append notes.others notes.first, voice_few (λ item. item) voices voice heard 0 played all_played))
+
+  voices_fit : list_all (is_voice_within end) (voices_notes (λ item. item) tune) ≡ true
+  voices_fit =
+      list_all-from_AllPass (is_voice_within end) (map notes_of_voice those)
+      (All-map (λ notes. is_voice_within end notes ≡ true) notes_of_voice those
+      (both (IsHeard (λ item. item) voices) (λ voice. Ends (notes_of_voice voice)) (λ voice. is_voice_within end (notes_of_voice voice) ≡ true) voice_within those
+      (tracks_heard (λ item. item) tune) voices_end))
+
+  counts_fit : are_counts_within (score_of (λ item. item) tune) ≡ true
+  counts_fit =
+      and_yes (and_yes (and_yes (le-leb end.0 grains_of_the_latest_end short.end)
+      (le-leb (length (title_of (λ item. item) tune)) LONGEST_TITLE short.title))
+      (le-leb (length (changes_of (λ item. item) tune)) MOST_CHANGES few_changes))
+      (le-leb (length (map notes_of_voice those)) MOST_VOICES (as_few notes_of_voice those MOST_VOICES short.voices))
+
+  -- Its score fits a file.
+  pub score_fits : is_within_limits (score_of (λ item. item) tune) ≡ true
+  unfolding is_within_limits
+  score_fits = and_yes (and_yes counts_fit changes_fit) voices_fit
+
+pub fits_a_file : (tune : List Item) → All IsItem tune → places_played (λ item. item) tune ≤ MOST_PLACES → end_of (λ item. item) tune ≤ grains_of_the_latest_end
+    → length (tracks (λ item. item) tune) ≤ MOST_VOICES → length (title_of (λ item. item) tune) ≤ LONGEST_TITLE → is_within_limits (score_of (λ item. item) tune) ≡ true
+fits_a_file tune each places end voices title =
+    score_fits tune (record { each = each; places = places; end = end; voices = voices; title = title })

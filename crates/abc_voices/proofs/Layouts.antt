@@ -1,0 +1,313 @@
+-- The score of the stages of a tune is that of the tune.
+use Rattle.std.proofs.Common.{◌≡◌, ℕ, ◌+◌, ◌-◌, ◌<◌, ◌≤◌, Bool, true, false, cond, List, [], ◌∷◌, ◌++◌, length, map, drop, get_or, Option, Some, None, refl, sym, ap, subst, ◌∙◌, arith, append-nil, length-drop}
+use Rattle.std.proofs.lemmas.Bool.{lt-ltb, le-ltb}
+use Rattle.std.proofs.lemmas.Grind.{common_steps}
+use Rattle.std.proofs.lemmas.List.{drop_more, length-map}
+use Rattle.std.proofs.lemmas.List.Folds.{flat_map-map}
+use Rattle.std.proofs.lemmas.List.Sums.{sum_by_from}
+use Rattle.std.proofs.lemmas.Option.{slice_get-map, slice_get-get_or, slice_get_past}
+use Rattle.std.specs.Borrow.{Bor}
+use Rattle.std.specs.Prelude.{◌||◌, not, nat_lt, pos, bytes_eq, All, slice_get, filter_map, sum_by, option_map}
+use Rattle.std.specs.List.{list_any, flat_map}
+use Rattle.abc_bars.specs.declared.item.Item.{Item}
+use Rattle.abc_bars.specs.declared.item.Item.TheVariants as items
+use Rattle.abc_fields.specs.declared.meter.Meter.TheVariants as meters
+use Rattle.abc_time.specs.declared.grains.Grains.{Grains}
+use Rattle.abc_time.specs.Grains.{grains_of_the_latest_end}
+use Rattle.abc_bars.specs.Item.{IsItem}
+use Rattle.abc_repeat.specs.declared.order.TheConstants.{MOST_SECTIONS}
+use Rattle.abc_repeat.specs.declared.play.TheConstants.{MOST_PLACES}
+use Rattle.abc_repeat.specs.Order.{sections_of, has_unknown}
+use Rattle.abc_voices.specs.Limits.{is_within_limits}
+use Rattle.abc_voices.specs.Section.{letters, sections}
+use Rattle.abc_voices.specs.declared.arranged.Arranged.{Arranged}
+use Rattle.abc_voices.specs.declared.score.Change.{Change}
+use Rattle.abc_voices.specs.declared.score.Score.{Score}
+use Rattle.abc_voices.specs.declared.score.Sounding.{Sounding}
+use Rattle.abc_voices.specs.declared.stage.Part.{Part}
+use Rattle.abc_voices.specs.declared.stage.Stage.{Stage}
+use Rattle.abc_voices.specs.Along.{IsStage, length_along, steps_of, notes_along, voices_along, set_beside, set_by_all, set_at, set_by_one, parts_differ, is_stage_uneven, first_place, changes_along, end_along, score_along}
+use Rattle.abc_voices.specs.Arrange.{play_in, longest, played_sections, voice_notes, all_notes, set_in, first_of, differ, is_uneven, total, voices_notes, last_off, end_of, changes_of, score_of, or_else, usual_tempo, arranged_of, sections_played, places_played, is_too_long}
+use Rattle.abc_voices.specs.Change.{tempo_of, meter_of, key_of, set_from}
+use Rattle.abc_voices.specs.Linked.{notes_from}
+use Rattle.abc_voices.specs.Opening.{tempo_past, meter_past, key_past, order_past, past_all, title_of}
+use Rattle.abc_voices.specs.Stage.{part_of, stage_of}
+use Rattle.abc_voices.specs.Track.{everyone, tracks, nameless_plays, names_from, names_past, with_name}
+use Rattle.abc_voices.proofs.Mapped.{conductor_same, score_same, laid_same}
+use Rattle.abc_voices.proofs.Staged.{stages_are, played_all, total_within}
+
+-- an item behind a reference
+abbrev there : Bor Item → Item
+there step = step.now
+
+abbrev Sectioned : Type 0
+Sectioned = List ℕ × List (Bor Item)
+
+-- how long the stages of sections are
+pub total_of : (voices : List (List ℕ)) (played : List Sectioned) → length_along (map (stage_of voices) played) ≡ sum_by (longest there voices) played
+total_of voices [] = refl
+total_of voices (section ∷ played) =
+    sum_by_from (λ (stage : Stage). stage.longest.0) (0 + longest there voices section) (map (stage_of voices) played)
+    ∙ ap (λ n. (0 + longest there voices section) + n) (total_of voices played)
+    ∙ sym (sum_by_from (longest there voices) (0 + longest there voices section) played)
+
+-- what stands at a place of a list, by what is left there
+record Front {X : Type 0} (xs : List X) (k : ℕ) (x : X) (rest : List X) : Type 0 where
+  found : slice_get xs k ≡ Some x
+  behind : drop (k + 1) xs ≡ rest
+
+front : {X : Type 0} (xs : List X) (k : ℕ) (x : X) (rest : List X) → drop k xs ≡ x ∷ rest → Front xs k x rest
+front xs k x rest e =
+    let within : k < length xs = omega (arith, length-drop k xs, ap length e) in
+    let more : drop k xs ≡ get_or xs k x ∷ drop (k + 1) xs = drop_more xs k x within in
+    let here : get_or xs k x ≡ x = cc in
+    record { found = slice_get-get_or xs k x within ∙ ap Some here; behind = cc }
+
+-- what the voice at a place plays of a stage
+steps_here : (section : Sectioned) (voices : List (List ℕ)) (k : ℕ) (voice : List ℕ) → slice_get voices k ≡ Some voice
+    → steps_of (slice_get (map (part_of section) voices) k) ≡ play_in there section voice
+steps_here section voices k voice e = ap steps_of (slice_get-map (part_of section) voices k ∙ ap (option_map (part_of section)) e)
+
+-- the notes of the voice at a place
+notes_here : (voices : List (List ℕ)) (k : ℕ) (voice : List ℕ) (at : ℕ) (played : List Sectioned) → slice_get voices k ≡ Some voice
+    → notes_along k at (map (stage_of voices) played) ≡ voice_notes there voices voice at played
+notes_here voices k voice at [] e = refl
+notes_here voices k voice at (section ∷ played) e =
+    ap (λ steps. notes_from there at steps (notes_along k (at + longest there voices section) (map (stage_of voices) played))) (steps_here section voices k voice e)
+    ∙ ap (notes_from there at (play_in there section voice)) (notes_here voices k voice (at + longest there voices section) played e)
+
+-- the notes of the voices from a place on
+voices_here : (voices : List (List ℕ)) (played : List Sectioned) (k : ℕ) (rest : List (List ℕ)) → drop k voices ≡ rest
+    → voices_along (map (stage_of voices) played) k (length rest) ≡ map (λ voice. all_notes (voice_notes there voices voice 0 played)) rest
+voices_here voices played k [] e = refl
+voices_here voices played k (voice ∷ rest) e =
+    let here : Front voices k voice rest = front voices k voice rest e in
+    let later = map (λ v. all_notes (voice_notes there voices v 0 played)) rest in
+    ap (λ notes. all_notes notes ∷ voices_along (map (stage_of voices) played) (k + 1) (length rest)) (notes_here voices k voice 0 played here.found)
+    ∙ ap (λ l. all_notes (voice_notes there voices voice 0 played) ∷ l) (voices_here voices played (k + 1) rest here.behind)
+
+-- what all voices set
+all_here : {V : Type 0} (value_of : Item → Option V) (voices : List (List ℕ)) (at : ℕ) (played : List Sectioned)
+    → set_by_all value_of at (map (stage_of voices) played) ≡ set_in there value_of voices voices at played
+all_here value_of voices at [] = refl
+all_here value_of voices at (section ∷ played) =
+    ap (λ l. l ++ set_by_all value_of (at + longest there voices section) (map (stage_of voices) played))
+    (flat_map-map (λ (part : Part). set_from there value_of at part.steps) (part_of section) voices)
+    ∙ ap (λ l. flat_map (λ voice. set_from there value_of at (play_in there section voice)) voices ++ l)
+    (all_here value_of voices (at + longest there voices section) played)
+
+-- what the voice at a place sets in a stage
+track_here : {V : Type 0} (value_of : Item → Option V) (section : Sectioned) (voices : List (List ℕ)) (k at : ℕ) (rest : List (List ℕ)) → drop k voices ≡ rest
+    → set_from there value_of at (steps_of (slice_get (map (part_of section) voices) k))
+    ≡ flat_map (λ voice. set_from there value_of at (play_in there section voice)) (first_of rest)
+track_here value_of section voices k at [] e =
+    let past : length (map (part_of section) voices) ≤ k = omega (arith, length-map voices (part_of section), length-drop k voices, ap length e) in
+    ap (λ part. set_from there value_of at (steps_of part)) (slice_get_past (map (part_of section) voices) k past)
+track_here value_of section voices k at (voice ∷ rest) e =
+    let here : Front voices k voice rest = front voices k voice rest e in
+    ap (set_from there value_of at) (steps_here section voices k voice here.found)
+    ∙ sym (append-nil (set_from there value_of at (play_in there section voice)))
+
+-- what the first track sets
+one_here : {V : Type 0} (value_of : Item → Option V) (voices : List (List ℕ)) (k at : ℕ) (played : List Sectioned)
+    → set_by_one value_of k at (map (stage_of voices) played) ≡ set_in there value_of voices (first_of (drop k voices)) at played
+one_here value_of voices k at [] = refl
+one_here value_of voices k at (section ∷ played) =
+    ap (λ l. l ++ set_by_one value_of k (at + longest there voices section) (map (stage_of voices) played))
+    (track_here value_of section voices k at (drop k voices) refl)
+    ∙ ap (λ l. flat_map (λ voice. set_from there value_of at (play_in there section voice)) (first_of (drop k voices)) ++ l)
+    (one_here value_of voices k (at + longest there voices section) played)
+
+any_map : {X Y : Type 0} (p : Y → Bool) (q : X → Bool) (f : X → Y) → ((x : X) → p (f x) ≡ q x) → (xs : List X) → list_any p (map f xs) ≡ list_any q xs
+any_map p q f h [] = refl
+any_map p q f h (x ∷ xs) = ap (λ b. b || list_any p (map f xs)) (h x) ∙ ap (λ b. q x || b) (any_map p q f h xs)
+
+-- whether voices are uneven in the stage of a section, and in one of some
+uneven_here : (voices : List (List ℕ)) (section : Sectioned) → is_stage_uneven (stage_of voices section) ≡ is_uneven there voices section
+uneven_here voices section =
+    any_map (λ a. list_any (parts_differ a) (map (part_of section) voices)) (λ a. list_any (differ there section a) voices) (part_of section)
+    (λ a. any_map (parts_differ (part_of section a)) (differ there section a) (part_of section) (λ b. refl) voices) voices
+
+pub uneven_of : (voices : List (List ℕ)) (played : List Sectioned) → list_any is_stage_uneven (map (stage_of voices) played) ≡ list_any (is_uneven there voices) played
+uneven_of voices played = any_map is_stage_uneven (is_uneven there voices) (stage_of voices) (uneven_here voices) played
+
+-- the tracks, by the place of the first
+tracks_here : (b : Bool) (voices : List (List ℕ)) → drop (cond b 0 1) voices ≡ cond b voices (drop 1 voices)
+tracks_here true voices = refl
+tracks_here false voices = refl
+
+-- there is a voice
+names_more : (known : List (List ℕ)) (name : List ℕ) (b : Bool) → length known ≤ length (cond b known (known ++ name ∷ []))
+names_more known name true = omega arith
+names_more known name false = grind (arith, common_steps)
+
+name_past : (known : List (List ℕ)) (item : Item) → length known ≤ length (names_past known item)
+name_past known (items.Number number) = omega arith
+name_past known (items.Tone tones length) = omega arith
+name_past known (items.Rest length bar) = omega arith
+name_past known (items.Bar line) = omega arith
+name_past known (items.Ending numbers) = omega arith
+name_past known (items.Section letter) = omega arith
+name_past known (items.Tempo opening micros out) = omega arith
+name_past known (items.Meter opening meter) = omega arith
+name_past known (items.Key opening key) = omega arith
+name_past known (items.Voice opening name) = names_more known name (list_any (bytes_eq name) known)
+name_past known (items.Title title) = omega arith
+name_past known (items.Order order) = omega arith
+
+names_within : (known : List (List ℕ)) (tune : List (Bor Item)) → length known ≤ length (names_from there known tune)
+names_within known [] = omega arith
+names_within known (step ∷ tune) =
+    omega (arith, name_past known step.now, names_within (names_past known step.now) tune)
+
+first_fits : (b : Bool) (n : ℕ) → 1 ≤ n → cond b 0 1 ≤ n
+first_fits true n h = omega arith
+first_fits false n h = h
+
+-- the first track is one of the voices, or stands behind them
+pub first_within : (tune : List (Bor Item)) → first_place tune ≤ length (everyone there tune)
+first_within tune = first_fits (nameless_plays there tune) (length (everyone there tune)) (names_within ([] ∷ []) tune)
+
+-- the notes of the tracks
+pub voices_of : (tune : List (Bor Item)) → voices_along (map (stage_of (everyone there tune)) (played_sections there tune)) (first_place tune) (length (everyone there tune) - first_place tune) ≡ voices_notes there tune
+voices_of tune =
+    let voices = everyone there tune in
+    let played = played_sections there tune in
+    let first = first_place tune in
+    ap (voices_along (map (stage_of voices) played) first) (sym (length-drop first voices))
+    ∙ voices_here voices played first (drop first voices) refl
+    ∙ ap (map (λ voice. all_notes (voice_notes there voices voice 0 played))) (tracks_here (nameless_plays there tune) voices)
+
+-- when they end
+pub end_of_stages : (tune : List (Bor Item))
+    → end_along (map (stage_of (everyone there tune)) (played_sections there tune))
+    (voices_along (map (stage_of (everyone there tune)) (played_sections there tune)) (first_place tune) (length (everyone there tune) - first_place tune))
+    ≡ end_of there tune
+end_of_stages tune =
+    let stages = map (stage_of (everyone there tune)) (played_sections there tune) in
+    ap (end_along stages) (voices_of tune)
+    ∙ ap (λ n. last_off n (flat_map (λ notes. notes) (voices_notes there tune))) (total_of (everyone there tune) (played_sections there tune))
+
+-- the changes
+changes_here : (tune : List (Bor Item)) → changes_along tune (first_place tune) (map (stage_of (everyone there tune)) (played_sections there tune)) ≡ changes_of there tune
+changes_here tune =
+    let voices = everyone there tune in
+    let played = played_sections there tune in
+    let first = ap first_of (tracks_here (nameless_plays there tune) voices) in
+    conductor_same _ _ _ _ _ _
+    (ap (λ sets. (record { 0 = 0 }, or_else usual_tempo (past_all there tempo_past None tune)) ∷ sets) (all_here tempo_of voices 0 played))
+    (ap (λ sets. (record { 0 = 0 }, or_else meters.Free (past_all there meter_past None tune)) ∷ sets)
+    (one_here meter_of voices (first_place tune) 0 played ∙ ap (λ those. set_in there meter_of voices those 0 played) first))
+    (ap (λ sets. (record { 0 = 0 }, or_else (pos 0, false) (past_all there key_past None tune)) ∷ sets)
+    (one_here key_of voices (first_place tune) 0 played ∙ ap (λ those. set_in there key_of voices those 0 played) first))
+
+-- the score of the stages that are played
+pub score_of_stages : (tune : List (Bor Item))
+    → score_along tune (first_place tune) (length (everyone there tune)) (map (stage_of (everyone there tune)) (played_sections there tune)) ≡ score_of there tune
+score_of_stages tune =
+    score_same _ _ _ _ _ _ _ _ refl (end_of_stages tune) (changes_here tune) (voices_of tune)
+
+-- the stages of the sections that a tune plays
+abbrev pub AreOf : List (Bor Item) → List Stage → Type 0
+AreOf tune stages = stages ≡ map (stage_of (everyone there tune)) (played_sections there tune)
+
+pub played_here : (tune : List (Bor Item)) (found : List Sectioned) (order : List ℕ) → found ≡ sections there tune
+    → order ≡ sections_of (past_all there order_past None tune) (letters there tune) → filter_map (slice_get found) order ≡ played_sections there tune
+played_here tune found order p q = ap (λ f. filter_map (slice_get f) order) p ∙ ap (filter_map (slice_get (sections there tune))) q
+
+pub alike : {X Y : Type 0} (P : X → Y → Type 0) (a b : X) (u v : Y) → a ≡ b → u ≡ v → P a u → P b v
+alike P a b u v p q h = subst (P b) q (subst (λ x. P x u) p h)
+
+pub stages_hold : (tune : List (Bor Item)) (stages : List Stage) → AreOf tune stages → All (λ step. IsItem step.now) tune → All IsStage stages
+stages_hold tune stages is all =
+    subst (All IsStage) (sym is)
+    (stages_are (everyone there tune) (played_sections there tune)
+    (played_all (λ step. IsItem step.now) there tune (sections_of (past_all there order_past None tune) (letters there tune)) all))
+
+pub late_total : (tune : List (Bor Item)) (stages : List Stage) → AreOf tune stages → grains_of_the_latest_end < length_along stages → grains_of_the_latest_end < end_of there tune
+late_total tune stages is late =
+    omega (arith, ap length_along is, total_of (everyone there tune) (played_sections there tune), total_within there tune)
+
+pub end_is : (tune : List (Bor Item)) (stages : List Stage) (first count : ℕ) → AreOf tune stages → first ≡ first_place tune → count ≡ length (everyone there tune)
+    → end_along stages (voices_along stages first (count - first)) ≡ end_of there tune
+end_is tune stages first count is p q =
+    ap (λ s. end_along s (voices_along s first (count - first))) is
+    ∙ ap (λ n. end_along (map (stage_of (everyone there tune)) (played_sections there tune)) (voices_along (map (stage_of (everyone there tune)) (played_sections there tune)) n (count - n))) p
+    ∙ ap (λ n. end_along (map (stage_of (everyone there tune)) (played_sections there tune)) (voices_along (map (stage_of (everyone there tune)) (played_sections there tune)) (first_place tune) (n - first_place tune))) q
+    ∙ end_of_stages tune
+
+pub late_end : (tune : List (Bor Item)) (stages : List Stage) (first count : ℕ) → AreOf tune stages → first ≡ first_place tune → count ≡ length (everyone there tune)
+    → grains_of_the_latest_end < end_along stages (voices_along stages first (count - first)) → grains_of_the_latest_end < end_of there tune
+late_end tune stages first count is p q late = omega (arith, end_is tune stages first count is p q)
+
+pub score_is : (tune : List (Bor Item)) (stages : List Stage) (first count : ℕ) → AreOf tune stages → first ≡ first_place tune → count ≡ length (everyone there tune)
+    → score_along tune first count stages ≡ score_of there tune
+score_is tune stages first count is p q =
+    ap (score_along tune first count) is
+    ∙ ap (λ n. score_along tune n count (map (stage_of (everyone there tune)) (played_sections there tune))) p
+    ∙ ap (λ n. score_along tune (first_place tune) n (map (stage_of (everyone there tune)) (played_sections there tune))) q
+    ∙ score_of_stages tune
+
+pub uneven_is : (tune : List (Bor Item)) (stages : List Stage) → AreOf tune stages
+    → list_any is_stage_uneven stages ≡ list_any (is_uneven there (everyone there tune)) (played_sections there tune)
+uneven_is tune stages is = ap (list_any is_stage_uneven) is ∙ uneven_of (everyone there tune) (played_sections there tune)
+
+-- one of four tests
+second : (x y z w : Bool) → y ≡ true → (x || y || z || w) ≡ true
+second true y z w h = refl
+second false y z w h = ap (λ b. b || z || w) h
+
+third : (x y z w : Bool) → z ≡ true → (x || y || z || w) ≡ true
+third true y z w h = refl
+third false true z w h = refl
+third false false z w h = ap (λ b. b || w) h
+
+fourth : (x y z w : Bool) → w ≡ true → (x || y || z || w) ≡ true
+fourth true y z w h = refl
+fourth false true z w h = refl
+fourth false false true w h = refl
+fourth false false false w h = h
+
+-- a tune with too many sections, too many places, too late an end, or a score that no file holds
+pub long_by_sections : (tune : List (Bor Item)) → MOST_SECTIONS < sections_played there tune → is_too_long there tune ≡ true
+unfolding is_too_long
+long_by_sections tune h =
+    ap (λ b. b || nat_lt MOST_PLACES (places_played there tune) || nat_lt grains_of_the_latest_end (end_of there tune) || not (is_within_limits (score_of there tune))) (lt-ltb MOST_SECTIONS (sections_played there tune) h)
+
+pub long_by_places : (tune : List (Bor Item)) → MOST_PLACES < places_played there tune → is_too_long there tune ≡ true
+unfolding is_too_long
+long_by_places tune h =
+    second (nat_lt MOST_SECTIONS (sections_played there tune)) (nat_lt MOST_PLACES (places_played there tune)) (nat_lt grains_of_the_latest_end (end_of there tune)) (not (is_within_limits (score_of there tune)))
+    (lt-ltb MOST_PLACES (places_played there tune) h)
+
+pub long_by_end : (tune : List (Bor Item)) → grains_of_the_latest_end < end_of there tune → is_too_long there tune ≡ true
+unfolding is_too_long
+long_by_end tune h =
+    third (nat_lt MOST_SECTIONS (sections_played there tune)) (nat_lt MOST_PLACES (places_played there tune)) (nat_lt grains_of_the_latest_end (end_of there tune)) (not (is_within_limits (score_of there tune)))
+    (lt-ltb grains_of_the_latest_end (end_of there tune) h)
+
+pub long_by_score : (tune : List (Bor Item)) (score : Score) → score ≡ score_of there tune → is_within_limits score ≡ false → is_too_long there tune ≡ true
+unfolding is_too_long
+long_by_score tune score is h =
+    fourth (nat_lt MOST_SECTIONS (sections_played there tune)) (nat_lt MOST_PLACES (places_played there tune)) (nat_lt grains_of_the_latest_end (end_of there tune)) (not (is_within_limits (score_of there tune)))
+    (ap not (ap is_within_limits (sym is) ∙ h))
+
+pub short_enough : (tune : List (Bor Item)) (score : Score) → sections_played there tune ≤ MOST_SECTIONS → places_played there tune ≤ MOST_PLACES
+    → end_of there tune ≤ grains_of_the_latest_end → score ≡ score_of there tune → is_within_limits score ≡ true → is_too_long there tune ≡ false
+unfolding is_too_long
+short_enough tune score a b e is h =
+    ap (λ x. x || nat_lt MOST_PLACES (places_played there tune) || nat_lt grains_of_the_latest_end (end_of there tune) || not (is_within_limits (score_of there tune))) (le-ltb MOST_SECTIONS (sections_played there tune) a)
+    ∙ ap (λ x. x || nat_lt grains_of_the_latest_end (end_of there tune) || not (is_within_limits (score_of there tune))) (le-ltb MOST_PLACES (places_played there tune) b)
+    ∙ ap (λ x. x || not (is_within_limits (score_of there tune))) (le-ltb grains_of_the_latest_end (end_of there tune) e)
+    ∙ ap not (ap is_within_limits (sym is) ∙ h)
+
+pub unknown_is : (tune : List (Bor Item)) → (arranged_of there tune).unknown ≡ has_unknown (past_all there order_past None tune) (letters there tune)
+unfolding arranged_of
+unknown_is tune = refl
+
+pub arranged_is : (tune : List (Bor Item)) (score : Score) (uneven unknown : Bool) → score ≡ score_of there tune
+    → uneven ≡ list_any (is_uneven there (everyone there tune)) (played_sections there tune)
+    → unknown ≡ has_unknown (past_all there order_past None tune) (letters there tune)
+    → record { score = score; uneven = uneven; unknown = unknown } ≡ arranged_of there tune
+unfolding arranged_of
+arranged_is tune score uneven unknown p q r = laid_same _ _ _ _ _ _ p q r

@@ -1,0 +1,40 @@
+use Rattle.std.proofs.Common.{◌≡◌, ◌∙◌, ℕ, List, sym, ap, map, arith}
+use Rattle.std.proofs.lemmas.Result.{IfOk-weaker}
+use Rattle.std.specs.Prelude.{Some, option_copied, slice_get}
+use Rattle.abc_voices.specs.Stages.{IsNew, IsPut}
+use Rattle.abc_voices.proofs.Placed.{put_nothing, put_first, section_size, section_longest, within_table}
+use Rattle.abc_voices.proofs.stages.put_stage.Goals as goal
+
+pub returns-in_default-clause-put : goal.returns-in_default-clause-put
+returns-in_default-clause-put c =
+    put_nothing _ _ _ _ _ c.requires.long c.requires.table (sym c.section_at.ensures ∙ ap option_copied c.in_default.is)
+
+pub room_behind-requires : goal.room_behind-requires
+room_behind-requires c =
+    let is = c.requires.table.each c.args.place c.in-Some-stage_at.stage.now (sym c.stage_at.ensures ∙ ap option_copied c.in-Some-stage_at.is) in
+    omega (arith, is.few)
+
+pub returns-in-Some-stage_at-clause-too_many : goal.returns-in-Some-stage_at-clause-too_many
+returns-in-Some-stage_at-clause-too_many c = λ e.
+    let is = c.requires.table.each c.args.place c.in-Some-stage_at.stage.now (sym c.stage_at.ensures ∙ ap option_copied c.in-Some-stage_at.is) in
+    omega (arith, is.size, c.room_behind.ensures.too_many e)
+
+pub returns-clause-put : goal.returns-clause-put
+returns-clause-put c =
+    let voices : List (List ℕ) = map (λ voice. voice.now) c.args.voices.now in
+    let found : slice_get c.args.sections.now c.args.place ≡ Some c.in-Some.section.now = sym c.section_at.ensures ∙ ap option_copied c.in-Some.is in
+    IfOk-weaker c.put_new.result
+    (λ left. IsNew voices c.in-Some.section.now c.args.place c.args.room c.args.table.now c.put_new.new.table left)
+    (λ left. IsPut voices c.args.sections.now c.args.place c.args.room c.args.table.now c.put_new.new.table left)
+    (λ left new. put_first voices c.args.sections.now c.args.place c.args.room left c.args.table.now c.put_new.new.table c.in-Some.section.now c.requires.table found (within_table _ _ _ _ c.requires.long found) c.requires.room new)
+    c.put_new.ensures.put
+
+pub returns-clause-too_many : goal.returns-clause-too_many
+returns-clause-too_many c = λ e.
+    let found : slice_get c.args.sections.now c.args.place ≡ Some c.in-Some.section.now = sym c.section_at.ensures ∙ ap option_copied c.in-Some.is in
+    omega (arith, section_size (map (λ voice. voice.now) c.args.voices.now) c.args.sections.now c.args.place c.in-Some.section.now found, c.put_new.ensures.too_many e)
+
+pub returns-clause-too_late : goal.returns-clause-too_late
+returns-clause-too_late c = λ e.
+    let found : slice_get c.args.sections.now c.args.place ≡ Some c.in-Some.section.now = sym c.section_at.ensures ∙ ap option_copied c.in-Some.is in
+    omega (arith, section_longest (map (λ voice. voice.now) c.args.voices.now) c.args.sections.now c.args.place c.in-Some.section.now found, c.put_new.ensures.too_late e)

@@ -1,0 +1,64 @@
+-- The stages of a tune in a table: at a section's place what the voices play of it, or none. Our own.
+use Rattle.std.specs.Borrow.{Bor}
+use Rattle.std.specs.Prelude.{◌≡◌, ℕ, ◌+◌, ◌≤◌, List, Option, Some, None, All, length, map, sum_by, filter_map, slice_get, slice_set, option_map}
+use Rattle.abc_bars.specs.declared.item.Item.{Item}
+use Rattle.abc_repeat.specs.declared.play.TheConstants.{MOST_PLACES}
+use Rattle.abc_voices.specs.declared.section.Section.{Section}
+use Rattle.abc_voices.specs.declared.stage.Stage.{Stage}
+use Rattle.abc_voices.specs.Along.{stage_at}
+use Rattle.abc_voices.specs.Arrange.{size_in, longest}
+use Rattle.abc_voices.specs.Stage.{content, stage_of, stage_size}
+
+-- The sections at some places, in this order.
+abbrev pub sections_at : List Section → List ℕ → List (List ℕ × List (Bor Item))
+sections_at sections places = filter_map (slice_get (map content sections)) places
+
+-- The stage that the section at a place has.
+abbrev pub stage_for : List (List ℕ) → List Section → ℕ → Option Stage
+stage_for voices sections place = option_map (λ section. stage_of voices (content section)) (slice_get sections place)
+
+-- A number of what there is, 0 of nothing.
+abbrev pub number_of : {A : Type 0} → (A → ℕ) → Option A → ℕ
+number_of number None = 0
+number_of number (Some value) = number value
+
+-- How many places the voices play of the section at a place.
+abbrev pub size_for : List (List ℕ) → List Section → ℕ → ℕ
+size_for voices sections place =
+    number_of (λ section. sum_by (size_in (λ step. step.now) (content section)) voices) (slice_get sections place)
+
+-- How long the section at a place is.
+abbrev pub longest_for : List (List ℕ) → List Section → ℕ → ℕ
+longest_for voices sections place =
+    number_of (λ section. longest (λ step. step.now) voices (content section)) (slice_get sections place)
+
+-- What a stage at a place says of its section.
+pub record IsStageAt (voices : List (List ℕ)) (sections : List Section) (place : ℕ) (stage : Stage) : Type 0 where
+  pub value : stage_for voices sections place ≡ Some stage
+  pub size : stage_size stage ≡ size_for voices sections place
+  pub few : stage_size stage ≤ MOST_PLACES
+
+-- Each stage of the table is that of the section at its place.
+pub record AreStages (voices : List (List ℕ)) (sections : List Section) (table : List (Option Stage)) : Type 0 where
+  pub each : (place : ℕ) (stage : Stage) → stage_at table place ≡ Some stage → IsStageAt voices sections place stage
+
+-- The stage of a section is put at a place, and behind its places this much room is left.
+pub record IsNew (voices : List (List ℕ)) (section : Section) (place room : ℕ) (before after : List (Option Stage)) (left : ℕ) : Type 0 where
+  pub put : after ≡ slice_set before place (Some (stage_of voices (content section)))
+  pub size : stage_size (stage_of voices (content section)) ≡ sum_by (size_in (λ step. step.now) (content section)) voices
+  pub fits : left + sum_by (size_in (λ step. step.now) (content section)) voices ≡ room
+
+-- The stage of the section at a place stands in the table, those that stood there still do, and behind the play of
+-- the section this much room is left.
+pub record IsPut (voices : List (List ℕ)) (sections : List Section) (place room : ℕ) (before after : List (Option Stage)) (left : ℕ) : Type 0 where
+  pub are : AreStages voices sections after
+  pub here : stage_at after place ≡ stage_for voices sections place
+  pub there : (other : ℕ) → stage_at before other ≡ stage_for voices sections other → stage_at after other ≡ stage_for voices sections other
+  pub fits : left + size_for voices sections place ≡ room
+
+-- The stages of the sections at some places stand in the table, and behind their play this much room is left.
+pub record ArePut (voices : List (List ℕ)) (sections : List Section) (places : List ℕ) (room : ℕ) (table : List (Option Stage)) : Type 0 where
+  pub long : length table ≡ length sections
+  pub are : AreStages voices sections table
+  pub here : All (λ place. stage_at table place ≡ stage_for voices sections place) places
+  pub fits : room + sum_by (size_for voices sections) places ≡ MOST_PLACES

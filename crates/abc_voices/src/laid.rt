@@ -1,0 +1,121 @@
+//! The score of stages that are played one after another.
+
+ghost use Rattle.std.specs.Prelude.{◌≡◌, ◌≢◌, ◌<◌, ◌≤◌, ◌-◌, pos, false, All, IfOk, None};
+ghost use Rattle.std.specs.List.{flat_map};
+ghost use Rattle.abc_fields.specs.declared.meter.Meter.TheVariants.{Free};
+ghost use Rattle.abc_time.specs.Grains.{grains_of_the_latest_end};
+ghost use Rattle.abc_voices.specs.declared.stage.StageFault.TheVariants.{TooMany, TooLate};
+ghost use Rattle.abc_voices.specs.Along.{IsStage, at_places, length_along, voices_along, changes_along, end_along, score_along};
+ghost use Rattle.abc_voices.specs.Arrange.{last_off, or_else, usual_tempo};
+ghost use Rattle.abc_voices.specs.Opening.{tempo_past, meter_past, key_past, past_all};
+
+use crate::conduct::conductor;
+use crate::opening::{opening_key, opening_meter, opening_tempo, title_of};
+use crate::score::{Change, Score, Sounding};
+use crate::setting::{keys_along, meters_along, tempos_along};
+use crate::stage::{Stage, StageFault};
+use crate::timing::last_off;
+use crate::voice::voices_notes;
+use abc_bars::Item;
+use abc_fields::Meter;
+use abc_text::Sequence;
+use abc_time::{Grains, LATEST_END};
+use std::alloc::{AllocError, Global};
+
+/// The microseconds of a quarter note where no tempo is set: 120 quarters a minute.
+const USUAL_TEMPO: u32 = 500_000;
+
+/// The tempo at the start of a tune.
+fn tempo_at_start(tune: &[&Item]) -> u32
+    ensures { result ≡ or_else usual_tempo (past_all (λ step. step.now) tempo_past None tune.now) }
+{
+    match opening_tempo(tune) {
+        Some(micros) => micros,
+        None => USUAL_TEMPO,
+    }
+}
+
+/// The meter at the start of a tune.
+fn meter_at_start(tune: &[&Item]) -> Meter
+    ensures { result ≡ or_else Free (past_all (λ step. step.now) meter_past None tune.now) }
+{
+    match opening_meter(tune) {
+        Some(meter) => meter,
+        None => Meter::Free,
+    }
+}
+
+/// The key at the start of a tune.
+fn key_at_start(tune: &[&Item]) -> (i8, bool)
+    ensures { result ≡ or_else (pos 0, false) (past_all (λ step. step.now) key_past None tune.now) }
+{
+    match opening_key(tune) {
+        Some(key) => key,
+        None => (0, false),
+    }
+}
+
+/// The changes of stages, whose first track is the voice at a place.
+fn changes_along(
+    alloc: Global,
+    tune: &[&Item],
+    table: &[Option<Stage>],
+    order: &[usize],
+    first: usize,
+) -> Result<Vec<Change>, AllocError>
+    requires stages { All IsStage (at_places table.now order.now) }
+    requires in_time { length_along (at_places table.now order.now) ≤ grains_of_the_latest_end }
+    ensures { IfOk result (λ changes. changes.items ≡ changes_along tune.now first (at_places table.now order.now)) }
+{
+    let tempos = tempos_along(alloc, table, order, tempo_at_start(tune))?;
+    let meters = meters_along(alloc, table, order, first, meter_at_start(tune))?;
+    let keys = keys_along(alloc, table, order, first, key_at_start(tune))?;
+    conductor(alloc, &tempos, &meters, &keys)
+}
+
+/// When a moment and the last of the notes of some voices are over.
+fn last_of_all(at: Grains, voices: &[Sequence<Sounding>]) -> Grains
+    ensures { result.0 ≡ last_off at.0 (flat_map (λ notes. notes) voices.now) }
+{
+    let mut last = at;
+    for notes in voices {
+        last = last_off(last, notes.as_slice());
+    }
+    last
+}
+
+/// The score of stages that are played up to a moment; the voices from the first track on have tracks.
+#[tactic(auto, unfolding(abc_time::specs::Grains::grains_of_a_whole_note, abc_time::specs::Grains::grains_of_the_latest_end))]
+pub(crate) fn score_along(
+    alloc: Global,
+    tune: &[&Item],
+    table: &[Option<Stage>],
+    order: &[usize],
+    total: Grains,
+    first: usize,
+    count: usize,
+) -> Result<Score, StageFault>
+    requires stages { All IsStage (at_places table.now order.now) }
+    requires total { total.0 ≡ length_along (at_places table.now order.now) }
+    requires in_time { total.0 ≤ grains_of_the_latest_end }
+    requires voices { first ≤ count }
+    ensures value { IfOk result (λ score. score ≡ score_along tune.now first count (at_places table.now order.now)) }
+    ensures in_time { IfOk result (λ score. score.end.0 ≤ grains_of_the_latest_end) }
+    ensures too_many { result ≢ Err TooMany }
+    ensures too_late { result ≡ Err TooLate
+        → grains_of_the_latest_end < end_along (at_places table.now order.now) (voices_along (at_places table.now order.now) first (count - first)) }
+{
+    let voices = voices_notes(alloc, table, order, total, first, count)?;
+    let end = last_of_all(total, voices.as_slice());
+    if end > LATEST_END {
+        return Err(StageFault::TooLate);
+    }
+    let changes = changes_along(alloc, tune, table, order, first)?;
+    let title = Sequence::from_slice(alloc, title_of(tune))?;
+    Ok(Score {
+        title,
+        end,
+        conductor: Sequence::from(changes),
+        voices,
+    })
+}

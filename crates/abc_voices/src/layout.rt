@@ -1,0 +1,212 @@
+//! A tune laid out in time.
+
+ghost use Rattle.std.specs.Prelude.{◌≡◌, ◌≢◌, ◌<◌, ◌≤◌, ◌++◌, Bool, true, false, length, map, All, None, IfOk, OnOk};
+ghost use Rattle.std.specs.List.{list_any};
+ghost use Rattle.abc_bars.specs.Item.{IsItem};
+ghost use Rattle.abc_repeat.specs.Order.{sections_of, has_unknown};
+ghost use Rattle.abc_time.specs.Grains.{grains_of_the_latest_end};
+ghost use Rattle.abc_voices.specs.declared.stage.StageFault.TheVariants.{TooMany, TooLate};
+ghost use Rattle.abc_repeat.specs.declared.order.TheConstants.{MOST_SECTIONS};
+ghost use Rattle.abc_repeat.specs.declared.play.TheConstants.{MOST_PLACES};
+ghost use Rattle.abc_voices.specs.Along.{at_places, first_place};
+ghost use Rattle.abc_voices.specs.Arrange.{played_sections, is_uneven, end_of, score_of, arranged_of, sections_played, places_played, is_too_long, items_in};
+ghost use Rattle.abc_voices.specs.Limits.{IsWithinLimits};
+ghost use Rattle.abc_voices.specs.Opening.{order_past, past_all};
+ghost use Rattle.abc_voices.specs.Section.{letters};
+ghost use Rattle.abc_voices.specs.Stage.{stage_of};
+ghost use Rattle.abc_voices.specs.Track.{everyone};
+
+use crate::along::{is_uneven, length_along};
+use crate::arranged::{Arranged, BuildFault};
+use crate::laid::score_along;
+use crate::limits::is_within_limits;
+use crate::opening::order_of;
+use crate::score::Score;
+use crate::section::{letters, sections};
+use crate::stage::{Stage, StageFault};
+use crate::stages::stages;
+use crate::track::{everyone, nameless_plays};
+use abc_bars::{Item, Items};
+use abc_repeat::{OrderFault, Played, play_order};
+use std::alloc::{AllocError, Global};
+
+/// Puts items behind those of a tune.
+fn put_items<'a>(tune: &mut Vec<&'a Item>, items: &'a [Item]) -> Result<(), AllocError>
+    ensures { OnOk result (map (λ step. step.now) tune.new.items ≡ map (λ step. step.now) tune.old.items ++ items.entry.now) }
+{
+    for item in items {
+        tune.push(item)?;
+    }
+    Ok(())
+}
+
+/// The items of a tune, of what its cells give.
+fn tune_of<'a>(alloc: Global, items: &'a [Items]) -> Result<Vec<&'a Item>, AllocError>
+    ensures value { IfOk result (λ tune. map (λ step. step.now) tune.items ≡ items_in items.entry.now) }
+    ensures range { IfOk result (λ tune. All IsItem (map (λ step. step.now) tune.items)) }
+{
+    let mut tune = Vec::new(alloc);
+    for one in items {
+        put_items(&mut tune, one.items())?;
+    }
+    Ok(tune)
+}
+
+/// The sections of a tune that are played, in order.
+fn order_played(alloc: Global, tune: &[&Item]) -> Result<Played, BuildFault>
+    requires { All (λ step. IsItem step.now) tune.now }
+    ensures sections { IfOk result (λ played. played.sections.items
+        ≡ sections_of (past_all (λ step. step.now) order_past None tune.now) (letters (λ step. step.now) tune.now)) }
+    ensures few { IfOk result (λ _. sections_played (λ step. step.now) tune.now ≤ MOST_SECTIONS) }
+    ensures unknown { IfOk result (λ played. played.unknown
+        ≡ has_unknown (past_all (λ step. step.now) order_past None tune.now) (letters (λ step. step.now) tune.now)) }
+    ensures too_long { (unknown : Bool) → result ≡ Err (BuildFault.TooLong unknown) → MOST_SECTIONS < sections_played (λ step. step.now) tune.now }
+    ensures too_long_unknown { (unknown : Bool) → result ≡ Err (BuildFault.TooLong unknown)
+        → unknown ≡ has_unknown (past_all (λ step. step.now) order_past None tune.now) (letters (λ step. step.now) tune.now) }
+{
+    let found = letters(alloc, tune)?;
+    match play_order(alloc, order_of(tune), &found) {
+        Ok(played) => Ok(played),
+        Err(OrderFault::TooLong { unknown }) => Err(BuildFault::TooLong { unknown }),
+        Err(OrderFault::OutOfMemory) => Err(BuildFault::OutOfMemory),
+    }
+}
+
+/// The place of the first voice that has a track.
+fn first_track(tune: &[&Item]) -> usize
+    ensures { result ≡ first_place tune.now }
+{
+    if nameless_plays(tune) { 0 } else { 1 }
+}
+
+/// The stages of the sections of a tune that are played.
+fn stages_of<'t>(
+    alloc: Global,
+    tune: &[&'t Item],
+    voices: &[&[u8]],
+    played: &[usize],
+) -> Result<Vec<Option<Stage<'t>>>, StageFault>
+    requires voices { map (λ voice. voice.now) voices.now ≡ everyone (λ step. step.now) tune.now }
+    requires played { played.now ≡ sections_of (past_all (λ step. step.now) order_past None tune.now) (letters (λ step. step.now) tune.now) }
+    ensures value { IfOk result (λ table. at_places table.items played.now
+        ≡ map (stage_of (everyone (λ step. step.now) tune.now)) (played_sections (λ step. step.now) tune.now)) }
+    ensures few { IfOk result (λ _. places_played (λ step. step.now) tune.now ≤ MOST_PLACES) }
+    ensures too_many { result ≡ Err TooMany → MOST_PLACES < places_played (λ step. step.now) tune.now }
+    ensures too_late { result ≡ Err TooLate → grains_of_the_latest_end < end_of (λ step. step.now) tune.now }
+{
+    let found = sections(alloc, tune)?;
+    stages(alloc, &found, voices, played)
+}
+
+/// The score of the stages of a tune with so many voices, and whether voices are uneven in one of them.
+fn laid_along(
+    alloc: Global,
+    tune: &[&Item],
+    table: &[Option<Stage>],
+    played: &[usize],
+    count: usize,
+) -> Result<(Score, bool), StageFault>
+    requires tune { All (λ step. IsItem step.now) tune.now }
+    requires stages { at_places table.now played.now
+        ≡ map (stage_of (everyone (λ step. step.now) tune.now)) (played_sections (λ step. step.now) tune.now) }
+    requires count { count ≡ length (everyone (λ step. step.now) tune.now) }
+    ensures score { IfOk result (λ laid. laid.0 ≡ score_of (λ step. step.now) tune.now) }
+    ensures uneven { IfOk result (λ laid. laid.1
+        ≡ list_any (is_uneven (λ step. step.now) (everyone (λ step. step.now) tune.now)) (played_sections (λ step. step.now) tune.now)) }
+    ensures in_time { IfOk result (λ _. end_of (λ step. step.now) tune.now ≤ grains_of_the_latest_end) }
+    ensures too_many { result ≢ Err TooMany }
+    ensures too_late { result ≡ Err TooLate → grains_of_the_latest_end < end_of (λ step. step.now) tune.now }
+{
+    let Some(total) = length_along(table, played) else {
+        return Err(StageFault::TooLate);
+    };
+    let first = first_track(tune);
+    match score_along(alloc, tune, table, played, total, first, count) {
+        Ok(score) => {
+            let uneven = is_uneven(table, played);
+            Ok((score, uneven))
+        }
+        Err(why) => Err(why),
+    }
+}
+
+/// The score of the sections of a tune that are played, and whether voices are uneven in one of them.
+fn laid_out(alloc: Global, tune: &[&Item], played: &[usize]) -> Result<(Score, bool), StageFault>
+    requires tune { All (λ step. IsItem step.now) tune.now }
+    requires played { played.now ≡ sections_of (past_all (λ step. step.now) order_past None tune.now) (letters (λ step. step.now) tune.now) }
+    ensures score { IfOk result (λ laid. laid.0 ≡ score_of (λ step. step.now) tune.now) }
+    ensures uneven { IfOk result (λ laid. laid.1
+        ≡ list_any (is_uneven (λ step. step.now) (everyone (λ step. step.now) tune.now)) (played_sections (λ step. step.now) tune.now)) }
+    ensures few { IfOk result (λ _. places_played (λ step. step.now) tune.now ≤ MOST_PLACES) }
+    ensures in_time { IfOk result (λ _. end_of (λ step. step.now) tune.now ≤ grains_of_the_latest_end) }
+    ensures too_many { result ≡ Err TooMany → MOST_PLACES < places_played (λ step. step.now) tune.now }
+    ensures too_late { result ≡ Err TooLate → grains_of_the_latest_end < end_of (λ step. step.now) tune.now }
+{
+    let voices = everyone(alloc, tune)?;
+    match stages_of(alloc, tune, &voices, played) {
+        Ok(table) => laid_along(alloc, tune, &table, played, voices.len()),
+        Err(why) => Err(why),
+    }
+}
+
+/// A tune laid out, of its items and the sections that are played.
+fn within_limits(
+    alloc: Global,
+    tune: &[&Item],
+    played: &[usize],
+    unknown: bool,
+) -> Result<Arranged, BuildFault>
+    requires tune { All (λ step. IsItem step.now) tune.now }
+    requires played { played.now ≡ sections_of (past_all (λ step. step.now) order_past None tune.now) (letters (λ step. step.now) tune.now) }
+    requires few { sections_played (λ step. step.now) tune.now ≤ MOST_SECTIONS }
+    requires unknown { unknown ≡ has_unknown (past_all (λ step. step.now) order_past None tune.now) (letters (λ step. step.now) tune.now) }
+    ensures value { IfOk result (λ laid. laid ≡ arranged_of (λ step. step.now) tune.now) }
+    ensures short { IfOk result (λ _. is_too_long (λ step. step.now) tune.now ≡ false) }
+    ensures limits { IfOk result (λ laid. IsWithinLimits laid.score) }
+    ensures too_long { (other : Bool) → result ≡ Err (BuildFault.TooLong other) → is_too_long (λ step. step.now) tune.now ≡ true }
+    ensures unknown { (other : Bool) → result ≡ Err (BuildFault.TooLong other) → other ≡ unknown }
+{
+    match laid_out(alloc, tune, played) {
+        Ok((score, uneven)) => {
+            if is_within_limits(&score) {
+                Ok(Arranged {
+                    score,
+                    uneven,
+                    unknown,
+                })
+            } else {
+                Err(BuildFault::TooLong { unknown })
+            }
+        }
+        Err(StageFault::TooMany) => Err(BuildFault::TooLong { unknown }),
+        Err(StageFault::TooLate) => Err(BuildFault::TooLong { unknown }),
+        Err(StageFault::OutOfMemory) => Err(BuildFault::OutOfMemory),
+    }
+}
+
+/// A tune laid out, of its items.
+fn arranged(alloc: Global, tune: &[&Item]) -> Result<Arranged, BuildFault>
+    requires { All (λ step. IsItem step.now) tune.now }
+    ensures value { IfOk result (λ laid. laid ≡ arranged_of (λ step. step.now) tune.now) }
+    ensures short { IfOk result (λ _. is_too_long (λ step. step.now) tune.now ≡ false) }
+    ensures limits { IfOk result (λ laid. IsWithinLimits laid.score) }
+    ensures too_long { (unknown : Bool) → result ≡ Err (BuildFault.TooLong unknown) → is_too_long (λ step. step.now) tune.now ≡ true }
+    ensures unknown { (unknown : Bool) → result ≡ Err (BuildFault.TooLong unknown) → unknown ≡ (arranged_of (λ step. step.now) tune.now).unknown }
+{
+    match order_played(alloc, tune) {
+        Ok(played) => within_limits(alloc, tune, &played.sections, played.unknown),
+        Err(why) => Err(why),
+    }
+}
+
+/// A tune laid out in time, of what its cells give, or why it is not: it is too long, or there is no memory.
+pub fn arrange(alloc: Global, items: &[Items]) -> Result<Arranged, BuildFault>
+    ensures value { IfOk result (λ laid. laid ≡ arranged_of (λ item. item) (items_in items.now)) }
+    ensures short { IfOk result (λ _. is_too_long (λ item. item) (items_in items.now) ≡ false) }
+    ensures limits { IfOk result (λ laid. IsWithinLimits laid.score) }
+    ensures too_long { (unknown : Bool) → result ≡ Err (BuildFault.TooLong unknown) → is_too_long (λ item. item) (items_in items.now) ≡ true }
+    ensures unknown { (unknown : Bool) → result ≡ Err (BuildFault.TooLong unknown) → unknown ≡ (arranged_of (λ item. item) (items_in items.now)).unknown }
+{
+    let tune = tune_of(alloc, items)?;
+    arranged(alloc, &tune)
+}

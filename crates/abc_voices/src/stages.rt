@@ -1,0 +1,126 @@
+//! The stages of a tune: what its voices play of each section that is played.
+
+ghost use Rattle.std.specs.Prelude.{◌≡◌, ◌+◌, ◌<◌, ◌≤◌, ◌^◌, ◌≢◌, length, map, None, sum_by, slice_get, option_copied, IfOk};
+ghost use Rattle.abc_repeat.specs.declared.play.TheConstants.{MOST_PLACES};
+ghost use Rattle.abc_time.specs.Grains.{grains_of_the_latest_end};
+ghost use Rattle.abc_voices.specs.Along.{at_places};
+ghost use Rattle.abc_voices.specs.Arrange.{size_in, longest};
+ghost use Rattle.abc_voices.specs.Stage.{content, stage_of, stage_size};
+ghost use Rattle.abc_voices.specs.Stages.{sections_at, size_for, longest_for, AreStages, IsNew, IsPut, ArePut};
+
+use crate::along::stage_at;
+use crate::section::Section;
+use crate::stage::{Stage, StageFault};
+use abc_repeat::MOST_PLACES;
+use std::alloc::{AllocError, Global};
+
+/// How much room is left behind a stage.
+fn room_behind(stage: &Stage, room: u64) -> Result<u64, StageFault>
+    requires { stage_size stage.now < 2 ^ 64 }
+    ensures room { IfOk result (λ left. left + stage_size stage.now ≡ room) }
+    ensures too_many { result ≡ Err StageFault.TooMany → room < stage_size stage.now }
+    ensures too_late { result ≢ Err StageFault.TooLate }
+{
+    let size = stage.size();
+    if size > room {
+        return Err(StageFault::TooMany);
+    }
+    Ok(room - size)
+}
+
+/// The section at a place, if there is one.
+fn section_at<'p, 's, 't>(
+    sections: &'p [Section<'s, 't>],
+    place: usize,
+) -> Option<&'p Section<'s, 't>>
+    ensures { option_copied result ≡ slice_get sections.entry.now place }
+{
+    sections.get(place)
+}
+
+/// Puts the stage of a section into the table at its place, and gives how much room is left behind its play.
+fn put_new<'t>(
+    alloc: Global,
+    table: &mut [Option<Stage<'t>>],
+    section: &Section<'_, 't>,
+    voices: &[&[u8]],
+    place: usize,
+    room: u64,
+) -> Result<u64, StageFault>
+    requires place { place < length table.old }
+    requires room { room ≤ MOST_PLACES }
+    ensures put { IfOk result (λ left. IsNew (map (λ voice. voice.now) voices.now) section.now place room table.old table.new left) }
+    ensures too_many { result ≡ Err StageFault.TooMany
+        → room < sum_by (size_in (λ step. step.now) (content section.now)) (map (λ voice. voice.now) voices.now) }
+    ensures too_late { result ≡ Err StageFault.TooLate
+        → grains_of_the_latest_end < longest (λ step. step.now) (map (λ voice. voice.now) voices.now) (content section.now) }
+{
+    let stage = Stage::of(alloc, section, voices, room)?;
+    let left = room - stage.size();
+    table[place] = Some(stage);
+    Ok(left)
+}
+
+/// Puts the stage of the section at a place into the table, where none stands there, and gives how much room
+/// is left behind its play. A place beyond the sections plays nothing.
+fn put_stage<'t>(
+    alloc: Global,
+    table: &mut [Option<Stage<'t>>],
+    sections: &[Section<'_, 't>],
+    voices: &[&[u8]],
+    place: usize,
+    room: u64,
+) -> Result<u64, StageFault>
+    requires long { length table.old ≡ length sections.now }
+    requires room { room ≤ MOST_PLACES }
+    requires table { AreStages (map (λ voice. voice.now) voices.now) sections.now table.old }
+    ensures put { IfOk result (λ left. IsPut (map (λ voice. voice.now) voices.now) sections.now place room table.old table.new left) }
+    ensures too_many { result ≡ Err StageFault.TooMany → room < size_for (map (λ voice. voice.now) voices.now) sections.now place }
+    ensures too_late { result ≡ Err StageFault.TooLate
+        → grains_of_the_latest_end < longest_for (map (λ voice. voice.now) voices.now) sections.now place }
+{
+    let Some(section) = section_at(sections, place) else {
+        return Ok(room);
+    };
+    if let Some(stage) = stage_at(table, place) {
+        return room_behind(stage, room);
+    }
+    put_new(alloc, table, section, voices, place, room)
+}
+
+/// No stage for each of some sections.
+fn no_stages<'t>(
+    alloc: Global,
+    sections: &[Section<'_, 't>],
+) -> Result<Vec<Option<Stage<'t>>>, AllocError>
+    ensures { IfOk result (λ table. table.items ≡ map (λ section. None) sections.now) }
+{
+    let mut table = Vec::with_capacity(alloc, sections.len())?;
+    for _section in sections {
+        table.push(None)?;
+    }
+    Ok(table)
+}
+
+/// The stages of those sections that are at some places, each at its section's place.
+pub(crate) fn stages<'t>(
+    alloc: Global,
+    sections: &[Section<'_, 't>],
+    voices: &[&[u8]],
+    played: &[usize],
+) -> Result<Vec<Option<Stage<'t>>>, StageFault>
+    ensures value { IfOk result (λ table. at_places table.items played.now
+        ≡ map (stage_of (map (λ voice. voice.now) voices.now)) (sections_at sections.now played.now)) }
+    ensures places { IfOk result (λ table. sum_by (λ section. sum_by (size_in (λ step. step.now) section) (map (λ voice. voice.now) voices.now)) (sections_at sections.now played.now) ≤ MOST_PLACES) }
+    ensures too_many { result ≡ Err StageFault.TooMany
+        → MOST_PLACES < sum_by (λ section. sum_by (size_in (λ step. step.now) section) (map (λ voice. voice.now) voices.now)) (sections_at sections.now played.now) }
+    ensures too_late { result ≡ Err StageFault.TooLate
+        → grains_of_the_latest_end < sum_by (longest (λ step. step.now) (map (λ voice. voice.now) voices.now)) (sections_at sections.now played.now) }
+{
+    let mut table = no_stages(alloc, sections)?;
+    let mut room = MOST_PLACES;
+    for place in played {
+        room = put_stage(alloc, &mut table, sections, voices, *place, room)?;
+    }
+    Ok(table)
+}

@@ -1,0 +1,126 @@
+//! The notes of voices in stages that are played one after another.
+
+ghost use Rattle.std.specs.Prelude.{◌≡◌, ◌+◌, ◌-◌, ◌≤◌, All, IfOk, IfSome, OnOk, Some};
+ghost use Rattle.abc_time.specs.Grains.{grains_of_the_latest_end};
+ghost use Rattle.abc_voices.specs.Along.{IsPart, IsStage, stage_at, at_places, length_if, length_along, before_rest, notes_along, voices_along};
+ghost use Rattle.abc_voices.specs.Arrange.{all_notes};
+ghost use Rattle.abc_voices.specs.Linked.{notes_from};
+
+use crate::along::{length_at, stage_at};
+use crate::notes::put_notes;
+use crate::score::Sounding;
+use crate::stage::{Part, Stage};
+use abc_text::Sequence;
+use abc_time::Grains;
+use std::alloc::{AllocError, Global};
+
+/// Puts a part that is played from a moment on before the notes of what comes behind it.
+#[tactic(auto, unfolding(abc_time::specs::Grains::grains_of_a_whole_note, abc_time::specs::Grains::grains_of_the_latest_end))]
+fn put_part(
+    alloc: Global,
+    first: &mut Vec<Sounding>,
+    others: &mut Vec<Sounding>,
+    at: Grains,
+    longest: Grains,
+    part: &Part,
+) -> Result<(), AllocError>
+    requires part { IsPart longest part.now }
+    requires end { at.0 + longest.0 ≤ grains_of_the_latest_end }
+    ensures { OnOk result (record { first = first.new.items; others = others.new.items }
+        ≡ notes_from (λ step. step.now) at.0 part.now.steps (record { first = first.old.items; others = others.old.items })) }
+{
+    let end = Grains(at.0 + part.length.0);
+    put_notes(alloc, first, others, end, part.steps.as_slice())
+}
+
+/// Puts what a voice plays of a stage before the notes of what comes behind it.
+fn put_stage(
+    alloc: Global,
+    first: &mut Vec<Sounding>,
+    others: &mut Vec<Sounding>,
+    at: Grains,
+    stage: &Stage,
+    voice: usize,
+) -> Result<(), AllocError>
+    requires stage { IsStage stage.now }
+    requires end { at.0 + stage.now.longest.0 ≤ grains_of_the_latest_end }
+    ensures { OnOk result (record { first = first.new.items; others = others.new.items }
+        ≡ before_rest voice at.0 (Some stage.now) (record { first = first.old.items; others = others.old.items })) }
+{
+    let parts = stage.parts.as_slice();
+    match parts.get(voice) {
+        Some(part) => put_part(alloc, first, others, at, stage.longest, part),
+        None => Ok(()),
+    }
+}
+
+/// Puts what a voice plays of the stage at a place before the notes of what comes behind it.
+fn put_stage_at(
+    alloc: Global,
+    first: &mut Vec<Sounding>,
+    others: &mut Vec<Sounding>,
+    at: Grains,
+    table: &[Option<Stage>],
+    place: usize,
+    voice: usize,
+) -> Result<(), AllocError>
+    requires stage { IfSome (stage_at table.now place) IsStage }
+    requires end { at.0 + length_if (stage_at table.now place) ≤ grains_of_the_latest_end }
+    ensures { OnOk result (record { first = first.new.items; others = others.new.items }
+        ≡ before_rest voice at.0 (stage_at table.now place) (record { first = first.old.items; others = others.old.items })) }
+{
+    match stage_at(table, place) {
+        Some(stage) => put_stage(alloc, first, others, at, stage, voice),
+        None => Ok(()),
+    }
+}
+
+/// The notes of a voice in stages that are played from the beginning of a tune to a moment.
+fn voice_notes(
+    alloc: Global,
+    table: &[Option<Stage>],
+    order: &[usize],
+    end: Grains,
+    voice: usize,
+) -> Result<Sequence<Sounding>, AllocError>
+    requires stages { All IsStage (at_places table.now order.now) }
+    requires end { end.0 ≡ length_along (at_places table.now order.now) }
+    requires in_time { end.0 ≤ grains_of_the_latest_end }
+    ensures { IfOk result (λ notes. notes ≡ all_notes (notes_along voice 0 (at_places table.now order.now))) }
+{
+    let mut first = Vec::new(alloc);
+    let mut others = Vec::new(alloc);
+    let mut at = end;
+    let mut left = order.len();
+    while left > 0 {
+        left -= 1;
+        let place = order[left];
+        at.0 -= length_at(table, place).0;
+        put_stage_at(alloc, &mut first, &mut others, at, table, place, voice)?;
+    }
+    others.extend_from_slice(&first)?;
+    Ok(Sequence::from(others))
+}
+
+/// The notes of the voices from the first that is counted on up to so many.
+pub(crate) fn voices_notes(
+    alloc: Global,
+    table: &[Option<Stage>],
+    order: &[usize],
+    end: Grains,
+    first: usize,
+    count: usize,
+) -> Result<Sequence<Sequence<Sounding>>, AllocError>
+    requires stages { All IsStage (at_places table.now order.now) }
+    requires end { end.0 ≡ length_along (at_places table.now order.now) }
+    requires in_time { end.0 ≤ grains_of_the_latest_end }
+    requires voices { first ≤ count }
+    ensures { IfOk result (λ voices. voices ≡ voices_along (at_places table.now order.now) first (count - first)) }
+{
+    let mut voices = Vec::new(alloc);
+    for voice in first..count {
+        let notes = voice_notes(alloc, table, order, end, voice)?;
+        voices.push(notes)?;
+    }
+    Ok(Sequence::from(voices))
+}
