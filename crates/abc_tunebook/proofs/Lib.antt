@@ -1,0 +1,7 @@
+pub mod Difference
+pub mod Examples
+pub mod Members
+pub mod Moves
+pub mod Order
+pub mod Owned
+pub mod Owners

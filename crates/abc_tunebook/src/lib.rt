@@ -1,0 +1,21 @@
+//! The book of a text, by definition and in code: what each tune gives, the file of each reference number,
+//! the titles, the faults.
+#![tactic(auto)]
+
+mod book;
+mod fault;
+mod files;
+mod laws;
+mod report;
+mod sorted;
+mod title;
+mod tune;
+
+pub use book::Book;
+pub use fault::Fault;
+pub use files::Files;
+pub use laws::{each_fault_once, first_owner, no_lines_no_book, tunes_move};
+pub use report::Report;
+pub use sorted::sorted_once;
+pub use title::Title;
+pub use tune::Tune;
