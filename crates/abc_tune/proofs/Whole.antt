@@ -1,0 +1,82 @@
+-- What holds of the items of a tune, by what holds of those of each cell.
+use Rattle.std.proofs.Common.{◌≡◌, ℕ, ◌+◌, ◌<◌, ◌≤◌, Bool, true, false, not, List, [], ◌∷◌, ◌++◌, length, drop, get_or, refl, sym, ap, ◌∙◌, arith, append_assoc}
+use Rattle.std.proofs.lemmas.List.{drop_more}
+use Rattle.std.proofs.lemmas.List.Folds.{list_any-append}
+use Rattle.std.specs.Prelude.{◌||◌}
+use Rattle.std.specs.List.{list_any}
+use Rattle.abc_bars.specs.declared.item.Item.{Item}
+use Rattle.abc_bars.specs.Item.{Items}
+use Rattle.abc_fields.specs.declared.fault.FaultCode.{FaultCode}
+use Rattle.abc_fields.specs.declared.fault.FaultCode.TheVariants as codes
+use Rattle.abc_fields.specs.Fault.{number_of}
+use Rattle.abc_tune.specs.Build.{is_opening_key, lacks_key, out_past, opens_out_of_range, fault_if, faults_with, AreRisingFrom, is_too_long_fault}
+use Rattle.abc_voices.specs.Arrange.{items_in}
+use Rattle.abc_voices.specs.Opening.{past_all}
+
+-- one of a tune is one of a cell
+any_in_cells : (test : Item → Bool) (cells : List Items) → list_any test (items_in cells) ≡ list_any (λ cell. list_any test cell.items) cells
+any_in_cells test [] = refl
+any_in_cells test (cell ∷ cells) =
+    list_any-append test cell.items (items_in cells) ∙ ap (λ b. list_any test cell.items || b) (any_in_cells test cells)
+
+pub lacks_key_in_cells : (cells : List Items) → lacks_key (items_in cells) ≡ not (list_any (λ cell. list_any is_opening_key cell.items) cells)
+lacks_key_in_cells cells = ap not (any_in_cells is_opening_key cells)
+
+-- what holds behind items and more of them
+past_append : (out : Bool) (items more : List Item) → past_all (λ item. item) out_past out (items ++ more) ≡ past_all (λ item. item) out_past (past_all (λ item. item) out_past out items) more
+past_append out [] more = refl
+past_append out (item ∷ items) more = past_append (out_past out item) items more
+
+-- one more cell
+pub out_more : (cells : List Items) (i : ℕ) (out behind : Bool) (cell : Items) (held : List Item) (whole : Bool) → i < length cells → cell ≡ get_or cells i cell
+    → held ≡ cell.items → behind ≡ past_all (λ item. item) out_past out held
+    → past_all (λ item. item) out_past out (items_in (drop i cells)) ≡ whole → past_all (λ item. item) out_past behind (items_in (drop (i + 1) cells)) ≡ whole
+out_more cells i out behind cell held whole within is same after before =
+    let rest = items_in (drop (i + 1) cells) in
+    let front : drop i cells ≡ cell ∷ drop (i + 1) cells = drop_more cells i cell within ∙ ap (λ x. x ∷ drop (i + 1) cells) (sym is) in
+    ap (λ b. past_all (λ item. item) out_past b rest) (after ∙ ap (past_all (λ item. item) out_past out) same)
+    ∙ sym (past_append out cell.items rest)
+    ∙ sym (ap (λ those. past_all (λ item. item) out_past out (items_in those)) front)
+    ∙ before
+
+-- what rises from a number rises from a lower one
+rising_from : (low high : ℕ) (faults : List FaultCode) → low ≤ high → AreRisingFrom high faults → AreRisingFrom low faults
+rising_from low high [] below rises = tt
+rising_from low high (fault ∷ faults) below rises = (let h : high < number_of fault = rises.0 in omega (arith, h), rises.1)
+
+-- a fault in front of those that rise from its number
+rising_if : (low : ℕ) (there : Bool) (fault : FaultCode) (faults : List FaultCode) → low < number_of fault → AreRisingFrom (number_of fault) faults → AreRisingFrom low (fault_if there fault ++ faults)
+rising_if low true fault faults below rises = (below, rises)
+rising_if low false fault faults below rises = rising_from low (number_of fault) faults (omega arith) rises
+
+-- the last of them
+rising_last : (long : Bool) → AreRisingFrom 25 (fault_if long codes.TuneTooLong)
+rising_last true = (omega arith, tt)
+rising_last false = tt
+
+-- the faults of a tune rise
+pub faults_rise : (tune : List Item) (unknown uneven long : Bool) → AreRisingFrom 0 (faults_with tune unknown uneven long)
+faults_rise tune unknown uneven long =
+    simp append_assoc (rising_if 0 (lacks_key tune) codes.MissingKey _ (omega arith)
+    (rising_if 22 (opens_out_of_range tune) codes.TempoRange _ (omega arith)
+    (rising_if 23 unknown codes.UnknownPart _ (omega arith)
+    (rising_if 24 uneven codes.UnevenVoices _ (omega arith)
+    (rising_last long)))))
+
+-- another fault is passed over
+passed_over : (there : Bool) (fault : FaultCode) (faults : List FaultCode) → is_too_long_fault fault ≡ false → list_any is_too_long_fault (fault_if there fault ++ faults) ≡ list_any is_too_long_fault faults
+passed_over true fault faults other = ap (λ b. b || list_any is_too_long_fault faults) other
+passed_over false fault faults other = refl
+
+long_alone : (long : Bool) → list_any is_too_long_fault (fault_if long codes.TuneTooLong) ≡ long
+long_alone true = refl
+long_alone false = refl
+
+-- the fault of a tune that is too long is there exactly where it is
+pub long_among : (tune : List Item) (unknown uneven long : Bool) → list_any is_too_long_fault (faults_with tune unknown uneven long) ≡ long
+long_among tune unknown uneven long =
+    simp append_assoc (passed_over (lacks_key tune) codes.MissingKey _ refl
+    ∙ passed_over (opens_out_of_range tune) codes.TempoRange _ refl
+    ∙ passed_over unknown codes.UnknownPart _ refl
+    ∙ passed_over uneven codes.UnevenVoices _ refl
+    ∙ long_alone long)

@@ -1,0 +1,2 @@
+pub mod Abc
+pub mod Build

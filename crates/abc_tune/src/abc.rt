@@ -1,0 +1,108 @@
+//! The compiler of ABC.
+
+ghost use Rattle.std.specs.Prelude.{◌≡◌, option_copied};
+ghost use Rattle.abc_bars.specs.Step.{stepped};
+ghost use Rattle.abc_tune.specs.Abc.{rules_of_abc, number_of, title_of, first_value};
+
+use crate::built::{Built, build};
+use crate::compiler::Compiler;
+use abc_bars::{BarFold, Defaults, Entry, Item, Items};
+use abc_fields::FaultCode;
+use abc_fold::{Fold, Work};
+use abc_scan::{Cell, LineClass, cells, class_of, scan};
+use std::alloc::{AllocError, Global};
+
+/// The compiler of tunes in ABC.
+#[derive(Clone, Copy, Debug, Drop)]
+pub struct Abc;
+
+impl Fold for Abc {
+    type State = Entry;
+
+    type Cell = Cell;
+
+    type Items = Items;
+
+    type Work = Work;
+
+    ghost next = { λ _ entry cell. (stepped entry cell).0 };
+
+    ghost gives = { λ _ entry cell. (stepped entry cell).1 };
+
+    fn step(
+        &self,
+        alloc: Global,
+        state: &Entry,
+        cell: &Cell,
+        work: &mut Work,
+    ) -> Result<(Entry, Items), AllocError> {
+        BarFold.step(alloc, state, cell, work)
+    }
+}
+
+/// The first reference number among items.
+fn number_among(items: &[Item]) -> Option<u32>
+    ensures { result ≡ first_value number_of items.now }
+{
+    for item in items {
+        if let Item::Number(number) = item {
+            return Some(*number);
+        }
+    }
+    None
+}
+
+/// The first title among items.
+fn title_among<'a>(items: &'a [Item]) -> Option<&'a [u8]>
+    ensures { option_copied result ≡ first_value title_of items.now }
+{
+    for item in items {
+        if let Item::Title(text) = item {
+            return Some(text.as_slice());
+        }
+    }
+    None
+}
+
+impl Compiler for Abc {
+    type Defaults = Defaults;
+
+    ghost rules = { λ _. rules_of_abc };
+
+    fn class(&self, line: &[u8]) -> LineClass {
+        class_of(line)
+    }
+
+    fn cells(&self, alloc: Global, line: &[u8], work: &mut Work) -> Result<Vec<Cell>, AllocError> {
+        let tokens = scan(alloc, line, work)?;
+        cells(alloc, tokens.as_slice())
+    }
+
+    fn header(&self, alloc: Global) -> Entry {
+        Entry::header(alloc)
+    }
+
+    fn tune(&self, alloc: Global, after: Option<&Entry>) -> Entry {
+        Entry::tune(alloc, after)
+    }
+
+    fn defaults(&self, after: &Entry) -> Defaults {
+        after.defaults()
+    }
+
+    fn number(&self, items: &Items) -> Option<u32> {
+        number_among(items.items())
+    }
+
+    fn title<'a>(&self, items: &'a Items) -> Option<&'a [u8]> {
+        title_among(items.items())
+    }
+
+    fn faults<'a>(&self, items: &'a Items) -> &'a [(u32, FaultCode)] {
+        items.faults()
+    }
+
+    fn build(&self, alloc: Global, items: &[Items], work: &mut Work) -> Result<Built, AllocError> {
+        build(alloc, items, work)
+    }
+}

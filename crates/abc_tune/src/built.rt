@@ -1,0 +1,76 @@
+//! A tune, from what its cells give to the bytes of its file.
+
+ghost use Rattle.std.specs.Prelude.{◌≡◌, true, false, Some, None, is_none, IfOk};
+ghost use Rattle.std.specs.List.{list_any};
+ghost use Rattle.abc_fold.specs.Work.{raised};
+ghost use Rattle.abc_tune.specs.Build.{bytes_of, build_faults_of, faults_with, is_too_long_fault, AreRisingFrom};
+ghost use Rattle.abc_voices.specs.Arrange.{items_in};
+ghost use Rattle.abc_voices.specs.Limits.{IsWithinLimits};
+ghost use Rattle.smf_bytes.specs.File.{file_bytes};
+
+use crate::whole_faults::faults_with;
+use abc_bars::Items;
+use abc_fields::FaultCode;
+use abc_fold::Work;
+use abc_text::Sequence;
+use abc_voices::{Arranged, BuildFault, arrange};
+use smf_bytes::file_of;
+use std::alloc::{AllocError, Global};
+
+/// The file of a tune, and its faults as a whole.
+#[derive(Debug, Drop)]
+pub struct Built {
+    /// The bytes of the MIDI file; None exactly where the tune is too long for one.
+    pub bytes: Option<Sequence<u8>>,
+    /// The codes of its faults in the order of their numbers, each once; they stand at the beginning of
+    /// the tune's first line.
+    pub faults: Sequence<FaultCode>,
+}
+
+/// A tune with a file.
+fn with_file(alloc: Global, cells: &[Items], arranged: &Arranged) -> Result<Built, AllocError>
+    requires { IsWithinLimits arranged.now.score }
+    ensures bytes { IfOk result (λ built. built.bytes ≡ Some (file_bytes arranged.now.score)) }
+    ensures faults { IfOk result (λ built. built.faults ≡ faults_with (items_in cells.now) arranged.now.unknown arranged.now.uneven false) }
+    ensures short { IfOk result (λ built. list_any is_too_long_fault built.faults ≡ false) }
+    ensures rising { IfOk result (λ built. AreRisingFrom 0 built.faults) }
+{
+    let file = file_of(alloc, &arranged.score)?;
+    let faults = faults_with(alloc, cells, arranged.unknown, arranged.uneven, false)?;
+    Ok(Built {
+        bytes: Some(Sequence::from(file)),
+        faults,
+    })
+}
+
+/// A tune that is too long for a file.
+fn without_file(alloc: Global, cells: &[Items], unknown: bool) -> Result<Built, AllocError>
+    ensures bytes { IfOk result (λ built. built.bytes ≡ None) }
+    ensures faults { IfOk result (λ built. built.faults ≡ faults_with (items_in cells.now) unknown false true) }
+    ensures long { IfOk result (λ built. list_any is_too_long_fault built.faults ≡ true) }
+    ensures rising { IfOk result (λ built. AreRisingFrom 0 built.faults) }
+{
+    let faults = faults_with(alloc, cells, unknown, false, true)?;
+    Ok(Built {
+        bytes: None,
+        faults,
+    })
+}
+
+/// The file of a tune and its faults as a whole, of what its cells give in order: there is a file exactly
+/// where the tune is not too long. A call that finds no memory is counted too.
+#[tactic(auto, unfolding(crate::specs::Build::bytes_of, crate::specs::Build::build_faults_of))]
+pub fn build(alloc: Global, items: &[Items], work: &mut Work) -> Result<Built, AllocError>
+    ensures bytes { IfOk result (λ built. built.bytes ≡ bytes_of items.now) }
+    ensures faults { IfOk result (λ built. built.faults ≡ build_faults_of items.now) }
+    ensures long { IfOk result (λ built. is_none built.bytes ≡ list_any is_too_long_fault built.faults) }
+    ensures rising { IfOk result (λ built. AreRisingFrom 0 built.faults) }
+    ensures counted { work.new ≡ record work.old { built = raised work.old.built 1 } }
+{
+    work.count_built();
+    match arrange(alloc, items) {
+        Ok(arranged) => with_file(alloc, items, &arranged),
+        Err(BuildFault::TooLong { unknown }) => without_file(alloc, items, unknown),
+        Err(BuildFault::OutOfMemory) => Err(AllocError),
+    }
+}
