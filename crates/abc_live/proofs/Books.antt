@@ -1,0 +1,25 @@
+-- The file of a number in the book of a text, and the order of its faults.
+use Rattle.std.proofs.Common.{◌≡◌, ℕ, ◌++◌}
+use Rattle.std.specs.List.{flat_map}
+use Rattle.std.specs.List.Sorted.{IsStrictlySortedBy}
+use Rattle.abc_lines.specs.Text.{Text}
+use Rattle.abc_tunebook.specs.Book.{blocks_in, book_of, given_by}
+use Rattle.abc_tunebook.specs.Fault.{fault_cmp}
+use Rattle.abc_tunebook.specs.Files.{file_at, first_file}
+use Rattle.abc_tunebook.specs.Rules.{Rules}
+use Rattle.abc_tunebook.specs.declared.tune.Tune.{Tune}
+use Rattle.abc_tunebook.proofs.Order.{faults_rise}
+use Rattle.abc_tunebook.proofs.Owners.{first_owner}
+
+module _ {State Cell Items Defaults : Type 0} (next : State → Cell → State) (gives : State → Cell → Items) (rules : Rules State Cell Items Defaults) (text : Text) where
+  -- it is that of the first tune of the number that has one
+  pub file_of_first : (n : ℕ) → file_at (book_of next gives rules text).files n ≡ first_file (given_by next gives rules text (blocks_in rules text)).tunes n
+  unfolding book_of
+  file_of_first n = first_owner (given_by next gives rules text (blocks_in rules text)).tunes n
+
+  -- each fault stands before those behind it
+  pub faults_in_order : IsStrictlySortedBy fault_cmp (book_of next gives rules text).faults
+  unfolding book_of
+  faults_in_order =
+      let given = given_by next gives rules text (blocks_in rules text) in
+      faults_rise (given.faults ++ flat_map (λ (tune : Tune). tune.faults) given.tunes)

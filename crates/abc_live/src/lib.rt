@@ -1,0 +1,21 @@
+//! The session over a text, for any compiler of tunes: edits of lines, and after each of them the file of each reference
+//! number, the titles and the faults, always those of the whole present text.
+#![tactic(auto)]
+
+mod abc;
+mod block;
+mod compile;
+mod edit;
+mod fault;
+mod fold;
+mod header;
+mod placed;
+mod session;
+mod tune;
+mod tunes;
+
+pub use abc::Session;
+pub use abc_lines::EditError;
+pub use abc_tunebook::{Fault, Report, Title};
+pub use edit::Edit;
+pub use session::LiveSession;

@@ -1,0 +1,92 @@
+-- A toy language of tunes, small enough to be worked by hand. A field D: sets the byte that stands before each music
+-- line of a file, in a file header for all tunes; T: is a title; a line of music that begins with `!` is a fault; a
+-- tune of more than four lines has no file. Our own.
+use Rattle.std.specs.Prelude.{ℕ, ◌-◌, ◌==◌, Bool, true, false, if◌then◌else◌, List, [], ◌∷◌, length, drop, nat_le, Option, Some, None, unwrap_or, slice_index}
+use Rattle.std.specs.List.{flat_map}
+use Rattle.abc_fields.specs.declared.fault.FaultCode.{FaultCode}
+use Rattle.abc_fields.specs.declared.fault.FaultCode.TheVariants.{BadByte, TuneTooLong}
+use Rattle.abc_lines.specs.Text.{Text}
+use Rattle.abc_scan.specs.LineClass.{class_of}
+use Rattle.abc_scan.specs.declared.class.LineClass.{LineClass}
+use Rattle.abc_scan.specs.declared.class.LineClass.TheVariants.{Blank, Comment, Field, Music}
+use Rattle.abc_tunebook.specs.Book.{Book, book_of}
+use Rattle.abc_tunebook.specs.Rules.{Rules}
+use Rattle.live_examples.specs.declared.toy.Played.{Played}
+
+-- Whether a line begins with this byte.
+abbrev pub begins_with : ℕ → List ℕ → Bool
+begins_with byte [] = false
+begins_with byte (first ∷ rest) = first == byte
+
+-- What a line has behind its first two bytes.
+abbrev pub value_of : List ℕ → List ℕ
+value_of line = drop 2 line
+
+-- The first byte of that, 0 where there is none.
+abbrev pub first_of_value : List ℕ → ℕ
+first_of_value line = slice_index line 2
+
+-- The cells of a line of this class: the line, where it is neither blank nor a comment.
+abbrev pub cells_of_class : LineClass → List ℕ → List (List ℕ)
+cells_of_class Blank line = []
+cells_of_class Comment line = []
+cells_of_class (Field letter) line = line ∷ []
+cells_of_class Music line = line ∷ []
+
+abbrev pub cells_of : List ℕ → List (List ℕ)
+cells_of line = cells_of_class (class_of line) line
+
+-- The byte that stands before music lines, behind a line.
+abbrev pub next_byte : ℕ → List ℕ → ℕ
+next_byte byte line = if begins_with 68 line then first_of_value line else byte
+
+abbrev pub played : ℕ → List ℕ → Played
+played byte line = record { byte = byte; line = line }
+
+-- The byte where nothing sets it: `0`.
+abbrev pub no_byte : ℕ
+no_byte = 48
+
+abbrev pub number_of : Played → Option ℕ
+number_of one = if begins_with 88 one.line then Some (first_of_value one.line - 48) else None
+
+abbrev pub title_of : Played → Option (List ℕ)
+title_of one = if begins_with 84 one.line then Some (value_of one.line) else None
+
+abbrev pub faults_of : Played → List (ℕ × FaultCode)
+faults_of one = if begins_with 33 one.line then (1, BadByte) ∷ [] else []
+
+-- What a line of this class puts into the file.
+abbrev pub bytes_of_class : LineClass → Played → List ℕ
+bytes_of_class Blank one = []
+bytes_of_class Comment one = []
+bytes_of_class (Field letter) one = []
+bytes_of_class Music one = one.byte ∷ one.line
+
+abbrev pub is_long : List Played → Bool
+is_long all = nat_le 5 (length all)
+
+abbrev pub file_of : List Played → Option (List ℕ)
+file_of all = if is_long all then None else Some (flat_map (λ one. bytes_of_class (class_of one.line) one) all)
+
+abbrev pub tune_faults_of : List Played → List FaultCode
+tune_faults_of all = if is_long all then TuneTooLong ∷ [] else []
+
+-- The definitions of the toy.
+abbrev pub toy_rules : Rules ℕ (List ℕ) Played ℕ
+toy_rules = record {
+  class = class_of;
+  cells = cells_of;
+  header = no_byte;
+  tune = λ after. unwrap_or after no_byte;
+  defaults = λ byte. byte;
+  number = number_of;
+  title = title_of;
+  faults = faults_of;
+  bytes = file_of;
+  build_faults = tune_faults_of;
+}
+
+-- The book of a text in the toy language.
+abbrev pub toy_book : Text → Book
+toy_book text = book_of next_byte played toy_rules text
