@@ -115,3 +115,16 @@ kept_front n begun piece h =
 pub on_ok_branch : {T E X : Type 0} (r : Result T E) (x y z : X) → x ≡ (if is_ok r then y else z) → OnOk r (x ≡ y)
 on_ok_branch (Ok v) x y z e = e
 on_ok_branch (Err v) x y z e = tt
+
+-- the lines of a whole text
+abbrev pub lines_in : List ℕ → List (List ℕ)
+lines_in bytes = whole_lines true (slice_split is_feed bytes)
+
+-- a line that ends, and those behind it
+pub lines_in-more : (bytes line rest : List ℕ) → IsClean line → bytes ≡ line ++ 10 ∷ rest → lines_in bytes ≡ line ∷ lines_in rest
+lines_in-more bytes line rest clean e =
+    ap lines_in e ∙ ap (whole_lines true) (slice_split_at is_feed line 10 rest clean refl) ∙ whole_lines-more true line (slice_split is_feed rest) (split_some rest)
+
+-- the last line
+pub lines_in-last : (bytes line : List ℕ) → IsClean line → bytes ≡ line → lines_in bytes ≡ whole_lines true (line ∷ [])
+lines_in-last bytes line clean e = ap lines_in e ∙ ap (whole_lines true) (slice_split_none is_feed line clean)

@@ -1,13 +1,8 @@
 pub mod Answers
 pub mod Counts
 pub mod Cuts
-pub mod Difference
 pub mod Feeding
 pub mod InputLines
-pub mod Lookup
-pub mod Melodies
-pub mod Pitches
 pub mod Requests
 pub mod Runs
-pub mod ShortLines
 pub mod Words

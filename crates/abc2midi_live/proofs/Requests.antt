@@ -9,17 +9,19 @@ use Rattle.std.proofs.lemmas.Bool.Decides.{nat_tests}
 use Rattle.std.specs.Result.{result_unwrap_or}
 use Rattle.abc_lines.specs.Text.{Text, Splice, text_of}
 use Rattle.abc_lines.specs.Edits.{insertion, replacement, deletion, edited, Refuses}
-use Rattle.abc2midi_live.specs.Book.{files_of, written, removed}
+use Rattle.abc2midi_live.specs.Book.{files_of, faults_of, titles_of}
+use Rattle.abc_tunebook.specs.Files.{file_at, written, removed}
 use Rattle.abc2midi_live.specs.Answer.{report_line, refusal}
 use Rattle.abc2midi_live.specs.Command.{line_count, command_of}
 use Rattle.abc2midi_live.specs.Transcript.{edit_answer, Request, Edits, CutOff, request_of, requests, answer, answers, goes_on, text_after}
-use Rattle.abc2midi_live.specs.Answer.{hex_line, unknown_line, truncated_line}
-use Rattle.abc2midi_live.specs.Book.{file_at}
+use Rattle.abc2midi_live.specs.Answer.{fault_list, title_list, hex_line, unknown_line, truncated_line}
 use Rattle.abc2midi_live.specs.declared.command.Command.{Command}
-use Rattle.abc2midi_live.specs.declared.command.Command.TheVariants.{Hex, Quit, Unknown}
+use Rattle.abc2midi_live.specs.declared.command.Command.TheVariants.{Faults, Titles, Hex, Quit, Unknown}
 use Rattle.abc2midi_live.specs.declared.command.Command.TheVariants as commands
 use Rattle.abc2midi_live.specs.Dialogue.{Begun, awaited, is_taken, Says, Responds}
 use Rattle.abc2midi_live.specs.Machine.{Replies}
+use Rattle.abc_tunebook.specs.declared.fault.Fault.{Fault}
+use Rattle.abc_tunebook.specs.declared.title.Title.{Title}
 use Rattle.abc2midi_live.specs.declared.machine.Reply.{Reply}
 use Rattle.abc2midi_live.specs.declared.machine.Reply.TheVariants.{Nothing, Answer, End}
 use Rattle.abc_lines.specs.declared.edit_error.EditError.{EditError}
@@ -95,6 +97,14 @@ pub request_of-delete : (command : Command) (from to : ℕ) (lines : Text) → c
 unfolding request_of
 request_of-delete command from to lines is = ap (λ c. request_of c lines) is
 
+pub responds_faults : (old : Text) (command : Command) (lines : Text) (faults : List Fault) (text : List ℕ) → command ≡ Faults → faults ≡ faults_of old → text ≡ fault_list faults → Answered old old (request_of command lines) text
+unfolding request_of answer text_after
+responds_faults old command lines faults text is f t = subst (λ c. Answered old old (request_of c lines) text) (sym is) (λ ended. sym (t ∙ ap fault_list f), refl, refl)
+
+pub responds_titles : (old : Text) (command : Command) (lines : Text) (titles : List Title) (text : List ℕ) → command ≡ Titles → titles ≡ titles_of old → text ≡ title_list titles → Answered old old (request_of command lines) text
+unfolding request_of answer text_after
+responds_titles old command lines titles text is f t = subst (λ c. Answered old old (request_of c lines) text) (sym is) (λ ended. sym (t ∙ ap title_list f), refl, refl)
+
 pub responds_hex : (old : Text) (command : Command) (number : ℕ) (lines : Text) (file : Option (List ℕ)) (text : List ℕ) → command ≡ Hex number → file ≡ file_at (files_of old) number → text ≡ hex_line file
     → Answered old old (request_of command lines) text
 unfolding request_of answer text_after
@@ -123,6 +133,8 @@ request_of-append (commands.Replace from to count) lines more whole =
     ∙ ap (λ ls. Edits (replacement from to ls)) (take-append-le count lines more fits)
     ∙ sym (whole_if count (length lines) (Edits (replacement from to (take count lines))) whole)
 request_of-append (commands.Delete from to) lines more whole = refl
+request_of-append Faults lines more whole = refl
+request_of-append Titles lines more whole = refl
 request_of-append (Hex number) lines more whole = refl
 request_of-append Quit lines more whole = refl
 request_of-append Unknown lines more whole = refl

@@ -3,8 +3,11 @@ use Rattle.std.specs.Prelude.{ℕ, List, ◌∷◌, ◌++◌, codes, decimal, fl
 use Rattle.hex.specs.Hex.{encode_upper}
 use Rattle.abc_text.specs.Byte.{space}
 use Rattle.abc_lines.specs.EditError.{name_of}
-use Rattle.abc2midi_live.specs.Book.{Files, written, removed}
+use Rattle.abc_fields.specs.Fault as fault_codes
 use Rattle.abc_lines.specs.declared.edit_error.EditError.{EditError}
+use Rattle.abc_tunebook.specs.Files.{Files, written, removed}
+use Rattle.abc_tunebook.specs.declared.fault.Fault.{Fault}
+use Rattle.abc_tunebook.specs.declared.title.Title.{Title}
 
 -- numbers, each with a space before it
 unfoldable pub listed : List ℕ → List ℕ
@@ -21,6 +24,22 @@ report before after = report_line (written before after) (removed before after)
 -- a refused edit
 unfoldable pub refusal : EditError → List ℕ
 refusal error = codes "error " ++ name_of error ++ codes "\n"
+
+-- a fault: its line, its column and its name
+unfoldable pub fault_line : Fault → List ℕ
+fault_line fault = decimal fault.line ++ codes ":" ++ decimal fault.column ++ codes " " ++ fault_codes.name_of fault.code ++ codes "\n"
+
+-- a line for each fault, and the end of the list
+unfoldable pub fault_list : List Fault → List ℕ
+fault_list faults = flat_map fault_line faults ++ codes "end\n"
+
+-- a tune: its number and its title
+unfoldable pub title_line : Title → List ℕ
+title_line title = decimal title.number ++ codes " " ++ title.text ++ codes "\n"
+
+-- a line for each tune, and the end of the list
+unfoldable pub title_list : List Title → List ℕ
+title_list titles = flat_map title_line titles ++ codes "end\n"
 
 -- the file of a number in upper-case hexadecimal
 unfoldable pub hex_line : Option (List ℕ) → List ℕ

@@ -9,7 +9,7 @@ use Rattle.abc_text.specs.Ending.{without_return}
 use Rattle.abc_text.specs.Number.{number_of}
 use Rattle.abc_lines.specs.declared.limits.TheConstants.{LONGEST_LINE, MOST_LINES}
 use Rattle.abc2midi_live.specs.declared.command.Command.{Command}
-use Rattle.abc2midi_live.specs.declared.command.Command.TheVariants.{Insert, Replace, Delete, Hex, Quit, Unknown}
+use Rattle.abc2midi_live.specs.declared.command.Command.TheVariants.{Insert, Replace, Delete, Faults, Titles, Hex, Quit, Unknown}
 
 -- a number and those after it, where there are such
 abbrev pub both : Option ℕ → Option (List ℕ) → Option (List ℕ)
@@ -51,10 +51,10 @@ unfoldable pub hex_dump : List ℕ → Command
 hex_dump (number ∷ []) = Hex number
 hex_dump _ = Unknown
 
--- quit
-unfoldable pub quitting : List ℕ → Command
-quitting [] = Quit
-quitting _ = Unknown
+-- faults, titles or quit: a command that takes no numbers
+unfoldable pub without_numbers : Command → List ℕ → Command
+without_numbers command [] = command
+without_numbers command _ = Unknown
 
 -- the command made of the numbers that words spell
 unfoldable pub with_numbers : List (List ℕ) → (List ℕ → Command) → Command
@@ -66,8 +66,10 @@ command_named name =
     if bytes_eq name (codes "insert") then insertion else
     if bytes_eq name (codes "replace") then replacement else
     if bytes_eq name (codes "delete") then deletion else
+    if bytes_eq name (codes "faults") then without_numbers Faults else
+    if bytes_eq name (codes "titles") then without_numbers Titles else
     if bytes_eq name (codes "hex") then hex_dump else
-    if bytes_eq name (codes "quit") then quitting else
+    if bytes_eq name (codes "quit") then without_numbers Quit else
     (λ numbers. Unknown)
 
 -- the command that words spell: a name, and then numbers
@@ -93,6 +95,8 @@ abbrev pub line_count : Command → ℕ
 line_count (Insert at count) = count
 line_count (Replace from to count) = count
 line_count (Delete from to) = 0
+line_count Faults = 0
+line_count Titles = 0
 line_count (Hex number) = 0
 line_count Quit = 0
 line_count Unknown = 0

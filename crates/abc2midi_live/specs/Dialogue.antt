@@ -3,7 +3,7 @@ use Rattle.std.specs.Prelude.{◌≡◌, ℕ, ◌-◌, Bool, true, false, is_ok,
 use Rattle.abc_lines.specs.Text.{Text}
 use Rattle.abc_lines.specs.Edits.{edited}
 use Rattle.abc2midi_live.specs.Command.{line_count, command_of}
-use Rattle.abc2midi_live.specs.Transcript.{Request, Edits, Shows, Misspelled, CutOff, Ends, request_of, requests, answers, answer, goes_on, text_after}
+use Rattle.abc2midi_live.specs.Transcript.{Request, Edits, ListsFaults, ListsTitles, Shows, Misspelled, CutOff, Ends, request_of, requests, book_requests, answers, answer, goes_on, text_after}
 use Rattle.abc2midi_live.specs.declared.command.Command.{Command}
 use Rattle.abc2midi_live.specs.declared.machine.Reply.{Reply}
 use Rattle.abc2midi_live.specs.declared.machine.Reply.TheVariants.{Nothing, Answer, End}
@@ -35,6 +35,8 @@ Responds old new request End = ((ended : Bool) → answer ended old request ≡ 
 -- whether the text takes what is asked for: nothing else costs any work that is counted
 abbrev pub is_taken : Text → Request → Bool
 is_taken text (Edits splice) = is_ok (edited text splice)
+is_taken text ListsFaults = false
+is_taken text ListsTitles = false
 is_taken text (Shows number) = false
 is_taken text Misspelled = false
 is_taken text CutOff = false
@@ -50,3 +52,8 @@ request_with (Some begun) line = request_of begun.command (begun.lines ++ line �
 abbrev pub Proceeds : Text → Command → Text → Text → Option Begun → Reply → Type 0
 Proceeds old command lines new begun reply =
     Says (awaited old (Some (record { command = command; lines = lines }))) (awaited new begun) reply
+
+-- What is answered to a tune book is this text, and then what is answered to the lines that come behind it.
+abbrev pub Opens : Option (List ℕ) → List ℕ → Text → Option Begun → Type 0
+Opens book text session begun =
+    (ended : Bool) (lines : List (List ℕ)) → answers ended [] (book_requests book ++ requests 0 lines) ≡ text ++ awaited session begun ended lines

@@ -11,7 +11,7 @@ use Rattle.abc2midi_live.specs.Transcript.{Edits, CutOff, request_of, requests, 
 use Rattle.abc2midi_live.specs.Dialogue.{Begun, awaited}
 use Rattle.abc2midi_live.specs.declared.dialogue.Gathering.{Gathering}
 use Rattle.abc2midi_live.specs.declared.command.Command.{Command}
-use Rattle.abc2midi_live.specs.declared.command.Command.TheVariants.{Insert, Replace, Delete, Hex, Quit, Unknown}
+use Rattle.abc2midi_live.specs.declared.command.Command.TheVariants.{Insert, Replace, Delete, Faults, Titles, Hex, Quit, Unknown}
 
 -- a command that is gathering its lines, without where they lie in memory
 abbrev pub begun_of : Option Gathering → Option Begun
@@ -23,6 +23,8 @@ unfolding request_of
 request_of-cut (Insert at count) lines e = ap (λ b. cond b (Edits (insertion at (take count lines))) CutOff) e
 request_of-cut (Replace from to count) lines e = ap (λ b. cond b (Edits (replacement from to (take count lines))) CutOff) e
 request_of-cut (Delete from to) lines e = absurd (false≢true (sym e ∙ leb-zero (length lines)))
+request_of-cut Faults lines e = absurd (false≢true (sym e ∙ leb-zero (length lines)))
+request_of-cut Titles lines e = absurd (false≢true (sym e ∙ leb-zero (length lines)))
 request_of-cut (Hex number) lines e = absurd (false≢true (sym e ∙ leb-zero (length lines)))
 request_of-cut Quit lines e = absurd (false≢true (sym e ∙ leb-zero (length lines)))
 request_of-cut Unknown lines e = absurd (false≢true (sym e ∙ leb-zero (length lines)))

@@ -1,5 +1,5 @@
 -- How a run ends, and what it leaves. Our own.
-use Rattle.std.specs.Prelude.{◌≡◌, ℕ, ◌<◌, ◌≤◌, Bool, true, false, List, ◌++◌, length, Option, Result, Ok, Err, ⊤, IfSome}
+use Rattle.std.specs.Prelude.{◌≡◌, ℕ, ◌<◌, ◌≤◌, Bool, true, false, List, ◌++◌, length, Option, Result, Ok, Err, ⊤, ◌⊎◌, IfSome, IsSome}
 use Rattle.std.specs.Io.KnownBytes.{Appends, Consumes, Keeps}
 use Rattle.abc2midi_live.specs.Machine.{Answers}
 use Rattle.abc_fold.specs.Work.{raised}
@@ -47,6 +47,14 @@ Leaves answered old new Write = ⊤
 -- the answers to the commands before the one in hand
 Leaves answered old new Memory =
     (before : List ℕ) × (behind : List ℕ) × Consumes old.input new.input (before ++ behind) × Appends old.output new.output (answered before)
+
+-- What a fault leaves of a run that a tune book came before. The book counts as a command: for want of memory its
+-- answer may not come, and then nothing is read or written.
+abbrev pub LeavesRun : Option (List ℕ) → (List ℕ → List ℕ) → Ends → Ends → RunFault → Type 0
+LeavesRun book answered old new Read = Leaves answered old new Read
+LeavesRun book answered old new Write = ⊤
+LeavesRun book answered old new Memory =
+    Leaves answered old new Memory ⊎ (IsSome book × Keeps old.input new.input × Keeps old.output new.output)
 
 -- What one read leads to, from what is to be answered before it to what is after it: where the run goes on, it took
 -- bytes, and these are answered so far as they can be; else all that there was to read is.

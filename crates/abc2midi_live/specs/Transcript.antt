@@ -1,17 +1,19 @@
 -- What the program writes for an input: the answers to its commands, in order. Our own.
-use Rattle.std.specs.Prelude.{ℕ, zero, suc, ◌+◌, ◌&&◌, ◌==◌, nat_le, Bool, true, false, if◌then◌else◌, List, [], ◌∷◌, ◌++◌, length, take, map, Option, Result, Ok, Err}
+use Rattle.std.specs.Prelude.{ℕ, zero, suc, ◌+◌, ◌&&◌, ◌==◌, nat_le, Bool, true, false, if◌then◌else◌, List, [], ◌∷◌, ◌++◌, length, take, drop, map, Option, Some, None, Result, Ok, Err}
 use Rattle.std.specs.List.{slice_split}
 use Rattle.std.specs.Result.{result_unwrap_or}
+use Rattle.std.specs.Str.{bytes_eq}
 use Rattle.abc_lines.specs.declared.limits.TheConstants.{LONGEST_LINE}
 use Rattle.abc_text.specs.Byte.{line_feed}
 use Rattle.abc_lines.specs.Text.{Text, Splice}
 use Rattle.abc_lines.specs.Edits.{insertion, replacement, deletion, edited}
-use Rattle.abc2midi_live.specs.Book.{files_of, file_at}
+use Rattle.abc_tunebook.specs.Files.{file_at}
+use Rattle.abc2midi_live.specs.Book.{files_of, faults_of, titles_of}
 use Rattle.abc2midi_live.specs.Command.{command_of, line_count}
-use Rattle.abc2midi_live.specs.Answer.{report, refusal, hex_line, unknown_line, truncated_line}
+use Rattle.abc2midi_live.specs.Answer.{report, refusal, fault_list, title_list, hex_line, unknown_line, truncated_line}
 use Rattle.abc_lines.specs.declared.edit_error.EditError.{EditError}
 use Rattle.abc2midi_live.specs.declared.command.Command.{Command}
-use Rattle.abc2midi_live.specs.declared.command.Command.TheVariants.{Insert, Replace, Delete, Hex, Quit, Unknown}
+use Rattle.abc2midi_live.specs.declared.command.Command.TheVariants.{Insert, Replace, Delete, Faults, Titles, Hex, Quit, Unknown}
 
 -- The parts of an input between line feeds are its lines. Behind the last line feed stands a line only where it is
 -- not empty and the input has ended; before that, more of it may come.
@@ -28,9 +30,23 @@ most_kept = LONGEST_LINE + 1
 unfoldable pub input_lines : Bool → List ℕ → List (List ℕ)
 input_lines ended bytes = map (take most_kept) (whole_lines ended (slice_split (λ b. b == line_feed) bytes))
 
+-- the bytes EF BB BF, by which a text says that it is UTF-8
+abbrev pub byte_order_mark : List ℕ
+byte_order_mark = 239 ∷ 187 ∷ 191 ∷ []
+
+-- One mark at the start is dropped.
+unfoldable pub without_mark : List ℕ → List ℕ
+without_mark bytes = if bytes_eq (take 3 bytes) byte_order_mark then drop 3 bytes else bytes
+
+-- The lines of a tune book that is handed in as a whole. A carriage return stays in its line.
+unfoldable pub book_lines : List ℕ → Text
+book_lines bytes = whole_lines true (slice_split (λ b. b == line_feed) (without_mark bytes))
+
 -- a command with the lines that belong to it
 pub data Request : Type 0 where
   Edits : (splice : Option Splice) → Request
+  ListsFaults : Request
+  ListsTitles : Request
   Shows : (number : ℕ) → Request
   Misspelled : Request
   CutOff : Request  -- there are not as many lines as it asks for
@@ -41,6 +57,8 @@ unfoldable pub request_of : Command → List (List ℕ) → Request
 request_of (Insert at count) lines = if nat_le count (length lines) then Edits (insertion at (take count lines)) else CutOff
 request_of (Replace from to count) lines = if nat_le count (length lines) then Edits (replacement from to (take count lines)) else CutOff
 request_of (Delete from to) lines = Edits (deletion from to)
+request_of Faults lines = ListsFaults
+request_of Titles lines = ListsTitles
 request_of (Hex number) lines = Shows number
 request_of Quit lines = Ends
 request_of Unknown lines = Misspelled
@@ -59,6 +77,8 @@ edit_answer before (Err error) = refusal error
 -- the answer to a request; one that is cut off has its answer where the input has ended
 unfoldable pub answer : Bool → Text → Request → List ℕ
 answer ended text (Edits splice) = edit_answer text (edited text splice)
+answer ended text ListsFaults = fault_list (faults_of text)
+answer ended text ListsTitles = title_list (titles_of text)
 answer ended text (Shows number) = hex_line (file_at (files_of text) number)
 answer ended text Misspelled = unknown_line
 answer ended text CutOff = if ended then truncated_line else []
@@ -67,6 +87,8 @@ answer ended text Ends = []
 -- A refused edit leaves the text.
 unfoldable pub text_after : Text → Request → Text
 text_after text (Edits splice) = result_unwrap_or (edited text splice) text
+text_after text ListsFaults = text
+text_after text ListsTitles = text
 text_after text (Shows number) = text
 text_after text Misspelled = text
 text_after text CutOff = text
@@ -75,6 +97,8 @@ text_after text Ends = text
 -- whether the run goes on after a request
 abbrev pub goes_on : Request → Bool
 goes_on (Edits splice) = true
+goes_on ListsFaults = true
+goes_on ListsTitles = true
 goes_on (Shows number) = true
 goes_on Misspelled = true
 goes_on CutOff = false
@@ -86,10 +110,15 @@ answers ended text [] = []
 answers ended text (request ∷ rest) =
     answer ended text request ++ (if goes_on request then answers ended (text_after text request) rest else [])
 
--- what is written for the whole of an input
-unfoldable pub transcript : List ℕ → List ℕ
-transcript input = answers true [] (requests 0 (input_lines true input))
+-- A tune book comes before the commands, and is an insertion before line 1.
+abbrev pub book_requests : Option (List ℕ) → List Request
+book_requests None = []
+book_requests (Some bytes) = Edits (insertion 1 (book_lines bytes)) ∷ []
 
--- what is written for the beginning of an input: the answers to the commands that stand wholly in it
-unfoldable pub transcript_so_far : List ℕ → List ℕ
-transcript_so_far input = answers false [] (requests 0 (input_lines false input))
+-- what is written for a tune book, if there is one, and the whole of an input
+unfoldable pub transcript : Option (List ℕ) → List ℕ → List ℕ
+transcript book input = answers true [] (book_requests book ++ requests 0 (input_lines true input))
+
+-- what is written for a tune book and the beginning of an input: the answers to the commands that stand wholly in it
+unfoldable pub transcript_so_far : Option (List ℕ) → List ℕ → List ℕ
+transcript_so_far book input = answers false [] (book_requests book ++ requests 0 (input_lines false input))

@@ -1,12 +1,18 @@
 //! The texts of answers.
 
-ghost use Rattle.std.specs.Prelude.{◌≡◌, ◌≢◌, ◌++◌, option_map, IfOk, OnOk};
-ghost use Rattle.abc2midi_live.specs.Answer.{listed, report_line, refusal, hex_line};
+ghost use Rattle.std.specs.Prelude.{◌≡◌, ◌≢◌, ◌++◌, decimal, option_map, IfOk, OnOk};
+ghost use Rattle.abc2midi_live.specs.Answer.{listed, report_line, refusal, fault_line, fault_list, title_line, title_list, hex_line};
 
-use crate::edit::Report;
 use abc_lines::EditError;
+use abc_tunebook::{Fault, Report, Title};
 use itoa::Buffer;
 use std::alloc::{AllocError, Global};
+
+fn put_number(text: &mut Vec<u8>, number: u32) -> Result<(), AllocError>
+    ensures { OnOk result (text.new.items ≡ text.old.items ++ decimal number) }
+{
+    text.extend_from_slice(Buffer::new().format(number).as_bytes())
+}
 
 fn put_numbers(text: &mut Vec<u8>, numbers: &[u32]) -> Result<(), AllocError>
     ensures { OnOk result (text.new.items ≡ text.old.items ++ listed numbers.now) }
@@ -47,6 +53,56 @@ pub fn refusal(alloc: Global, error: EditError) -> Result<Vec<u8>, AllocError>
             Ok(text)
         }
     }
+}
+
+#[tactic(auto, unfolding(crate::specs::Answer::fault_line))]
+fn put_fault(text: &mut Vec<u8>, fault: &Fault) -> Result<(), AllocError>
+    ensures { OnOk result (text.new.items ≡ text.old.items ++ fault_line fault.now) }
+{
+    put_number(text, fault.line)?;
+    text.push(b':')?;
+    put_number(text, fault.column)?;
+    text.push(b' ')?;
+    text.extend_from_slice(fault.code.name().as_bytes())?;
+    text.push(b'\n')?;
+    Ok(())
+}
+
+/// The faults of a text, a line each, and `end`.
+#[tactic(auto, unfolding(crate::specs::Answer::fault_list))]
+pub fn fault_list(alloc: Global, faults: &[Fault]) -> Result<Vec<u8>, AllocError>
+    ensures { IfOk result (λ text. text.items ≡ fault_list faults.now) }
+{
+    let mut text = Vec::new(alloc);
+    for fault in faults {
+        put_fault(&mut text, fault)?;
+    }
+    text.extend_from_slice(b"end\n")?;
+    Ok(text)
+}
+
+#[tactic(auto, unfolding(crate::specs::Answer::title_line))]
+fn put_title(text: &mut Vec<u8>, title: &Title) -> Result<(), AllocError>
+    ensures { OnOk result (text.new.items ≡ text.old.items ++ title_line title.now) }
+{
+    put_number(text, title.number)?;
+    text.push(b' ')?;
+    text.extend_from_slice(title.text.as_slice())?;
+    text.push(b'\n')?;
+    Ok(())
+}
+
+/// The titles of a text, a line for each tune, and `end`.
+#[tactic(auto, unfolding(crate::specs::Answer::title_list))]
+pub fn title_list(alloc: Global, titles: &[Title]) -> Result<Vec<u8>, AllocError>
+    ensures { IfOk result (λ text. text.items ≡ title_list titles.now) }
+{
+    let mut text = Vec::new(alloc);
+    for title in titles {
+        put_title(&mut text, title)?;
+    }
+    text.extend_from_slice(b"end\n")?;
+    Ok(text)
 }
 
 /// The bytes of a file, where there is one.

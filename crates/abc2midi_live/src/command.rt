@@ -2,7 +2,7 @@
 
 ghost use Rattle.std.specs.Prelude.{◌≡◌, ◌≤◌, take, Some, MatchOption, IfSome};
 ghost use Rattle.abc_text.specs.Number.{number_of};
-ghost use Rattle.abc2midi_live.specs.Command.{insertion, replacement, deletion, hex_dump, quitting, if_few, command_named, command_of, command_of_words, numbers_of, words_behind, IsUseless, words_of, line_count};
+ghost use Rattle.abc2midi_live.specs.Command.{insertion, replacement, deletion, hex_dump, without_numbers, if_few, command_named, command_of, command_of_words, numbers_of, words_behind, IsUseless, words_of, line_count};
 
 use crate::cut::cut;
 use abc_lines::{LONGEST_LINE, MOST_LINES};
@@ -18,6 +18,10 @@ pub enum Command {
     Replace { from: u32, to: u32, count: u32 },
     /// Takes out the lines `from` to `to`.
     Delete { from: u32, to: u32 },
+    /// Lists the faults of the text.
+    Faults,
+    /// Lists the titles of the tunes.
+    Titles,
     /// Shows the MIDI file of a number.
     Hex { number: u32 },
     /// Ends the run.
@@ -118,12 +122,12 @@ fn hex_dump(numbers: &[u32]) -> Command
     }
 }
 
-#[tactic(auto, unfolding(crate::specs::Command::quitting))]
-fn quitting(numbers: &[u32]) -> Command
-    ensures { result ≡ quitting numbers.now }
+#[tactic(auto, unfolding(crate::specs::Command::without_numbers))]
+fn without_numbers(command: Command, numbers: &[u32]) -> Command
+    ensures { result ≡ without_numbers command numbers.now }
 {
     match *numbers {
-        [] => Command::Quit,
+        [] => command,
         _ => Command::Unknown,
     }
 }
@@ -137,8 +141,10 @@ fn named(name: &str, numbers: &[u32]) -> Command
         "insert" => insertion(numbers),
         "replace" => replacement(numbers),
         "delete" => deletion(numbers),
+        "faults" => without_numbers(Command::Faults, numbers),
+        "titles" => without_numbers(Command::Titles, numbers),
         "hex" => hex_dump(numbers),
-        "quit" => quitting(numbers),
+        "quit" => without_numbers(Command::Quit, numbers),
         _ => Command::Unknown,
     }
 }

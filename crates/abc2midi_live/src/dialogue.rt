@@ -4,17 +4,17 @@ ghost use Rattle.std.specs.Prelude.{◌≡◌, ◌<◌, ◌≤◌, nat_le, false
 ghost use Rattle.std.specs.Result.{result_unwrap_or};
 ghost use Rattle.abc2midi_live.specs.Command.{line_count};
 ghost use Rattle.abc_lines.specs.Text.{text_of};
-ghost use Rattle.abc_lines.specs.Edits.{edited};
-ghost use Rattle.abc2midi_live.specs.Edit.{splice_of};
-ghost use Rattle.abc2midi_live.specs.Transcript.{edit_answer, request_of};
+ghost use Rattle.abc_lines.specs.Edits.{edited, insertion};
+ghost use Rattle.abc_live.specs.Edit.{splice_of};
+ghost use Rattle.abc2midi_live.specs.Transcript.{book_lines, edit_answer, request_of};
 ghost use Rattle.abc2midi_live.specs.Dialogue.{Responds, Proceeds, is_taken};
 
-use crate::answer::{hex_line, refusal, report_line};
+use crate::answer::{fault_list, hex_line, refusal, report_line, title_list};
+use crate::book_lines::book_lines;
 use crate::command::Command;
-use crate::edit::Edit;
 use crate::machine::{Machine, Reply};
-use crate::session::Session;
 use abc_fold::Work;
+use abc_live::{Edit, Session};
 use std::alloc::{AllocError, Global};
 
 // Edits the text, and gives the answer to that.
@@ -24,9 +24,9 @@ fn edit(
     edit: &Edit,
     work: &mut Work,
 ) -> Result<Vec<u8>, AllocError>
-    ensures answer { IfOk result (λ text. text.items ≡ edit_answer session.old (edited session.old (splice_of edit.now))) }
-    ensures text { IfOk result (λ _. session.new ≡ result_unwrap_or (edited session.old (splice_of edit.now)) session.old) }
-    ensures uncounted { OnOk result (IsErr (edited session.old (splice_of edit.now)) → work.new ≡ work.old) }
+    ensures answer { IfOk result (λ text. text.items ≡ edit_answer session.old.text (edited session.old.text (splice_of edit.now))) }
+    ensures text { IfOk result (λ _. session.new.text ≡ result_unwrap_or (edited session.old.text (splice_of edit.now)) session.old.text) }
+    ensures uncounted { OnOk result (IsErr (edited session.old.text (splice_of edit.now)) → work.new ≡ work.old) }
 {
     match session.apply(edit, work) {
         Ok(report) => report_line(alloc, &report),
@@ -43,8 +43,8 @@ fn respond(
     work: &mut Work,
 ) -> Result<Reply, AllocError>
     requires { length lines.items ≡ line_count command }
-    ensures reply { IfOk result (Responds session.old session.new (request_of command (text_of lines))) }
-    ensures uncounted { OnOk result (is_taken session.old (request_of command (text_of lines)) ≡ false → work.new ≡ work.old) }
+    ensures reply { IfOk result (Responds session.old.text session.new.text (request_of command (text_of lines))) }
+    ensures uncounted { OnOk result (is_taken session.old.text (request_of command (text_of lines)) ≡ false → work.new ≡ work.old) }
 {
     match command {
         Command::Insert { at, .. } => {
@@ -57,6 +57,14 @@ fn respond(
         }
         Command::Delete { from, to } => {
             let text = edit(alloc, session, &Edit::Delete { from, to }, work)?;
+            Ok(Reply::Answer(text))
+        }
+        Command::Faults => {
+            let text = fault_list(alloc, session.faults())?;
+            Ok(Reply::Answer(text))
+        }
+        Command::Titles => {
+            let text = title_list(alloc, session.titles())?;
             Ok(Reply::Answer(text))
         }
         Command::Hex { number } => {
@@ -92,7 +100,7 @@ impl Dialogue {
 
     /// No command has come yet.
     pub fn new(alloc: Global) -> Result<Dialogue, AllocError>
-        ensures session { IfOk result (λ d. d.session ≡ []) }
+        ensures session { IfOk result (λ d. d.session.text ≡ []) }
         ensures gathering { IfOk result (λ d. d.gathering ≡ None) }
     {
         Ok(Dialogue {
@@ -100,6 +108,21 @@ impl Dialogue {
             session: Session::new(alloc)?,
             gathering: None,
         })
+    }
+
+    /// Puts the lines of a tune book before line 1, and gives the answer to that.
+    pub fn take_book(&mut self, book: &[u8], work: &mut Work) -> Result<Vec<u8>, AllocError>
+        ensures answer { IfOk result (λ text. text.items ≡ edit_answer self.old.session.text (edited self.old.session.text (insertion 1 (book_lines book.now)))) }
+        ensures session { IfOk result (λ _. self.new.session.text ≡ result_unwrap_or (edited self.old.session.text (insertion 1 (book_lines book.now))) self.old.session.text) }
+        ensures gathering { self.new.gathering ≡ self.old.gathering }
+    {
+        let lines = book_lines(self.alloc, book)?;
+        edit(
+            self.alloc,
+            &mut self.session,
+            &Edit::Insert { at: 1, lines },
+            work,
+        )
     }
 
     // Goes on with a command and those of its lines that have come.
@@ -111,8 +134,8 @@ impl Dialogue {
     ) -> Result<Reply, AllocError>
         requires idle { self.old.gathering ≡ None }
         requires few { length lines.items ≤ line_count command }
-        ensures reply { IfOk result (Proceeds self.old.session command (text_of lines) self.new.session (begun_of self.new.gathering)) }
-        ensures uncounted { OnOk result (is_taken self.old.session (request_of command (text_of lines)) ≡ false → work.new ≡ work.old) }
+        ensures reply { IfOk result (Proceeds self.old.session.text command (text_of lines) self.new.session.text (begun_of self.new.gathering)) }
+        ensures uncounted { OnOk result (is_taken self.old.session.text (request_of command (text_of lines)) ≡ false → work.new ≡ work.old) }
     {
         if lines.len() < command.line_count() {
             self.gathering = Some(Gathering { command, lines });
@@ -126,11 +149,11 @@ impl Machine for Dialogue {
     ghost use Rattle.abc2midi_live.specs.Dialogue.{awaited, request_with};
     ghost use Rattle.abc2midi_live.specs.Gathering.{begun_of, dialogue_waits};
 
-    ghost future = { λ d. awaited d.session (begun_of d.gathering) };
+    ghost future = { λ d. awaited d.session.text (begun_of d.gathering) };
 
-    ghost costs = { λ d line. is_taken d.session (request_with (begun_of d.gathering) line) };
+    ghost costs = { λ d line. is_taken d.session.text (request_with (begun_of d.gathering) line) };
 
-    ghost waits = { λ d. dialogue_waits d.session d.gathering };
+    ghost waits = { λ d. dialogue_waits d.session.text d.gathering };
 
     fn take_line(&mut self, line: Vec<u8>, work: &mut Work) -> Result<Reply, AllocError> {
         match self.gathering.take() {

@@ -9,6 +9,8 @@ Commands, one on a line of standard input:
   insert L K     puts the K lines that follow before line L; lines are counted from 1
   replace L M K  puts the K lines that follow in the place of the lines L to M
   delete L M     takes the lines L to M out
+  faults         lists the faults of the text: line, column and name of each, and 'end'
+  titles         lists the tunes: number and title of each, and 'end'
   hex N          shows the MIDI file of tune N in hexadecimal, or 'none'
   quit           ends the run, as the end of the input does
 
@@ -23,10 +25,14 @@ pub(crate) fn command<'a>(alloc: Global) -> Result<Command<'a>, AllocError> {
         .value_name("DIR")
         .required(true)
         .help("The folder for the MIDI files; tune number N has the file N.mid");
+    let book = Arg::new(alloc, "book").value_name("BOOK").help(
+        "A file of tunes; its lines are put before line 1, and answered as an edit",
+    );
     Command::new(alloc, "abc2midi_live")
         .bin_name("abc2midi_live")?
         .version("0.1.0")
         .about("Compiles tunes in ABC notation to MIDI files while they are edited.")
         .after_help(COMMANDS)
-        .arg(dir)
+        .arg(dir)?
+        .arg(book)
 }

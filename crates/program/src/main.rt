@@ -11,8 +11,8 @@ use clap::error::ErrorKind;
 use directory::{Directory, Place};
 use std::alloc::AllocError;
 use std::process::ExitCode;
-use std::rt::Runtime;
-use std::{env, io};
+use std::rt::{Files, Runtime};
+use std::{env, fs, io};
 
 /// Why the program ends with another status than 0.
 #[derive(Drop)]
@@ -97,7 +97,27 @@ fn warn<R: Runtime + AllocGlobal>(rt: &R, dir: &str, place: Place) {
     };
 }
 
-/// Reads the arguments, then the commands on standard input, and answers them on standard output.
+/// The bytes of the tune book, if there is one. Where it cannot be read, that is said on standard error.
+fn book_of<R: Runtime + Files + AllocGlobal>(
+    rt: &R,
+    path: Option<&str>,
+) -> Result<Option<Vec<u8>>, Failure> {
+    let Some(path) = path else {
+        return Ok(None);
+    };
+    match fs::read(rt, path) {
+        Ok(bytes) => Ok(Some(bytes)),
+        Err(error) if error.kind() == io::ErrorKind::OutOfMemory => {
+            Err(Failure::Run(RunFault::Memory))
+        }
+        Err(_) => {
+            let _ = eprintln!(rt; "error: the tune book '{path}' cannot be read");
+            Err(Failure::Run(RunFault::Read))
+        }
+    }
+}
+
+/// Reads the arguments, then the tune book, then the commands on standard input, and answers them on standard output.
 fn converse<R: Runtime + AllocGlobal>(rt: &R) -> Result<(), Failure> {
     let alloc = rt.alloc();
     let words = words_of(rt)?;
@@ -107,7 +127,15 @@ fn converse<R: Runtime + AllocGlobal>(rt: &R) -> Result<(), Failure> {
     let mut writer = Piped::new(io::writer(rt));
     let mut store = Directory::new(rt, dir);
     warn(rt, dir, store.place());
+    let book = book_of(rt, matches.get_str("book"))?;
     let mut work = Work::mint(rt);
-    run(alloc, None, &mut reader, &mut writer, &mut store, &mut work)?;
+    run(
+        alloc,
+        book.as_deref(),
+        &mut reader,
+        &mut writer,
+        &mut store,
+        &mut work,
+    )?;
     Ok(())
 }

@@ -127,6 +127,9 @@ fn run_of(
     }
 }
 
+/// The same tune as a file: the mark of UTF-8, and no line feed behind the last line.
+const BOOK: &[u8] = b"\xEF\xBB\xBFX:1\nT:A\nK:C\nC";
+
 /// A tune of one note, bytes behind `quit` that have no effect, and the answers: the file is that of Standard MIDI Files
 /// 1.0. The commands up to `quit` have 36 bytes.
 const TUNE: &[u8] = b"insert 1 4\nX:1\nT:A\nK:C\nC\nhex 1\nquit\nhex 1\n";
@@ -172,6 +175,25 @@ fn streams_of_std(rt: HostRuntime) {
         rt.alloc(),
         None,
         &mut Piped::new(TUNE),
+        &mut writer,
+        &mut store,
+        &mut work,
+    );
+    assert!(rt; ended.is_ok());
+    assert_eq!(rt; written.as_slice(), TUNE_ANSWERS);
+}
+
+// A tune book is answered before the commands.
+#[test]
+fn books_come_first(rt: HostRuntime) {
+    let mut written = Vec::new(rt.alloc());
+    let mut writer = Piped::new(&mut written);
+    let mut store = Failing { failures: 0 };
+    let mut work = Work::mint(&rt);
+    let ended = run(
+        rt.alloc(),
+        Some(BOOK),
+        &mut Piped::new(b"hex 1".as_slice()),
         &mut writer,
         &mut store,
         &mut work,

@@ -1,7 +1,7 @@
 //! The session by its public calls.
 
 use abc_fold::Work;
-use abc2midi_live::{Edit, EditError, Session};
+use abc_live::{Edit, EditError, Session};
 use std::alloc::{AllocError, Global};
 use std::test::Fail;
 

@@ -2,10 +2,11 @@ use Rattle.std.proofs.Common.{◌≡◌, length, ◌∙◌}
 use Rattle.std.proofs.lemmas.List.{length-map}
 use Rattle.abc_lines.specs.Text.{text_of}
 use Rattle.abc_lines.specs.Edits.{insertion, replacement, deletion}
+use Rattle.abc2midi_live.specs.Book.{faults_of, files_of, titles_of}
 use Rattle.abc2midi_live.specs.Command.{line_count}
 use Rattle.abc2midi_live.specs.Answer.{unknown_line}
 use Rattle.abc2midi_live.specs.Transcript.{request_of}
-use Rattle.abc2midi_live.proofs.Requests.{untaken, responds_edit, request_of-insert, request_of-replace, request_of-delete, responds_hex, responds_unknown, responds_quit}
+use Rattle.abc2midi_live.proofs.Requests.{untaken, responds_edit, request_of-insert, request_of-replace, request_of-delete, responds_faults, responds_titles, responds_hex, responds_unknown, responds_quit}
 use Rattle.abc2midi_live.proofs.dialogue.respond.Goals as goal
 
 pub returns-in_ok-text-in-Insert-clause-reply : goal.returns-in_ok-text-in-Insert-clause-reply
@@ -13,7 +14,7 @@ returns-in_ok-text-in-Insert-clause-reply c =
     let lines = text_of c.args.lines in
     let whole : length lines ≡ line_count c.args.command = length-map c.args.lines.items (λ line. line.items) ∙ c.requires in
     let done = c.in_ok-text-in-Insert in
-    responds_edit c.args.session.now c.edit.new.session (request_of c.args.command lines) (insertion c.in-Insert.at lines) done.text.items
+    responds_edit c.args.session.now.text c.edit.new.session.text (request_of c.args.command lines) (insertion c.in-Insert.at lines) done.text.items
     (request_of-insert c.args.command c.in-Insert.at c.in-Insert.count lines whole c.in-Insert.is) done.ensures.answer done.ensures.text
 
 pub returns-in_ok-text-in-Replace-clause-reply : goal.returns-in_ok-text-in-Replace-clause-reply
@@ -21,34 +22,45 @@ returns-in_ok-text-in-Replace-clause-reply c =
     let lines = text_of c.args.lines in
     let whole : length lines ≡ line_count c.args.command = length-map c.args.lines.items (λ line. line.items) ∙ c.requires in
     let done = c.in_ok-text-in-Replace in
-    responds_edit c.args.session.now c.edit-in-Replace.new.session (request_of c.args.command lines) (replacement c.in-Replace.from c.in-Replace.to lines) done.text.items
+    responds_edit c.args.session.now.text c.edit-in-Replace.new.session.text (request_of c.args.command lines) (replacement c.in-Replace.from c.in-Replace.to lines) done.text.items
     (request_of-replace c.args.command c.in-Replace.from c.in-Replace.to c.in-Replace.count lines whole c.in-Replace.is) done.ensures.answer done.ensures.text
 
 pub returns-in_ok-text-in-Delete-clause-reply : goal.returns-in_ok-text-in-Delete-clause-reply
 returns-in_ok-text-in-Delete-clause-reply c =
     let lines = text_of c.args.lines in
     let done = c.in_ok-text-in-Delete in
-    responds_edit c.args.session.now c.edit-in-Delete.new.session (request_of c.args.command lines) (deletion c.in-Delete.from c.in-Delete.to) done.text.items
+    responds_edit c.args.session.now.text c.edit-in-Delete.new.session.text (request_of c.args.command lines) (deletion c.in-Delete.from c.in-Delete.to) done.text.items
     (request_of-delete c.args.command c.in-Delete.from c.in-Delete.to lines c.in-Delete.is) done.ensures.answer done.ensures.text
 
+pub returns-in_ok-text-in-Faults-clause-reply : goal.returns-in_ok-text-in-Faults-clause-reply
+unfolding faults_of
+returns-in_ok-text-in-Faults-clause-reply c =
+    responds_faults c.args.session.now.text c.args.command (text_of c.args.lines) _ c.in_ok-text-in-Faults.text.items c.in-Faults.is c.faults.ensures.value c.in_ok-text-in-Faults.ensures
+
+pub returns-in_ok-text-in-Titles-clause-reply : goal.returns-in_ok-text-in-Titles-clause-reply
+unfolding titles_of
+returns-in_ok-text-in-Titles-clause-reply c =
+    responds_titles c.args.session.now.text c.args.command (text_of c.args.lines) _ c.in_ok-text-in-Titles.text.items c.in-Titles.is c.titles.ensures c.in_ok-text-in-Titles.ensures
+
 pub returns-in_ok-text-in-Hex-clause-reply : goal.returns-in_ok-text-in-Hex-clause-reply
+unfolding files_of
 returns-in_ok-text-in-Hex-clause-reply c =
-    responds_hex c.args.session.now c.args.command c.in-Hex.number (text_of c.args.lines) _ c.in_ok-text-in-Hex.text.items c.in-Hex.is c.output.ensures c.in_ok-text-in-Hex.ensures
+    responds_hex c.args.session.now.text c.args.command c.in-Hex.number (text_of c.args.lines) _ c.in_ok-text-in-Hex.text.items c.in-Hex.is c.output.ensures.file c.in_ok-text-in-Hex.ensures
 
 pub returns-in-Quit-clause-reply : goal.returns-in-Quit-clause-reply
-returns-in-Quit-clause-reply c = responds_quit c.args.session.now c.args.command (text_of c.args.lines) c.in-Quit.is
+returns-in-Quit-clause-reply c = responds_quit c.args.session.now.text c.args.command (text_of c.args.lines) c.in-Quit.is
 
 pub returns-in_ok-text-in-Unknown-clause-reply : goal.returns-in_ok-text-in-Unknown-clause-reply
 unfolding unknown_line
 returns-in_ok-text-in-Unknown-clause-reply c =
-    responds_unknown c.args.session.now c.args.command (text_of c.args.lines) c.in_ok-text-in-Unknown.text.items c.in-Unknown.is c.in_ok-text-in-Unknown.ensures.items
+    responds_unknown c.args.session.now.text c.args.command (text_of c.args.lines) c.in_ok-text-in-Unknown.text.items c.in-Unknown.is c.in_ok-text-in-Unknown.ensures.items
 
 pub returns-in_ok-text-in-Insert-clause-uncounted : goal.returns-in_ok-text-in-Insert-clause-uncounted
 returns-in_ok-text-in-Insert-clause-uncounted c = λ none.
     let lines = text_of c.args.lines in
     let whole : length lines ≡ line_count c.args.command = length-map c.args.lines.items (λ line. line.items) ∙ c.requires in
     c.in_ok-text-in-Insert.ensures.uncounted
-    (untaken c.args.session.now (request_of c.args.command lines) (insertion c.in-Insert.at lines)
+    (untaken c.args.session.now.text (request_of c.args.command lines) (insertion c.in-Insert.at lines)
     (request_of-insert c.args.command c.in-Insert.at c.in-Insert.count lines whole c.in-Insert.is) none)
 
 pub returns-in_ok-text-in-Replace-clause-uncounted : goal.returns-in_ok-text-in-Replace-clause-uncounted
@@ -56,12 +68,12 @@ returns-in_ok-text-in-Replace-clause-uncounted c = λ none.
     let lines = text_of c.args.lines in
     let whole : length lines ≡ line_count c.args.command = length-map c.args.lines.items (λ line. line.items) ∙ c.requires in
     c.in_ok-text-in-Replace.ensures.uncounted
-    (untaken c.args.session.now (request_of c.args.command lines) (replacement c.in-Replace.from c.in-Replace.to lines)
+    (untaken c.args.session.now.text (request_of c.args.command lines) (replacement c.in-Replace.from c.in-Replace.to lines)
     (request_of-replace c.args.command c.in-Replace.from c.in-Replace.to c.in-Replace.count lines whole c.in-Replace.is) none)
 
 pub returns-in_ok-text-in-Delete-clause-uncounted : goal.returns-in_ok-text-in-Delete-clause-uncounted
 returns-in_ok-text-in-Delete-clause-uncounted c = λ none.
     let lines = text_of c.args.lines in
     c.in_ok-text-in-Delete.ensures.uncounted
-    (untaken c.args.session.now (request_of c.args.command lines) (deletion c.in-Delete.from c.in-Delete.to)
+    (untaken c.args.session.now.text (request_of c.args.command lines) (deletion c.in-Delete.from c.in-Delete.to)
     (request_of-delete c.args.command c.in-Delete.from c.in-Delete.to lines c.in-Delete.is) none)

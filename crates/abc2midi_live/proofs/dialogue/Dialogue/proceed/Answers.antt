@@ -13,5 +13,5 @@ returns-clause-reply c =
     let lines = text_of c.args.lines in
     let whole : length lines ≡ line_count c.args.command = length-map c.args.lines.items (λ line. line.items) ∙ (omega (arith, c.args.lines.ok.0)) in
     IfOk-weaker c.respond.result _ _
-    (λ reply h. subst (λ g. Proceeds c.args.self.now.session c.args.command lines c.respond.new.session (begun_of g) reply) (sym c.requires.idle) (says_whole c.args.self.now.session c.respond.new.session c.args.command lines reply whole h))
+    (λ reply h. subst (λ g. Proceeds c.args.self.now.session.text c.args.command lines c.respond.new.session.text (begun_of g) reply) (sym c.requires.idle) (says_whole c.args.self.now.session.text c.respond.new.session.text c.args.command lines reply whole h))
     c.respond.ensures.reply

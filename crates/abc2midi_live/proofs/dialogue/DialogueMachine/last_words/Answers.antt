@@ -8,7 +8,7 @@ use Rattle.abc2midi_live.proofs.dialogue.DialogueMachine.last_words.Goals as goa
 pub returns-in-Some : goal.returns-in-Some
 unfolding truncated_line
 returns-in-Some c =
-    last_cut c.args.self.now.session _ (request_of-gathering c.in-Some.field-0) ∙ ap (λ g. awaited c.args.self.now.session (begun_of g) true []) (sym c.in-Some.is)
+    last_cut c.args.self.now.session.text _ (request_of-gathering c.in-Some.field-0) ∙ ap (λ g. awaited c.args.self.now.session.text (begun_of g) true []) (sym c.in-Some.is)
 
 pub returns-in-None : goal.returns-in-None
-returns-in-None c = last_none c.args.self.now.session ∙ ap (λ g. awaited c.args.self.now.session (begun_of g) true []) (sym c.in-None.is)
+returns-in-None c = last_none c.args.self.now.session.text ∙ ap (λ g. awaited c.args.self.now.session.text (begun_of g) true []) (sym c.in-None.is)

@@ -12,10 +12,10 @@ use Rattle.abc2midi_live.proofs.dialogue.DialogueMachine.take_line.Goals as goal
 
 pub returns-in_ok-push-in-Some-clause-reply : goal.returns-in_ok-push-in-Some-clause-reply
 returns-in_ok-push-in-Some-clause-reply c =
-    let text = c.args.self.now.session in
+    let text = c.args.self.now.session.text in
     let g = c.in-Some.field-0 in
     let lines = text_of g.lines in
-    let after = awaited c.proceed.new.self.session (begun_of c.proceed.new.self.gathering) in
+    let after = awaited c.proceed.new.self.session.text (begun_of c.proceed.new.self.gathering) in
     let more = text_of-push g.lines c.push.new.self c.args.line c.in_ok-push-in-Some.ensures.items in
     IfOk-weaker c.proceed.result _ _
     (λ reply h.
@@ -27,9 +27,9 @@ returns-in_ok-push-in-Some-clause-reply c =
 
 pub returns-in-None-clause-reply : goal.returns-in-None-clause-reply
 returns-in-None-clause-reply c =
-    let text = c.args.self.now.session in
+    let text = c.args.self.now.session.text in
     let line = c.args.line.items in
-    let after = awaited c.proceed-in-None.new.self.session (begun_of c.proceed-in-None.new.self.gathering) in
+    let after = awaited c.proceed-in-None.new.self.session.text (begun_of c.proceed-in-None.new.self.gathering) in
     IfOk-weaker c.proceed-in-None.result _ _
     (λ reply h.
     subst (λ b. Replies (awaited text (begun_of b)) after line reply) c.in-None.ensures.value
@@ -40,7 +40,7 @@ returns-in-None-clause-reply c =
 
 pub returns-in_ok-push-in-Some-clause-uncounted : goal.returns-in_ok-push-in-Some-clause-uncounted
 returns-in_ok-push-in-Some-clause-uncounted c =
-    let text = c.args.self.now.session in
+    let text = c.args.self.now.session.text in
     let g = c.in-Some.field-0 in
     let line = c.args.line.items in
     let more = text_of-push g.lines c.push.new.self c.args.line c.in_ok-push-in-Some.ensures.items in
@@ -49,7 +49,7 @@ returns-in_ok-push-in-Some-clause-uncounted c =
 
 pub returns-in-None-clause-uncounted : goal.returns-in-None-clause-uncounted
 returns-in-None-clause-uncounted c =
-    let text = c.args.self.now.session in
+    let text = c.args.self.now.session.text in
     let line = c.args.line.items in
     let reply = c.proceed-in-None.result in
     let same = c.proceed-in-None.new.work ≡ c.args.work.now in

@@ -1,0 +1,54 @@
+//! A tune book that is handed in as a whole, cut into lines.
+
+ghost use Rattle.std.specs.Prelude.{◌≡◌, true, [], ◌∷◌, ◌++◌, IfOk};
+ghost use Rattle.abc_lines.specs.Text.{text_of};
+ghost use Rattle.abc2midi_live.specs.Transcript.{book_lines, whole_lines, without_mark};
+
+use crate::cut::cut;
+use std::alloc::{AllocError, Global};
+
+/// The bytes by which a text says that it is UTF-8.
+const BYTE_ORDER_MARK: &[u8] = &[0xEF, 0xBB, 0xBF];
+
+/// The bytes without one mark at their start.
+#[tactic(auto, unfolding(crate::specs::Transcript::without_mark))]
+fn without_mark(bytes: &[u8]) -> &[u8]
+    ensures { result.now ≡ without_mark bytes.now }
+{
+    match bytes.strip_prefix(BYTE_ORDER_MARK) {
+        Some(rest) => rest,
+        None => bytes,
+    }
+}
+
+/// The lines, and behind them a last one that no line feed ends, where it is not empty.
+fn with_last(
+    alloc: Global,
+    mut lines: Vec<Vec<u8>>,
+    last: &[u8],
+) -> Result<Vec<Vec<u8>>, AllocError>
+    ensures { IfOk result (λ all. text_of all ≡ text_of lines ++ whole_lines true (last.now ∷ [])) }
+{
+    if last.is_empty() {
+        return Ok(lines);
+    }
+    lines.push(Vec::from_slice(alloc, last)?)?;
+    Ok(lines)
+}
+
+/// The lines of a tune book.
+pub fn book_lines(alloc: Global, book: &[u8]) -> Result<Vec<Vec<u8>>, AllocError>
+    ensures { IfOk result (λ lines. text_of lines ≡ book_lines book.now) }
+{
+    let mut lines = Vec::new(alloc);
+    let mut rest = without_mark(book);
+    'lines: loop {
+        match cut(rest, b'\n') {
+            (line, Some(behind)) => {
+                lines.push(Vec::from_slice(alloc, line)?)?;
+                rest = behind;
+            }
+            (line, None) => return with_last(alloc, lines, line),
+        }
+    }
+}
