@@ -1,6 +1,6 @@
 //! What the cells behind a place can depend on: two entries are the same exactly where the views are.
 
-use crate::tune_text::lines_text;
+use crate::behind::behind_lines;
 use abc_bars::Entry;
 use abc_fold::Work;
 use std::alloc::{AllocError, Global};
@@ -73,8 +73,7 @@ const OTHER: &[(&str, &str)] = &[
 
 /// The entry behind lines of a tune.
 fn entry_behind(alloc: Global, lines: &str, work: &mut Work) -> Result<Entry, AllocError> {
-    let (_, entry) = lines_text(alloc, Entry::tune(alloc, None), lines, work)?;
-    Ok(entry)
+    behind_lines(alloc, Entry::tune(alloc, None), lines, work)
 }
 
 #[test]
@@ -95,7 +94,7 @@ fn entries_are_the_same_where_the_views_are(rt: HostRuntime) -> Result<(), Fail>
 fn a_tune_opens_with_the_defaults(rt: HostRuntime) -> Result<(), Fail> {
     let mut work = Work::mint(&rt);
     let header = Entry::header(rt.alloc());
-    let (_, after) = lines_text(rt.alloc(), header, "M:3/4\nL:1/4\nQ:60", &mut work)?;
+    let after = behind_lines(rt.alloc(), header, "M:3/4\nL:1/4\nQ:60", &mut work)?;
     let defaults = after.defaults();
     assert!(rt; defaults.meter.is_some());
     assert!(rt; defaults.unit.is_some());
@@ -103,7 +102,7 @@ fn a_tune_opens_with_the_defaults(rt: HostRuntime) -> Result<(), Fail> {
     let opening = Entry::tune(rt.alloc(), Some(&after));
     assert!(rt; opening != Entry::tune(rt.alloc(), None));
     assert!(rt; opening.defaults().meter.is_none());
-    let (_, behind) = lines_text(rt.alloc(), Entry::tune(rt.alloc(), None), "X:1", &mut work)?;
+    let behind = entry_behind(rt.alloc(), "X:1", &mut work)?;
     assert!(rt; behind != Entry::tune(rt.alloc(), None));
     Ok(())
 }

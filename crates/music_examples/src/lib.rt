@@ -1,12 +1,8 @@
-//! Worked examples of the music inside bars: what the cells of tunes give, cell by cell. Expected values are those of a
-//! second program, written from the rules of `docs/profile.md` apart from this one, and read through by hand.
+//! Worked examples of what the cells behind a place of a tune can depend on. What each cell gives is worked out in
+//! `tune_cells`.
 #![tactic(auto)]
 
 #[cfg(test)]
+mod behind;
+#[cfg(test)]
 mod entries;
-#[cfg(test)]
-mod headers;
-#[cfg(test)]
-mod item_text;
-#[cfg(test)]
-mod tune_text;
