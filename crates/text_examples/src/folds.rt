@@ -1,3 +1,5 @@
+//! A fold of our own, and steps of any fold through its bounds alone.
+
 ghost use Rattle.std.specs.Prelude.{◌≡◌, ℕ, ◌+◌, ◌-◌, ◌^◌, ◌≤◌, [], ◌∷◌, min, IfOk, OnOk};
 ghost use Rattle.abc_fold.specs.Work.{after_steps, raised};
 
@@ -5,14 +7,13 @@ use abc_fold::{Counts, Fold, Work};
 use abc_text::Sequence;
 use std::alloc::{AllocError, Global};
 use std::marker::Model;
-use std::test::Fail;
 
 /// Adds numbers up. A number gives the total before it, and itself.
-struct Adding;
+pub struct Adding;
 
 /// What the numbers so far add up to, the greatest `u64` where they are more.
 #[derive(Drop)]
-struct Total {
+pub struct Total {
     sum: u64,
 }
 
@@ -52,7 +53,7 @@ impl Fold for Adding {
 // Two steps of any fold, one behind the other: what its definition gives, and two steps counted. Where memory is
 // refused, no more than two.
 #[tactic(auto, using(abc_fold::proofs::Raised::raising))]
-fn two_steps<F: Fold>(
+pub fn two_steps<F: Fold>(
     fold: &F,
     alloc: Global,
     opening: &F::State,
@@ -77,7 +78,7 @@ fn two_steps<F: Fold>(
 }
 
 // The three numbers of any counters.
-fn numbers_of<W: Counts>(work: &W) -> (u64, u64, u64)
+pub fn numbers_of<W: Counts>(work: &W) -> (u64, u64, u64)
     ensures scanned { result.0 ≡ (W.counts work.now).scanned }
     ensures folded { result.1 ≡ (W.counts work.now).folded }
     ensures built { result.2 ≡ (W.counts work.now).built }
@@ -85,16 +86,15 @@ fn numbers_of<W: Counts>(work: &W) -> (u64, u64, u64)
     (work.scanned(), work.folded(), work.built())
 }
 
-// Two steps and the counters after them, through the bounds alone. Our own.
-#[test]
-fn two_numbers_are_added(rt: HostRuntime) -> Result<(), Fail> {
-    let mut work = Work::mint(&rt);
-    work.count_scanned();
-    let opening = Total { sum: 3 };
-    let (after, of_first, of_second) = two_steps(&Adding, rt.alloc(), &opening, &4, &5, &mut work)?;
-    assert_eq!(rt; after.sum, 12);
-    assert_eq!(rt; of_first.as_slice(), [3, 4].as_slice());
-    assert_eq!(rt; of_second.as_slice(), [7, 5].as_slice());
-    assert_eq!(rt; numbers_of(&work), (1, 2, 0));
-    Ok(())
+// Two numbers are added to 3, through the bounds alone. Our own.
+pub fn two_numbers_are_added(
+    alloc: Global,
+    work: &mut Work,
+) -> Result<(Total, Sequence<u64>, Sequence<u64>), AllocError>
+    ensures total { IfOk result (λ made. made.0 ≡ 12) }
+    ensures items_of_first { IfOk result (λ made. made.1 ≡ 3 ∷ 4 ∷ []) }
+    ensures items_of_second { IfOk result (λ made. made.2 ≡ 7 ∷ 5 ∷ []) }
+    ensures counted { OnOk result (work.new ≡ after_steps work.old 2) }
+{
+    two_steps(&Adding, alloc, &Total { sum: 3 }, &4, &5, work)
 }

@@ -5,6 +5,9 @@
 //! `% file header` begins a file header, which ends at the next `X:` line. Each line is written as it stands, and below it,
 //! a little to the right, what each of its cells gives.
 //!
+//! Two texts, `% compared` before each and `% the same?` behind the second, are answered by `yes` where the same holds
+//! behind both, so that cells behind them give the same, and else by `no`.
+//!
 //! The files `stdin` and `stdout` beside this folder are worked examples of the music inside bars, by subject. What is to be
 //! written was made by a separate reference model, from the rules of `docs/profile.md`, and read through by hand.
 #![tactic(auto)]

@@ -5,9 +5,16 @@ use abc_bars::{BarFold, Entry};
 use abc_fold::{Fold, Work};
 use abc_scan::{Cell, cells, scan};
 use std::alloc::{AllocError, Global};
+use std::mem;
 
 /// What the first line of a file header says.
 const FILE_HEADER: &str = "% file header";
+
+/// What the line before each of two texts says that are compared.
+const COMPARED: &str = "% compared";
+
+/// What the line behind the second of them says.
+const SAME: &str = "% the same?";
 
 /// Where the reading stands.
 #[derive(Drop)]
@@ -18,6 +25,10 @@ struct Reading {
     here: Entry,
     /// Whether this block has had an `X:` line.
     is_tune: bool,
+    /// What holds behind the text before the one that is compared.
+    before: Entry,
+    /// Whether this text is compared, and not said.
+    is_compared: bool,
 }
 
 impl Reading {
@@ -27,6 +38,8 @@ impl Reading {
             tune: Entry::header(alloc),
             here: Entry::header(alloc),
             is_tune: false,
+            before: Entry::header(alloc),
+            is_compared: false,
         }
     }
 
@@ -41,6 +54,12 @@ impl Reading {
         text.push_str(line)?;
         text.push('\n')?;
         self.take_line(alloc, line)?;
+        if line == SAME {
+            return self.put_answer(text);
+        }
+        if self.is_compared {
+            return self.put_cells(alloc, line.as_bytes(), &mut String::new(alloc), work);
+        }
         self.put_cells(alloc, line.as_bytes(), text, work)
     }
 
@@ -55,7 +74,27 @@ impl Reading {
         if line == FILE_HEADER {
             self.here = Entry::header(alloc);
         }
+        if line == COMPARED {
+            self.begin_compared(alloc);
+        }
         Ok(())
+    }
+
+    /// One of two texts that are compared begins.
+    fn begin_compared(&mut self, alloc: Global) {
+        self.before = mem::replace(&mut self.here, Entry::header(alloc));
+        self.is_compared = true;
+    }
+
+    /// Puts behind a text whether the same holds behind two texts.
+    fn put_answer(&mut self, text: &mut String) -> Result<(), AllocError> {
+        self.is_compared = false;
+        let answer = if self.before == self.here {
+            "    yes\n"
+        } else {
+            "    no\n"
+        };
+        text.push_str(answer)
     }
 
     /// A tune begins, with the values of the file header before it.
@@ -109,6 +148,30 @@ fn cells_of(alloc: Global, line: &[u8], work: &mut Work) -> Result<Vec<Cell>, Al
     cells(alloc, &tokens)
 }
 
+/// Goes on over lines, and puts each behind a text with what its cells give.
+fn put_lines(
+    alloc: Global,
+    reading: &mut Reading,
+    lines: &str,
+    text: &mut String,
+    work: &mut Work,
+) -> Result<(), AllocError> {
+    for line in lines.lines() {
+        reading.put_line(alloc, line, text, work)?;
+    }
+    Ok(())
+}
+
+/// Puts lines behind a text, with what their cells give.
+fn put_text(
+    alloc: Global,
+    lines: &str,
+    text: &mut String,
+    work: &mut Work,
+) -> Result<(), AllocError> {
+    put_lines(alloc, &mut Reading::new(alloc), lines, text, work)
+}
+
 /// Lines, and what their cells give.
 pub(crate) fn lines_text(
     alloc: Global,
@@ -116,9 +179,6 @@ pub(crate) fn lines_text(
     work: &mut Work,
 ) -> Result<String, AllocError> {
     let mut text = String::new(alloc);
-    let mut reading = Reading::new(alloc);
-    for line in lines.lines() {
-        reading.put_line(alloc, line, &mut text, work)?;
-    }
+    put_text(alloc, lines, &mut text, work)?;
     Ok(text)
 }

@@ -56,6 +56,16 @@ pub fn limits_of_lengths()
     ensures longer_and_not_whole { length_of (ratio 999999999 1) (ratio 999999999 17 ∷ []) ≡ Err NotWhole }
 {}
 
+/// Products that go far beyond 128 bits. Our own.
+pub fn lengths_of_many_factors()
+    ensures back_at_one { let greatest = ratio 999999999 1 in let least = ratio 1 999999999 in
+        length_of greatest (least ∷ greatest ∷ least ∷ least ∷ greatest ∷ []) ≡ Ok (at_tick 1920) }
+    ensures greatest { let greatest = ratio 999999999 1 in
+        length_of greatest (greatest ∷ greatest ∷ greatest ∷ greatest ∷ greatest ∷ []) ≡ Err TooLong }
+    ensures greatest_and_not_whole { let greatest = ratio 999999999 1 in
+        length_of greatest (greatest ∷ greatest ∷ greatest ∷ greatest ∷ ratio 1 17 ∷ []) ≡ Err NotWhole }
+{}
+
 /// The tick of a moment: the first, a grain before and at the next, a whole note, the latest end. Our own.
 pub fn ticks()
     ensures first { tick_at 0 ≡ 0 }
