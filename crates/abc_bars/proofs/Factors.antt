@@ -1,8 +1,9 @@
 -- Factors that change nothing.
 use Rattle.std.proofs.Common.{◌≡◌, ◌∙◌, ℕ, ◌*◌, List, [], ◌∷◌, ◌++◌, map, ◌≤◌, ◌↔◌, Option, Some, None, Result, Ok, Err, refl, sym, ap, subst, arith}
-use Rattle.std.specs.Prelude.{unwrap_or, option_to_list, All, IfSome}
-use Rattle.std.specs.Option.{ForSome}
+use Rattle.std.specs.Prelude.{unwrap_or, option_to_list, All, IfSome, true, false, ◌==◌, ◌&&◌, length}
+use Rattle.std.specs.Option.{ForSome, is_some}
 use Rattle.std.specs.Result.{result_ok}
+use Rattle.std.proofs.lemmas.Bool.{eqb-true, and_parts}
 use Rattle.std.proofs.lemmas.List.Elements.{All-nil, All-cons}
 use Rattle.abc_time.specs.declared.grains.Grains.{Grains}
 use Rattle.abc_time.specs.declared.lengths.LengthFault.{LengthFault}
@@ -11,6 +12,8 @@ use Rattle.abc_time.specs.Grains.{grains_of_a_whole_note, grains_of_the_longest_
 use Rattle.abc_time.specs.Length.{IsLength, length_of, quotient_of}
 use Rattle.abc_time.specs.Product.{product_of}
 use Rattle.abc_time.specs.Ratio.{IsRatio}
+use Rattle.abc_time.proofs.LengthLaws.{length_of-Ok}
+use Rattle.abc_bars.specs.Tuplet.{tuplet_factors}
 
 -- the factor that changes nothing
 abbrev pub once : Ratio
@@ -98,3 +101,39 @@ exact_along unit at these those r found same h is ok g =
     let from : IsExactly unit those g → found ≡ Some (record { 0 = g }) = λ e.
     is ∙ (ok_or_none r (record { 0 = g })).1 ((ok g).1 (subst (λ u. IsLength u these g) (sym same) (is_length_along unit those these g (other_way these those h) e.0), e.1)) in
     (to, from)
+
+-- where nothing is wanted but the factor that changes nothing
+pub unchanged : (own : Ratio) (outer : Option Ratio) (tuplet : Option (ℕ × ℕ × ℕ)) (broken : List Ratio)
+    → own ≡ once → outer ≡ None → tuplet ≡ None → broken ≡ []
+    → SameProducts [] (own ∷ (option_to_list outer ++ (tuplet_factors tuplet ++ broken)))
+unchanged own outer tuplet broken own_is outer_is tuplet_is broken_is =
+    let plain : SameProducts [] (once ∷ []) = record { nums = refl; dens = refl } in
+    let list : once ∷ [] ≡ own ∷ (option_to_list outer ++ (tuplet_factors tuplet ++ broken)) =
+    λ i. sym own_is i ∷ (option_to_list (sym outer_is i) ++ (tuplet_factors (sym tuplet_is i) ++ sym broken_is i)) in
+    subst (λ l. SameProducts [] l) list plain
+
+pub once_by : (own : Ratio) → (own.num == 1 && own.den == 1) ≡ true → own ≡ once
+once_by own h =
+    let both = and_parts _ _ h in
+    λ i. record { num = eqb-true own.num 1 both.0 i; den = eqb-true own.den 1 both.1 i }
+
+pub none_is : {A : Type 0} (o : Option A) → is_some o ≡ false → o ≡ None
+none_is None h = refl
+none_is (Some x) h = cc
+
+pub empty_is : {A : Type 0} (l : List A) → (length l == 0) ≡ true → l ≡ []
+empty_is [] h = refl
+empty_is (x ∷ l) h = absurd (let e = eqb-true (length (x ∷ l)) 0 h in omega (arith, e))
+
+-- the unit itself is the length where the factors change nothing
+pub plain_value : (unit : Ratio) (those : List Ratio) (grains : Grains) → IsRatio unit → SameProducts [] those
+    → IsLength unit [] grains.0 → grains.0 ≤ grains_of_the_longest_length → length_of unit those ≡ Ok grains
+plain_value unit those grains is h exact short =
+    sym (same_length unit [] those h) ∙ (length_of-Ok unit [] is (All-nil IsRatio) grains.0).1 (exact, short)
+
+pub plain_exact : (unit : Ratio) (those : List Ratio) (grains : Grains) → IsRatio unit → SameProducts [] those
+    → IsLength unit [] grains.0 → grains.0 ≤ grains_of_the_longest_length
+    → (g : ℕ) → (Some grains ≡ Some (record { 0 = g })) ↔ IsExactly unit those g
+plain_exact unit those grains is h exact short =
+    let ok : length_of unit [] ≡ Ok grains = (length_of-Ok unit [] is (All-nil IsRatio) grains.0).1 (exact, short) in
+    exact_along unit unit [] those (length_of unit []) (Some grains) refl h (sym (ap result_ok ok)) (length_of-Ok unit [] is (All-nil IsRatio))

@@ -3,12 +3,11 @@ use Rattle.std.proofs.Common.{◌≡◌, ℕ, ◌+◌, ◌-◌, ◌*◌, ◌/◌
 use Rattle.std.proofs.lemmas.Nat.{pow-add}
 use Rattle.std.proofs.Math.Nat.{mul-div_cancel, div-le_self, mul-le-mul}
 use Rattle.abc_text.specs.Power.{IsPowerUpTo}
-use Rattle.abc_text.proofs.Powers.{power_least, power_most}
+use Rattle.abc_text.proofs.Powers.{power_least}
 use Rattle.abc_time.specs.declared.grains.Grains.{Grains}
 use Rattle.abc_time.specs.declared.ratio.Ratio.{Ratio}
 use Rattle.abc_time.specs.Grains.{grains_of_a_whole_note, grains_of_the_longest_length}
 use Rattle.abc_time.specs.Length.{IsLength}
-use Rattle.abc_time.specs.Ratio.{IsRatio}
 use Rattle.abc_fields.specs.Meter.{HasMeterRange}
 use Rattle.abc_fields.specs.Spelling.Unit.{IsUnit}
 use Rattle.abc_bars.specs.Unit.{IsUnitPart, unit_grains}

@@ -91,13 +91,13 @@ impl Body {
     pub(crate) fn mention(&mut self, alloc: Global) -> Result<(), AllocError>
         ensures { OnOk result (self.new ≡ mentioned self.old) }
     {
-        match mem::replace(&mut self.current, Current::At(0)) {
-            Current::Unnamed(settings) => {
-                let mut voices = Voices::new(alloc);
-                voices.push(VoiceName::new(alloc, b"")?, settings)?;
-                self.voices = voices;
-            }
-            Current::At(at) => self.current = Current::At(at),
+        if matches!(self.current, Current::At(_)) {
+            return Ok(());
+        }
+        if let Current::Unnamed(settings) = mem::replace(&mut self.current, Current::At(0)) {
+            let mut voices = Voices::new(alloc);
+            voices.push(VoiceName::new(alloc, b"")?, settings)?;
+            self.voices = voices;
         }
         Ok(())
     }

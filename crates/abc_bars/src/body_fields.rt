@@ -26,7 +26,7 @@ use abc_text::Sequence;
 use std::alloc::{AllocError, Global};
 
 /// The item and the fault that a field of the body gives, where it gives them.
-#[derive(Debug, Drop)]
+#[derive(Drop)]
 pub(crate) struct FieldItem {
     pub(crate) item: Option<Item>,
     pub(crate) fault: Option<LocalFault>,

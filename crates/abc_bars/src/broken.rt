@@ -1,6 +1,6 @@
 //! Broken rhythm: which marks act, and what they multiply the lengths beside them by.
 
-ghost use Rattle.std.specs.Prelude.{◌≡◌, ◌≤◌, ◌^◌};
+ghost use Rattle.std.specs.Prelude.{◌≡◌, ◌==◌, ◌≤◌, ◌^◌, length};
 ghost use Rattle.abc_bars.specs.Broken.{has_note, role_of, is_time_token, behind_after, time_follows, mark_ahead, mark_behind, halved, shorter, longer, first_factor, second_factor, factors_of, is_bad_mark};
 ghost use Rattle.abc_bars.specs.Acting.{ActsAsRead, GivesFactorsAsRead};
 ghost use Rattle.abc_time.specs.Ratio.{IsRatio};
@@ -13,7 +13,7 @@ use std::marker::Model;
 const MOST_MARKS: u8 = 3;
 
 /// What stands nearest before a place of a cell, of what matters to broken rhythm.
-#[derive(Clone, Copy, Debug, PartialEq, Eq)]
+#[derive(Clone, Copy, PartialEq, Eq)]
 pub(crate) enum Behind {
     /// Nothing that a mark or a time token here could act with.
     Nothing,
@@ -24,7 +24,7 @@ pub(crate) enum Behind {
 }
 
 /// What a token is to broken rhythm.
-#[derive(Clone, Copy, Debug, PartialEq, Eq)]
+#[derive(Clone, Copy, PartialEq, Eq)]
 pub(crate) enum Role {
     /// A note, a rest, or a chord with a note.
     Time,
@@ -36,7 +36,7 @@ pub(crate) enum Role {
 }
 
 /// The factors that the marks round a note, chord or rest give it, at most two. Contracts see their list.
-#[derive(Debug, Drop)]
+#[derive(Drop)]
 pub(crate) struct BrokenFactors {
     /// From the mark before it.
     pub(crate) behind: Option<Ratio>,
@@ -66,6 +66,13 @@ impl BrokenFactors {
             behind: mark_behind(behind).map(second_factor),
             ahead: mark_ahead(ahead).map(first_factor),
         }
+    }
+
+    /// Whether there are none.
+    pub(crate) fn is_empty(&self) -> bool
+        ensures { result ≡ (length self.now == 0) }
+    {
+        self.behind.is_none() && self.ahead.is_none()
     }
 }
 

@@ -18,6 +18,9 @@ use abc_fields::FaultCode;
 use abc_scan::{BarLine, Chord, Field, Note, Token, TokenKind, Tuplet, WrittenLength};
 use std::alloc::{AllocError, Global};
 
+/// For how many items of a cell there is room at first, at most: a usual bar gives no more.
+const MOST_ROOM: usize = 16;
+
 /// Whether a token is a tie.
 fn is_tie_token(kind: &TokenKind) -> bool
     ensures { result ≡ is_tie_token kind.now }
@@ -43,7 +46,7 @@ fn may_be_tied(kind: &TokenKind) -> bool
 }
 
 /// What holds behind some tokens of a cell, and what they gave.
-#[derive(Debug, Drop)]
+#[derive(Drop)]
 pub(crate) struct Given {
     pub(crate) body: Body,
     pub(crate) items: Items,
@@ -54,16 +57,17 @@ pub(crate) struct Given {
 }
 
 impl Given {
-    /// Before the first token of a cell.
-    fn nothing(alloc: Global, body: Body) -> Given
-        ensures { result ≡ nothing_given body }
+    /// Before the first token of a cell of so many.
+    fn nothing(alloc: Global, body: Body, tokens: usize) -> Result<Given, AllocError>
+        ensures { IfOk result (λ given. given ≡ nothing_given body) }
     {
-        Given {
+        let items = Items::with_room(alloc, tokens.min(MOST_ROOM))?;
+        Ok(Given {
             body,
-            items: Items::new(alloc),
+            items,
             behind: Behind::Nothing,
             after_note: false,
-        }
+        })
     }
 
     /// A token gives an item.
@@ -287,7 +291,7 @@ impl Given {
 pub(crate) fn cell_given(alloc: Global, body: Body, cell: &[Token]) -> Result<Given, AllocError>
     ensures { IfOk result (λ given. given ≡ cell_given body cell.now) }
 {
-    let mut given = Given::nothing(alloc, body);
+    let mut given = Given::nothing(alloc, body, cell.len())?;
     for (at, token) in cell.iter().enumerate() {
         given.token(alloc, token, &cell[at + 1..])?;
     }

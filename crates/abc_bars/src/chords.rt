@@ -13,7 +13,7 @@ use abc_scan::{ChordPart, ChordPartKind, Note, WrittenLength};
 use std::alloc::{AllocError, Global};
 
 /// What stands round the notes of a chord (ABC 2.1 section 4.17).
-#[derive(Clone, Copy, Debug)]
+#[derive(Clone, Copy)]
 pub(crate) struct Outside {
     /// The length behind the chord.
     pub(crate) length: WrittenLength,

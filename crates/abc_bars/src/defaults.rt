@@ -27,7 +27,7 @@ pub(crate) const NO_DEFAULTS: Defaults = Defaults {
 };
 
 /// The values behind a field, and its fault.
-#[derive(Clone, Copy, Debug)]
+#[derive(Clone, Copy)]
 pub(crate) struct SettingGiven {
     pub(crate) defaults: Defaults,
     pub(crate) fault: Option<FaultCode>,

@@ -4,7 +4,7 @@ ghost use Rattle.std.specs.Prelude.{◌≡◌};
 ghost use Rattle.abc_bars.specs.FieldKind.{kind_of};
 
 /// What a field is about (ABC 2.1 section 3).
-#[derive(Clone, Copy, Debug, PartialEq, Eq)]
+#[derive(Clone, Copy, PartialEq, Eq)]
 pub(crate) enum FieldKind {
     Reference,
     Title,

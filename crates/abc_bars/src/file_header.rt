@@ -12,7 +12,7 @@ use abc_text::Sequence;
 use std::alloc::{AllocError, Global};
 
 /// What a field of the file header gives, which has no items.
-#[derive(Debug, Drop)]
+#[derive(Drop)]
 pub(crate) struct FileHeaderGiven {
     pub(crate) defaults: Defaults,
     pub(crate) faults: Sequence<LocalFault>,

@@ -32,7 +32,7 @@ pub struct Header {
 }
 
 /// What a field of a header gives.
-#[derive(Debug, Drop)]
+#[derive(Drop)]
 pub(crate) struct HeaderGiven {
     pub(crate) header: Header,
     pub(crate) items: Sequence<Item>,
@@ -40,7 +40,7 @@ pub(crate) struct HeaderGiven {
 }
 
 /// What a field gives of its own: what holds behind it, its item and its fault.
-#[derive(Debug, Drop)]
+#[derive(Drop)]
 struct OwnGiven {
     header: Header,
     item: Option<Item>,

@@ -1,6 +1,6 @@
 //! What cells give to the score.
 
-ghost use Rattle.std.specs.Prelude.{◌≡◌, All, [], ◌∷◌, ◌++◌, OnOk};
+ghost use Rattle.std.specs.Prelude.{◌≡◌, All, [], ◌∷◌, ◌++◌, IfOk, OnOk};
 ghost use Rattle.abc_bars.specs.Item.{IsItem, nothing, and_item, and_faults};
 
 use abc_fields::{FaultCode, Meter};
@@ -109,11 +109,12 @@ impl Model for Items {
 }
 
 impl Items {
-    /// No item and no fault yet.
-    pub(crate) fn new(alloc: Global) -> Items
-        ensures { result ≡ nothing }
+    /// No item and no fault yet, with room for so many items.
+    pub(crate) fn with_room(alloc: Global, items: usize) -> Result<Items, AllocError>
+        ensures { IfOk result (λ made. made ≡ nothing) }
     {
-        Items::of(Sequence::new(alloc), Sequence::new(alloc))
+        let items = Vec::with_capacity(alloc, items)?;
+        Ok(Items::of(Sequence::from(items), Sequence::new(alloc)))
     }
 
     /// These items and these faults.

@@ -76,6 +76,10 @@ fn product_of(
         ↔ (IsLength unit ((own ∷ option_to_list outer) ++ (tuplet_factors tuplet ++ broken.now)) g × (g ≤ grains_of_the_longest_length)) }
     ensures range { IfSome result (λ length. length.0 ≤ grains_of_the_longest_length) }
 {
+    let part = unit.get();
+    if own == ONCE && outer.is_none() && tuplet.is_none() && broken.is_empty() {
+        return Some(unit.grains());
+    }
     let factors = [
         own,
         outer.unwrap_or(ONCE),
@@ -83,7 +87,7 @@ fn product_of(
         broken.behind.unwrap_or(ONCE),
         broken.ahead.unwrap_or(ONCE),
     ];
-    length(unit.get(), &factors).ok()
+    length(part, &factors).ok()
 }
 
 /// The unit times all factors, where no text is refused and the product is a length.

@@ -19,7 +19,7 @@ use abc_time::Grains;
 use std::alloc::{AllocError, Global};
 
 /// What the notes and other parts of a chord, or a note alone, have given so far.
-#[derive(Debug, Drop)]
+#[derive(Drop)]
 pub(crate) struct Inside {
     /// The accidentals that hold behind them.
     pub(crate) accidentals: Accidentals,

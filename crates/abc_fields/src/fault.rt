@@ -11,58 +11,59 @@ use thiserror::Error;
 
 /// What is wrong at a place of a tune book, in the order in which faults at one place are listed.
 #[derive(Clone, Copy, Debug, Hash, Error)]
+#[error("{}", self.name())]
 pub enum FaultCode {
-    #[error("the reference number is none")]
+    /// The reference number is none.
     BadReference = 1,
-    #[error("the meter is none")]
+    /// The meter is none.
     BadMeter,
-    #[error("the unit note length is none")]
+    /// The unit note length is none.
     BadUnit,
-    #[error("the tempo is none")]
+    /// The tempo is none.
     BadTempo,
-    #[error("the key is none")]
+    /// The key is none.
     BadKey,
-    #[error("the order of parts is none")]
+    /// The order of parts is none.
     BadOrder,
-    #[error("the part is none")]
+    /// The part is none.
     BadPart,
-    #[error("the voice is none")]
+    /// The voice is none.
     BadVoice,
-    #[error("the tune has too many voices")]
+    /// The tune has too many voices.
     TooManyVoices,
-    #[error("the byte begins nothing")]
+    /// The byte begins nothing.
     BadByte,
-    #[error("the bracket, quote or brace is not closed")]
+    /// The bracket, quote or brace is not closed.
     Unclosed,
-    #[error("the length is none")]
+    /// The length is none.
     BadLength,
-    #[error("the tuplet is out of range")]
+    /// The tuplet is out of range.
     BadTuplet,
-    #[error("the tuplet begins inside another")]
+    /// The tuplet begins inside another.
     NestedTuplet,
-    #[error("the broken rhythm has no two notes")]
+    /// The broken rhythm has no two notes.
     BadBroken,
-    #[error("the tie follows no note")]
+    /// The tie follows no note.
     LooseTie,
-    #[error("the chord has no note")]
+    /// The chord has no note.
     EmptyChord,
-    #[error("the chord has too many notes")]
+    /// The chord has too many notes.
     BigChord,
-    #[error("the ending is out of range")]
+    /// The ending is out of range.
     BadEnding,
-    #[error("the bar rest stands in free meter")]
+    /// The bar rest stands in free meter.
     FreeBarRest,
-    #[error("the note has no MIDI key")]
+    /// The note has no MIDI key.
     KeyRange,
-    #[error("the header has no key")]
+    /// The header has no key.
     MissingKey,
-    #[error("the tempo is out of range")]
+    /// The tempo is out of range.
     TempoRange,
-    #[error("the order names a part that is not there")]
+    /// The order names a part that is not there.
     UnknownPart,
-    #[error("the voices of a section differ in length")]
+    /// The voices of a section differ in length.
     UnevenVoices,
-    #[error("the tune is too long")]
+    /// The tune is too long.
     TuneTooLong,
 }
 

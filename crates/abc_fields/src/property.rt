@@ -8,7 +8,7 @@ ghost use Rattle.abc_fields.specs.declared.property.Property.{Property};
 use abc_text::number_of;
 
 /// What a word of a field says.
-#[derive(Clone, Copy, Debug, PartialEq, Eq)]
+#[derive(Clone, Copy, PartialEq, Eq)]
 pub(crate) enum Property {
     /// An octave up or down in semitones, or 0.
     Clef(i64),

@@ -1,5 +1,5 @@
 -- Where the tokens of a line lie, and which lengths they have.
-use Rattle.std.proofs.Common.{◌≡◌, ℕ, Bool, false, ◌+◌, ◌-◌, ◌^◌, ◌<◌, ◌≤◌, Option, Some, None, List, [], ◌∷◌, length, refl, sym, ap, ◌∙◌, subst, arith, length-append, ltb-false}
+use Rattle.std.proofs.Common.{◌≡◌, ℕ, Bool, false, ◌+◌, ◌^◌, ◌<◌, ◌≤◌, Option, Some, None, List, [], ◌∷◌, length, refl, sym, ap, ◌∙◌, subst, arith, length-append, ltb-false}
 use Rattle.std.specs.Prelude.{All, nat_lt, ◌==◌, ◌&&◌, not}
 use Rattle.std.specs.List.{AllPass}
 use Rattle.std.proofs.Math.Nat.{pow-le-pow_right}

@@ -19,7 +19,7 @@ use std::alloc::{AllocError, Global};
 fn cut(alloc: Global, text: &[u8]) -> Result<Vec<Token>, AllocError>
     ensures { IfOk result (λ tokens. tokens.items ≡ cutting_of text.now) }
 {
-    let mut tokens = Vec::new(alloc);
+    let mut tokens = Vec::with_capacity(alloc, text.len())?;
     let mut missing = Missing::none();
     let mut after_bar = false;
     let mut at = 0;

@@ -14,7 +14,6 @@ use Rattle.abc_bars.specs.FieldKind.{kind_of}
 use Rattle.abc_bars.specs.VoiceShift.{with_properties}
 use Rattle.abc_bars.specs.LookBack.After.{after, after_field, after_kind, in_meter, in_part, in_unit, in_voice}
 use Rattle.abc_bars.specs.LookBack.Defaults.{meter_by, unit_by}
-use Rattle.abc_scan.specs.declared.bar.BarLine.{BarLine}
 use Rattle.abc_scan.specs.declared.chord.Chord.{Chord}
 use Rattle.abc_scan.specs.declared.length.WrittenLength.{WrittenLength}
 use Rattle.abc_scan.specs.declared.note.Note.{Note}
@@ -27,7 +26,6 @@ use Rattle.abc_scan.specs.declared.token.TokenKind.TheVariants as kinds
 use Rattle.abc_time.specs.declared.ratio.Ratio.{Ratio}
 use Rattle.abc_bars.specs.declared.settings.Settings.{Settings}
 use Rattle.abc_bars.specs.Alteration.{alteration_of}
-use Rattle.abc_bars.specs.Settings.{without_accidentals}
 use Rattle.abc_bars.specs.Broken.{has_note, is_note_part}
 use Rattle.abc_bars.specs.declared.chords.Outside.{Outside}
 use Rattle.abc_bars.specs.declared.sound.Inside.{Inside}

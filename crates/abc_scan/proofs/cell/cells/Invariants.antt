@@ -4,5 +4,5 @@ use Rattle.abc_scan.proofs.CellLaws.{with_begun}
 use Rattle.abc_scan.proofs.cell.cells.Given as goal
 
 -- the cells so far, the one that is begun, and those of the rest
-abbrev pub invariant-loop-token : goal.invariant-loop-token
-invariant-loop-token l = l.cells.items ++ with_begun l.cell (cells_of (drop l.token-index l.tokens)) ≡ cells_of l.tokens
+abbrev pub invariant-loop-at : goal.invariant-loop-at
+invariant-loop-at l = l.cells.items ++ with_begun l.cell (cells_of (drop l.at l.tokens)) ≡ cells_of l.tokens

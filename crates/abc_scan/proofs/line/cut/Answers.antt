@@ -23,7 +23,7 @@ pub loop-at-init : goal.loop-at-init
 loop-at-init c = record {
   inside = omega arith;
   known = c.none-missing.ensures c.args.text.now;
-  cut = ap (λ l. l ++ cutting_from line_kinds reading_at _ 0 0 c.args.text.now) c.new-tokens.ensures.items;
+  cut = ap (λ l. l ++ cutting_from line_kinds reading_at _ 0 0 c.args.text.now) c.in_ok-tokens.ensures.items;
 }
 
 pub next_token-requires-clause-known : goal.next_token-requires-clause-known
