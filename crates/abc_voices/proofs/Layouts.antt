@@ -12,7 +12,6 @@ use Rattle.std.specs.List.{list_any, flat_map}
 use Rattle.abc_bars.specs.declared.item.Item.{Item}
 use Rattle.abc_bars.specs.declared.item.Item.TheVariants as items
 use Rattle.abc_fields.specs.declared.meter.Meter.TheVariants as meters
-use Rattle.abc_time.specs.declared.grains.Grains.{Grains}
 use Rattle.abc_time.specs.Grains.{grains_of_the_latest_end}
 use Rattle.abc_bars.specs.Item.{IsItem}
 use Rattle.abc_repeat.specs.declared.order.TheConstants.{MOST_SECTIONS}
@@ -20,19 +19,16 @@ use Rattle.abc_repeat.specs.declared.play.TheConstants.{MOST_PLACES}
 use Rattle.abc_repeat.specs.Order.{sections_of, has_unknown}
 use Rattle.abc_voices.specs.Limits.{is_within_limits}
 use Rattle.abc_voices.specs.Section.{letters, sections}
-use Rattle.abc_voices.specs.declared.arranged.Arranged.{Arranged}
-use Rattle.abc_voices.specs.declared.score.Change.{Change}
 use Rattle.abc_voices.specs.declared.score.Score.{Score}
-use Rattle.abc_voices.specs.declared.score.Sounding.{Sounding}
 use Rattle.abc_voices.specs.declared.stage.Part.{Part}
 use Rattle.abc_voices.specs.declared.stage.Stage.{Stage}
-use Rattle.abc_voices.specs.Along.{IsStage, length_along, steps_of, notes_along, voices_along, set_beside, set_by_all, set_at, set_by_one, parts_differ, is_stage_uneven, first_place, changes_along, end_along, score_along}
-use Rattle.abc_voices.specs.Arrange.{play_in, longest, played_sections, voice_notes, all_notes, set_in, first_of, differ, is_uneven, total, voices_notes, last_off, end_of, changes_of, score_of, or_else, usual_tempo, arranged_of, sections_played, places_played, is_too_long}
+use Rattle.abc_voices.specs.Along.{IsStage, length_along, steps_of, notes_along, voices_along, set_by_all, set_by_one, parts_differ, is_stage_uneven, first_place, changes_along, end_along, score_along}
+use Rattle.abc_voices.specs.Arrange.{play_in, longest, played_sections, voice_notes, all_notes, set_in, first_of, differ, is_uneven, voices_notes, last_off, end_of, changes_of, score_of, or_else, usual_tempo, arranged_of, sections_played, places_played, is_too_long}
 use Rattle.abc_voices.specs.Change.{tempo_of, meter_of, key_of, set_from}
 use Rattle.abc_voices.specs.Linked.{notes_from}
-use Rattle.abc_voices.specs.Opening.{tempo_past, meter_past, key_past, order_past, past_all, title_of}
+use Rattle.abc_voices.specs.Opening.{tempo_past, meter_past, key_past, order_past, past_all}
 use Rattle.abc_voices.specs.Stage.{part_of, stage_of}
-use Rattle.abc_voices.specs.Track.{everyone, tracks, nameless_plays, names_from, names_past, with_name}
+use Rattle.abc_voices.specs.Track.{everyone, nameless_plays, names_from, names_past}
 use Rattle.abc_voices.proofs.Mapped.{conductor_same, score_same, laid_same}
 use Rattle.abc_voices.proofs.Staged.{stages_are, played_all, total_within}
 

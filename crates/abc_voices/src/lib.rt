@@ -26,13 +26,12 @@ mod timing;
 mod track;
 mod voice;
 
+pub use abc_bars::MOST_VOICES;
 pub use arranged::{Arranged, BuildFault};
 pub use change::{put_keys, put_meters, put_tempos};
 pub use conduct::conductor;
 pub use layout::arrange;
-pub use limits::{
-    LONGEST_TITLE, MOST_CHANGES, MOST_NOTES, MOST_VOICES, is_within_limits, score_limits,
-};
+pub use limits::{LONGEST_TITLE, MOST_CHANGES, MOST_NOTES, is_within_limits, score_limits};
 pub use notes::put_notes;
 pub use opening::{opening_key, opening_meter, opening_tempo, order_of, title_of};
 pub use play::{duration, played};

@@ -1,10 +1,12 @@
 //! The limits within which a file can hold a score.
 ghost use Rattle.std.specs.Prelude.{◌≡◌, ◌≤◌, ◌↔◌, ◌-◌, ◌^◌, nat_le, All, IsTrue};
+ghost use Rattle.abc_bars.specs.declared.voices.TheConstants.{MOST_VOICES};
 ghost use Rattle.abc_time.specs.Grains.{grains_of_the_latest_end};
 ghost use Rattle.std.specs.List.{list_all};
 ghost use Rattle.abc_voices.specs.Limits.{IsWritable, IsChangeWithin, IsSoundingWithin, IsVoiceWithin, AreCountsWithin, IsWithinLimits, is_writable, is_change_within, is_note_within, is_voice_within, are_counts_within, is_within_limits};
 
 use crate::score::{Change, ChangeKind, Score, Sounding};
+use abc_bars::MOST_VOICES;
 use abc_text::{Sequence, is_power_up_to};
 use abc_time::{Grains, LATEST_END};
 
@@ -14,13 +16,11 @@ pub const LONGEST_TITLE: usize = 65_535;
 /// How many changes of tempo, meter and key a score has at most.
 pub const MOST_CHANGES: usize = 1_000_003;
 
-/// How many voices a score has at most: MIDI has sixteen channels, of which the drums' is left out.
-pub const MOST_VOICES: usize = 15;
-
 /// How many notes a voice has at most.
 pub const MOST_NOTES: usize = 16_000_000;
 
-/// The limits are these numbers. A title is as long as sixteen bits can say.
+/// The limits are these numbers. A title is as long as sixteen bits can say. A score has no more voices than a
+/// tune may have, so each has a channel of MIDI's sixteen without the drums'.
 pub fn score_limits()
     ensures title { LONGEST_TITLE ≡ 2 ^ 16 - 1 }
     ensures changes { MOST_CHANGES ≡ 1000003 }

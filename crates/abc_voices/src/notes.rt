@@ -1,6 +1,6 @@
 //! The notes of what a voice plays.
 
-ghost use Rattle.std.specs.Prelude.{◌≡◌, ◌-◌, ◌≤◌, All, Some, OnOk};
+ghost use Rattle.std.specs.Prelude.{◌≡◌, ◌-◌, ◌≤◌, [], All, Some, OnOk};
 ghost use Rattle.abc_bars.specs.Item.{IsItem, IsTone};
 ghost use Rattle.abc_time.specs.Grains.{grains_of_the_latest_end};
 ghost use Rattle.abc_voices.specs.Linked.{Notes, before, notes_from};
@@ -13,44 +13,49 @@ use crate::step::length_of;
 use abc_bars::{Item, Tone};
 use abc_time::Grains;
 use std::alloc::{AllocError, Global};
+use std::mem::swap;
 
 /// Puts a time token before the notes of what comes behind it: those that begin at its first time token,
-/// and the others.
+/// and the others. What is emptied serves for the next one's notes.
 fn put_token(
-    alloc: Global,
+    emptied: &mut Vec<Sounding>,
     first: &mut Vec<Sounding>,
     others: &mut Vec<Sounding>,
     at: Grains,
     tones: &[Tone],
 ) -> Result<(), AllocError>
+    requires emptied { emptied.old.items ≡ [] }
     requires at { at.0 ≤ grains_of_the_latest_end }
     requires tones { All IsTone tones.now }
-    ensures { OnOk result (record { first = first.new.items; others = others.new.items }
+    ensures emptied { OnOk result (emptied.new.items ≡ []) }
+    ensures notes { OnOk result (record { first = first.new.items; others = others.new.items }
         ≡ before at.0 (Some tones.now) (record { first = first.old.items; others = others.old.items })) }
 {
-    let mut begun = Vec::new(alloc);
-    begin_notes(&mut begun, first, at, tones)?;
+    begin_notes(emptied, first, at, tones)?;
     others.extend_from_slice(first)?;
-    *first = begun;
+    first.clear();
+    swap(first, emptied);
     Ok(())
 }
 
 /// Puts an item before the notes of what comes behind it.
 fn put_item(
-    alloc: Global,
+    emptied: &mut Vec<Sounding>,
     first: &mut Vec<Sounding>,
     others: &mut Vec<Sounding>,
     at: Grains,
     item: &Item,
 ) -> Result<(), AllocError>
+    requires emptied { emptied.old.items ≡ [] }
     requires at { at.0 ≤ grains_of_the_latest_end }
     requires item { IsItem item.now }
-    ensures { OnOk result (record { first = first.new.items; others = others.new.items }
+    ensures emptied { OnOk result (emptied.new.items ≡ []) }
+    ensures notes { OnOk result (record { first = first.new.items; others = others.new.items }
         ≡ before at.0 (tones_of item.now) (record { first = first.old.items; others = others.old.items })) }
 {
     match item {
-        Item::Tone { tones, .. } => put_token(alloc, first, others, at, tones.as_slice()),
-        Item::Rest { bar: false, .. } => put_token(alloc, first, others, at, &[]),
+        Item::Tone { tones, .. } => put_token(emptied, first, others, at, tones.as_slice()),
+        Item::Rest { bar: false, .. } => put_token(emptied, first, others, at, &[]),
         _ => Ok(()),
     }
 }
@@ -70,12 +75,13 @@ pub fn put_notes(
         ≡ notes_from (λ step. step.now) (end.0 - duration (λ step. step.now) steps.now) steps.now
         (record { first = first.old.items; others = others.old.items })) }
 {
+    let mut emptied = Vec::new(alloc);
     let mut at = end;
     let mut left = steps.len();
     while left > 0 {
         left -= 1;
         at.0 -= length_of(steps[left]).0;
-        put_item(alloc, first, others, at, steps[left])?;
+        put_item(&mut emptied, first, others, at, steps[left])?;
     }
     Ok(())
 }

@@ -3,11 +3,12 @@
 ghost use Rattle.std.specs.Prelude.{◌≡◌, ◌≤◌, List, length, All, true};
 ghost use Rattle.abc_bars.specs.Item.{IsItem};
 ghost use Rattle.abc_bars.specs.declared.item.Item.{Item};
+ghost use Rattle.abc_bars.specs.declared.voices.TheConstants.{MOST_VOICES};
 ghost use Rattle.abc_repeat.specs.declared.play.TheConstants.{MOST_PLACES};
 ghost use Rattle.abc_time.specs.Grains.{grains_of_the_latest_end};
 ghost use Rattle.abc_voices.specs.Arrange.{end_of, places_played, score_of};
 ghost use Rattle.abc_voices.specs.Limits.{is_within_limits};
-ghost use Rattle.abc_voices.specs.declared.limits.TheConstants.{LONGEST_TITLE, MOST_VOICES};
+ghost use Rattle.abc_voices.specs.declared.limits.TheConstants.{LONGEST_TITLE};
 ghost use Rattle.abc_voices.specs.Opening.{title_of};
 ghost use Rattle.abc_voices.specs.Track.{tracks};
 

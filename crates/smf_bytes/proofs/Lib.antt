@@ -3,3 +3,4 @@ pub mod Lengths
 pub mod NumberTexts
 pub mod Ordered
 pub mod Timed
+pub mod Turned

@@ -1,9 +1,9 @@
 //! The events of a voice: its notes on and off.
-ghost use Rattle.std.specs.Prelude.{◌≡◌, ◌≤◌, ◌<◌, ◌++◌, All, IfOk, OnOk};
+ghost use Rattle.std.specs.Prelude.{◌≡◌, ◌≤◌, ◌<◌, ◌++◌, [], ◌∷◌, IfOk, IsPermutation, OnOk};
 ghost use Rattle.abc_time.specs.Grains.{grains_of_the_latest_end};
-ghost use Rattle.abc_voices.specs.declared.limits.TheConstants.{MOST_VOICES};
+ghost use Rattle.abc_bars.specs.declared.voices.TheConstants.{MOST_VOICES};
 ghost use Rattle.smf_bytes.specs.Event.{note_off, note_on, note_events};
-ghost use Rattle.abc_voices.specs.Limits.{IsSoundingWithin};
+ghost use Rattle.abc_voices.specs.Limits.{IsSoundingWithin, IsVoiceWithin};
 ghost use Rattle.smf_bytes.specs.Track.{voice_events, channel_of};
 
 use crate::event::Event;
@@ -11,6 +11,9 @@ use crate::event_bytes::EventBytes;
 use abc_time::{Grains, tick_of};
 use abc_voices::Sounding;
 use std::alloc::{AllocError, Global};
+
+/// How far an event is moved back at most: over the events of a chord with as many notes as one may have.
+const FARTHEST_BACK: usize = 32;
 
 /// The channel of the voice at this place, from 0. The tenth is left out: it is for percussion.
 pub(crate) fn channel(place: usize) -> u8
@@ -24,7 +27,8 @@ pub(crate) fn channel(place: usize) -> u8
     }
 }
 
-/// The events of a voice, of a tune that ends at `end`.
+/// The events of a voice, of a tune that ends at `end`, in some order. A play's notes are found from its last
+/// to its first: turned round, they give their events sorted but for notes that overlap far.
 pub(crate) fn voice(
     alloc: Global,
     end: Grains,
@@ -33,18 +37,18 @@ pub(crate) fn voice(
 ) -> Result<Vec<Event>, AllocError>
     requires end { end.0 ≤ grains_of_the_latest_end }
     requires channel { channel < 16 }
-    requires notes { All (IsSoundingWithin end) notes.now }
-    ensures { IfOk result (λ events. events.items ≡ voice_events channel notes.now) }
+    requires notes { IsVoiceWithin end notes.now }
+    ensures { IfOk result (λ events. IsPermutation (voice_events channel notes.now) events.items) }
 {
-    let mut events = Vec::new(alloc);
-    for note in notes {
+    let mut events = Vec::with_capacity(alloc, 2 * notes.len())?;
+    for note in notes.iter().rev() {
         push_note(alloc, &mut events, end, channel, note)?;
     }
     Ok(events)
 }
 
-/// Appends the on and the off of a note, unless both fall on one tick. In this order notes that do not
-/// overlap give their events sorted.
+/// Puts the on and the off of a note to the events, unless both fall on one tick.
+#[tactic(auto, using(crate::proofs::Turned::two_more))]
 fn push_note(
     alloc: Global,
     events: &mut Vec<Event>,
@@ -55,15 +59,38 @@ fn push_note(
     requires end { end.0 ≤ grains_of_the_latest_end }
     requires channel { channel < 16 }
     requires note { IsSoundingWithin end note.now }
-    ensures { OnOk result (events.new.items ≡ events.old.items ++ note_events channel note.now) }
+    ensures { OnOk result (IsPermutation (events.old.items ++ note_events channel note.now) events.new.items) }
 {
     let on = tick_of(note.on);
     let off = tick_of(note.off);
     if on != off {
-        events.push(on_event(alloc, channel, note.key, on))?;
-        events.push(off_event(alloc, channel, note.key, off))?;
+        put(events, on_event(alloc, channel, note.key, on))?;
+        put(events, off_event(alloc, channel, note.key, off))?;
     }
     Ok(())
+}
+
+/// Puts an event to others, before those just before it that come later.
+fn put(events: &mut Vec<Event>, event: Event) -> Result<(), AllocError>
+    ensures { OnOk result (IsPermutation (events.old.items ++ event ∷ []) events.new.items) }
+{
+    events.push(event)?;
+    move_back(events);
+    Ok(())
+}
+
+/// Moves the last event back to its place among those just before it.
+fn move_back(events: &mut [Event])
+    ensures { IsPermutation events.old events.new }
+{
+    let mut place = events.len();
+    for _ in 0..FARTHEST_BACK {
+        if place < 2 || events[place - 2] <= events[place - 1] {
+            return;
+        }
+        events.swap(place - 2, place - 1);
+        place -= 1;
+    }
 }
 
 /// The event that ends a note.

@@ -1,4 +1,4 @@
-use Rattle.std.proofs.Common.{◌≡◌, ◌<◌, ◌≤◌, ℕ, List, Bool, None, Err, Option, length, sym, refl, subst, ap, ◌∙◌, arith}
+use Rattle.std.proofs.Common.{◌≡◌, ◌<◌, ◌≤◌, ℕ, None, Err, length, sym, refl, subst, ap, ◌∙◌}
 use Rattle.std.specs.Prelude.{option_copied}
 use Rattle.abc_repeat.specs.Order.{sections_of, has_unknown}
 use Rattle.abc_repeat.specs.declared.order.TheConstants.{MOST_SECTIONS}

@@ -1,4 +1,4 @@
-use Rattle.std.proofs.Common.{◌≡◌, true, false, Err, ap, ◌∙◌}
+use Rattle.std.proofs.Common.{◌≡◌, true, false, Err, ap}
 use Rattle.std.specs.List.{list_any}
 use Rattle.abc_voices.specs.Arrange.{score_of, is_uneven, played_sections}
 use Rattle.abc_voices.specs.Limits.{is_within_limits}

@@ -1,19 +1,35 @@
-use Rattle.std.proofs.Common.{◌≡◌, ◌<◌, ◌^◌, ℕ, List, length, arith, subst, sym, ap, ◌∙◌}
-use Rattle.smf_bytes.specs.declared.event.Event.{Event}
-use Rattle.smf_bytes.specs.Track.{track_body, voice_events}
+use Rattle.std.proofs.Common.{◌≡◌, ◌<◌, ◌≤◌, ◌++◌, ◌^◌, ℕ, List, length, arith, subst, sym, ap, ◌∙◌}
+use Rattle.std.specs.Prelude.{IsPermutation, OnOk}
+use Rattle.std.proofs.lemmas.List.Sorted.{All-permutation}
+use Rattle.abc_time.specs.Grains.{tick_at}
+use Rattle.abc_voices.specs.declared.score.Sounding.{Sounding}
+use Rattle.smf_bytes.specs.Track.{channel_of, track, voice_events}
 use Rattle.smf_bytes.proofs.Lengths.{EndBy, voice_length, voice_ticks}
+use Rattle.smf_bytes.proofs.Turned.{same_body, same_track}
 use Rattle.smf_bytes.proofs.file.put_voice.Goals as goal
 
 pub put_track-requires : goal.put_track-requires
 put_track-requires c =
-    let events : c.in_ok-events.events.items ≡ voice_events c.channel.result c.args.notes.now =
-    c.in_ok-events.ensures ∙ ap (voice_events c.channel.result) c.as_slice.ensures in
+    let channel = c.channel.result in
+    let notes = c.args.notes.now in
+    let events = c.in_ok-events.events.items in
     let tick = c.tick_of.result in
-    let Short = λ (body : List Event). length (track_body tick body) < 2 ^ 32 in
+    let same : IsPermutation (voice_events channel notes) events = subst (λ (l : List Sounding). IsPermutation (voice_events channel l) events) c.as_slice.ensures c.in_ok-events.ensures in
     record {
       end = omega arith;
       before_end =
-          subst (λ (t : ℕ). EndBy t c.in_ok-events.events.items) (sym c.tick_of.ensures.exact)
-          (subst (EndBy _) (sym events) (voice_ticks c.args.end c.channel.result c.args.notes.now c.requires.notes.each));
-      length = subst Short (sym events) (voice_length tick c.channel.result c.args.notes.now c.requires.notes.count);
+          subst (λ (t : ℕ). EndBy t events) (sym c.tick_of.ensures.exact)
+          (All-permutation (λ event. event.tick ≤ tick_at c.args.end.0) (voice_events channel notes) events same (voice_ticks c.args.end channel notes c.requires.notes.each));
+      length = subst (λ (body : List ℕ). length body < 2 ^ 32) (same_body tick (voice_events channel notes) events same) (voice_length tick channel notes c.requires.notes.count);
     }
+
+pub returns : goal.returns
+returns c =
+    let notes = c.args.notes.now in
+    let events = c.in_ok-events.events.items in
+    let tick = tick_at c.args.end.0 in
+    let same : IsPermutation (voice_events c.channel.result notes) events = subst (λ (l : List Sounding). IsPermutation (voice_events c.channel.result l) events) c.as_slice.ensures c.in_ok-events.ensures in
+    let written : track c.tick_of.result events ≡ track tick (voice_events (channel_of c.args.place) notes) =
+    ap (λ t. track t events) c.tick_of.ensures.exact ∙ sym (same_track tick (voice_events c.channel.result notes) events same)
+    ∙ ap (λ channel. track tick (voice_events channel notes)) c.channel.ensures in
+    subst (λ (t : List ℕ). OnOk c.put_track.result (c.put_track.new.out.items ≡ c.args.out.now.items ++ t)) written c.put_track.ensures
