@@ -1,7 +1,7 @@
 -- What contracts see of a session: its compiler and its text, which say all else. Our own.
-use Rattle.std.specs.Prelude.{List, Option}
+use Rattle.std.specs.Prelude.{List}
 use Rattle.abc_lines.specs.Text.{Text}
-use Rattle.abc_tunebook.specs.Book.{Book, Given, blocks_in, book_of, given_by}
+use Rattle.abc_tunebook.specs.Book.{Book, blocks_in, book_of, given_by}
 use Rattle.abc_tunebook.specs.Rules.{Rules}
 use Rattle.abc_tunebook.specs.declared.tune.Tune.{Tune}
 

@@ -9,6 +9,7 @@ mod edit;
 mod fault;
 mod fold;
 mod header;
+mod kept;
 mod placed;
 mod session;
 mod tune;

@@ -7,6 +7,7 @@ ghost use Rattle.abc_lines.specs.Text.{IsText, lines_of};
 ghost use Rattle.abc_lines.specs.Edits.{edited, replacement, Refuses};
 ghost use Rattle.abc_lines.specs.declared.limits.TheConstants.{MOST_LINES};
 ghost use Rattle.abc_live.specs.Edit.{line_at, splice_of};
+ghost use Rattle.abc_live.specs.Kept.{AreOf};
 ghost use Rattle.abc_live.specs.Live.{book_in, live, tunes_given};
 ghost use Rattle.abc_tunebook.specs.Book.{book_of};
 ghost use Rattle.abc_tunebook.specs.Fault.{fault_cmp};
@@ -15,6 +16,7 @@ ghost use Rattle.abc_tunebook.specs.Report.{Reports};
 
 use crate::compile::compile;
 use crate::edit::Edit;
+use crate::kept::KeptBook;
 use abc_lines::{EditError, LineBuffer, LinePatch};
 use abc_tune::Compiler;
 use abc_tunebook::{Book, Fault, Report, Title};
@@ -27,11 +29,13 @@ use std::marker::Model;
 pub struct LiveSession<C: Compiler> {
     compiler: C,
     lines: LineBuffer,
+    kept: KeptBook,
     book: Book,
 }
 
 impl<C: Compiler> Model for LiveSession<C> {
     ghost use Rattle.std.specs.Prelude.{◌≡◌};
+    ghost use Rattle.abc_live.specs.Kept.{AreOf};
     ghost use Rattle.abc_live.specs.Live.{Live, live};
     ghost use Rattle.abc_tunebook.specs.Book.{book_of};
 
@@ -39,7 +43,7 @@ impl<C: Compiler> Model for LiveSession<C> {
 
     ghost view = { λ s. live s.compiler s.lines.text };
 
-    ghost invariant = { λ s. s.book ≡ book_of (C.next s.compiler) (C.gives s.compiler) (C.rules s.compiler) s.lines.text };
+    ghost invariant = { λ s. AreOf (C.next s.compiler) (C.gives s.compiler) (C.rules s.compiler) s.lines.text s.kept.header s.kept.tunes.items × (s.book ≡ book_of (C.next s.compiler) (C.gives s.compiler) (C.rules s.compiler) s.lines.text) };
 }
 
 impl<C: Compiler> LiveSession<C> {
@@ -48,10 +52,15 @@ impl<C: Compiler> LiveSession<C> {
         ensures { IfOk result (λ s. s ≡ live compiler []) }
     {
         let lines = LineBuffer::new(alloc)?;
+        let kept = KeptBook {
+            header: None,
+            tunes: Vec::new(alloc),
+        };
         let book = Book::of(alloc, Vec::new(alloc), Vec::new(alloc))?;
         Ok(LiveSession {
             compiler,
             lines,
+            kept,
             book,
         })
     }
@@ -65,9 +74,17 @@ impl<C: Compiler> LiveSession<C> {
         ensures report { IfOk result (Reports (book_in C.next C.gives C.rules self.old).files (book_in C.next C.gives C.rules self.new).files) }
     {
         let patch = prepare(&self.lines, edit)?;
-        match compiled(&self.compiler, &self.lines, &self.book, &patch, work) {
-            Ok((book, report)) => {
+        match compiled(
+            &self.compiler,
+            &self.lines,
+            &self.kept,
+            &self.book,
+            &patch,
+            work,
+        ) {
+            Ok((kept, book, report)) => {
                 self.lines.commit(patch);
+                self.kept = kept;
                 self.book = book;
                 Ok(report)
             }
@@ -168,22 +185,25 @@ fn prepare_range(
     text.splice_prepare(from as usize - 1, removed as usize, lines)
 }
 
-/// The book that a prepared text gives, and how its files differ from those of the one at hand.
+/// What is kept of a prepared text, its book, and how its files differ from those of the one at hand.
 fn compiled<C: Compiler>(
     compiler: &C,
     text: &LineBuffer,
+    kept: &KeptBook,
     book: &Book,
     patch: &LinePatch,
     work: &mut C::Work,
-) -> Result<(Book, Report), AllocError>
+) -> Result<(KeptBook, Book, Report), AllocError>
     requires on { patch.now.on ≡ text.now }
     requires limits { IsText patch.now.after }
-    ensures book { IfOk result (λ made. made.0 ≡ book_of (C.next compiler.now) (C.gives compiler.now) (C.rules compiler.now) patch.now.after) }
-    ensures report { IfOk result (λ made. Reports book.now.files made.0.files made.1) }
+    requires kept { AreOf (C.next compiler.now) (C.gives compiler.now) (C.rules compiler.now) text.now.text kept.now.header kept.now.tunes.items }
+    ensures kept { IfOk result (λ made. AreOf (C.next compiler.now) (C.gives compiler.now) (C.rules compiler.now) patch.now.after made.0.header made.0.tunes.items) }
+    ensures book { IfOk result (λ made. made.1 ≡ book_of (C.next compiler.now) (C.gives compiler.now) (C.rules compiler.now) patch.now.after) }
+    ensures report { IfOk result (λ made. Reports book.now.files made.1.files made.2) }
 {
     let alloc = text.allocator();
     let lines = patch.after(text)?;
-    let after = compile(compiler, alloc, &lines, work)?;
+    let (kept, after) = compile(compiler, alloc, &lines, text, kept, work)?;
     let report = book.changes(alloc, &after)?;
-    Ok((after, report))
+    Ok((kept, after, report))
 }

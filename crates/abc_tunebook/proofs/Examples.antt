@@ -1,7 +1,7 @@
 -- Worked examples of books by the definitions, for a small language of tunes: `X1` begins tune 1, `T` sets its
 -- title, `M` sets a mark one higher, `?` is two equal faults, `!` makes a tune too long, and any other line is
 -- a part of its tune's file, the mark in front.
-use Rattle.std.proofs.Common.{◌≡◌, ℕ, ◌+◌, ◌-◌, ◌==◌, ◌||◌, ◌&&◌, Bool, true, false, not, if◌then◌else◌, List, [], ◌∷◌, ◌++◌, map, Option, Some, None, unwrap_or, get_or, refl}
+use Rattle.std.proofs.Common.{◌≡◌, ℕ, ◌+◌, ◌-◌, ◌==◌, ◌||◌, ◌&&◌, Bool, false, not, if◌then◌else◌, List, [], ◌∷◌, Some, None, unwrap_or, get_or, refl}
 use Rattle.std.specs.Prelude.{codes}
 use Rattle.std.specs.List.{flat_map, list_any}
 use Rattle.abc_book.specs.Block.{blocks_of}

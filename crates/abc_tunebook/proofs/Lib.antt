@@ -5,3 +5,4 @@ pub mod Moves
 pub mod Order
 pub mod Owned
 pub mod Owners
+pub mod Within

@@ -1,5 +1,5 @@
 -- What holds of every book. Our own.
-use Rattle.std.specs.Prelude.{◌≡◌, ◌↔◌, ℕ, ◌+◌, List, [], map, Contains}
+use Rattle.std.specs.Prelude.{◌≡◌, ◌↔◌, ◌≤◌, ℕ, ◌+◌, List, [], map, length, All, Contains}
 use Rattle.std.specs.List.Sorted.{IsStrictlySortedBy}
 use Rattle.abc_fields.specs.declared.fault.FaultCode.{FaultCode}
 use Rattle.abc_lines.specs.Text.{Text}
@@ -65,6 +65,12 @@ TunesMove State Cell Items Defaults =
     (next : State → Cell → State) (gives : State → Cell → Items) (rules : Rules State Cell Items Defaults) (lines first : ℕ) (opening : State) (text : Text)
     → tune_from rules (first + lines) (items_along next gives opening (cells_from rules.cells (first + lines) text))
     ≡ tune_moved lines (tune_from rules first (items_along next gives opening (cells_from rules.cells first text)))
+
+-- No fault of a tune stands below the end of its last line.
+abbrev pub NoFaultBelow : Type 0 → Type 0 → Type 0 → Type 0 → Type 0
+NoFaultBelow State Cell Items Defaults =
+    (next : State → Cell → State) (gives : State → Cell → Items) (rules : Rules State Cell Items Defaults) (first : ℕ) (opening : State) (text : Text)
+    → All (λ fault. fault.line ≤ first + length text) (tune_from rules first (items_along next gives opening (cells_from rules.cells first text))).faults
 
 -- A text without lines has an empty book.
 abbrev pub NoLinesNoBook : Type 0 → Type 0 → Type 0 → Type 0 → Type 0

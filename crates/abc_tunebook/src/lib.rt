@@ -14,7 +14,7 @@ mod tune;
 pub use book::Book;
 pub use fault::Fault;
 pub use files::Files;
-pub use laws::{each_fault_once, first_owner, no_lines_no_book, tunes_move};
+pub use laws::{each_fault_once, faults_stand_in_tunes, first_owner, no_lines_no_book, tunes_move};
 pub use report::Report;
 pub use sorted::sorted_once;
 pub use title::Title;

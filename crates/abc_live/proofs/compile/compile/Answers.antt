@@ -1,9 +1,10 @@
-use Rattle.std.proofs.Common.{ap, length, ◌∙◌}
-use Rattle.abc_tunebook.specs.Book.{tunes_in}
-use Rattle.abc_live.proofs.Blocks.{length-classes, tunes_within}
+use Rattle.std.proofs.Common.{length, subst, sym, ◌∙◌}
+use Rattle.std.specs.Prelude.{All}
+use Rattle.abc_live.specs.Block.{LiesWithin}
+use Rattle.abc_live.proofs.Blocks.{length-classes}
 use Rattle.abc_live.proofs.compile.compile.Goals as goal
 
-pub tunes_of-requires-clause-within : goal.tunes_of-requires-clause-within
-tunes_of-requires-clause-within g c =
-    tunes_within _ c.deref.result.now c.in_ok-blocks.blocks.items c.deref-4.result.now c.in_ok-blocks.ensures.within (c.deref-4.ensures.value ∙ c.in_ok-blocks-2.ensures ∙ ap tunes_in c.deref-3.ensures.value)
-    (length-classes (g.C.Compiler.rules c.args.compiler.now).class c.args.lines.now c.deref.result.now (c.deref.ensures.value ∙ c.in_ok-classes.ensures))
+pub given_by-requires-clause-within : goal.given_by-requires-clause-within
+given_by-requires-clause-within g c =
+    let counted = length-classes (g.C.Compiler.rules c.args.compiler.now).class c.args.lines.now c.deref.result.now (c.deref.ensures.value ∙ c.in_ok-classes.ensures) in
+    subst (λ count. All (LiesWithin count) c.deref-2.result.now) counted (subst (All (LiesWithin (length c.deref.result.now))) (sym c.deref-2.ensures.value) c.in_ok-blocks.ensures.within)
