@@ -1,0 +1,5 @@
+use Rattle.abc_publish.proofs.Settled.{job_once}
+use Rattle.abc_publish.proofs.laws.job_once.Goals as goal
+
+pub returns : goal.returns
+returns c = job_once

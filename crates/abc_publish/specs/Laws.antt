@@ -1,0 +1,16 @@
+-- What the words on a publisher say together. Our own.
+use Rattle.std.specs.Prelude.{◌≡◌, ℕ, ◌<◌, ◌^◌, false, List, Option, None}
+use Rattle.abc_publish.specs.Publishing.{Publishing, begun, is_pending, is_wanted, IsSettled}
+use Rattle.abc_tunebook.specs.Files.{Files}
+
+-- Once all is settled no number is pending.
+abbrev pub SettledIsCurrent : Type 0
+SettledIsCurrent = (p : Publishing) (files : Files) → IsSettled p files → (n : ℕ) → n < 2 ^ 32 → is_pending p.directory files n ≡ false
+
+-- Where no number is pending and no job is under way, all is settled.
+abbrev pub CurrentIsSettled : Type 0
+CurrentIsSettled = (p : Publishing) (files : Files) → ((n : ℕ) → n < 2 ^ 32 → is_pending p.directory files n ≡ false) → ((n : ℕ) → p.jobs n ≡ None) → IsSettled p files
+
+-- A number whose job has begun is given no second one.
+abbrev pub JobOnce : Type 0
+JobOnce = (p : Publishing) (files : Files) (number : ℕ) (bytes : Option (List ℕ)) → is_wanted (begun p number bytes) files number ≡ false

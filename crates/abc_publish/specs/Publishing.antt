@@ -1,0 +1,101 @@
+-- What a directory of files is known to hold, the jobs that are under way, and how both differ from a book. Our own.
+use Rattle.std.specs.Prelude.{◌≡◌, ℕ, ◌<◌, ◌≤◌, ◌^◌, ◌==◌, ◌&&◌, Bool, true, false, not, if◌then◌else◌, List, Option, Some, None, is_none}
+use Rattle.std.specs.Str.{bytes_eq}
+use Rattle.std.specs.BTreeMap.{is_at}
+use Rattle.std.specs.Map.{lookup}
+use Rattle.std.specs.Ordering.{nat_cmp}
+use Rattle.abc_tunebook.specs.Files.{Files, file_at}
+pub use Rattle.abc_publish.specs.declared.slot.Stored.{Stored}
+pub use Rattle.abc_publish.specs.declared.slot.Stored.TheVariants.{Known, Unknown}
+
+-- What the directory holds for each number; None where it has no file.
+abbrev pub Directory : Type 0
+Directory = ℕ → Option Stored
+
+-- What the job of each number carries, where one is under way: the bytes to write, or None to remove the file.
+abbrev pub Jobs : Type 0
+Jobs = ℕ → Option (Option (List ℕ))
+
+-- A directory, and the jobs under way.
+pub record Publishing : Type 0 where
+  pub directory : Directory
+  pub jobs : Jobs
+
+abbrev pub publishing : Directory → Jobs → Publishing
+publishing directory jobs = record { directory = directory; jobs = jobs }
+
+-- What a publisher holds for a number: its entry of the directory, and what the job carries, where one is under way.
+pub record Kept : Type 0 where
+  pub stored : Option Stored
+  pub carried : Option (Option (List ℕ))
+
+abbrev pub kept : Option Stored → Option (Option (List ℕ)) → Kept
+kept stored carried = record { stored = stored; carried = carried }
+
+-- What a publisher holds, by number.
+abbrev pub Slots : Type 0
+Slots = List (ℕ × Kept)
+
+abbrev pub slot_at : Slots → ℕ → Option Kept
+slot_at slots n = lookup (is_at (nat_cmp n)) slots
+
+abbrev pub stored_of : Option Kept → Option Stored
+stored_of None = None
+stored_of (Some slot) = slot.stored
+
+abbrev pub carried_of : Option Kept → Option (Option (List ℕ))
+carried_of None = None
+carried_of (Some slot) = slot.carried
+
+-- The directory and the jobs under way of a publisher.
+abbrev pub maps_of : Slots → Publishing
+maps_of slots = publishing (λ n. stored_of (slot_at slots n)) (λ n. carried_of (slot_at slots n))
+
+-- A map with another entry at a number.
+abbrev pub with_entry : {A : Type 0} → (ℕ → Option A) → ℕ → Option A → ℕ → Option A
+with_entry map number entry n = if n == number then entry else map n
+
+-- The entry of a file that was written with these bytes, or removed.
+abbrev pub stored_as : Option (List ℕ) → Option Stored
+stored_as None = None
+stored_as (Some bytes) = Some (Known bytes)
+
+-- Whether what the directory holds differs from the file that a book has, or is unknown.
+abbrev pub differs : Option Stored → Option (List ℕ) → Bool
+differs None None = false
+differs None (Some file) = true
+differs (Some (Known bytes)) None = true
+differs (Some (Known bytes)) (Some file) = not (bytes_eq bytes file)
+differs (Some Unknown) None = true
+differs (Some Unknown) (Some file) = true
+
+-- Whether a number is pending: the directory differs from the files there, or is unknown.
+abbrev pub is_pending : Directory → Files → ℕ → Bool
+is_pending directory files n = differs (directory n) (file_at files n)
+
+-- Whether a number is pending and has no job under way.
+abbrev pub is_wanted : Publishing → Files → ℕ → Bool
+is_wanted p files n = is_pending p.directory files n && is_none (p.jobs n)
+
+-- The number is the least from another one on that is pending and has no job under way.
+pub record IsNext (p : Publishing) (files : Files) (from number : ℕ) : Type 0 where
+  pub inside : from ≤ number
+  pub wanted : is_wanted p files number ≡ true
+  pub least : (n : ℕ) → from ≤ n → n < number → is_wanted p files n ≡ false
+
+-- No number from another one on is pending without a job under way.
+abbrev pub HasNone : Publishing → Files → ℕ → Type 0
+HasNone p files from = (n : ℕ) → from ≤ n → n < 2 ^ 32 → is_wanted p files n ≡ false
+
+-- A job for a number has begun, and nothing else changed.
+abbrev pub begun : Publishing → ℕ → Option (List ℕ) → Publishing
+begun p number bytes = publishing p.directory (with_entry p.jobs number (Some bytes))
+
+-- The job of a number has ended, and the directory holds this for it.
+abbrev pub ended : Publishing → ℕ → Option Stored → Publishing
+ended p number stored = publishing (with_entry p.directory number stored) (with_entry p.jobs number None)
+
+-- Nothing is pending and no job is under way.
+pub record IsSettled (p : Publishing) (files : Files) : Type 0 where
+  pub current : (n : ℕ) → n < 2 ^ 32 → p.directory n ≡ stored_as (file_at files n)
+  pub idle : (n : ℕ) → p.jobs n ≡ None

@@ -1,0 +1,35 @@
+-- The jobs under way behind one that begins, and behind one that ends.
+use Rattle.std.proofs.Common.{◌≡◌, ◌≢◌, ℕ, ◌==◌, cond, true, false, Bool, List, Option, Some, None, is_none, refl, sym, ap, subst, Result, Ok, ◌∙◌, arith}
+use Rattle.std.specs.Prelude.{IfOk, MatchOption}
+use Rattle.std.proofs.lemmas.Bool.{and_parts, false≢true}
+use Rattle.std.proofs.lemmas.Bool.Decides.{nat_tests}
+use Rattle.abc_publish.specs.Publishing.{Publishing, begun, ended, is_pending, IsNext}
+use Rattle.abc_publish.specs.declared.slot.Stored.{Stored}
+use Rattle.abc_tunebook.specs.Files.{Files}
+
+apart : (n k : ℕ) → n ≢ k → (n == k) ≡ false
+apart n k other = grind (arith, nat_tests)
+
+pub others : (p q : Publishing) (k : ℕ) (stored : Option Stored) → q ≡ ended p k stored → (n : ℕ) → n ≢ k → q.jobs n ≡ p.jobs n
+others p q k stored is n other = ap (λ (r : Publishing). r.jobs n) is ∙ ap (λ b. cond b None (p.jobs n)) (apart n k other)
+
+here : (k : ℕ) → (k == k) ≡ true
+here k = grind (arith, nat_tests)
+
+pub own : (p q : Publishing) (k : ℕ) (bytes : Option (List ℕ)) → q ≡ begun p k bytes → q.jobs k ≡ Some bytes
+own p q k bytes is = ap (λ (r : Publishing). r.jobs k) is ∙ ap (λ b. cond b (Some bytes) (p.jobs k)) (here k)
+
+free : (job : Option (Option (List ℕ))) (bytes : Option (List ℕ)) → job ≡ Some bytes → is_none job ≡ false
+free job bytes is = ap is_none is
+
+-- a number that is wanted is none of those under way
+pub new : (p : Publishing) (files : Files) (from n k : ℕ) (bytes : Option (List ℕ)) → IsNext p files from k → p.jobs n ≡ Some bytes → n ≢ k
+new p files from n k bytes next job same =
+    false≢true (sym (free (p.jobs k) bytes (ap p.jobs (sym same) ∙ job)) ∙ (and_parts (is_pending p.directory files k) (is_none (p.jobs k)) next.wanted).1)
+
+pub stays : (p q : Publishing) (n k : ℕ) (bytes file : Option (List ℕ)) → q ≡ begun p k file → n ≢ k → p.jobs n ≡ Some bytes → q.jobs n ≡ Some bytes
+stays p q n k bytes file is other job = ap (λ (r : Publishing). r.jobs n) is ∙ ap (λ b. cond b (Some file) (p.jobs n)) (apart n k other) ∙ job
+
+-- what is said of a job that was given
+pub given : {A E : Type 0} (P : Type 0) (Q : A → Type 0) (r : Result (Option A) E) (o : Option A) (job : A) → r ≡ Ok o → o ≡ Some job → IfOk r (λ o. MatchOption o P Q) → Q job
+given P Q r o job ok some said = subst (λ o. MatchOption o P Q) some (subst (λ r. IfOk r (λ o. MatchOption o P Q)) ok said)

@@ -1,0 +1,8 @@
+use Rattle.publish_examples.proofs.Jobs.{others}
+use Rattle.publish_examples.proofs.held.end.Goals as goal
+
+pub returns-then-done : goal.returns-then-done
+returns-then-done c = others _ _ c.args.job.number _ c.done.ensures
+
+pub returns-else-done : goal.returns-else-done
+returns-else-done c = others _ _ c.args.job.number _ c.failed.ensures

@@ -1,0 +1,12 @@
+-- Jobs that are held, and that they are under way. Our own.
+use Rattle.std.specs.Prelude.{◌≡◌, ◌≢◌, ⊤, Some}
+use Rattle.abc_publish.specs.Publishing.{Publishing}
+use Rattle.abc_publish.specs.declared.job.Job.{Job}
+use Rattle.publish_examples.specs.declared.held.Held.{Held}
+use Rattle.publish_examples.specs.declared.held.Held.TheVariants.{Nothing, One, Two}
+
+-- The jobs held are under way, for different numbers.
+abbrev pub IsUnderWay : Publishing → Held → Type 0
+IsUnderWay p Nothing = ⊤
+IsUnderWay p (One job) = p.jobs job.number ≡ Some job.bytes
+IsUnderWay p (Two older newer) = (p.jobs older.number ≡ Some older.bytes) × (p.jobs newer.number ≡ Some newer.bytes) × (older.number ≢ newer.number)
