@@ -2,31 +2,36 @@
 use Rattle.std.proofs.Common.{◌≡◌, ℕ, ◌+◌, ◌<◌, ◌≤◌, Bool, true, false, List, [], ◌∷◌, ◌++◌, length, take, Option, Some, None, refl, sym, ap, ◌∙◌, subst, arith, append_assoc, append-nil, length-append, length-take, if◌then◌else◌, ◌==◌, Result, Ok, Err, MatchResult, option_map}
 use Rattle.std.specs.Prelude.{IsErr, IsErrAnd, IfSome}
 use Rattle.std.specs.Borrow.{Bor}
-use Rattle.abc2midi_live.specs.declared.fault.RunFault.TheVariants.{Read, Write, Memory}
 use Rattle.std.proofs.lemmas.Grind.{common_steps}
 use Rattle.std.proofs.lemmas.Bool.Decides.{nat_tests}
 use Rattle.std.specs.Io.KnownBytes.{Appends, Keeps, Consumes, IsAtEnd}
 use Rattle.std.proofs.KnownBytes.{Appends-nil, Appends-trans, Appends-kept, Consumes-nil, Consumes-trans, Consumes-kept}
 use Rattle.std.proofs.lemmas.List.Elements.{All-append}
-use Rattle.abc2midi_live.specs.Cut.{IsCut}
-use Rattle.abc2midi_live.specs.Transcript.{input_lines, most_kept}
-use Rattle.abc2midi_live.specs.Machine.{IsClean, Answers, ahead}
-use Rattle.abc2midi_live.specs.Outcome.{BrokenOff, Unserved, ends, Turn, Leaves, read_counts, Reads, Failed, read_faults}
 use Rattle.abc_fold.specs.Work.{raised}
-use Rattle.abc2midi_live.proofs.Counts.{raised_none, raised_twice}
+use Rattle.abc_publish.specs.Publishing.{Directory}
+use Rattle.abc2midi_live.specs.Cut.{IsCut}
+use Rattle.abc2midi_live.specs.Machine.{Future, telling, IsClean, Answers, ahead}
+use Rattle.abc2midi_live.specs.Outcome.{Ends, Outlets, outlets, Serves, Tells, BrokenOff, Unserved, Ended, Turn, Leaves, read_counts, Reads, Failed, read_faults}
+use Rattle.abc2midi_live.specs.Storing.{StoreAnswer, Follows}
+use Rattle.abc2midi_live.specs.Told.{Told, told, behind, nothing_more}
+use Rattle.abc2midi_live.specs.Transcript.{input_lines, most_kept}
 use Rattle.abc2midi_live.specs.declared.fault.RunFault.{RunFault}
+use Rattle.abc2midi_live.specs.declared.fault.RunFault.TheVariants.{Read, Write, Memory}
+use Rattle.abc2midi_live.proofs.Counts.{raised_none, raised_twice}
 use Rattle.abc2midi_live.proofs.InputLines.{input_lines-line, input_lines-kept, input_lines-begun, input_lines-last, input_lines-nil}
+use Rattle.abc2midi_live.proofs.Storing.{follows_none, follows_both}
+use Rattle.abc2midi_live.proofs.Told.{behind_none, answers_both, answers_none, ended_with, continued_with}
 
-abbrev Future : Type 0
-Future = Bool → List (List ℕ) → List ℕ
+abbrev OfLines : Type 0
+OfLines = Future (List ℕ)
 
 abbrev Ahead : Type 0
-Ahead = Bool → List ℕ → List ℕ
+Ahead = Future ℕ
 
--- what is to be answered to bytes, by the lines behind those that have begun
-ahead_is : (future : Future) (begun : List ℕ) (ended : Bool) (bytes line : List ℕ) → begun ++ bytes ≡ line → ahead future begun ended bytes ≡ future ended (input_lines ended line)
+-- what is to be told to bytes, by the lines behind those that have begun
+ahead_is : (future : OfLines) (begun : List ℕ) (ended : Bool) (bytes line : List ℕ) (stored : List StoreAnswer) → begun ++ bytes ≡ line → ahead future begun ended bytes stored ≡ future ended (input_lines ended line) stored
 unfolding ahead
-ahead_is future begun ended bytes line e = ap (λ l. future ended (input_lines ended l)) e
+ahead_is future begun ended bytes line stored e = ap (λ l. future ended (input_lines ended l) stored) e
 
 take_short : (n : ℕ) (line : List ℕ) → length line ≤ n → take n line ≡ line
 take_short n line h = grind (arith, common_steps)
@@ -36,120 +41,175 @@ no_length [] h = refl
 no_length (b ∷ bytes) h = absurd (omega arith)
 
 -- a line that a piece ends is served
-pub line_ended : (before after : Future) (begun piece line begun' text : List ℕ) (goes_on : Bool) → IsClean begun → IsClean piece
-    → line ≡ take most_kept (begun ++ piece) → begun' ≡ [] → Answers before after (line ∷ []) text goes_on
-    → Answers (ahead before begun) (ahead after begun') (piece ++ 10 ∷ []) text goes_on
-line_ended before after begun piece line begun' text goes_on clean clean_piece e none served ended rest =
+line_ended : (before after : OfLines) (d : Directory) (begun piece line begun' : List ℕ) (stored : List StoreAnswer) (text : List ℕ) (goes_on : Bool) → IsClean begun → IsClean piece
+    → line ≡ take most_kept (begun ++ piece) → begun' ≡ [] → Answers (telling before after d) (line ∷ []) stored text goes_on
+    → Answers (telling (ahead before begun) (ahead after begun') d) (piece ++ 10 ∷ []) stored text goes_on
+line_ended before after d begun piece line begun' stored text goes_on clean clean_piece e none served ended rest later =
     let whole : begun ++ ((piece ++ 10 ∷ []) ++ rest) ≡ (begun ++ piece) ++ 10 ∷ rest = ap (λ l. begun ++ l) (append_assoc piece (10 ∷ []) rest) ∙ sym (append_assoc begun piece (10 ∷ rest)) in
-    let later : ahead after begun' ended rest ≡ after ended (input_lines ended rest) = ahead_is after begun' ended rest rest (ap (λ b. b ++ rest) none) in
-    ahead_is before begun ended ((piece ++ 10 ∷ []) ++ rest) ((begun ++ piece) ++ 10 ∷ rest) whole
-    ∙ ap (before ended) (input_lines-line ended (begun ++ piece) rest (All-append (λ b. (b == 10) ≡ false) begun piece clean clean_piece))
-    ∙ ap (λ l. before ended (l ∷ input_lines ended rest)) (sym e)
-    ∙ served ended (input_lines ended rest)
-    ∙ ap (λ answers. text ++ (if goes_on then answers else [])) (sym later)
+    let next : ahead after begun' ended rest later ≡ after ended (input_lines ended rest) later = ahead_is after begun' ended rest rest later (ap (λ b. b ++ rest) none) in
+    ahead_is before begun ended ((piece ++ 10 ∷ []) ++ rest) ((begun ++ piece) ++ 10 ∷ rest) (stored ++ later) whole
+    ∙ ap (λ l. before ended l (stored ++ later)) (input_lines-line ended (begun ++ piece) rest (All-append (λ b. (b == 10) ≡ false) begun piece clean clean_piece))
+    ∙ ap (λ l. before ended (l ∷ input_lines ended rest) (stored ++ later)) (sym e)
+    ∙ served ended (input_lines ended rest) later
+    ∙ ap (λ t. behind text (if goes_on then t else nothing_more d later)) (sym next)
 
 -- a piece without the end of a line is kept
-pub piece_kept : (future : Future) (begun piece begun' : List ℕ) → IsClean begun → IsClean piece → begun' ≡ take most_kept (begun ++ piece)
-    → Answers (ahead future begun) (ahead future begun') piece [] true
-piece_kept future begun piece begun' clean clean_piece e ended rest =
-    ahead_is future begun ended (piece ++ rest) ((begun ++ piece) ++ rest) (sym (append_assoc begun piece rest))
-    ∙ sym (ap (future ended) (input_lines-kept ended (begun ++ piece) rest (All-append (λ b. (b == 10) ≡ false) begun piece clean clean_piece)))
-    ∙ sym (ahead_is future begun' ended rest (take most_kept (begun ++ piece) ++ rest) (ap (λ b. b ++ rest) e))
+pub piece_kept : (future : OfLines) (d : Directory) (begun piece begun' : List ℕ) → IsClean begun → IsClean piece → begun' ≡ take most_kept (begun ++ piece)
+    → Answers (telling (ahead future begun) (ahead future begun') d) piece [] [] true
+piece_kept future d begun piece begun' clean clean_piece e ended rest later =
+    ahead_is future begun ended (piece ++ rest) ((begun ++ piece) ++ rest) later (sym (append_assoc begun piece rest))
+    ∙ sym (ap (λ l. future ended l later) (input_lines-kept ended (begun ++ piece) rest (All-append (λ b. (b == 10) ≡ false) begun piece clean clean_piece)))
+    ∙ sym (ahead_is future begun' ended rest (take most_kept (begun ++ piece) ++ rest) later (ap (λ b. b ++ rest) e))
+    ∙ sym (behind_none (ahead future begun' ended rest later))
 
--- nothing is answered to a line that has only begun
-pub nothing_ahead : (future : Future) (begun : List ℕ) → IsClean begun → future false [] ≡ [] → ahead future begun false [] ≡ []
-nothing_ahead future begun clean waits =
-    ahead_is future begun false [] begun (append-nil begun) ∙ ap (future false) (input_lines-begun begun clean) ∙ waits
+-- nothing is told to a line that has only begun
+pub nothing_ahead : (future : OfLines) (d : Directory) (begun : List ℕ) → IsClean begun → future false [] [] ≡ Some (told [] d) → ahead future begun false [] [] ≡ Some (told [] d)
+nothing_ahead future d begun clean waits =
+    ahead_is future begun false [] begun [] (append-nil begun) ∙ ap (λ l. future false l []) (input_lines-begun begun clean) ∙ waits
 
 -- the end of the input ends a line that has begun
-pub last_ahead : (future : Future) (begun : List ℕ) → IsClean begun → 0 < length begun → length begun ≤ most_kept → ahead future begun true [] ≡ future true (begun ∷ [])
-last_ahead future begun clean some short =
-    ahead_is future begun true [] begun (append-nil begun) ∙ ap (future true) (input_lines-last begun clean some) ∙ ap (λ l. future true (l ∷ [])) (take_short most_kept begun short)
+last_ahead : (future : OfLines) (begun : List ℕ) (stored : List StoreAnswer) → IsClean begun → 0 < length begun → length begun ≤ most_kept → ahead future begun true [] stored ≡ future true (begun ∷ []) stored
+last_ahead future begun stored clean some short =
+    ahead_is future begun true [] begun stored (append-nil begun) ∙ ap (λ l. future true l stored) (input_lines-last begun clean some) ∙ ap (λ l. future true (l ∷ []) stored) (take_short most_kept begun short)
 
-pub none_ahead : (future : Future) (begun : List ℕ) → length begun ≤ 0 → ahead future begun true [] ≡ future true []
-none_ahead future begun none = ahead_is future begun true [] [] (append-nil begun ∙ no_length begun none) ∙ ap (future true) (input_lines-nil true)
+none_ahead : (future : OfLines) (begun : List ℕ) (stored : List StoreAnswer) → length begun ≤ 0 → ahead future begun true [] stored ≡ future true [] stored
+none_ahead future begun stored none = ahead_is future begun true [] [] stored (append-nil begun ∙ no_length begun none) ∙ ap (λ l. future true l stored) (input_lines-nil true)
 
--- Of a piece, a front has been served: what is left of it, and what was written.
-pub record Fed (before now : Ahead) (piece rest : List ℕ) (old new : Option (List ℕ)) : Type 0 where
+-- what serving a line says, as clauses have it
+abbrev pub Served : OfLines → OfLines → Directory → Directory → List ℕ → Outlets → Outlets → Bool → Type 0
+Served before after d e line old new goes_on = Serves d (telling before after e) (line ∷ []) old new goes_on
+
+-- two pieces are served
+serves_both : {X : Type 0} (before mid after : Future X) (d e f : Directory) (a b : List X) (old w new : Outlets) (goes_on : Bool)
+    → Serves d (telling before mid e) a old w true → Serves e (telling mid after f) b w new goes_on
+    → Serves d (telling before after f) (a ++ b) old new goes_on
+serves_both before mid after d e f a b old w new goes_on (text, stored, wrote, says, follows) (text', stored', wrote', says', follows') = (
+  text ++ text',
+  stored ++ stored',
+  Appends-trans old.output w.output new.output text text' wrote wrote',
+  answers_both before mid after e f a b stored stored' text text' goes_on says says',
+  follows_both old.store w.store new.store stored stored' d e f follows follows',
+)
+
+-- nothing is served
+serves_none : {X : Type 0} (before after : Future X) (d : Directory) (w : Outlets) → after ≡ before → Serves d (telling before after d) [] w w true
+serves_none before after d w same = ([], [], Appends-nil w.output, answers_none before after d same, follows_none w.store d)
+
+-- what is told behind a piece that is served
+tells_behind : {X : Type 0} (before mid : Future X) (d e : Directory) (piece : List X) (ended : Bool) (rest : List X) (old w new : Outlets)
+    → Serves d (telling before mid e) piece old w true → Tells e (mid ended rest) w new → Tells d (before ended (piece ++ rest)) old new
+tells_behind before mid d e piece ended rest old w new (text, stored, wrote, says, follows) (stored', t, is, wrote', follows') = (
+  stored ++ stored',
+  told (text ++ t.text) t.directory,
+  continued_with before mid e piece stored stored' text t ended rest says is,
+  Appends-trans old.output w.output new.output text t.text wrote wrote',
+  follows_both old.store w.store new.store stored stored' d e t.directory follows follows',
+)
+
+-- what is told where the machine ends with a piece
+tells_ended : {X : Type 0} (before after : Future X) (d e : Directory) (piece : List X) (ended : Bool) (rest : List X) (old new : Outlets)
+    → Serves d (telling before after e) piece old new false → Tells d (before ended (piece ++ rest)) old new
+tells_ended before after d e piece ended rest old new (text, stored, wrote, says, follows) = (
+  stored,
+  told text e,
+  ended_with before after e piece stored text ended rest says,
+  wrote,
+  follows,
+)
+
+-- what is told to a piece, where nothing is to be told yet behind it
+tells_all : {X : Type 0} (before mid : Future X) (d e : Directory) (piece : List X) (old new : Outlets)
+    → Serves d (telling before mid e) piece old new true → mid false [] [] ≡ Some (told [] e) → Tells d (before false piece) old new
+tells_all before mid d e piece old new served none =
+    subst (λ p. Tells d (before false p) old new) (append-nil piece)
+    (tells_behind before mid d e piece false [] old new new served ([], told [] e, none, Appends-nil new.output, follows_none new.store e))
+
+-- Of a piece, a front has been served: what is left of it, and what that led to.
+pub record Fed (before now : Ahead) (d e : Directory) (piece rest : List ℕ) (old new : Outlets) : Type 0 where
   pub front : List ℕ
-  pub text : List ℕ
   pub split : piece ≡ front ++ rest
-  pub wrote : Appends old new text
-  pub told : Answers before now front text true
+  pub served : Serves d (telling before now e) front old new true
 
-pub fed_none : (before : Ahead) (piece : List ℕ) (w : Option (List ℕ)) → Fed before before piece piece w w
-fed_none before piece w = record { front = []; text = []; split = refl; wrote = Appends-nil w; told = λ ended rest. refl }
+pub fed_none : (before : Ahead) (d : Directory) (piece : List ℕ) (w : Outlets) → Fed before before d d piece piece w w
+fed_none before d piece w = record { front = []; split = refl; served = serves_none before before d w refl }
 
--- two steps make one
-two_steps : (before mid after : Ahead) (a b text text' : List ℕ) (goes_on : Bool) → Answers before mid a text true → Answers mid after b text' goes_on → Answers before after (a ++ b) (text ++ text') goes_on
-two_steps before mid after a b text text' goes_on first second ended rest =
-    ap (before ended) (append_assoc a b rest) ∙ first ended (b ++ rest) ∙ ap (λ l. text ++ l) (second ended rest)
-    ∙ sym (append_assoc text text' (if goes_on then after ended rest else []))
+-- the piece by its front and a line
+fed_split : (piece front rest line behind : List ℕ) → piece ≡ front ++ rest → rest ≡ line ++ 10 ∷ behind → piece ≡ (front ++ (line ++ 10 ∷ [])) ++ behind
+fed_split piece front rest line behind split e = split ∙ ap (λ l. front ++ l) (e ∙ sym (append_assoc line (10 ∷ []) behind)) ∙ sym (append_assoc front (line ++ 10 ∷ []) behind)
 
-pub fed_more : (before mid after : Ahead) (piece rest line behind text : List ℕ) (old w new : Option (List ℕ)) → Fed before mid piece rest old w → rest ≡ line ++ 10 ∷ behind
-    → Appends w new text → Answers mid after (line ++ 10 ∷ []) text true → Fed before after piece behind old new
-fed_more before mid after piece rest line behind text old w new f e wrote told = record {
-  front = f.front ++ (line ++ 10 ∷ []);
-  text = f.text ++ text;
-  split = f.split ∙ ap (λ l. f.front ++ l) (e ∙ sym (append_assoc line (10 ∷ []) behind)) ∙ sym (append_assoc f.front (line ++ 10 ∷ []) behind);
-  wrote = Appends-trans old w new f.text text f.wrote wrote;
-  told = two_steps before mid after f.front (line ++ 10 ∷ []) f.text text true f.told told;
+pub fed_more : (before mid after : Ahead) (d e f : Directory) (piece rest line behind : List ℕ) (old w new : Outlets) → Fed before mid d e piece rest old w → rest ≡ line ++ 10 ∷ behind
+    → Serves e (telling mid after f) (line ++ 10 ∷ []) w new true → Fed before after d f piece behind old new
+fed_more before mid after d e f piece rest line behind old w new fed is served = record {
+  front = fed.front ++ (line ++ 10 ∷ []);
+  split = fed_split piece fed.front rest line behind fed.split is;
+  served = serves_both before mid after d e f fed.front (line ++ 10 ∷ []) old w new true fed.served served;
 }
 
 -- the machine ends
-pub fed_end : (before mid after : Ahead) (piece rest line behind text : List ℕ) (old w new : Option (List ℕ)) → Fed before mid piece rest old w → rest ≡ line ++ 10 ∷ behind
-    → Appends w new text → Answers mid after (line ++ 10 ∷ []) text false → (all : List ℕ) × Appends old new all × Answers before after piece all false
-fed_end before mid after piece rest line behind text old w new f e wrote told =
-    let whole : piece ≡ (f.front ++ (line ++ 10 ∷ [])) ++ behind = f.split ∙ ap (λ l. f.front ++ l) (e ∙ sym (append_assoc line (10 ∷ []) behind)) ∙ sym (append_assoc f.front (line ++ 10 ∷ []) behind) in (
-      f.text ++ text,
-      Appends-trans old w new f.text text f.wrote wrote,
-      λ ended more. ap (λ p. before ended (p ++ more)) whole ∙ ap (before ended) (append_assoc (f.front ++ (line ++ 10 ∷ [])) behind more)
-          ∙ two_steps before mid after f.front (line ++ 10 ∷ []) f.text text false f.told told ended (behind ++ more),
+pub fed_end : (before mid after : Ahead) (d e f : Directory) (piece rest line behind : List ℕ) (old w new : Outlets) → Fed before mid d e piece rest old w → rest ≡ line ++ 10 ∷ behind
+    → Serves e (telling mid after f) (line ++ 10 ∷ []) w new false → Serves d (telling before after f) piece old new false
+fed_end before mid after d e f piece rest line behind old w new fed is served =
+    let front = fed.front ++ (line ++ 10 ∷ []) in
+    let all = serves_both before mid after d e f fed.front (line ++ 10 ∷ []) old w new false fed.served served in (
+      all.0,
+      all.1,
+      all.2,
+      λ ended more later. ap (λ p. before ended (p ++ more) (all.1 ++ later)) (fed_split piece fed.front rest line behind fed.split is)
+          ∙ ap (λ p. before ended p (all.1 ++ later)) (append_assoc front behind more) ∙ all.3 ended (behind ++ more) later,
+      all.4,
     )
 
 -- the rest of the piece is kept
-pub fed_all : (before mid after : Ahead) (piece rest line : List ℕ) (old new : Option (List ℕ)) → Fed before mid piece rest old new → rest ≡ line
-    → Answers mid after line [] true → (all : List ℕ) × Appends old new all × Answers before after piece all true
-fed_all before mid after piece rest line old new f e told = (
-  f.text ++ [],
-  subst (Appends old new) (sym (append-nil f.text)) f.wrote,
-  subst (λ p. Answers before after p (f.text ++ []) true) (sym (f.split ∙ ap (λ l. f.front ++ l) e)) (two_steps before mid after f.front line f.text [] true f.told told),
-)
+pub fed_all : (before mid after : Ahead) (d e : Directory) (piece rest line : List ℕ) (old new : Outlets) → Fed before mid d e piece rest old new → rest ≡ line
+    → Answers (telling mid after e) line [] [] true → Serves d (telling before after e) piece old new true
+fed_all before mid after d e piece rest line old new fed is says =
+    subst (λ p. Serves d (telling before after e) p old new true) (sym (fed.split ∙ ap (λ l. fed.front ++ l) is))
+    (serves_both before mid after d e e fed.front line old new new true fed.served ([], [], Appends-nil new.output, says, follows_none new.store e))
 
 -- memory is short
-pub fed_broken : (before mid : Ahead) (piece rest : List ℕ) (old w new : Option (List ℕ)) → Fed before mid piece rest old w → Keeps w new → mid false [] ≡ []
-    → (front : List ℕ) × (back : List ℕ) × (piece ≡ front ++ back) × Appends old new (before false front)
-fed_broken before mid piece rest old w new f kept none =
-    let written : before false f.front ≡ f.text = ap (before false) (sym (append-nil f.front)) ∙ f.told false [] ∙ ap (λ l. f.text ++ l) none ∙ append-nil f.text in
-    (f.front, rest, f.split, subst (Appends old new) (sym written) (Appends-kept old w new f.text f.wrote kept))
+pub fed_broken : (before mid : Ahead) (d e : Directory) (piece rest : List ℕ) (old w : Outlets) (new : Option (List ℕ)) → Fed before mid d e piece rest old w → Keeps w.output new
+    → mid false [] [] ≡ Some (told [] e) → BrokenOff before piece old.output new Memory
+fed_broken before mid d e piece rest old w new fed kept none =
+    let all = tells_all before mid d e fed.front old w fed.served none in
+    (fed.front, rest, all.0, all.1, fed.split, all.2, Appends-kept old.output w.output new all.1.text all.3 kept)
 
--- what serving a line says, as clauses have it
-abbrev pub Served : Future → Future → List ℕ → Option (List ℕ) → Option (List ℕ) → Bool → Type 0
-Served before after line old new goes_on = (text : List ℕ) × Appends old new text × Answers before after (line ∷ []) text goes_on
-
-pub serve_line : (r : Result Bool RunFault) (before before' after : Future) (begun piece line begun' : List ℕ) (old new : Option (List ℕ)) → before' ≡ before → IsClean begun → IsClean piece
+-- a line that a piece ends is served, or a fault comes
+pub serve_line : (r : Result Bool RunFault) (before before' after : OfLines) (d d' e : Directory) (begun piece line begun' : List ℕ) (old new : Outlets) → before' ≡ before → d' ≡ d → IsClean begun → IsClean piece
     → line ≡ take most_kept (begun ++ piece) → begun' ≡ []
-    → MatchResult r (Served before' after line old new) (Unserved old new)
-    → MatchResult r (λ goes_on. (text : List ℕ) × Appends old new text × Answers (ahead before begun) (ahead after begun') (piece ++ 10 ∷ []) text goes_on) (Unserved old new)
-serve_line (Ok goes_on) before before' after begun piece line begun' old new same clean clean_piece e none (text, wrote, told) =
-    (text, wrote, line_ended before after begun piece line begun' text goes_on clean clean_piece e none (subst (λ f. Answers f after (line ∷ []) text goes_on) same told))
-serve_line (Err fault) before before' after begun piece line begun' old new same clean clean_piece e none h = h
+    → MatchResult r (Served before' after d' e line old new) (Unserved old.output new.output)
+    → MatchResult r (Serves d (telling (ahead before begun) (ahead after begun') e) (piece ++ 10 ∷ []) old new) (Unserved old.output new.output)
+serve_line (Ok goes_on) before before' after d d' e begun piece line begun' old new same same' clean clean_piece is none (text, stored, wrote, says, follows) = (
+  text,
+  stored,
+  wrote,
+  line_ended before after e begun piece line begun' stored text goes_on clean clean_piece is none (subst (λ f. Answers (telling f after e) (line ∷ []) stored text goes_on) same says),
+  subst (λ d. Follows old.store new.store stored d e) same' follows,
+)
+serve_line (Err fault) before before' after d d' e begun piece line begun' old new same same' clean clean_piece is none h = h
+
+-- the last line is served: what is then told is what is told behind the line that has begun
+last_line : (before before' : OfLines) (d d' : Directory) (begun line : List ℕ) (old new : Outlets) → before' ≡ before → d' ≡ d → line ≡ begun → IsClean begun → 0 < length begun → length begun ≤ most_kept
+    → Tells d' (before' true (line ∷ [])) old new → Tells d (ahead before begun true []) old new
+last_line before before' d d' begun line old new same same' e clean some short (stored, t, is, wrote, follows) = (
+  stored,
+  t,
+  last_ahead before begun stored clean some short ∙ ap (λ l. before true (l ∷ []) stored) (sym e) ∙ sym (ap (λ f. f true (line ∷ []) stored) same) ∙ is,
+  wrote,
+  subst (λ d. Follows old.store new.store stored d t.directory) same' follows,
+)
 
 -- the last line, where the machine ends with it
-pub last_served : (before before' after : Future) (begun line : List ℕ) (old new : Option (List ℕ)) → before' ≡ before → line ≡ begun → IsClean begun → 0 < length begun → length begun ≤ most_kept
-    → Served before' after line old new false → Appends old new (ahead before begun true [])
-last_served before before' after begun line old new same e clean some short (text, wrote, told) =
-    let is : ahead before begun true [] ≡ text =
-    last_ahead before begun clean some short ∙ ap (λ l. before true (l ∷ [])) (sym e) ∙ sym (ap (λ f. f true (line ∷ [])) same) ∙ told true [] ∙ append-nil text in
-    subst (Appends old new) (sym is) wrote
+pub last_served : (before before' after : OfLines) (d d' e : Directory) (begun line : List ℕ) (old new : Outlets) → before' ≡ before → d' ≡ d → line ≡ begun → IsClean begun → 0 < length begun → length begun ≤ most_kept
+    → Served before' after d' e line old new false → Tells d (ahead before begun true []) old new
+last_served before before' after d d' e begun line old new same same' is clean some short served =
+    last_line before before' d d' begun line old new same same' is clean some short (tells_ended before' after d' e (line ∷ []) true [] old new served)
 
 -- the last line, and then the last words
-pub last_said : (before before' after : Future) (begun line words : List ℕ) (old w new : Option (List ℕ)) → before' ≡ before → line ≡ begun → IsClean begun → 0 < length begun → length begun ≤ most_kept
-    → Served before' after line old w true → words ≡ after true [] → Appends w new words → Appends old new (ahead before begun true [])
-last_said before before' after begun line words old w new same e clean some short (text, wrote, told) words_are said =
-    let is : ahead before begun true [] ≡ text ++ words =
-    last_ahead before begun clean some short ∙ ap (λ l. before true (l ∷ [])) (sym e) ∙ sym (ap (λ f. f true (line ∷ [])) same) ∙ told true [] ∙ ap (λ l. text ++ l) (sym words_are) in
-    subst (Appends old new) (sym is) (Appends-trans old w new text words wrote said)
+last_said : (before before' after : OfLines) (d d' e : Directory) (begun line words : List ℕ) (old w : Outlets) (new : Option (List ℕ)) → before' ≡ before → d' ≡ d → line ≡ begun → IsClean begun → 0 < length begun → length begun ≤ most_kept
+    → Served before' after d' e line old w true → after true [] [] ≡ Some (told words e) → Appends w.output new words → Tells d (ahead before begun true []) old (outlets new w.store)
+last_said before before' after d d' e begun line words old w new same same' is clean some short served words_are said =
+    last_line before before' d d' begun line old (outlets new w.store) same same' is clean some short
+    (tells_behind before' after d' e (line ∷ []) true [] old w (outlets new w.store) served ([], told words e, words_are, said, follows_none w.store e))
 
 -- the exit of a `?`, by the fault that it passes on
 pub fault_exit : {T : Type 0} (r : Result T RunFault) (P : T → Type 0) (Q : RunFault → Type 0) (fault : RunFault) → IsErr r × IsErrAnd r (λ e. e ≡ fault) → Q fault → MatchResult r P Q
@@ -166,27 +226,27 @@ cut_none text front None c e = c.joined
 cut_none text front (Some b) c e = cc
 
 -- a fault while a line is served breaks the piece off
-pub fed_fault : (before mid : Ahead) (piece rest : List ℕ) (old w new : Option (List ℕ)) (fault : RunFault) → Fed before mid piece rest old w → Unserved w new fault → mid false [] ≡ []
-    → BrokenOff before piece old new fault
-fed_fault before mid piece rest old w new Read f h none = h
-fed_fault before mid piece rest old w new Write f h none = tt
-fed_fault before mid piece rest old w new Memory f h none = fed_broken before mid piece rest old w new f h none
+pub fed_fault : (before mid : Ahead) (d e : Directory) (piece rest : List ℕ) (old w : Outlets) (new : Option (List ℕ)) (fault : RunFault) → Fed before mid d e piece rest old w → Unserved w.output new fault
+    → mid false [] [] ≡ Some (told [] e) → BrokenOff before piece old.output new fault
+fed_fault before mid d e piece rest old w new Read fed h none = h
+fed_fault before mid d e piece rest old w new Write fed h none = tt
+fed_fault before mid d e piece rest old w new Memory fed h none = fed_broken before mid d e piece rest old w new fed h none
 
 -- where nothing has come of a last line, the last words are written
-pub finish_none : (r : Result (Unit {0}) RunFault) (future : Future) (begun words : List ℕ) (old new : Option (List ℕ)) → length begun ≤ 0 → words ≡ future true []
-    → MatchResult r (λ _. Appends old new words) (λ fault. fault ≡ Write)
-    → MatchResult r (λ _. Appends old new (ahead future begun true [])) (Unserved old new)
-finish_none (Ok x) future begun words old new none e said = subst (Appends old new) (sym (none_ahead future begun none ∙ sym e)) said
-finish_none (Err fault) future begun words old new none e said = subst (Unserved old new) (sym said) tt
+pub finish_none : (r : Result (Unit {0}) RunFault) (future : OfLines) (d : Directory) (begun words : List ℕ) (old : Outlets) (new : Option (List ℕ)) → length begun ≤ 0 → future true [] [] ≡ Some (told words d)
+    → MatchResult r (λ _. Appends old.output new words) (λ fault. fault ≡ Write)
+    → MatchResult r (λ _. Tells d (ahead future begun true []) old (outlets new old.store)) (Unserved old.output new)
+finish_none (Ok x) future d begun words old new none e said = ([], told words d, none_ahead future begun [] none ∙ e, said, follows_none old.store d)
+finish_none (Err fault) future d begun words old new none e said = subst (Unserved old.output new) (sym said) tt
 
 -- else they are written behind the answer to the last line
-pub finish_said : (r : Result (Unit {0}) RunFault) (before before' after : Future) (begun line words : List ℕ) (old w new : Option (List ℕ)) → before' ≡ before → line ≡ begun → IsClean begun → 0 < length begun → length begun ≤ most_kept
-    → Served before' after line old w true → words ≡ after true []
-    → MatchResult r (λ _. Appends w new words) (λ fault. fault ≡ Write)
-    → MatchResult r (λ _. Appends old new (ahead before begun true [])) (Unserved old new)
-finish_said (Ok x) before before' after begun line words old w new same e clean some short served are said =
-    last_said before before' after begun line words old w new same e clean some short served are said
-finish_said (Err fault) before before' after begun line words old w new same e clean some short served are said = subst (Unserved old new) (sym said) tt
+pub finish_said : (r : Result (Unit {0}) RunFault) (before before' after : OfLines) (d d' e : Directory) (begun line words : List ℕ) (old w : Outlets) (new : Option (List ℕ)) → before' ≡ before → d' ≡ d → line ≡ begun → IsClean begun → 0 < length begun → length begun ≤ most_kept
+    → Served before' after d' e line old w true → after true [] [] ≡ Some (told words e)
+    → MatchResult r (λ _. Appends w.output new words) (λ fault. fault ≡ Write)
+    → MatchResult r (λ _. Tells d (ahead before begun true []) old (outlets new w.store)) (Unserved old.output new)
+finish_said (Ok x) before before' after d d' e begun line words old w new same same' is clean some short served are said =
+    last_said before before' after d d' e begun line words old w new same same' is clean some short served are said
+finish_said (Err fault) before before' after d d' e begun line words old w new same same' is clean some short served are said = subst (Unserved old.output new) (sym said) tt
 
 -- a test of whether anything has come
 pub is_empty : (begun : List ℕ) (len : ℕ) → len ≡ length begun → (len == 0) ≡ true → length begun ≤ 0
@@ -195,100 +255,132 @@ is_empty begun len e h = grind (arith, nat_tests)
 pub not_empty : (begun : List ℕ) (len : ℕ) → len ≡ length begun → (len == 0) ≡ false → 0 < length begun
 not_empty begun len e h = grind (arith, nat_tests)
 
--- What has been read of an input has been served: the bytes, at least as many as reads were made, and what was written.
-pub record Heard (made : ℕ) (before now : Ahead) (input left old new : Option (List ℕ)) : Type 0 where
+-- an end of a run
+abbrev at : Option (List ℕ) → Outlets → Ends
+at input out = record { input = input; out = out }
+
+-- What has been read of an input has been served: the bytes, at least as many as reads were made, and what they led to.
+pub record Heard (made : ℕ) (before now : Ahead) (d e : Directory) (input left : Option (List ℕ)) (old new : Outlets) : Type 0 where
   pub taken : List ℕ
-  pub text : List ℕ
   pub enough : made ≤ length taken
   pub took : Consumes input left taken
-  pub wrote : Appends old new text
-  pub told : Answers before now taken text true
+  pub served : Serves d (telling before now e) taken old new true
 
-pub heard_none : (before now : Ahead) (input w : Option (List ℕ)) → now ≡ before → Heard 0 before now input input w w
-heard_none before now input w same = record { taken = []; text = []; enough = omega arith; took = Consumes-nil input; wrote = Appends-nil w; told = λ ended rest. ap (λ f. f ended rest) (sym same) }
+pub heard_none : (before now : Ahead) (d e : Directory) (input : Option (List ℕ)) (w : Outlets) → now ≡ before → e ≡ d → Heard 0 before now d e input input w w
+heard_none before now d e input w same same' = record {
+  taken = [];
+  enough = omega arith;
+  took = Consumes-nil input;
+  served = subst (λ e. Serves d (telling before now e) [] w w true) (sym same') (serves_none before now d w same);
+}
 
-pub heard_turn : (made : ℕ) (before mid after : Ahead) (input left left' old w new : Option (List ℕ)) → Heard made before mid input left old w → Turn mid after (ends left w) (ends left' new) true → Heard (made + 1) before after input left' old new
-heard_turn made before mid after input left left' old w new h (taken, text, some, took, wrote, told) = record {
+pub heard_turn : (made : ℕ) (before mid after : Ahead) (d e f : Directory) (input left left' : Option (List ℕ)) (old w new : Outlets) → Heard made before mid d e input left old w
+    → Turn e (telling mid after f) (at left w) (at left' new) true → Heard (made + 1) before after d f input left' old new
+heard_turn made before mid after d e f input left left' old w new h (taken, some, took, served) = record {
   taken = h.taken ++ taken;
-  text = h.text ++ text;
   enough = omega (arith, h.enough, some, length-append h.taken taken);
   took = Consumes-trans input left left' h.taken taken h.took took;
-  wrote = Appends-trans old w new h.text text h.wrote wrote;
-  told = two_steps before mid after h.taken taken h.text text true h.told told;
+  served = serves_both before mid after d e f h.taken taken old w new true h.served served;
 }
 
 -- all of the input is answered
-pub heard_end : {made : ℕ} (before mid after : Ahead) (input left left' old w new : Option (List ℕ)) → Heard made before mid input left old w → Turn mid after (ends left w) (ends left' new) false
-    → IfSome input (λ bytes. Appends old new (before true bytes))
-heard_end before mid after None left left' old w new h e = tt
-heard_end before mid after (Some bytes) None left' old w new h e = absurd h.took
-heard_end before mid after (Some bytes) (Some rest) left' old w new h e =
-    subst (Appends old new) (sym (ap (before true) h.took ∙ h.told true rest)) (Appends-trans old w new h.text (mid true rest) h.wrote e)
+heard_text : (before mid : Ahead) (taken : List ℕ) (first second : List StoreAnswer) (text : List ℕ) (t : Told) (input left old w new : Option (List ℕ)) → Consumes input left taken → Appends old w text
+    → ((rest : List ℕ) → mid true rest second ≡ Some t → before true (taken ++ rest) (first ++ second) ≡ Some (told (text ++ t.text) t.directory))
+    → IfSome left (λ rest. (mid true rest second ≡ Some t) × Appends w new t.text)
+    → IfSome input (λ bytes. (before true bytes (first ++ second) ≡ Some (told (text ++ t.text) t.directory)) × Appends old new (text ++ t.text))
+heard_text before mid taken first second text t None left old w new took wrote says h = tt
+heard_text before mid taken first second text t (Some bytes) None old w new took wrote says h = absurd took
+heard_text before mid taken first second text t (Some bytes) (Some rest) old w new took wrote says h =
+    (ap (λ b. before true b (first ++ second)) took ∙ says rest h.0, Appends-trans old w new text t.text wrote h.1)
+
+pub heard_end : {made : ℕ} (before mid after : Ahead) (d e f : Directory) (input left left' : Option (List ℕ)) (old w new : Outlets) → Heard made before mid d e input left old w
+    → Turn e (telling mid after f) (at left w) (at left' new) false → Ended d before (at input old) (at left' new)
+heard_end before mid after d e f input left left' old w new h (stored', t, follows', rest) =
+    let stored = h.served.1 in
+    let text = h.served.0 in (
+      stored ++ stored',
+      told (text ++ t.text) t.directory,
+      follows_both old.store w.store new.store stored stored' d e t.directory h.served.4 follows',
+      heard_text before mid h.taken stored stored' text t input left old.output w.output new.output h.took h.served.2 (λ more is. continued_with before mid e h.taken stored stored' text t true more h.served.3 is) rest,
+    )
 
 -- a fault leaves what it leaves of the rest
-pub heard_left : {made : ℕ} (before mid : Ahead) (input left left' old w new : Option (List ℕ)) (fault : RunFault) → Heard made before mid input left old w → Leaves (mid false) (ends left w) (ends left' new) fault
-    → Leaves (before false) (ends input old) (ends left' new) fault
-heard_left before mid input left left' old w new Read h (taken, took, wrote) = (
+pub heard_left : {made : ℕ} (before mid : Ahead) (d e : Directory) (input left left' : Option (List ℕ)) (old w new : Outlets) (fault : RunFault) → Heard made before mid d e input left old w
+    → Leaves e (mid false) (at left w) (at left' new) fault → Leaves d (before false) (at input old) (at left' new) fault
+heard_left before mid d e input left left' old w new Read h (taken, took, tells) = (
   h.taken ++ taken,
   Consumes-trans input left left' h.taken taken h.took took,
-  subst (Appends old new) (sym (h.told false taken)) (Appends-trans old w new h.text (mid false taken) h.wrote wrote),
+  tells_behind before mid d e h.taken false taken old w new h.served tells,
 )
-heard_left before mid input left left' old w new Write h e = tt
-heard_left before mid input left left' old w new Memory h (front, behind, took, wrote) = (
+heard_left before mid d e input left left' old w new Write h l = tt
+heard_left before mid d e input left left' old w new Memory h (front, behind, stored, t, took, is, wrote) = (
   h.taken ++ front,
   behind,
+  h.served.1 ++ stored,
+  told (h.served.0 ++ t.text) t.directory,
   subst (Consumes input left') (sym (append_assoc h.taken front behind)) (Consumes-trans input left left' h.taken (front ++ behind) h.took took),
-  subst (Appends old new) (sym (h.told false front)) (Appends-trans old w new h.text (mid false front) h.wrote wrote),
+  continued_with before mid e h.taken h.served.1 stored h.served.0 t false front h.served.3 is,
+  Appends-trans old.output w.output new.output h.served.0 t.text h.served.2 wrote,
 )
 
 -- so many reads were made
-pub heard_so_far : {made : ℕ} (before mid : Ahead) (input left old new : Option (List ℕ)) → Heard made before mid input left old new → mid false [] ≡ [] → Leaves (before false) (ends input old) (ends left new) Read
-heard_so_far before mid input left old new h none = (
-  h.taken,
-  h.took,
-  subst (Appends old new) (sym (ap (before false) (sym (append-nil h.taken)) ∙ h.told false [] ∙ ap (λ l. h.text ++ l) none ∙ append-nil h.text)) h.wrote,
-)
+pub heard_so_far : {made : ℕ} (before mid : Ahead) (d e : Directory) (input left : Option (List ℕ)) (old new : Outlets) → Heard made before mid d e input left old new
+    → mid false [] [] ≡ Some (told [] e) → Leaves d (before false) (at input old) (at left new) Read
+heard_so_far before mid d e input left old new h none = (h.taken, h.took, tells_all before mid d e h.taken old new h.served none)
 
 -- each of the reads took a byte or more of the input
-pub heard_enough : (made : ℕ) (before now : Ahead) (input left old new : Option (List ℕ)) → Heard made before now input left old new → IfSome input (λ bytes. made ≤ length bytes)
-heard_enough made before now None left old new h = tt
-heard_enough made before now (Some bytes) None old new h = absurd h.took
-heard_enough made before now (Some bytes) (Some rest) old new h = omega (arith, h.enough, ap length h.took, length-append h.taken rest)
+pub heard_enough : (made : ℕ) (before now : Ahead) (d e : Directory) (input left : Option (List ℕ)) (old new : Outlets) → Heard made before now d e input left old new → IfSome input (λ bytes. made ≤ length bytes)
+heard_enough made before now d e None left old new h = tt
+heard_enough made before now d e (Some bytes) None old new h = absurd h.took
+heard_enough made before now d e (Some bytes) (Some rest) old new h = omega (arith, h.enough, ap length h.took, length-append h.taken rest)
 
 -- a read failed
-pub turn_failed : (before : Ahead) (input left w : Option (List ℕ)) → Keeps input left → before false [] ≡ [] → Leaves (before false) (ends input w) (ends left w) Read
-turn_failed before input left w kept none = ([], Consumes-kept input input left [] (Consumes-nil input) kept, subst (Appends w w) (sym none) (Appends-nil w))
-
-all_told : (before : Ahead) (piece text : List ℕ) (input left old new : Option (List ℕ)) → Consumes input left piece → Appends old new text → ((rest : List ℕ) → before true (piece ++ rest) ≡ text ++ [])
-    → IfSome input (λ bytes. Appends old new (before true bytes))
-all_told before piece text None left old new took wrote told = tt
-all_told before piece text (Some bytes) None old new took wrote told = absurd took
-all_told before piece text (Some bytes) (Some rest) old new took wrote told = subst (Appends old new) (sym (ap (before true) took ∙ told rest ∙ append-nil text)) wrote
+pub turn_failed : (before : Ahead) (d : Directory) (input left : Option (List ℕ)) (w : Outlets) → Keeps input left → before false [] [] ≡ Some (told [] d) → Leaves d (before false) (at input w) (at left w) Read
+turn_failed before d input left w kept none = ([], Consumes-kept input input left [] (Consumes-nil input) kept, ([], told [] d, none, Appends-nil w.output, follows_none w.store d))
 
 -- bytes were read
 pub some_read : (count : ℕ) (buffer : List ℕ) → 0 < count → count ≤ length buffer → 0 < length (take count buffer)
 some_read count buffer some within = omega (arith, length-take count buffer)
 
+-- the machine ended with a piece
+all_told : (future : List ℕ → Option Told) (piece : List ℕ) (t : Told) (input left old new : Option (List ℕ)) → Consumes input left piece → Appends old new t.text → ((rest : List ℕ) → future (piece ++ rest) ≡ Some t)
+    → IfSome input (λ bytes. (future bytes ≡ Some t) × Appends old new t.text)
+all_told future piece t None left old new took wrote says = tt
+all_told future piece t (Some bytes) None old new took wrote says = absurd took
+all_told future piece t (Some bytes) (Some rest) old new took wrote says = (ap future took ∙ says rest, wrote)
+
 -- a piece was fed
-pub turn_fed : (r : Result Bool RunFault) (before after : Ahead) (piece : List ℕ) (input left old new : Option (List ℕ)) → 0 < length piece → Consumes input left piece
-    → MatchResult r (λ goes_on. (text : List ℕ) × Appends old new text × Answers before after piece text goes_on) (BrokenOff before piece old new)
-    → MatchResult r (Turn before after (ends input old) (ends left new)) (Leaves (before false) (ends input old) (ends left new))
-turn_fed (Ok true) before after piece input left old new some took (text, wrote, told) = (piece, text, some, took, wrote, told)
-turn_fed (Ok false) before after piece input left old new some took (text, wrote, told) = all_told before piece text input left old new took wrote (λ rest. told true rest)
-turn_fed (Err Read) before after piece input left old new some took h = absurd h
-turn_fed (Err Write) before after piece input left old new some took h = tt
-turn_fed (Err Memory) before after piece input left old new some took (front, back, e, wrote) = (front, back, subst (Consumes input left) e took, wrote)
+pub turn_fed : (r : Result Bool RunFault) (before after : Ahead) (d e : Directory) (piece : List ℕ) (input left : Option (List ℕ)) (old new : Outlets) → 0 < length piece → Consumes input left piece
+    → MatchResult r (Serves d (telling before after e) piece old new) (BrokenOff before piece old.output new.output)
+    → MatchResult r (Turn d (telling before after e) (at input old) (at left new)) (Leaves d (before false) (at input old) (at left new))
+turn_fed (Ok true) before after d e piece input left old new some took served = (piece, some, took, served)
+turn_fed (Ok false) before after d e piece input left old new some took (text, stored, wrote, says, follows) = (
+  stored,
+  told text e,
+  follows,
+  all_told (λ bytes. before true bytes stored) piece (told text e) input left old.output new.output took wrote (λ rest. ended_with before after e piece stored text true rest says),
+)
+turn_fed (Err Read) before after d e piece input left old new some took h = absurd h
+turn_fed (Err Write) before after d e piece input left old new some took h = tt
+turn_fed (Err Memory) before after d e piece input left old new some took (front, back, stored, t, split, is, wrote) =
+    (front, back, stored, t, subst (Consumes input left) split took, is, wrote)
 
 -- the end of the input came
-pub turn_ended : (before : Ahead) (input left old new : Option (List ℕ)) → Consumes input left [] → IsAtEnd left → Appends old new (before true []) → IfSome input (λ bytes. Appends old new (before true bytes))
-turn_ended before None left old new took end wrote = tt
-turn_ended before (Some bytes) None old new took end wrote = absurd took
-turn_ended before (Some bytes) (Some rest) old new took end wrote = subst (λ b. Appends old new (before true b)) (sym (took ∙ end)) wrote
+end_told : (future : List ℕ → Option Told) (t : Told) (input left old new : Option (List ℕ)) → Consumes input left [] → IsAtEnd left → Appends old new t.text → future [] ≡ Some t
+    → IfSome input (λ bytes. (future bytes ≡ Some t) × Appends old new t.text)
+end_told future t None left old new took end wrote is = tt
+end_told future t (Some bytes) None old new took end wrote is = absurd took
+end_told future t (Some bytes) (Some rest) old new took end wrote is = (ap future (took ∙ end) ∙ is, wrote)
 
-pub turn_unserved : (before : Ahead) (input left old new : Option (List ℕ)) (fault : RunFault) → Consumes input left [] → before false [] ≡ [] → Unserved old new fault → Leaves (before false) (ends input old) (ends left new) fault
-turn_unserved before input left old new Read took none h = absurd h
-turn_unserved before input left old new Write took none h = tt
-turn_unserved before input left old new Memory took none h = ([], [], took, subst (Appends old new) (sym none) (Appends-kept old old new [] (Appends-nil old) h))
+pub turn_ended : (before : Ahead) (d : Directory) (input left : Option (List ℕ)) (old new : Outlets) → Consumes input left [] → IsAtEnd left → Tells d (before true []) old new → Ended d before (at input old) (at left new)
+turn_ended before d input left old new took end (stored, t, is, wrote, follows) =
+    (stored, t, follows, end_told (λ bytes. before true bytes stored) t input left old.output new.output took end wrote is)
+
+pub turn_unserved : (before : Ahead) (d : Directory) (input left : Option (List ℕ)) (old new : Outlets) (fault : RunFault) → Consumes input left [] → before false [] [] ≡ Some (told [] d) → Unserved old.output new.output fault
+    → Leaves d (before false) (at input old) (at left new) fault
+turn_unserved before d input left old new Read took none h = absurd h
+turn_unserved before d input left old new Write took none h = tt
+turn_unserved before d input left old new Memory took none h = ([], [], [], told [] d, took, none, Appends-kept old.output old.output new.output [] (Appends-nil old.output) h)
 
 -- nothing was read
 pub nothing_read : (count : ℕ) (buffer : List ℕ) (input left : Option (List ℕ)) → count ≤ 0 → Consumes input left (take count buffer) → Consumes input left []

@@ -3,6 +3,9 @@ pub mod Counts
 pub mod Cuts
 pub mod Feeding
 pub mod InputLines
+pub mod Pending
 pub mod Requests
 pub mod Runs
+pub mod Storing
+pub mod Told
 pub mod Words

@@ -2,7 +2,7 @@
 use Rattle.std.proofs.Common.{◌≡◌, ℕ, ◌+◌, ◌-◌, ◌<◌, ◌≤◌, Bool, true, false, cond, leb, List, [], ◌∷◌, ◌++◌, length, take, map, Option, Some, None, Result, Ok, Err, ◌⊎◌, inl, inr, refl, sym, ap, ◌∙◌, subst, arith, append_assoc, append-nil, ◌≢◌, if◌then◌else◌, add-one, length-append}
 use Rattle.std.proofs.lemmas.List.{take_all, take-append-le, map-append}
 use Rattle.std.specs.Global.{Vec}
-use Rattle.std.specs.Prelude.{IfOk, IsErr, OnOk, is_ok}
+use Rattle.std.specs.Prelude.{IfOk, IsErr, OnOk, is_ok, option_and_then}
 use Rattle.std.specs.declared.alloc.AllocError.{AllocError}
 use Rattle.std.proofs.lemmas.Bool.{true≢false}
 use Rattle.std.proofs.lemmas.Bool.Decides.{nat_tests}
@@ -13,13 +13,17 @@ use Rattle.abc2midi_live.specs.Book.{files_of, faults_of, titles_of}
 use Rattle.abc_tunebook.specs.Files.{file_at, written, removed}
 use Rattle.abc2midi_live.specs.Answer.{report_line, refusal}
 use Rattle.abc2midi_live.specs.Command.{line_count, command_of}
-use Rattle.abc2midi_live.specs.Transcript.{edit_answer, Request, Edits, CutOff, request_of, requests, answer, answers, goes_on, text_after}
+use Rattle.abc_publish.specs.Publishing.{Directory}
+use Rattle.abc2midi_live.specs.Building.{Builds}
+use Rattle.abc2midi_live.specs.Storing.{StoreAnswer}
+use Rattle.abc2midi_live.specs.Told.{Answered, Holding, Told, answered_by, behind, holding, nothing_more, told}
+use Rattle.abc2midi_live.specs.Transcript.{edit_answer, Request, Edits, CutOff, request_of, requests, answered, answers, goes_on}
 use Rattle.abc2midi_live.specs.Answer.{fault_list, title_list, hex_line, unknown_line, truncated_line}
 use Rattle.abc2midi_live.specs.declared.command.Command.{Command}
-use Rattle.abc2midi_live.specs.declared.command.Command.TheVariants.{Faults, Titles, Hex, Quit, Unknown}
+use Rattle.abc2midi_live.specs.declared.command.Command.TheVariants.{Faults, Titles, Hex, Build, Quit, Unknown}
 use Rattle.abc2midi_live.specs.declared.command.Command.TheVariants as commands
-use Rattle.abc2midi_live.specs.Dialogue.{Begun, awaited, is_taken, Says, Responds}
-use Rattle.abc2midi_live.specs.Machine.{Replies}
+use Rattle.abc2midi_live.specs.Dialogue.{Begun, awaited, is_taken, AnswersWith, Says, Responds}
+use Rattle.abc2midi_live.specs.Machine.{Future, Replies, telling}
 use Rattle.abc_tunebook.specs.declared.fault.Fault.{Fault}
 use Rattle.abc_tunebook.specs.declared.title.Title.{Title}
 use Rattle.abc2midi_live.specs.declared.machine.Reply.{Reply}
@@ -52,17 +56,19 @@ pub refusal_answer : (r : Result (Vec ℕ) AllocError) (old : Text) (change : Re
 refusal_answer (Ok text) old change error refused is other = answer_refused old change error text.items (refused_by change error _ refused other) is
 refusal_answer (Err e) old change error refused is other = tt
 
--- a request to edit, as carried out
-abbrev pub Answered : Text → Text → Request → List ℕ → Type 0
-Answered old new request text = ((ended : Bool) → answer ended old request ≡ text) × (goes_on request ≡ true) × (new ≡ text_after old request)
+-- a request as answered, for answers of the store, where the run goes on
+abbrev pub Carried : Holding → Holding → Request → List StoreAnswer → List ℕ → Type 0
+Carried old new request now text = AnswersWith old request now text new × (goes_on request ≡ true)
 
-edited_answer : (old new : Text) (splice : Option Splice) (text : List ℕ) → text ≡ edit_answer old (edited old splice) → new ≡ result_unwrap_or (edited old splice) old → Answered old new (Edits splice) text
-unfolding answer text_after
-edited_answer old new splice text t n = (λ ended. sym t, refl, n)
+edited_answer : (old new : Text) (d : Directory) (splice : Option Splice) (text : List ℕ) → text ≡ edit_answer old (edited old splice) → new ≡ result_unwrap_or (edited old splice) old
+    → Carried (holding old d) (holding new d) (Edits splice) [] text
+unfolding answered
+edited_answer old new d splice text t n =
+    (λ ended later. ap (λ x. Some (answered_by x (holding (result_unwrap_or (edited old splice) old) d) later)) (sym t) ∙ ap (λ x. Some (answered_by text (holding x d) later)) (sym n), refl)
 
-pub responds_edit : (old new : Text) (request : Request) (splice : Option Splice) (text : List ℕ) → request ≡ Edits splice → text ≡ edit_answer old (edited old splice)
-    → new ≡ result_unwrap_or (edited old splice) old → Answered old new request text
-responds_edit old new request splice text is t n = subst (λ r. Answered old new r text) (sym is) (edited_answer old new splice text t n)
+pub responds_edit : (old new : Text) (d : Directory) (request : Request) (splice : Option Splice) (text : List ℕ) → request ≡ Edits splice → text ≡ edit_answer old (edited old splice)
+    → new ≡ result_unwrap_or (edited old splice) old → Carried (holding old d) (holding new d) request [] text
+responds_edit old new d request splice text is t n = subst (λ r. Carried (holding old d) (holding new d) r [] text) (sym is) (edited_answer old new d splice text t n)
 
 not_ok : (r : Result Text EditError) → is_ok r ≡ false → IsErr r
 not_ok (Ok text) e = absurd (true≢false e)
@@ -97,27 +103,38 @@ pub request_of-delete : (command : Command) (from to : ℕ) (lines : Text) → c
 unfolding request_of
 request_of-delete command from to lines is = ap (λ c. request_of c lines) is
 
-pub responds_faults : (old : Text) (command : Command) (lines : Text) (faults : List Fault) (text : List ℕ) → command ≡ Faults → faults ≡ faults_of old → text ≡ fault_list faults → Answered old old (request_of command lines) text
-unfolding request_of answer text_after
-responds_faults old command lines faults text is f t = subst (λ c. Answered old old (request_of c lines) text) (sym is) (λ ended. sym (t ∙ ap fault_list f), refl, refl)
+pub responds_faults : (h : Holding) (command : Command) (lines : Text) (faults : List Fault) (text : List ℕ) → command ≡ Faults → faults ≡ faults_of h.text → text ≡ fault_list faults
+    → Carried h h (request_of command lines) [] text
+unfolding request_of answered
+responds_faults h command lines faults text is f t =
+    subst (λ c. Carried h h (request_of c lines) [] text) (sym is) (λ ended later. ap (λ x. Some (answered_by x h later)) (sym (t ∙ ap fault_list f)), refl)
 
-pub responds_titles : (old : Text) (command : Command) (lines : Text) (titles : List Title) (text : List ℕ) → command ≡ Titles → titles ≡ titles_of old → text ≡ title_list titles → Answered old old (request_of command lines) text
-unfolding request_of answer text_after
-responds_titles old command lines titles text is f t = subst (λ c. Answered old old (request_of c lines) text) (sym is) (λ ended. sym (t ∙ ap title_list f), refl, refl)
+pub responds_titles : (h : Holding) (command : Command) (lines : Text) (titles : List Title) (text : List ℕ) → command ≡ Titles → titles ≡ titles_of h.text → text ≡ title_list titles
+    → Carried h h (request_of command lines) [] text
+unfolding request_of answered
+responds_titles h command lines titles text is f t =
+    subst (λ c. Carried h h (request_of c lines) [] text) (sym is) (λ ended later. ap (λ x. Some (answered_by x h later)) (sym (t ∙ ap title_list f)), refl)
 
-pub responds_hex : (old : Text) (command : Command) (number : ℕ) (lines : Text) (file : Option (List ℕ)) (text : List ℕ) → command ≡ Hex number → file ≡ file_at (files_of old) number → text ≡ hex_line file
-    → Answered old old (request_of command lines) text
-unfolding request_of answer text_after
-responds_hex old command number lines file text is f t =
-    subst (λ c. Answered old old (request_of c lines) text) (sym is) (λ ended. sym (t ∙ ap hex_line f), refl, refl)
+pub responds_hex : (h : Holding) (command : Command) (number : ℕ) (lines : Text) (file : Option (List ℕ)) (text : List ℕ) → command ≡ Hex number → file ≡ file_at (files_of h.text) number → text ≡ hex_line file
+    → Carried h h (request_of command lines) [] text
+unfolding request_of answered
+responds_hex h command number lines file text is f t =
+    subst (λ c. Carried h h (request_of c lines) [] text) (sym is) (λ ended later. ap (λ x. Some (answered_by x h later)) (sym (t ∙ ap hex_line f)), refl)
 
-pub responds_unknown : (old : Text) (command : Command) (lines : Text) (text : List ℕ) → command ≡ Unknown → text ≡ unknown_line → Answered old old (request_of command lines) text
-unfolding request_of answer text_after
-responds_unknown old command lines text is t = subst (λ c. Answered old old (request_of c lines) text) (sym is) (λ ended. sym t, refl, refl)
+pub responds_build : (text : Text) (before after : Directory) (command : Command) (lines : Text) (now : List StoreAnswer) (answer : List ℕ) → command ≡ Build → Builds text before now answer after
+    → Carried (holding text before) (holding text after) (request_of command lines) now answer
+unfolding request_of answered
+responds_build text before after command lines now answer is builds =
+    subst (λ c. Carried (holding text before) (holding text after) (request_of c lines) now answer) (sym is) (λ ended later. builds later, refl)
 
-pub responds_quit : (old : Text) (command : Command) (lines : Text) → command ≡ Quit → ((ended : Bool) → answer ended old (request_of command lines) ≡ []) × (goes_on (request_of command lines) ≡ false)
-unfolding request_of answer
-responds_quit old command lines is = subst (λ c. ((ended : Bool) → answer ended old (request_of c lines) ≡ []) × (goes_on (request_of c lines) ≡ false)) (sym is) (λ ended. refl, refl)
+pub responds_unknown : (h : Holding) (command : Command) (lines : Text) (text : List ℕ) → command ≡ Unknown → text ≡ unknown_line → Carried h h (request_of command lines) [] text
+unfolding request_of answered
+responds_unknown h command lines text is t =
+    subst (λ c. Carried h h (request_of c lines) [] text) (sym is) (λ ended later. ap (λ x. Some (answered_by x h later)) (sym t), refl)
+
+pub responds_quit : (h : Holding) (command : Command) (lines : Text) → command ≡ Quit → AnswersWith h (request_of command lines) [] [] h × (goes_on (request_of command lines) ≡ false)
+unfolding request_of answered
+responds_quit h command lines is = subst (λ c. AnswersWith h (request_of c lines) [] [] h × (goes_on (request_of c lines) ≡ false)) (sym is) (λ ended later. refl, refl)
 
 -- lines behind those of a command are none of its own
 pub request_of-append : (command : Command) (lines more : Text) → length lines ≡ line_count command → request_of command (lines ++ more) ≡ request_of command lines
@@ -136,78 +153,84 @@ request_of-append (commands.Delete from to) lines more whole = refl
 request_of-append Faults lines more whole = refl
 request_of-append Titles lines more whole = refl
 request_of-append (Hex number) lines more whole = refl
+request_of-append Build lines more whole = refl
 request_of-append Quit lines more whole = refl
 request_of-append Unknown lines more whole = refl
 
-answers_first : (ended : Bool) (old : Text) (request : Request) (rest : List Request) → answers ended old (request ∷ rest) ≡ answer ended old request ++ cond (goes_on request) (answers ended (text_after old request) rest) []
-unfolding answers
-answers_first ended old request rest = refl
+-- what is told behind the answer to a request
+told_on : Bool → Request → List Request → Answered → Option Told
+told_on ended request rest a = behind a.text (if goes_on request then answers ended a.after rest a.left else nothing_more a.after.directory a.left)
 
-awaited_whole : (old : Text) (command : Command) (lines more : Text) (ended : Bool) → length lines ≡ line_count command
-    → awaited old (Some (record { command = command; lines = lines })) ended more
-    ≡ answer ended old (request_of command lines) ++ cond (goes_on (request_of command lines)) (answers ended (text_after old (request_of command lines)) (requests 0 more)) []
-unfolding awaited
-awaited_whole old command lines more ended whole =
+awaited_whole : (old : Holding) (command : Command) (lines more : Text) (ended : Bool) (stored : List StoreAnswer) → length lines ≡ line_count command
+    → awaited old (Some (record { command = command; lines = lines })) ended more stored
+    ≡ option_and_then (told_on ended (request_of command lines) (requests 0 more)) (answered ended old (request_of command lines) stored)
+unfolding awaited answers told_on
+awaited_whole old command lines more ended stored whole =
     let none : line_count command - length lines ≡ 0 = omega arith in
-    ap (λ k. answers ended old (request_of command (lines ++ more) ∷ requests k more)) none
-    ∙ ap (λ r. answers ended old (r ∷ requests 0 more)) (request_of-append command lines more whole)
-    ∙ answers_first ended old (request_of command lines) (requests 0 more)
+    ap (λ k. answers ended old (request_of command (lines ++ more) ∷ requests k more) stored) none
+    ∙ ap (λ r. answers ended old (r ∷ requests 0 more) stored) (request_of-append command lines more whole)
+
+pub behind_nothing : (rest : Option Told) → behind [] rest ≡ rest
+behind_nothing None = refl
+behind_nothing (Some t) = refl
 
 -- a command with all its lines is carried out
-pub says_whole : (old new : Text) (command : Command) (lines : Text) (reply : Reply) → length lines ≡ line_count command → Responds old new (request_of command lines) reply
-    → Says (awaited old (Some (record { command = command; lines = lines }))) (awaited new None) reply
-unfolding awaited
-says_whole old new command lines Nothing whole h = absurd h
-says_whole old new command lines (Answer text) whole h =
-    λ ended more. awaited_whole old command lines more ended whole
-    ∙ ap (λ a. a ++ cond (goes_on (request_of command lines)) (answers ended (text_after old (request_of command lines)) (requests 0 more)) []) (h.0 ended)
-    ∙ ap (λ b. text.items ++ cond b (answers ended (text_after old (request_of command lines)) (requests 0 more)) []) h.1
-    ∙ ap (λ t. text.items ++ answers ended t (requests 0 more)) (sym h.2)
-says_whole old new command lines End whole h =
-    λ ended more. awaited_whole old command lines more ended whole
-    ∙ ap (λ a. a ++ cond (goes_on (request_of command lines)) (answers ended (text_after old (request_of command lines)) (requests 0 more)) []) (h.0 ended)
-    ∙ ap (λ b. cond b (answers ended (text_after old (request_of command lines)) (requests 0 more)) []) h.1
+pub says_whole : (old new : Holding) (command : Command) (lines : Text) (now : List StoreAnswer) (reply : Reply) → length lines ≡ line_count command → Responds old new (request_of command lines) now reply
+    → Says (telling (awaited old (Some (record { command = command; lines = lines }))) (awaited new None) new.directory) now reply
+unfolding awaited told_on
+says_whole old new command lines now Nothing whole h = absurd h
+says_whole old new command lines now (Answer text) whole h =
+    λ ended more later. awaited_whole old command lines more ended (now ++ later) whole
+    ∙ ap (option_and_then (told_on ended (request_of command lines) (requests 0 more))) (h.0 ended later)
+    ∙ ap (λ b. behind text.items (cond b (answers ended new (requests 0 more) later) (nothing_more new.directory later))) h.1
+says_whole old new command lines now End whole h =
+    λ ended more later. awaited_whole old command lines more ended (now ++ later) whole
+    ∙ ap (option_and_then (told_on ended (request_of command lines) (requests 0 more))) (h.0 ended later)
+    ∙ ap (λ b. behind [] (cond b (answers ended new (requests 0 more) later) (nothing_more new.directory later))) h.1
+    ∙ behind_nothing (nothing_more new.directory later)
 
 -- a line that is a command begins it
-pub awaited_command : (text : Text) (line : List ℕ) (command : Command) (ended : Bool) (more : Text) → command ≡ command_of line
-    → awaited text None ended (line ∷ more) ≡ awaited text (Some (record { command = command; lines = [] })) ended more
+pub awaited_command : (h : Holding) (line : List ℕ) (command : Command) (ended : Bool) (more : Text) (stored : List StoreAnswer) → command ≡ command_of line
+    → awaited h None ended (line ∷ more) stored ≡ awaited h (Some (record { command = command; lines = [] })) ended more stored
 unfolding awaited requests
-awaited_command text line command ended more is =
+awaited_command h line command ended more stored is =
     let same : line_count command - 0 ≡ line_count command = omega arith in
-    ap (λ c. answers ended text (request_of c more ∷ requests (line_count c) more)) (sym is)
-    ∙ ap (λ k. answers ended text (request_of command more ∷ requests k more)) (sym same)
+    ap (λ c. answers ended h (request_of c more ∷ requests (line_count c) more) stored) (sym is)
+    ∙ ap (λ k. answers ended h (request_of command more ∷ requests k more) stored) (sym same)
 
 skip_one : (k : ℕ) (line : List ℕ) (more : Text) → requests (k + 1) (line ∷ more) ≡ requests k more
 unfolding requests
 skip_one k line more = rw add-one refl
 
 -- a line that belongs to a command is one more of its lines
-pub awaited_line : (text : Text) (command : Command) (lines : Text) (line : List ℕ) (ended : Bool) (more : Text) → length lines < line_count command
-    → awaited text (Some (record { command = command; lines = lines })) ended (line ∷ more) ≡ awaited text (Some (record { command = command; lines = lines ++ line ∷ [] })) ended more
+pub awaited_line : (h : Holding) (command : Command) (lines : Text) (line : List ℕ) (ended : Bool) (more : Text) (stored : List StoreAnswer) → length lines < line_count command
+    → awaited h (Some (record { command = command; lines = lines })) ended (line ∷ more) stored ≡ awaited h (Some (record { command = command; lines = lines ++ line ∷ [] })) ended more stored
 unfolding awaited
-awaited_line text command lines line ended more few =
+awaited_line h command lines line ended more stored few =
     let left = line_count command - length (lines ++ line ∷ []) in
     let count : line_count command - length lines ≡ left + 1 = omega (arith, length-append lines (line ∷ [])) in
-    ap (λ ls. answers ended text (request_of command ls ∷ requests (line_count command - length lines) (line ∷ more))) (sym (append_assoc lines (line ∷ []) more))
-    ∙ ap (λ k. answers ended text (request_of command ((lines ++ line ∷ []) ++ more) ∷ requests k (line ∷ more))) count
-    ∙ ap (λ rs. answers ended text (request_of command ((lines ++ line ∷ []) ++ more) ∷ rs)) (skip_one left line more)
+    ap (λ ls. answers ended h (request_of command ls ∷ requests (line_count command - length lines) (line ∷ more)) stored) (sym (append_assoc lines (line ∷ []) more))
+    ∙ ap (λ k. answers ended h (request_of command ((lines ++ line ∷ []) ++ more) ∷ requests k (line ∷ more)) stored) count
+    ∙ ap (λ rs. answers ended h (request_of command ((lines ++ line ∷ []) ++ more) ∷ rs) stored) (skip_one left line more)
 
 -- the reply to a line
-pub replies : (before mid after : Bool → List (List ℕ) → List ℕ) (line : List ℕ) (reply : Reply) → ((ended : Bool) (more : List (List ℕ)) → before ended (line ∷ more) ≡ mid ended more) → Says mid after reply
-    → Replies before after line reply
-replies before mid after line Nothing step says = λ ended more. step ended more ∙ says ended more
-replies before mid after line (Answer text) step says = λ ended more. step ended more ∙ says ended more
-replies before mid after line End step says = λ ended more. step ended more ∙ says ended more
+pub replies : (before mid after : Future (List ℕ)) (directory : Directory) (line : List ℕ) (now : List StoreAnswer) (reply : Reply)
+    → ((ended : Bool) (more : List (List ℕ)) (stored : List StoreAnswer) → before ended (line ∷ more) stored ≡ mid ended more stored) → Says (telling mid after directory) now reply
+    → Replies (telling before after directory) line now reply
+replies before mid after directory line now Nothing step says = λ ended more later. step ended more (now ++ later) ∙ says ended more later ∙ sym (behind_nothing (after ended more later))
+replies before mid after directory line now (Answer text) step says = λ ended more later. step ended more (now ++ later) ∙ says ended more later
+replies before mid after directory line now End step says = λ ended more later. step ended more (now ++ later) ∙ says ended more later ∙ sym (behind_nothing (nothing_more directory later))
 
 -- the last words, where lines are missing and where not
-pub last_cut : (text : Text) (begun : Begun) → request_of begun.command begun.lines ≡ CutOff → truncated_line ≡ awaited text (Some begun) true []
-unfolding awaited answers answer requests
-last_cut text begun cut =
-    sym (ap (λ ls. answers true text (request_of begun.command ls ∷ [])) (append-nil begun.lines) ∙ ap (λ r. answers true text (r ∷ [])) cut ∙ append-nil truncated_line)
+pub last_cut : (h : Holding) (begun : Begun) → request_of begun.command begun.lines ≡ CutOff → awaited h (Some begun) true [] [] ≡ Some (told truncated_line h.directory)
+unfolding awaited answers answered requests
+last_cut h begun cut =
+    ap (λ ls. answers true h (request_of begun.command ls ∷ []) []) (append-nil begun.lines) ∙ ap (λ r. answers true h (r ∷ []) []) cut
+    ∙ ap (λ t. Some (told t h.directory)) (append-nil truncated_line)
 
-pub last_none : (text : Text) → [] ≡ awaited text None true []
+pub last_none : (h : Holding) → awaited h None true [] [] ≡ Some (told [] h.directory)
 unfolding awaited answers requests
-last_none text = refl
+last_none h = refl
 
 -- the lines after one more came
 pub text_of-push : (old new : Vec (Vec ℕ)) (line : Vec ℕ) → new.items ≡ old.items ++ line ∷ [] → text_of new ≡ text_of old ++ line.items ∷ []

@@ -6,74 +6,125 @@ use Rattle.std.specs.Result.{result_unwrap_or}
 use Rattle.std.proofs.KnownBytes.{Appends-nil, Appends-trans, Appends-kept, Consumes-nil, Keeps-refl}
 use Rattle.abc_lines.specs.Text.{Text}
 use Rattle.abc_lines.specs.Edits.{edited, insertion}
-use Rattle.abc2midi_live.specs.Transcript.{book_lines, input_lines, requests, answer, answers, text_after, edit_answer, transcript, transcript_so_far}
+use Rattle.abc_publish.specs.Publishing.{Directory}
+use Rattle.abc2midi_live.specs.Transcript.{book_lines, input_lines, requests, answered, answers, edit_answer, no_directory, transcript, transcript_so_far}
 use Rattle.abc2midi_live.specs.Dialogue.{Begun, awaited, Opens}
-use Rattle.abc2midi_live.specs.Outcome.{ends, Leaves, LeavesRun, Unserved}
+use Rattle.abc2midi_live.specs.Outcome.{Ends, Outlets, outlets, Completes, Ended, Leaves, LeavesRun, Unserved}
+use Rattle.abc2midi_live.specs.Storing.{StoreAnswer, StoreSeen, Follows}
+use Rattle.abc2midi_live.specs.Told.{holding, Told, told, behind}
 use Rattle.abc2midi_live.specs.declared.fault.RunFault.{RunFault}
 use Rattle.abc2midi_live.specs.declared.fault.RunFault.TheVariants.{Read, Write, Memory}
+use Rattle.abc2midi_live.proofs.Storing.{mirrors_first}
+use Rattle.abc2midi_live.proofs.Told.{behind_none}
 
 -- before any command, where there is no tune book
-pub opens_none : (session : Text) (begun : Option Begun) → session ≡ [] → begun ≡ None → Opens None [] session begun
+pub opens_none : (session : Text) (directory : Directory) (begun : Option Begun) → session ≡ [] → directory ≡ no_directory → begun ≡ None → Opens None [] (holding session directory) begun
 unfolding awaited
-opens_none session begun e none ended lines = sym (ap (λ g. awaited session g ended lines) none ∙ ap (λ t. answers ended t (requests 0 lines)) e)
+opens_none session directory begun e empty none ended lines stored =
+    let now = awaited (holding session directory) begun ended lines stored in
+    let same : behind [] now ≡ answers ended (holding [] no_directory) (requests 0 lines) stored =
+    behind_none now
+    ∙ ap (λ g. awaited (holding session directory) g ended lines stored) none
+    ∙ ap (λ t. answers ended (holding t directory) (requests 0 lines) stored) e
+    ∙ ap (λ d. answers ended (holding [] d) (requests 0 lines) stored) empty in
+    sym same
 
 -- before any command, where a tune book was taken
-pub opens_some : (bytes text : List ℕ) (first session : Text) (begun : Option Begun) → first ≡ [] → text ≡ edit_answer first (edited first (insertion 1 (book_lines bytes)))
-    → session ≡ result_unwrap_or (edited first (insertion 1 (book_lines bytes))) first → begun ≡ None → Opens (Some bytes) text session begun
-unfolding awaited answers answer text_after
-opens_some bytes text first session begun e told now none ended lines =
+pub opens_some : (bytes text : List ℕ) (first session : Text) (directory : Directory) (begun : Option Begun) → first ≡ [] → text ≡ edit_answer first (edited first (insertion 1 (book_lines bytes)))
+    → session ≡ result_unwrap_or (edited first (insertion 1 (book_lines bytes))) first → directory ≡ no_directory → begun ≡ None → Opens (Some bytes) text (holding session directory) begun
+unfolding awaited answers answered
+opens_some bytes text first session directory begun e says now empty none ended lines stored =
     let made : Text → Text = λ t. result_unwrap_or (edited t (insertion 1 (book_lines bytes))) t in
     let said : Text → List ℕ = λ t. edit_answer t (edited t (insertion 1 (book_lines bytes))) in
     sym (
-    ap (λ g. text ++ awaited session g ended lines) none
-    ∙ ap (λ t. t ++ answers ended session (requests 0 lines)) (told ∙ ap said e)
-    ∙ ap (λ t. said [] ++ answers ended t (requests 0 lines)) (now ∙ ap made e)
+    ap (λ g. behind text (awaited (holding session directory) g ended lines stored)) none
+    ∙ ap (λ t. behind t (answers ended (holding session directory) (requests 0 lines) stored)) (says ∙ ap said e)
+    ∙ ap (λ t. behind (said []) (answers ended (holding t directory) (requests 0 lines) stored)) (now ∙ ap made e)
+    ∙ ap (λ d. behind (said []) (answers ended (holding (made []) d) (requests 0 lines) stored)) empty
     )
 
--- what is written for all of an input, behind what was written for the tune book
-module _ (book : Option (List ℕ)) (text : List ℕ) (session : Text) (begun : Option Begun) (opens : Opens book text session begun) where
-  whole : (input : List ℕ) → text ++ awaited session begun true (input_lines true input) ≡ transcript book input
+-- an end of a run
+abbrev at : Option (List ℕ) → Outlets → Ends
+at input out = record { input = input; out = out }
+
+-- what is told for all of an input, behind what was written for the tune book
+module _ (book : Option (List ℕ)) (text : List ℕ) (session : Text) (directory : Directory) (begun : Option Begun) (opens : Opens book text (holding session directory) begun) (empty : directory ≡ no_directory) where
+  whole : (input : List ℕ) (stored : List StoreAnswer) → behind text (awaited (holding session directory) begun true (input_lines true input) stored) ≡ transcript book input stored
   unfolding transcript
-  whole input = sym (opens true (input_lines true input))
+  whole input stored = sym (opens true (input_lines true input) stored)
 
-  so_far : (input : List ℕ) → text ++ awaited session begun false (input_lines false input) ≡ transcript_so_far book input
+  so_far : (input : List ℕ) (stored : List StoreAnswer) → behind text (awaited (holding session directory) begun false (input_lines false input) stored) ≡ transcript_so_far book input stored
   unfolding transcript_so_far
-  so_far input = sym (opens false (input_lines false input))
+  so_far input stored = sym (opens false (input_lines false input) stored)
 
-  told_whole : (input old mid new : Option (List ℕ)) → Appends old mid text → IfSome input (λ bytes. Appends mid new (awaited session begun true (input_lines true bytes)))
-      → IfSome input (λ bytes. Appends old new (transcript book bytes))
-  told_whole None old mid new wrote h = tt
-  told_whole (Some bytes) old mid new wrote h = subst (Appends old new) (whole bytes) (Appends-trans old mid new text _ wrote h)
+  told_whole : (stored : List StoreAnswer) (t : Told) (input old mid new : Option (List ℕ)) → Appends old mid text
+      → IfSome input (λ bytes. (awaited (holding session directory) begun true (input_lines true bytes) stored ≡ Some t) × Appends mid new t.text)
+      → IfSome input (λ bytes. (transcript book bytes stored ≡ Some (told (text ++ t.text) t.directory)) × Appends old new (text ++ t.text))
+  told_whole stored t None old mid new wrote h = tt
+  told_whole stored t (Some bytes) old mid new wrote h = (sym (whole bytes stored) ∙ ap (behind text) h.0, Appends-trans old mid new text t.text wrote h.1)
 
-  told_so_far : (taken : List ℕ) (old mid new : Option (List ℕ)) → Appends old mid text → Appends mid new (awaited session begun false (input_lines false taken)) → Appends old new (transcript_so_far book taken)
-  told_so_far taken old mid new wrote h = subst (Appends old new) (so_far taken) (Appends-trans old mid new text _ wrote h)
+  -- what the store gave follows from the empty directory
+  from_empty : (old new : StoreSeen) (stored : List StoreAnswer) (after : Directory) → Follows old new stored directory after → Follows old new stored no_directory after
+  from_empty old new stored after follows = subst (λ d. Follows old new stored d after) empty follows
 
-  told_fault : (fault : RunFault) (input left old mid new : Option (List ℕ)) → Appends old mid text
-      → Leaves (λ bytes. awaited session begun false (input_lines false bytes)) (ends input mid) (ends left new) fault
-      → LeavesRun book (transcript_so_far book) (ends input old) (ends left new) fault
-  told_fault Read input left old mid new wrote (taken, took, h) = (taken, took, told_so_far taken old mid new wrote h)
-  told_fault Write input left old mid new wrote h = tt
-  told_fault Memory input left old mid new wrote (front, behind, took, h) = inl (front, behind, took, told_so_far front old mid new wrote h)
+  told_all : (input left : Option (List ℕ)) (old new : Outlets) (mid : Option (List ℕ)) → Appends old.output mid text
+      → Ended directory (λ ended bytes. awaited (holding session directory) begun ended (input_lines ended bytes)) (at input (outlets mid old.store)) (at left new)
+      → Completes (transcript book) (at input old) (at left new)
+  told_all input left old new mid wrote (stored, t, follows, h) =
+      let tied = from_empty old.store new.store stored t.directory follows in
+      record {
+        stored = stored;
+        told = told (text ++ t.text) t.directory;
+        text = told_whole stored t input old.output mid new.output wrote h;
+        failures = tied.failures;
+        contents = λ none. tied.contents old.store.contents (mirrors_first old.store.contents none);
+      }
+
+  told_fault : (fault : RunFault) (input left : Option (List ℕ)) (old new : Outlets) (mid : Option (List ℕ)) → Appends old.output mid text
+      → Leaves directory (λ bytes. awaited (holding session directory) begun false (input_lines false bytes)) (at input (outlets mid old.store)) (at left new) fault
+      → LeavesRun book (transcript_so_far book) (at input old) (at left new) fault
+  told_fault Read input left old new mid wrote (taken, took, (stored, t, is, wrote', follows)) = (
+    taken,
+    took,
+    (
+      stored,
+      told (text ++ t.text) t.directory,
+      sym (so_far taken stored) ∙ ap (behind text) is,
+      Appends-trans old.output mid new.output text t.text wrote wrote',
+      from_empty old.store new.store stored t.directory follows,
+    ),
+  )
+  told_fault Write input left old new mid wrote h = tt
+  told_fault Memory input left old new mid wrote (front, behind_it, stored, t, took, is, wrote') = inl (
+    front,
+    behind_it,
+    stored,
+    told (text ++ t.text) t.directory,
+    took,
+    sym (so_far front stored) ∙ ap (behind text) is,
+    Appends-trans old.output mid new.output text t.text wrote wrote',
+  )
 
   -- what is written, from the answer to the tune book on
-  pub told_run : (result : Result (Unit {0}) RunFault) (input left old mid new : Option (List ℕ)) → Appends old mid text
-      → MatchResult result (λ _. IfSome input (λ bytes. Appends mid new (awaited session begun true (input_lines true bytes))))
-      (Leaves (λ bytes. awaited session begun false (input_lines false bytes)) (ends input mid) (ends left new))
-      → MatchResult result (λ _. IfSome input (λ bytes. Appends old new (transcript book bytes))) (LeavesRun book (transcript_so_far book) (ends input old) (ends left new))
-  told_run (Ok x) input left old mid new wrote h = told_whole input old mid new wrote h
-  told_run (Err fault) input left old mid new wrote h = told_fault fault input left old mid new wrote h
+  pub told_run : (result : Result (Unit {0}) RunFault) (input left : Option (List ℕ)) (old new : Outlets) (mid : Option (List ℕ)) → Appends old.output mid text
+      → MatchResult result (λ _. Ended directory (λ ended bytes. awaited (holding session directory) begun ended (input_lines ended bytes)) (at input (outlets mid old.store)) (at left new))
+      (Leaves directory (λ bytes. awaited (holding session directory) begun false (input_lines false bytes)) (at input (outlets mid old.store)) (at left new))
+      → MatchResult result (λ _. Completes (transcript book) (at input old) (at left new)) (LeavesRun book (transcript_so_far book) (at input old) (at left new))
+  told_run (Ok x) input left old new mid wrote h = told_all input left old new mid wrote h
+  told_run (Err fault) input left old new mid wrote h = told_fault fault input left old new mid wrote h
 
-transcript_so_far-nil : transcript_so_far None [] ≡ []
+transcript_so_far-nil : transcript_so_far None [] [] ≡ Some (told [] no_directory)
 unfolding transcript_so_far input_lines requests answers
 transcript_so_far-nil = refl
 
 -- a run that has no memory to begin with
-not_begun : (book input old new : Option (List ℕ)) → Keeps old new → LeavesRun book (transcript_so_far book) (ends input old) (ends input new) Memory
-not_begun None input old new kept = inl ([], [], Consumes-nil input, subst (Appends old new) (sym transcript_so_far-nil) (Appends-kept old old new [] (Appends-nil old) kept))
+not_begun : (book input : Option (List ℕ)) (old new : Outlets) → Keeps old.output new.output → LeavesRun book (transcript_so_far book) (at input old) (at input new) Memory
+not_begun None input old new kept =
+    inl ([], [], [], told [] no_directory, Consumes-nil input, transcript_so_far-nil, Appends-kept old.output old.output new.output [] (Appends-nil old.output) kept)
 not_begun (Some bytes) input old new kept = inr (refl, Keeps-refl input, kept)
 
 -- a run that cannot answer the tune book
-pub not_opened : (fault : RunFault) (book input old new : Option (List ℕ)) → Unserved old new fault → LeavesRun book (transcript_so_far book) (ends input old) (ends input new) fault
+pub not_opened : (fault : RunFault) (book input : Option (List ℕ)) (old new : Outlets) → Unserved old.output new.output fault → LeavesRun book (transcript_so_far book) (at input old) (at input new) fault
 not_opened Read book input old new h = absurd h
 not_opened Write book input old new h = tt
 not_opened Memory book input old new h = not_begun book input old new h

@@ -14,7 +14,7 @@ use Rattle.abc_lines.specs.declared.limits.TheConstants.{LONGEST_LINE}
 use Rattle.abc2midi_live.specs.Cut.{IsCut}
 use Rattle.abc_text.specs.Number.{number_of}
 use Rattle.abc2midi_live.specs.Command.{numbers_of, both, with_numbers, words_of, words_behind, command_named, command_of_words, command_of, IsUseless, insertion, replacement, deletion, hex_dump, without_numbers}
-use Rattle.abc2midi_live.specs.declared.command.Command.TheVariants.{Faults, Titles, Quit, Unknown}
+use Rattle.abc2midi_live.specs.declared.command.Command.TheVariants.{Faults, Titles, Build, Quit, Unknown}
 
 -- the words behind a cut
 pub words_of-cut : (text front : List ℕ) (rest : Option (Bor (List ℕ))) → IsCut 32 text front (option_map (λ r. r.now) rest) → words_of text ≡ front ∷ words_behind rest
@@ -96,20 +96,22 @@ command_named-other name numbers h =
       other_name name (codes "faults") h (IsUtf8-from_ascii (codes "faults") (search rules)),
       other_name name (codes "titles") h (IsUtf8-from_ascii (codes "titles") (search rules)),
       other_name name (codes "hex") h (IsUtf8-from_ascii (codes "hex") (search rules)),
+      other_name name (codes "build") h (IsUtf8-from_ascii (codes "build") (search rules)),
       other_name name (codes "quit") h (IsUtf8-from_ascii (codes "quit") (search rules)),
     ) refl
 
-unused : (b c d e f g h : Bool) (x y z w : ℕ) (more : List ℕ)
-    → cond b insertion (cond c replacement (cond d deletion (cond e (without_numbers Faults) (cond f (without_numbers Titles) (cond g hex_dump (cond h (without_numbers Quit) (λ numbers. Unknown))))))) (x ∷ y ∷ z ∷ w ∷ more) ≡ Unknown
+unused : (b c d e f g h k : Bool) (x y z w : ℕ) (more : List ℕ)
+    → cond b insertion (cond c replacement (cond d deletion (cond e (without_numbers Faults) (cond f (without_numbers Titles) (cond g hex_dump (cond h (without_numbers Build) (cond k (without_numbers Quit) (λ numbers. Unknown)))))))) (x ∷ y ∷ z ∷ w ∷ more) ≡ Unknown
 unfolding insertion replacement deletion hex_dump without_numbers
-unused true c d e f g h x y z w more = refl
-unused false true d e f g h x y z w more = refl
-unused false false true e f g h x y z w more = refl
-unused false false false true f g h x y z w more = refl
-unused false false false false true g h x y z w more = refl
-unused false false false false false true h x y z w more = refl
-unused false false false false false false true x y z w more = refl
-unused false false false false false false false x y z w more = refl
+unused true c d e f g h k x y z w more = refl
+unused false true d e f g h k x y z w more = refl
+unused false false true e f g h k x y z w more = refl
+unused false false false true f g h k x y z w more = refl
+unused false false false false true g h k x y z w more = refl
+unused false false false false false true h k x y z w more = refl
+unused false false false false false false true k x y z w more = refl
+unused false false false false false false false true x y z w more = refl
+unused false false false false false false false false x y z w more = refl
 
 -- no command takes more than three numbers
 many_named : (name numbers : List ℕ) → 3 < length numbers → command_named name numbers ≡ Unknown
@@ -118,7 +120,7 @@ many_named name [] h = absurd (omega arith)
 many_named name (x ∷ []) h = absurd (omega arith)
 many_named name (x ∷ y ∷ []) h = absurd (omega arith)
 many_named name (x ∷ y ∷ z ∷ []) h = absurd (omega arith)
-many_named name (x ∷ y ∷ z ∷ w ∷ more) h = unused (bytes_eq name (codes "insert")) (bytes_eq name (codes "replace")) (bytes_eq name (codes "delete")) (bytes_eq name (codes "faults")) (bytes_eq name (codes "titles")) (bytes_eq name (codes "hex")) (bytes_eq name (codes "quit")) x y z w more
+many_named name (x ∷ y ∷ z ∷ w ∷ more) h = unused (bytes_eq name (codes "insert")) (bytes_eq name (codes "replace")) (bytes_eq name (codes "delete")) (bytes_eq name (codes "faults")) (bytes_eq name (codes "titles")) (bytes_eq name (codes "hex")) (bytes_eq name (codes "build")) (bytes_eq name (codes "quit")) x y z w more
 
 useless_named : (name : List ℕ) (numbers : Option (List ℕ)) → IsUseless numbers → option_map_or (command_named name) numbers Unknown ≡ Unknown
 useless_named name None h = refl

@@ -41,6 +41,19 @@ title_line title = decimal title.number ++ codes " " ++ title.text ++ codes "\n"
 unfoldable pub title_list : List Title → List ℕ
 title_list titles = flat_map title_line titles ++ codes "end\n"
 
+-- the end of a list
+unfoldable pub end_line : List ℕ
+end_line = codes "end\n"
+
+-- a file that was written, or removed
+unfoldable pub stored_line : ℕ → Option (List ℕ) → List ℕ
+stored_line number None = codes "removed " ++ decimal number ++ codes ".mid\n"
+stored_line number (Some bytes) = codes "written " ++ decimal number ++ codes ".mid\n"
+
+-- a file that could not be
+unfoldable pub failed_line : ℕ → List ℕ
+failed_line number = codes "failed " ++ decimal number ++ codes ".mid\n"
+
 -- the file of a number in upper-case hexadecimal
 unfoldable pub hex_line : Option (List ℕ) → List ℕ
 hex_line None = codes "none\n"

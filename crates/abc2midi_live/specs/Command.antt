@@ -9,7 +9,7 @@ use Rattle.abc_text.specs.Ending.{without_return}
 use Rattle.abc_text.specs.Number.{number_of}
 use Rattle.abc_lines.specs.declared.limits.TheConstants.{LONGEST_LINE, MOST_LINES}
 use Rattle.abc2midi_live.specs.declared.command.Command.{Command}
-use Rattle.abc2midi_live.specs.declared.command.Command.TheVariants.{Insert, Replace, Delete, Faults, Titles, Hex, Quit, Unknown}
+use Rattle.abc2midi_live.specs.declared.command.Command.TheVariants.{Insert, Replace, Delete, Faults, Titles, Hex, Build, Quit, Unknown}
 
 -- a number and those after it, where there are such
 abbrev pub both : Option ℕ → Option (List ℕ) → Option (List ℕ)
@@ -51,7 +51,7 @@ unfoldable pub hex_dump : List ℕ → Command
 hex_dump (number ∷ []) = Hex number
 hex_dump _ = Unknown
 
--- faults, titles or quit: a command that takes no numbers
+-- faults, titles, build or quit: a command that takes no numbers
 unfoldable pub without_numbers : Command → List ℕ → Command
 without_numbers command [] = command
 without_numbers command _ = Unknown
@@ -69,6 +69,7 @@ command_named name =
     if bytes_eq name (codes "faults") then without_numbers Faults else
     if bytes_eq name (codes "titles") then without_numbers Titles else
     if bytes_eq name (codes "hex") then hex_dump else
+    if bytes_eq name (codes "build") then without_numbers Build else
     if bytes_eq name (codes "quit") then without_numbers Quit else
     (λ numbers. Unknown)
 
@@ -98,5 +99,6 @@ line_count (Delete from to) = 0
 line_count Faults = 0
 line_count Titles = 0
 line_count (Hex number) = 0
+line_count Build = 0
 line_count Quit = 0
 line_count Unknown = 0

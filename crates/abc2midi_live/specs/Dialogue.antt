@@ -3,7 +3,10 @@ use Rattle.std.specs.Prelude.{◌≡◌, ℕ, ◌-◌, Bool, true, false, is_ok,
 use Rattle.abc_lines.specs.Text.{Text}
 use Rattle.abc_lines.specs.Edits.{edited}
 use Rattle.abc2midi_live.specs.Command.{line_count, command_of}
-use Rattle.abc2midi_live.specs.Transcript.{Request, Edits, ListsFaults, ListsTitles, Shows, Misspelled, CutOff, Ends, request_of, requests, book_requests, answers, answer, goes_on, text_after}
+use Rattle.abc2midi_live.specs.Machine.{Future, Telling, telling}
+use Rattle.abc2midi_live.specs.Storing.{StoreAnswer}
+use Rattle.abc2midi_live.specs.Told.{Holding, answered_by, behind, nothing_more}
+use Rattle.abc2midi_live.specs.Transcript.{Request, Edits, ListsFaults, ListsTitles, Shows, Builds, Misspelled, CutOff, Ends, request_of, requests, book_requests, answers, answered, at_first, goes_on}
 use Rattle.abc2midi_live.specs.declared.command.Command.{Command}
 use Rattle.abc2midi_live.specs.declared.machine.Reply.{Reply}
 use Rattle.abc2midi_live.specs.declared.machine.Reply.TheVariants.{Nothing, Answer, End}
@@ -13,24 +16,28 @@ pub record Begun : Type 0 where
   pub command : Command
   pub lines : Text
 
--- what is answered to the lines that come, from a text on and behind what has begun
-unfoldable pub awaited : Text → Option Begun → Bool → List (List ℕ) → List ℕ
-awaited text None ended lines = answers ended text (requests 0 lines)
-awaited text (Some begun) ended lines =
-    answers ended text (request_of begun.command (begun.lines ++ lines) ∷ requests (line_count begun.command - length begun.lines) lines)
+-- what is told to the lines that come, behind what holds and what has begun
+unfoldable pub awaited : Holding → Option Begun → Future (List ℕ)
+awaited h None ended lines stored = answers ended h (requests 0 lines) stored
+awaited h (Some begun) ended lines stored =
+    answers ended h (request_of begun.command (begun.lines ++ lines) ∷ requests (line_count begun.command - length begun.lines) lines) stored
 
--- a reply, from what is to be answered before it to what is to be answered after it
-abbrev pub Says : (Bool → List (List ℕ) → List ℕ) → (Bool → List (List ℕ) → List ℕ) → Reply → Type 0
-Says before after Nothing = (ended : Bool) (lines : List (List ℕ)) → before ended lines ≡ after ended lines
-Says before after (Answer text) = (ended : Bool) (lines : List (List ℕ)) → before ended lines ≡ text.items ++ after ended lines
-Says before after End = (ended : Bool) (lines : List (List ℕ)) → before ended lines ≡ []
+-- a reply, and the answers that the store gave, from what is to be told before it to what is to be told after it
+abbrev pub Says : Telling (List ℕ) → List StoreAnswer → Reply → Type 0
+Says t now Nothing = (ended : Bool) (lines : List (List ℕ)) (later : List StoreAnswer) → t.before ended lines (now ++ later) ≡ t.after ended lines later
+Says t now (Answer text) = (ended : Bool) (lines : List (List ℕ)) (later : List StoreAnswer) → t.before ended lines (now ++ later) ≡ behind text.items (t.after ended lines later)
+Says t now End = (ended : Bool) (lines : List (List ℕ)) (later : List StoreAnswer) → t.before ended lines (now ++ later) ≡ nothing_more t.directory later
 
--- a reply to a whole request, and the text that it leaves
-abbrev pub Responds : Text → Text → Request → Reply → Type 0
-Responds old new request Nothing = ⊥
-Responds old new request (Answer text) =
-    ((ended : Bool) → answer ended old request ≡ text.items) × (goes_on request ≡ true) × (new ≡ text_after old request)
-Responds old new request End = ((ended : Bool) → answer ended old request ≡ []) × (goes_on request ≡ false)
+-- whatever the store answers behind these answers, the answer to a request and what holds behind it
+abbrev pub AnswersWith : Holding → Request → List StoreAnswer → List ℕ → Holding → Type 0
+AnswersWith old request now text new =
+    (ended : Bool) (later : List StoreAnswer) → answered ended old request (now ++ later) ≡ Some (answered_by text new later)
+
+-- a reply to a whole request, the answers that the store gave, and what holds behind it
+abbrev pub Responds : Holding → Holding → Request → List StoreAnswer → Reply → Type 0
+Responds old new request now Nothing = ⊥
+Responds old new request now (Answer text) = AnswersWith old request now text.items new × (goes_on request ≡ true)
+Responds old new request now End = AnswersWith old request now [] new × (goes_on request ≡ false)
 
 -- whether the text takes what is asked for: nothing else costs any work that is counted
 abbrev pub is_taken : Text → Request → Bool
@@ -38,6 +45,7 @@ is_taken text (Edits splice) = is_ok (edited text splice)
 is_taken text ListsFaults = false
 is_taken text ListsTitles = false
 is_taken text (Shows number) = false
+is_taken text Builds = false
 is_taken text Misspelled = false
 is_taken text CutOff = false
 is_taken text Ends = false
@@ -47,13 +55,14 @@ abbrev pub request_with : Option Begun → List ℕ → Request
 request_with None line = request_of (command_of line) []
 request_with (Some begun) line = request_of begun.command (begun.lines ++ line ∷ [])
 
--- What is to be answered to a command with the first of its lines and those that come is the reply, and then what is
--- to be answered to the lines behind it.
-abbrev pub Proceeds : Text → Command → Text → Text → Option Begun → Reply → Type 0
-Proceeds old command lines new begun reply =
-    Says (awaited old (Some (record { command = command; lines = lines }))) (awaited new begun) reply
+-- What is to be told to a command with the first of its lines and those that come is the reply, and then what is
+-- to be told to the lines behind it.
+abbrev pub Proceeds : Holding → Command → Text → Holding → Option Begun → List StoreAnswer → Reply → Type 0
+Proceeds old command lines new begun now reply =
+    Says (telling (awaited old (Some (record { command = command; lines = lines }))) (awaited new begun) new.directory) now reply
 
--- What is answered to a tune book is this text, and then what is answered to the lines that come behind it.
-abbrev pub Opens : Option (List ℕ) → List ℕ → Text → Option Begun → Type 0
-Opens book text session begun =
-    (ended : Bool) (lines : List (List ℕ)) → answers ended [] (book_requests book ++ requests 0 lines) ≡ text ++ awaited session begun ended lines
+-- What is told to a tune book is this text, and then what is told to the lines that come behind it.
+abbrev pub Opens : Option (List ℕ) → List ℕ → Holding → Option Begun → Type 0
+Opens book text h begun =
+    (ended : Bool) (lines : List (List ℕ)) (stored : List StoreAnswer)
+    → answers ended at_first (book_requests book ++ requests 0 lines) stored ≡ behind text (awaited h begun ended lines stored)

@@ -7,11 +7,12 @@ use Rattle.std.proofs.Math.Dec.{leb-zero}
 use Rattle.abc_lines.specs.Text.{Text, text_of}
 use Rattle.abc_lines.specs.Edits.{insertion, replacement}
 use Rattle.abc2midi_live.specs.Command.{line_count}
-use Rattle.abc2midi_live.specs.Transcript.{Edits, CutOff, request_of, requests, answers, answer}
+use Rattle.abc2midi_live.specs.Told.{Holding, told}
+use Rattle.abc2midi_live.specs.Transcript.{Edits, CutOff, request_of, requests, answers, answered}
 use Rattle.abc2midi_live.specs.Dialogue.{Begun, awaited}
 use Rattle.abc2midi_live.specs.declared.dialogue.Gathering.{Gathering}
 use Rattle.abc2midi_live.specs.declared.command.Command.{Command}
-use Rattle.abc2midi_live.specs.declared.command.Command.TheVariants.{Insert, Replace, Delete, Faults, Titles, Hex, Quit, Unknown}
+use Rattle.abc2midi_live.specs.declared.command.Command.TheVariants.{Insert, Replace, Delete, Faults, Titles, Hex, Build, Quit, Unknown}
 
 -- a command that is gathering its lines, without where they lie in memory
 abbrev pub begun_of : Option Gathering → Option Begun
@@ -26,6 +27,7 @@ request_of-cut (Delete from to) lines e = absurd (false≢true (sym e ∙ leb-ze
 request_of-cut Faults lines e = absurd (false≢true (sym e ∙ leb-zero (length lines)))
 request_of-cut Titles lines e = absurd (false≢true (sym e ∙ leb-zero (length lines)))
 request_of-cut (Hex number) lines e = absurd (false≢true (sym e ∙ leb-zero (length lines)))
+request_of-cut Build lines e = absurd (false≢true (sym e ∙ leb-zero (length lines)))
 request_of-cut Quit lines e = absurd (false≢true (sym e ∙ leb-zero (length lines)))
 request_of-cut Unknown lines e = absurd (false≢true (sym e ∙ leb-zero (length lines)))
 
@@ -36,10 +38,10 @@ gathering_few g = ap (nat_le (line_count g.command)) (length-map g.lines.items (
 pub request_of-gathering : (g : Gathering) → request_of g.command (text_of g.lines) ≡ CutOff
 request_of-gathering g = request_of-cut g.command (text_of g.lines) (gathering_few g)
 
--- nothing is answered before a line comes
-pub dialogue_waits : (text : Text) (gathering : Option Gathering) → awaited text (begun_of gathering) false [] ≡ []
-unfolding awaited answers answer requests
-dialogue_waits text None = refl
-dialogue_waits text (Some g) =
-    ap (λ ls. answers false text (request_of g.command ls ∷ [])) (append-nil (text_of g.lines))
-    ∙ ap (λ r. answers false text (r ∷ [])) (request_of-gathering g)
+-- nothing is told before a line comes
+pub dialogue_waits : (h : Holding) (gathering : Option Gathering) → awaited h (begun_of gathering) false [] [] ≡ Some (told [] h.directory)
+unfolding awaited answers answered requests
+dialogue_waits h None = refl
+dialogue_waits h (Some g) =
+    ap (λ ls. answers false h (request_of g.command ls ∷ []) []) (append-nil (text_of g.lines))
+    ∙ ap (λ r. answers false h (r ∷ []) []) (request_of-gathering g)

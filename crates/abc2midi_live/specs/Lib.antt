@@ -1,5 +1,6 @@
 pub mod Answer
 pub mod Book
+pub mod Building
 pub mod Command
 pub mod Cut
 pub mod Dialogue
@@ -7,5 +8,7 @@ pub mod Gathering
 pub mod Machine
 pub mod Outcome
 pub mod Piped
+pub mod Storing
 pub mod Streams
+pub mod Told
 pub mod Transcript

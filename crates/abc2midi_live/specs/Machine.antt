@@ -1,26 +1,44 @@
 -- What a machine that takes lines answers. Our own.
-use Rattle.std.specs.Prelude.{◌≡◌, ℕ, Bool, true, false, if◌then◌else◌, List, [], ◌∷◌, ◌++◌, ◌==◌, All}
+use Rattle.std.specs.Prelude.{◌≡◌, ℕ, Bool, true, false, if◌then◌else◌, List, [], ◌∷◌, ◌++◌, ◌==◌, All, Option}
+use Rattle.abc_publish.specs.Publishing.{Directory}
 use Rattle.abc_text.specs.Byte.{line_feed}
+use Rattle.abc2midi_live.specs.Storing.{StoreAnswer}
+use Rattle.abc2midi_live.specs.Told.{Told, behind, nothing_more}
 use Rattle.abc2midi_live.specs.Transcript.{input_lines}
 use Rattle.abc2midi_live.specs.declared.machine.Reply.{Reply}
 use Rattle.abc2midi_live.specs.declared.machine.Reply.TheVariants.{Nothing, Answer, End}
 
--- Whatever comes behind a piece: what was to be answered before it is the text, and then, where the machine goes on,
--- what is to be answered after it.
-abbrev pub Answers : {X : Type 0} → (Bool → List X → List ℕ) → (Bool → List X → List ℕ) → List X → List ℕ → Bool → Type 0
-Answers {X} before after piece text goes_on =
-    (ended : Bool) (rest : List X) → before ended (piece ++ rest) ≡ text ++ (if goes_on then after ended rest else [])
+-- What is to be told to what still comes, where that is all of it and where it is not, for the answers that a store still gives.
+abbrev pub Future : Type 0 → Type 0
+Future X = Bool → List X → List StoreAnswer → Option Told
+
+-- What is to be told, from what it was before a piece to what it is behind it.
+pub record Telling (X : Type 0) : Type 0 where
+  pub before : Future X
+  pub after : Future X
+  -- what the directory is known to hold behind the piece
+  pub directory : Directory
+
+abbrev pub telling : {X : Type 0} → Future X → Future X → Directory → Telling X
+telling before after directory = record { before = before; after = after; directory = directory }
+
+-- Whatever comes behind a piece, and whatever the store answers behind these answers: what was to be told before it is the text,
+-- and then, where the machine goes on, what is to be told after it.
+abbrev pub Answers : {X : Type 0} → Telling X → List X → List StoreAnswer → List ℕ → Bool → Type 0
+Answers {X} t piece now text goes_on =
+    (ended : Bool) (rest : List X) (later : List StoreAnswer)
+    → t.before ended (piece ++ rest) (now ++ later) ≡ behind text (if goes_on then t.after ended rest later else nothing_more t.directory later)
 
 -- the same of the reply to a line
-abbrev pub Replies : (Bool → List (List ℕ) → List ℕ) → (Bool → List (List ℕ) → List ℕ) → List ℕ → Reply → Type 0
-Replies before after line Nothing = Answers before after (line ∷ []) [] true
-Replies before after line (Answer text) = Answers before after (line ∷ []) text.items true
-Replies before after line End = Answers before after (line ∷ []) [] false
+abbrev pub Replies : Telling (List ℕ) → List ℕ → List StoreAnswer → Reply → Type 0
+Replies t line now Nothing = Answers t (line ∷ []) now [] true
+Replies t line now (Answer text) = Answers t (line ∷ []) now text.items true
+Replies t line now End = Answers t (line ∷ []) now [] false
 
 -- no line ends within these bytes
 abbrev pub IsClean : List ℕ → Type 0
 IsClean bytes = All (λ b. (b == line_feed) ≡ false) bytes
 
--- what is answered to bytes, where the beginning of a line has come before them
-unfoldable pub ahead : (Bool → List (List ℕ) → List ℕ) → List ℕ → Bool → List ℕ → List ℕ
-ahead future begun ended bytes = future ended (input_lines ended (begun ++ bytes))
+-- what is told to bytes, where the beginning of a line has come before them
+unfoldable pub ahead : Future (List ℕ) → List ℕ → Future ℕ
+ahead future begun ended bytes answers = future ended (input_lines ended (begun ++ bytes)) answers

@@ -1,7 +1,11 @@
 -- How a run ends, and what it leaves. Our own.
-use Rattle.std.specs.Prelude.{◌≡◌, ℕ, ◌<◌, ◌≤◌, Bool, true, false, List, ◌++◌, length, Option, Result, Ok, Err, ⊤, ◌⊎◌, IfSome, IsSome}
+use Rattle.std.specs.Prelude.{◌≡◌, ℕ, ◌<◌, ◌≤◌, Bool, true, false, List, ◌++◌, length, Option, Some, Result, Ok, Err, ⊤, ◌⊎◌, IfSome, IsSome}
 use Rattle.std.specs.Io.KnownBytes.{Appends, Consumes, Keeps}
-use Rattle.abc2midi_live.specs.Machine.{Answers}
+use Rattle.abc_publish.specs.Publishing.{Directory}
+use Rattle.abc2midi_live.specs.Machine.{Answers, Future, Telling}
+use Rattle.abc2midi_live.specs.Storing.{Follows, HasNoFiles, MirrorsWhereTold, StoreAnswer, StoreSeen, faults_among}
+use Rattle.abc2midi_live.specs.Told.{Told}
+use Rattle.abc2midi_live.specs.Transcript.{no_directory}
 use Rattle.abc_fold.specs.Work.{raised}
 use Rattle.abc2midi_live.specs.declared.reading.TheConstants.{MOST_READS}
 use Rattle.abc2midi_live.specs.declared.fault.RunFault.{RunFault}
@@ -20,48 +24,83 @@ Unserved old new Read = ⊥
 Unserved old new Write = ⊤
 Unserved old new Memory = Keeps old new
 
+-- What is seen of a writer and of a store: the bytes written, where they are told, and the store.
+pub record Outlets : Type 0 where
+  pub output : Option (List ℕ)
+  pub store : StoreSeen
+
+abbrev pub outlets : Option (List ℕ) → StoreSeen → Outlets
+outlets output store = record { output = output; store = store }
+
+-- A piece is served: a text is written and the store gives answers, which are what is told to the piece. Of what the directory
+-- was known to hold before it.
+abbrev pub Serves : {X : Type 0} → Directory → Telling X → List X → Outlets → Outlets → Bool → Type 0
+Serves before t piece old new goes_on =
+    (text : List ℕ) × (stored : List StoreAnswer) × Appends old.output new.output text × Answers t piece stored text goes_on
+    × Follows old.store new.store stored before t.directory
+
+-- What is told for the answers of a store is written, and these are its answers.
+abbrev pub Tells : Directory → (List StoreAnswer → Option Told) → Outlets → Outlets → Type 0
+Tells before answered old new =
+    (stored : List StoreAnswer) × (told : Told) × (answered stored ≡ Some told) × Appends old.output new.output told.text
+    × Follows old.store new.store stored before told.directory
+
 -- What a fault leaves where a piece of the input is served: for want of memory the answers to a front of it.
-abbrev pub BrokenOff : (Bool → List ℕ → List ℕ) → List ℕ → Option (List ℕ) → Option (List ℕ) → RunFault → Type 0
+abbrev pub BrokenOff : Future ℕ → List ℕ → Option (List ℕ) → Option (List ℕ) → RunFault → Type 0
 BrokenOff before piece old new Read = ⊥
 BrokenOff before piece old new Write = ⊤
 BrokenOff before piece old new Memory =
-    (front : List ℕ) × (back : List ℕ) × (piece ≡ front ++ back) × Appends old new (before false front)
+    (front : List ℕ) × (back : List ℕ) × (stored : List StoreAnswer) × (told : Told) × (piece ≡ front ++ back) × (before false front stored ≡ Some told) × Appends old new told.text
 
--- The two ends of a run, where they are told: what the reader has to give, and what the writer holds.
+-- The ends of a run, where they are told: what the reader has to give, what the writer holds, and what is seen of the store.
 pub record Ends : Type 0 where
   pub input : Option (List ℕ)
-  pub output : Option (List ℕ)
+  pub out : Outlets
 
--- what a reader has to give, and what a writer holds
-abbrev pub ends : Option (List ℕ) → Option (List ℕ) → Ends
-ends input output = record { input = input; output = output }
+abbrev pub ends : Option (List ℕ) → Option (List ℕ) → StoreSeen → Ends
+ends input output store = record { input = input; out = outlets output store }
 
--- What a fault leaves of a run, from its ends at first to those at last; `answered` is what is to be written for the
--- beginning of an input.
-abbrev pub Leaves : (List ℕ → List ℕ) → Ends → Ends → RunFault → Type 0
+-- What a fault leaves of a run, from its ends at first to those at last; `answered` is what is to be told for the
+-- beginning of an input and answers of the store, and `before` what the directory is known to hold at first.
+abbrev pub Leaves : Directory → (List ℕ → List StoreAnswer → Option Told) → Ends → Ends → RunFault → Type 0
 -- the answers to the commands wholly read
-Leaves answered old new Read =
-    (taken : List ℕ) × Consumes old.input new.input taken × Appends old.output new.output (answered taken)
+Leaves before answered old new Read = (taken : List ℕ) × Consumes old.input new.input taken × Tells before (answered taken) old.out new.out
 -- nothing is said of the bytes
-Leaves answered old new Write = ⊤
+Leaves before answered old new Write = ⊤
 -- the answers to the commands before the one in hand
-Leaves answered old new Memory =
-    (before : List ℕ) × (behind : List ℕ) × Consumes old.input new.input (before ++ behind) × Appends old.output new.output (answered before)
+Leaves before answered old new Memory =
+    (front : List ℕ) × (behind : List ℕ) × (stored : List StoreAnswer) × (told : Told) × Consumes old.input new.input (front ++ behind)
+    × (answered front stored ≡ Some told) × Appends old.out.output new.out.output told.text
 
 -- What a fault leaves of a run that a tune book came before. The book counts as a command: for want of memory its
 -- answer may not come, and then nothing is read or written.
-abbrev pub LeavesRun : Option (List ℕ) → (List ℕ → List ℕ) → Ends → Ends → RunFault → Type 0
-LeavesRun book answered old new Read = Leaves answered old new Read
+abbrev pub LeavesRun : Option (List ℕ) → (List ℕ → List StoreAnswer → Option Told) → Ends → Ends → RunFault → Type 0
+LeavesRun book answered old new Read = Leaves no_directory answered old new Read
 LeavesRun book answered old new Write = ⊤
 LeavesRun book answered old new Memory =
-    Leaves answered old new Memory ⊎ (IsSome book × Keeps old.input new.input × Keeps old.output new.output)
+    Leaves no_directory answered old new Memory ⊎ (IsSome book × Keeps old.input new.input × Keeps old.out.output new.out.output)
 
--- What one read leads to, from what is to be answered before it to what is after it: where the run goes on, it took
--- bytes, and these are answered so far as they can be; else all that there was to read is.
-abbrev pub Turn : (Bool → List ℕ → List ℕ) → (Bool → List ℕ → List ℕ) → Ends → Ends → Bool → Type 0
-Turn before after old new true =
-    (taken : List ℕ) × (text : List ℕ) × (0 < length taken) × Consumes old.input new.input taken × Appends old.output new.output text × Answers before after taken text true
-Turn before after old new false = IfSome old.input (λ bytes. Appends old.output new.output (before true bytes))
+-- All of an input is answered, where it is told; what the store gave are answers that a directory follows from, in any case.
+abbrev pub Ended : Directory → Future ℕ → Ends → Ends → Type 0
+Ended before future old new =
+    (stored : List StoreAnswer) × (told : Told) × Follows old.out.store new.out.store stored before told.directory
+    × IfSome old.input (λ bytes. (future true bytes stored ≡ Some told) × Appends old.out.output new.out.output told.text)
+
+-- What one read leads to, from what the directory was known to hold before it: where the run goes on, it took bytes, and
+-- these are answered so far as they can be; else all that there was to read is.
+abbrev pub Turn : Directory → Telling ℕ → Ends → Ends → Bool → Type 0
+Turn before t old new true =
+    (taken : List ℕ) × (0 < length taken) × Consumes old.input new.input taken × Serves before t taken old.out new.out true
+Turn before t old new false = Ended before t.before old new
+
+-- What was written is what is told for all of an input and the answers that the store gave; these are its only faults,
+-- and where none of the files stood there at first, it holds what the directory is known to hold, and nothing else of that kind.
+pub record Completes (answered : List ℕ → List StoreAnswer → Option Told) (old new : Ends) : Type 0 where
+  pub stored : List StoreAnswer
+  pub told : Told
+  pub text : IfSome old.input (λ bytes. (answered bytes stored ≡ Some told) × Appends old.out.output new.out.output told.text)
+  pub failures : new.out.store.failures ≡ raised old.out.store.failures (faults_among stored)
+  pub contents : HasNoFiles old.out.store.contents → MirrorsWhereTold old.out.store.contents new.out.store.contents told.directory
 
 -- how many faults of the reader a read tells of
 abbrev pub read_faults : {T : Type 0} → Result T RunFault → ℕ

@@ -1,5 +1,5 @@
 -- What the program writes for an input: the answers to its commands, in order. Our own.
-use Rattle.std.specs.Prelude.{ℕ, zero, suc, ◌+◌, ◌&&◌, ◌==◌, nat_le, Bool, true, false, if◌then◌else◌, List, [], ◌∷◌, ◌++◌, length, take, drop, map, Option, Some, None, Result, Ok, Err}
+use Rattle.std.specs.Prelude.{ℕ, zero, suc, ◌+◌, ◌&&◌, ◌==◌, nat_le, Bool, true, false, if◌then◌else◌, List, [], ◌∷◌, ◌++◌, length, take, drop, map, Option, Some, None, option_and_then, Result, Ok, Err}
 use Rattle.std.specs.List.{slice_split}
 use Rattle.std.specs.Result.{result_unwrap_or}
 use Rattle.std.specs.Str.{bytes_eq}
@@ -7,13 +7,17 @@ use Rattle.abc_lines.specs.declared.limits.TheConstants.{LONGEST_LINE}
 use Rattle.abc_text.specs.Byte.{line_feed}
 use Rattle.abc_lines.specs.Text.{Text, Splice}
 use Rattle.abc_lines.specs.Edits.{insertion, replacement, deletion, edited}
+use Rattle.abc_publish.specs.Publishing.{Directory}
 use Rattle.abc_tunebook.specs.Files.{file_at}
 use Rattle.abc2midi_live.specs.Book.{files_of, faults_of, titles_of}
 use Rattle.abc2midi_live.specs.Command.{command_of, line_count}
 use Rattle.abc2midi_live.specs.Answer.{report, refusal, fault_list, title_list, hex_line, unknown_line, truncated_line}
+use Rattle.abc2midi_live.specs.Building.{pending_numbers, storing}
+use Rattle.abc2midi_live.specs.Storing.{StoreAnswer}
+use Rattle.abc2midi_live.specs.Told.{Holding, holding, Told, behind, nothing_more, Answered, answered_by}
 use Rattle.abc_lines.specs.declared.edit_error.EditError.{EditError}
 use Rattle.abc2midi_live.specs.declared.command.Command.{Command}
-use Rattle.abc2midi_live.specs.declared.command.Command.TheVariants.{Insert, Replace, Delete, Faults, Titles, Hex, Quit, Unknown}
+use Rattle.abc2midi_live.specs.declared.command.Command.TheVariants.{Insert, Replace, Delete, Faults, Titles, Hex, Build, Quit, Unknown}
 
 -- The parts of an input between line feeds are its lines. Behind the last line feed stands a line only where it is
 -- not empty and the input has ended; before that, more of it may come.
@@ -49,6 +53,7 @@ pub data Request : Type 0 where
   ListsTitles : Request
   Shows : (number : ℕ) → Request
   Misspelled : Request
+  Builds : Request
   CutOff : Request  -- there are not as many lines as it asks for
   Ends : Request
 
@@ -60,6 +65,7 @@ request_of (Delete from to) lines = Edits (deletion from to)
 request_of Faults lines = ListsFaults
 request_of Titles lines = ListsTitles
 request_of (Hex number) lines = Shows number
+request_of Build lines = Builds
 request_of Quit lines = Ends
 request_of Unknown lines = Misspelled
 
@@ -74,25 +80,18 @@ unfoldable pub edit_answer : Text → Result Text EditError → List ℕ
 edit_answer before (Ok after) = report (files_of before) (files_of after)
 edit_answer before (Err error) = refusal error
 
--- the answer to a request; one that is cut off has its answer where the input has ended
-unfoldable pub answer : Bool → Text → Request → List ℕ
-answer ended text (Edits splice) = edit_answer text (edited text splice)
-answer ended text ListsFaults = fault_list (faults_of text)
-answer ended text ListsTitles = title_list (titles_of text)
-answer ended text (Shows number) = hex_line (file_at (files_of text) number)
-answer ended text Misspelled = unknown_line
-answer ended text CutOff = if ended then truncated_line else []
-answer ended text Ends = []
-
--- A refused edit leaves the text.
-unfoldable pub text_after : Text → Request → Text
-text_after text (Edits splice) = result_unwrap_or (edited text splice) text
-text_after text ListsFaults = text
-text_after text ListsTitles = text
-text_after text (Shows number) = text
-text_after text Misspelled = text
-text_after text CutOff = text
-text_after text Ends = text
+-- The answer to a request. One that is cut off has its answer where the input has ended. There is none where the store gives
+-- fewer answers than are asked for.
+unfoldable pub answered : Bool → Holding → Request → List StoreAnswer → Option Answered
+answered ended h (Edits splice) answers =
+    Some (answered_by (edit_answer h.text (edited h.text splice)) (holding (result_unwrap_or (edited h.text splice) h.text) h.directory) answers)
+answered ended h ListsFaults answers = Some (answered_by (fault_list (faults_of h.text)) h answers)
+answered ended h ListsTitles answers = Some (answered_by (title_list (titles_of h.text)) h answers)
+answered ended h (Shows number) answers = Some (answered_by (hex_line (file_at (files_of h.text) number)) h answers)
+answered ended h Builds answers = storing h.text h.directory (pending_numbers h.directory (files_of h.text)) answers
+answered ended h Misspelled answers = Some (answered_by unknown_line h answers)
+answered ended h CutOff answers = Some (answered_by (if ended then truncated_line else []) h answers)
+answered ended h Ends answers = Some (answered_by [] h answers)
 
 -- whether the run goes on after a request
 abbrev pub goes_on : Request → Bool
@@ -100,25 +99,37 @@ goes_on (Edits splice) = true
 goes_on ListsFaults = true
 goes_on ListsTitles = true
 goes_on (Shows number) = true
+goes_on Builds = true
 goes_on Misspelled = true
 goes_on CutOff = false
 goes_on Ends = false
 
--- the answers to requests, from a text on; no request has one after `quit`
-unfoldable pub answers : Bool → Text → List Request → List ℕ
-answers ended text [] = []
-answers ended text (request ∷ rest) =
-    answer ended text request ++ (if goes_on request then answers ended (text_after text request) rest else [])
+-- What is told in answer to requests, for these answers of a store, neither more nor fewer. No request has an answer
+-- after `quit`.
+unfoldable pub answers : Bool → Holding → List Request → List StoreAnswer → Option Told
+answers ended h [] stored = nothing_more h.directory stored
+answers ended h (request ∷ rest) stored =
+    option_and_then (λ a. behind a.text (if goes_on request then answers ended a.after rest a.left else nothing_more a.after.directory a.left))
+    (answered ended h request stored)
 
 -- A tune book comes before the commands, and is an insertion before line 1.
 abbrev pub book_requests : Option (List ℕ) → List Request
 book_requests None = []
 book_requests (Some bytes) = Edits (insertion 1 (book_lines bytes)) ∷ []
 
--- what is written for a tune book, if there is one, and the whole of an input
-unfoldable pub transcript : Option (List ℕ) → List ℕ → List ℕ
-transcript book input = answers true [] (book_requests book ++ requests 0 (input_lines true input))
+-- no number has a file
+abbrev pub no_directory : Directory
+no_directory n = None
 
--- what is written for a tune book and the beginning of an input: the answers to the commands that stand wholly in it
-unfoldable pub transcript_so_far : Option (List ℕ) → List ℕ → List ℕ
-transcript_so_far book input = answers false [] (book_requests book ++ requests 0 (input_lines false input))
+-- what holds at first: no lines, and no file
+abbrev pub at_first : Holding
+at_first = holding [] no_directory
+
+-- What is told for a tune book, if there is one, the whole of an input, and all the answers of a store; None where
+-- a store would give more of them, or fewer.
+unfoldable pub transcript : Option (List ℕ) → List ℕ → List StoreAnswer → Option Told
+transcript book input stored = answers true at_first (book_requests book ++ requests 0 (input_lines true input)) stored
+
+-- The same for a tune book and the beginning of an input: the answers to the commands that stand wholly in it.
+unfoldable pub transcript_so_far : Option (List ℕ) → List ℕ → List StoreAnswer → Option Told
+transcript_so_far book input stored = answers false at_first (book_requests book ++ requests 0 (input_lines false input)) stored

@@ -1,7 +1,7 @@
 //! The texts of answers.
 
-ghost use Rattle.std.specs.Prelude.{◌≡◌, ◌≢◌, ◌++◌, decimal, option_map, IfOk, OnOk};
-ghost use Rattle.abc2midi_live.specs.Answer.{listed, report_line, refusal, fault_line, fault_list, title_line, title_list, hex_line};
+ghost use Rattle.std.specs.Prelude.{◌≡◌, ◌≢◌, ◌++◌, decimal, option_copied, option_map, IfOk, OnOk};
+ghost use Rattle.abc2midi_live.specs.Answer.{listed, report_line, refusal, fault_line, fault_list, title_line, title_list, hex_line, stored_line, failed_line};
 
 use abc_lines::EditError;
 use abc_tunebook::{Fault, Report, Title};
@@ -118,4 +118,27 @@ pub fn hex_line(alloc: Global, bytes: Option<&[u8]>) -> Result<Vec<u8>, AllocErr
         }
         None => Vec::from_slice(alloc, b"none\n"),
     }
+}
+
+/// Puts the line of a file that was written, or removed, behind the text.
+#[tactic(auto, unfolding(crate::specs::Answer::stored_line))]
+pub fn put_stored(text: &mut Vec<u8>, number: u32, bytes: Option<&[u8]>) -> Result<(), AllocError>
+    ensures { OnOk result (text.new.items ≡ text.old.items ++ stored_line number (option_copied bytes.entry)) }
+{
+    match bytes {
+        Some(_) => text.extend_from_slice(b"written ")?,
+        None => text.extend_from_slice(b"removed ")?,
+    }
+    put_number(text, number)?;
+    text.extend_from_slice(b".mid\n")
+}
+
+/// Puts the line of a file that could not be behind the text.
+#[tactic(auto, unfolding(crate::specs::Answer::failed_line))]
+pub fn put_failed(text: &mut Vec<u8>, number: u32) -> Result<(), AllocError>
+    ensures { OnOk result (text.new.items ≡ text.old.items ++ failed_line number) }
+{
+    text.extend_from_slice(b"failed ")?;
+    put_number(text, number)?;
+    text.extend_from_slice(b".mid\n")
 }

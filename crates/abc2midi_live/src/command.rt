@@ -24,6 +24,8 @@ pub enum Command {
     Titles,
     /// Shows the MIDI file of a number.
     Hex { number: u32 },
+    /// Brings the MIDI files in the folder up to date.
+    Build,
     /// Ends the run.
     Quit,
     /// A line that is none of these.
@@ -144,6 +146,7 @@ fn named(name: &str, numbers: &[u32]) -> Command
         "faults" => without_numbers(Command::Faults, numbers),
         "titles" => without_numbers(Command::Titles, numbers),
         "hex" => hex_dump(numbers),
+        "build" => without_numbers(Command::Build, numbers),
         "quit" => without_numbers(Command::Quit, numbers),
         _ => Command::Unknown,
     }

@@ -1,4 +1,4 @@
-//! Commands, each with the lines that belong to it, carried out on a session.
+//! Commands, each with the lines that belong to it, carried out on a session and on the store of its files.
 
 ghost use Rattle.std.specs.Prelude.{◌≡◌, ◌<◌, ◌≤◌, nat_le, false, ℕ, Bool, List, Option, None, [], length, IfOk, IsErr, OnOk};
 ghost use Rattle.std.specs.Result.{result_unwrap_or};
@@ -6,15 +6,22 @@ ghost use Rattle.abc2midi_live.specs.Command.{line_count};
 ghost use Rattle.abc_lines.specs.Text.{text_of};
 ghost use Rattle.abc_lines.specs.Edits.{edited, insertion};
 ghost use Rattle.abc_live.specs.Edit.{splice_of};
-ghost use Rattle.abc2midi_live.specs.Transcript.{book_lines, edit_answer, request_of};
+ghost use Rattle.abc_publish.specs.Publishing.{maps_of};
+ghost use Rattle.abc2midi_live.specs.Building.{IsIdle};
+ghost use Rattle.abc2midi_live.specs.Storing.{store_seen, Follows, StoreAnswer};
+ghost use Rattle.abc2midi_live.specs.Told.{holding};
+ghost use Rattle.abc2midi_live.specs.Transcript.{book_lines, edit_answer, no_directory, request_of};
 ghost use Rattle.abc2midi_live.specs.Dialogue.{Responds, Proceeds, is_taken};
 
 use crate::answer::{fault_list, hex_line, refusal, report_line, title_list};
 use crate::book_lines::book_lines;
+use crate::building::build;
 use crate::command::Command;
 use crate::machine::{Machine, Reply};
+use crate::streams::Store;
 use abc_fold::Work;
 use abc_live::{Edit, Session};
+use abc_publish::Publisher;
 use std::alloc::{AllocError, Global};
 
 // Edits the text, and gives the answer to that.
@@ -34,51 +41,6 @@ fn edit(
     }
 }
 
-// Carries out a command with its lines, and answers it.
-fn respond(
-    alloc: Global,
-    session: &mut Session,
-    command: Command,
-    lines: Vec<Vec<u8>>,
-    work: &mut Work,
-) -> Result<Reply, AllocError>
-    requires { length lines.items ≡ line_count command }
-    ensures reply { IfOk result (Responds session.old.text session.new.text (request_of command (text_of lines))) }
-    ensures uncounted { OnOk result (is_taken session.old.text (request_of command (text_of lines)) ≡ false → work.new ≡ work.old) }
-{
-    match command {
-        Command::Insert { at, .. } => {
-            let text = edit(alloc, session, &Edit::Insert { at, lines }, work)?;
-            Ok(Reply::Answer(text))
-        }
-        Command::Replace { from, to, .. } => {
-            let text = edit(alloc, session, &Edit::Replace { from, to, lines }, work)?;
-            Ok(Reply::Answer(text))
-        }
-        Command::Delete { from, to } => {
-            let text = edit(alloc, session, &Edit::Delete { from, to }, work)?;
-            Ok(Reply::Answer(text))
-        }
-        Command::Faults => {
-            let text = fault_list(alloc, session.faults())?;
-            Ok(Reply::Answer(text))
-        }
-        Command::Titles => {
-            let text = title_list(alloc, session.titles())?;
-            Ok(Reply::Answer(text))
-        }
-        Command::Hex { number } => {
-            let text = hex_line(alloc, session.output(number))?;
-            Ok(Reply::Answer(text))
-        }
-        Command::Quit => Ok(Reply::End),
-        Command::Unknown => {
-            let text = Vec::from_slice(alloc, b"error command\n")?;
-            Ok(Reply::Answer(text))
-        }
-    }
-}
-
 /// A command whose lines have not all come.
 #[derive(Drop)]
 pub struct Gathering {
@@ -92,7 +54,9 @@ pub struct Gathering {
 pub struct Dialogue {
     pub alloc: Global,
     pub session: Session,
+    pub publisher: Publisher,
     pub gathering: Option<Gathering>,
+    ghost idle: { IsIdle (maps_of publisher) },
 }
 
 impl Dialogue {
@@ -101,11 +65,13 @@ impl Dialogue {
     /// No command has come yet.
     pub fn new(alloc: Global) -> Result<Dialogue, AllocError>
         ensures session { IfOk result (λ d. d.session.text ≡ []) }
+        ensures directory { IfOk result (λ d. (maps_of d.publisher).directory ≡ no_directory) }
         ensures gathering { IfOk result (λ d. d.gathering ≡ None) }
     {
         Ok(Dialogue {
             alloc,
             session: Session::new(alloc)?,
+            publisher: Publisher::new(alloc)?,
             gathering: None,
         })
     }
@@ -114,6 +80,7 @@ impl Dialogue {
     pub fn take_book(&mut self, book: &[u8], work: &mut Work) -> Result<Vec<u8>, AllocError>
         ensures answer { IfOk result (λ text. text.items ≡ edit_answer self.old.session.text (edited self.old.session.text (insertion 1 (book_lines book.now)))) }
         ensures session { IfOk result (λ _. self.new.session.text ≡ result_unwrap_or (edited self.old.session.text (insertion 1 (book_lines book.now))) self.old.session.text) }
+        ensures publisher { self.new.publisher ≡ self.old.publisher }
         ensures gathering { self.new.gathering ≡ self.old.gathering }
     {
         let lines = book_lines(self.alloc, book)?;
@@ -125,23 +92,81 @@ impl Dialogue {
         )
     }
 
-    // Goes on with a command and those of its lines that have come.
-    fn proceed(
+    // Carries out a command with its lines, and answers it.
+    fn respond<S: Store>(
         &mut self,
         command: Command,
         lines: Vec<Vec<u8>>,
+        store: &mut S,
+        work: &mut Work,
+    ) -> Result<Reply, AllocError>
+        requires { length lines.items ≡ line_count command }
+        ensures reply { let before = (maps_of self.old.publisher).directory in let after = (maps_of self.new.publisher).directory in IfOk result (λ reply. (stored : List StoreAnswer)
+            × Responds (holding self.old.session.text before) (holding self.new.session.text after) (request_of command (text_of lines)) stored reply
+            × Follows (store_seen (S.failures store.old) (S.contents store.old)) (store_seen (S.failures store.new) (S.contents store.new)) stored before after) }
+        ensures gathering { self.new.gathering ≡ self.old.gathering }
+        ensures uncounted { OnOk result (is_taken self.old.session.text (request_of command (text_of lines)) ≡ false → work.new ≡ work.old) }
+    {
+        match command {
+            Command::Insert { at, .. } => {
+                let change = Edit::Insert { at, lines };
+                let text = edit(self.alloc, &mut self.session, &change, work)?;
+                Ok(Reply::Answer(text))
+            }
+            Command::Replace { from, to, .. } => {
+                let change = Edit::Replace { from, to, lines };
+                let text = edit(self.alloc, &mut self.session, &change, work)?;
+                Ok(Reply::Answer(text))
+            }
+            Command::Delete { from, to } => {
+                let change = Edit::Delete { from, to };
+                let text = edit(self.alloc, &mut self.session, &change, work)?;
+                Ok(Reply::Answer(text))
+            }
+            Command::Faults => {
+                let text = fault_list(self.alloc, self.session.faults())?;
+                Ok(Reply::Answer(text))
+            }
+            Command::Titles => {
+                let text = title_list(self.alloc, self.session.titles())?;
+                Ok(Reply::Answer(text))
+            }
+            Command::Hex { number } => {
+                let text = hex_line(self.alloc, self.session.output(number))?;
+                Ok(Reply::Answer(text))
+            }
+            Command::Build => {
+                let text = build(self.alloc, &mut self.publisher, &self.session, store)?;
+                Ok(Reply::Answer(text))
+            }
+            Command::Quit => Ok(Reply::End),
+            Command::Unknown => {
+                let text = Vec::from_slice(self.alloc, b"error command\n")?;
+                Ok(Reply::Answer(text))
+            }
+        }
+    }
+
+    // Goes on with a command and those of its lines that have come.
+    fn proceed<S: Store>(
+        &mut self,
+        command: Command,
+        lines: Vec<Vec<u8>>,
+        store: &mut S,
         work: &mut Work,
     ) -> Result<Reply, AllocError>
         requires idle { self.old.gathering ≡ None }
         requires few { length lines.items ≤ line_count command }
-        ensures reply { IfOk result (Proceeds self.old.session.text command (text_of lines) self.new.session.text (begun_of self.new.gathering)) }
+        ensures reply { let before = (maps_of self.old.publisher).directory in let after = (maps_of self.new.publisher).directory in IfOk result (λ reply. (stored : List StoreAnswer)
+            × Proceeds (holding self.old.session.text before) command (text_of lines) (holding self.new.session.text after) (begun_of self.new.gathering) stored reply
+            × Follows (store_seen (S.failures store.old) (S.contents store.old)) (store_seen (S.failures store.new) (S.contents store.new)) stored before after) }
         ensures uncounted { OnOk result (is_taken self.old.session.text (request_of command (text_of lines)) ≡ false → work.new ≡ work.old) }
     {
         if lines.len() < command.line_count() {
             self.gathering = Some(Gathering { command, lines });
             return Ok(Reply::Nothing);
         }
-        respond(self.alloc, &mut self.session, command, lines, work)
+        self.respond(command, lines, store, work)
     }
 }
 
@@ -149,21 +174,28 @@ impl Machine for Dialogue {
     ghost use Rattle.abc2midi_live.specs.Dialogue.{awaited, request_with};
     ghost use Rattle.abc2midi_live.specs.Gathering.{begun_of, dialogue_waits};
 
-    ghost future = { λ d. awaited d.session.text (begun_of d.gathering) };
+    ghost future = { λ d. awaited (holding d.session.text (maps_of d.publisher).directory) (begun_of d.gathering) };
+
+    ghost directory = { λ d. (maps_of d.publisher).directory };
 
     ghost costs = { λ d line. is_taken d.session.text (request_with (begun_of d.gathering) line) };
 
-    ghost waits = { λ d. dialogue_waits d.session.text d.gathering };
+    ghost waits = { λ d. dialogue_waits (holding d.session.text (maps_of d.publisher).directory) d.gathering };
 
-    fn take_line(&mut self, line: Vec<u8>, work: &mut Work) -> Result<Reply, AllocError> {
+    fn take_line<S: Store>(
+        &mut self,
+        line: Vec<u8>,
+        store: &mut S,
+        work: &mut Work,
+    ) -> Result<Reply, AllocError> {
         match self.gathering.take() {
             Some(Gathering { command, mut lines }) => {
                 lines.push(line)?;
-                self.proceed(command, lines, work)
+                self.proceed(command, lines, store, work)
             }
             None => {
                 let lines = Vec::new(self.alloc);
-                self.proceed(Command::of(&line), lines, work)
+                self.proceed(Command::of(&line), lines, store, work)
             }
         }
     }

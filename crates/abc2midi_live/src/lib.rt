@@ -3,6 +3,7 @@
 
 mod answer;
 mod book_lines;
+mod building;
 mod command;
 mod cut;
 mod dialogue;

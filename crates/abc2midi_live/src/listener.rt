@@ -1,17 +1,18 @@
 //! Bytes that come in pieces, cut into lines for a machine whose answers go to a sink.
 
-ghost use Rattle.std.specs.Prelude.{◌≡◌, ◌≤◌, ◌==◌, ℕ, List, [], ◌∷◌, ◌++◌, take, length, true, false, All, OnOk, MatchResult, IfSome};
-ghost use Rattle.std.specs.Io.KnownBytes.{Appends, Keeps};
+ghost use Rattle.std.specs.Prelude.{◌≡◌, ◌≤◌, [], ◌∷◌, ◌++◌, take, length, true, false, OnOk, MatchResult};
+ghost use Rattle.std.specs.Io.KnownBytes.{Appends};
 ghost use Rattle.abc_text.specs.Byte.{line_feed};
-ghost use Rattle.abc2midi_live.specs.Machine.{Answers, ahead, IsClean};
-ghost use Rattle.abc2midi_live.specs.Outcome.{write_faults, Unserved, BrokenOff};
+ghost use Rattle.abc2midi_live.specs.Machine.{ahead, telling, IsClean};
+ghost use Rattle.abc2midi_live.specs.Outcome.{write_faults, outlets, Serves, Tells, Unserved, BrokenOff};
+ghost use Rattle.abc2midi_live.specs.Storing.{store_seen};
 ghost use Rattle.abc2midi_live.specs.Transcript.{most_kept};
 ghost use Rattle.abc_fold.specs.Work.{raised};
 
 use crate::cut::cut;
 use crate::fault::RunFault;
 use crate::machine::{Machine, Reply};
-use crate::streams::Sink;
+use crate::streams::{Sink, Store};
 use abc_fold::Work;
 use abc_lines::LONGEST_LINE;
 use std::alloc::{AllocError, Global};
@@ -22,20 +23,22 @@ const MOST_KEPT: usize = LONGEST_LINE + 1;
 
 // Hands a line to the machine and writes its answer. Whether the machine goes on.
 #[tactic(auto, using(crate::proofs::Counts::raised_none))]
-fn serve<M: Machine, W: Sink>(
+fn serve<M: Machine, W: Sink, S: Store>(
     machine: &mut M,
     writer: &mut W,
     line: Vec<u8>,
+    store: &mut S,
     work: &mut Work,
 ) -> Result<bool, RunFault>
     ensures answer { MatchResult result
-        (λ goes_on. (text : List ℕ) × Appends (W.contents writer.old) (W.contents writer.new) text
-        × Answers (M.future machine.old) (M.future machine.new) (line.items ∷ []) text goes_on)
+        (Serves (M.directory machine.old) (telling (M.future machine.old) (M.future machine.new) (M.directory machine.new)) (line.items ∷ [])
+        (outlets (W.contents writer.old) (store_seen (S.failures store.old) (S.contents store.old)))
+        (outlets (W.contents writer.new) (store_seen (S.failures store.new) (S.contents store.new))))
         (Unserved (W.contents writer.old) (W.contents writer.new)) }
     ensures fails { W.failures writer.new ≡ raised (W.failures writer.old) (write_faults result) }
     ensures uncounted { OnOk result (M.costs machine.old line.items ≡ false → work.new ≡ work.old) }
 {
-    match machine.take_line(line, work)? {
+    match machine.take_line(line, store, work)? {
         Reply::Nothing => Ok(true),
         Reply::Answer(text) => match writer.write_all(&text) {
             Ok(()) => Ok(true),
@@ -105,39 +108,45 @@ impl<M: Machine> Listener<M> {
     }
 
     // Serves the line that the piece ends.
-    fn end_line<W: Sink>(
+    fn end_line<W: Sink, S: Store>(
         &mut self,
         alloc: Global,
         writer: &mut W,
         piece: &[u8],
+        store: &mut S,
         work: &mut Work,
     ) -> Result<bool, RunFault>
         requires { IsClean piece.now }
         ensures answer { MatchResult result
-            (λ goes_on. (text : List ℕ) × Appends (W.contents writer.old) (W.contents writer.new) text
-            × Answers (ahead (M.future self.old.machine) self.old.begun.items)
-            (ahead (M.future self.new.machine) self.new.begun.items) (piece.now ++ line_feed ∷ []) text goes_on)
+            (Serves (M.directory self.old.machine)
+            (telling (ahead (M.future self.old.machine) self.old.begun.items) (ahead (M.future self.new.machine) self.new.begun.items) (M.directory self.new.machine))
+            (piece.now ++ line_feed ∷ [])
+            (outlets (W.contents writer.old) (store_seen (S.failures store.old) (S.contents store.old)))
+            (outlets (W.contents writer.new) (store_seen (S.failures store.new) (S.contents store.new))))
             (Unserved (W.contents writer.old) (W.contents writer.new)) }
         ensures fails { W.failures writer.new ≡ raised (W.failures writer.old) (write_faults result) }
     {
         self.keep(piece)?;
         let line = self.take_begun(alloc);
-        serve(&mut self.machine, writer, line, work)
+        serve(&mut self.machine, writer, line, store, work)
     }
 
     /// Serves the lines that end in a piece of the input, and keeps what comes behind them. Whether the machine
     /// goes on.
-    pub fn feed<W: Sink>(
+    pub fn feed<W: Sink, S: Store>(
         &mut self,
         alloc: Global,
         writer: &mut W,
         piece: &[u8],
+        store: &mut S,
         work: &mut Work,
     ) -> Result<bool, RunFault>
         ensures answer { MatchResult result
-            (λ goes_on. (text : List ℕ) × Appends (W.contents writer.old) (W.contents writer.new) text
-            × Answers (ahead (M.future self.old.machine) self.old.begun.items)
-            (ahead (M.future self.new.machine) self.new.begun.items) piece.now text goes_on)
+            (Serves (M.directory self.old.machine)
+            (telling (ahead (M.future self.old.machine) self.old.begun.items) (ahead (M.future self.new.machine) self.new.begun.items) (M.directory self.new.machine))
+            piece.now
+            (outlets (W.contents writer.old) (store_seen (S.failures store.old) (S.contents store.old)))
+            (outlets (W.contents writer.new) (store_seen (S.failures store.new) (S.contents store.new))))
             (BrokenOff (ahead (M.future self.old.machine) self.old.begun.items) piece.now
             (W.contents writer.old) (W.contents writer.new)) }
         ensures fails { W.failures writer.new ≡ raised (W.failures writer.old) (write_faults result) }
@@ -146,7 +155,7 @@ impl<M: Machine> Listener<M> {
         'lines: loop {
             match cut(rest, b'\n') {
                 (line, Some(behind)) => {
-                    if !self.end_line(alloc, writer, line, work)? {
+                    if !self.end_line(alloc, writer, line, store, work)? {
                         return Ok(false);
                     }
                     rest = behind;
@@ -160,15 +169,17 @@ impl<M: Machine> Listener<M> {
     }
 
     /// Serves what has come of a last line, and writes what the machine answers where no more lines come.
-    pub fn finish<W: Sink>(
+    pub fn finish<W: Sink, S: Store>(
         &mut self,
         alloc: Global,
         writer: &mut W,
+        store: &mut S,
         work: &mut Work,
     ) -> Result<(), RunFault>
         ensures answer { MatchResult result
-            (λ _. Appends (W.contents writer.old) (W.contents writer.new)
-            (ahead (M.future self.old.machine) self.old.begun.items true []))
+            (λ _. Tells (M.directory self.old.machine) (ahead (M.future self.old.machine) self.old.begun.items true [])
+            (outlets (W.contents writer.old) (store_seen (S.failures store.old) (S.contents store.old)))
+            (outlets (W.contents writer.new) (store_seen (S.failures store.new) (S.contents store.new))))
             (Unserved (W.contents writer.old) (W.contents writer.new)) }
         ensures fails { W.failures writer.new ≡ raised (W.failures writer.old) (write_faults result) }
     {
@@ -176,7 +187,7 @@ impl<M: Machine> Listener<M> {
             return say(writer, self.machine.last_words());
         }
         let line = self.take_begun(alloc);
-        if serve(&mut self.machine, writer, line, work)? {
+        if serve(&mut self.machine, writer, line, store, work)? {
             say(writer, self.machine.last_words())
         } else {
             Ok(())

@@ -1,7 +1,12 @@
 //! What takes the lines of an input one after another, and answers some of them.
 
-ghost use Rattle.std.specs.Prelude.{◌≡◌, ℕ, Bool, true, false, List, [], ◌++◌, IfOk, OnOk};
+ghost use Rattle.std.specs.Prelude.{◌≡◌, Bool, true, false, Some, List, ℕ, [], IfOk, OnOk};
+ghost use Rattle.abc_publish.specs.Publishing.{Directory};
+ghost use Rattle.abc2midi_live.specs.Machine.{Future, Replies, telling};
+ghost use Rattle.abc2midi_live.specs.Storing.{Follows, StoreAnswer, store_seen};
+ghost use Rattle.abc2midi_live.specs.Told.{told};
 
+use crate::streams::Store;
 use abc_fold::Work;
 use std::alloc::AllocError;
 
@@ -16,25 +21,34 @@ pub enum Reply {
     End,
 }
 
-/// A machine that takes lines.
+/// A machine that takes lines, and puts and removes files in a store.
 pub trait Machine {
-    ghost use Rattle.abc2midi_live.specs.Machine.{Replies};
+    // What it tells to the lines that come, where they are all of them and where they are not, for what the store answers.
+    ghost future: { Self → Future (List ℕ) };
 
-    // What it answers to the lines that come, where they are all of them and where they are not.
-    ghost future: { Self → Bool → List (List ℕ) → List ℕ };
+    // What the store is known to hold.
+    ghost directory: { Self → Directory };
 
     // Whether a line may cost work that is counted.
     ghost costs: { Self → List ℕ → Bool };
 
     /// Takes the next line, or the first 65,536 bytes of it.
-    fn take_line(&mut self, line: Vec<u8>, work: &mut Work) -> Result<Reply, AllocError>
-        ensures reply { IfOk result (Replies (future self.old) (future self.new) line.items) }
+    fn take_line<S: Store>(
+        &mut self,
+        line: Vec<u8>,
+        store: &mut S,
+        work: &mut Work,
+    ) -> Result<Reply, AllocError>
+        ensures reply { IfOk result (λ reply. (stored : List StoreAnswer)
+            × Replies (telling (future self.old) (future self.new) (directory self.new)) line.items stored reply
+            × Follows (store_seen (S.failures store.old) (S.contents store.old)) (store_seen (S.failures store.new) (S.contents store.new))
+            stored (directory self.old) (directory self.new)) }
         ensures uncounted { OnOk result (costs self.old line.items ≡ false → work.new ≡ work.old) };
 
-    /// What it answers where no more lines come.
+    /// What it tells where no more lines come.
     fn last_words(&self) -> &'static [u8]
-        ensures { result.now ≡ future self.now true [] };
+        ensures { future self.now true [] [] ≡ Some (told result.now (directory self.now)) };
 
-    // Nothing is answered before a line comes.
-    ghost waits: { (m : Self) → future m false [] ≡ [] };
+    // Nothing is told before a line comes.
+    ghost waits: { (m : Self) → future m false [] [] ≡ Some (told [] (directory m)) };
 }

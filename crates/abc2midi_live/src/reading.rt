@@ -1,16 +1,16 @@
 //! A machine that listens to a reader, from its first byte to the end of the input.
 
-ghost use Rattle.std.specs.Prelude.{◌≡◌, ◌<◌, ◌≤◌, ◌-◌, ◌^◌, ℕ, List, true, false, length, MatchResult, IfSome};
-ghost use Rattle.std.specs.Io.KnownBytes.{Appends};
+ghost use Rattle.std.specs.Prelude.{◌≡◌, ◌<◌, ◌≤◌, ◌-◌, ◌^◌, ℕ, false, length, MatchResult};
 ghost use Rattle.abc2midi_live.specs.Transcript.{input_lines};
-ghost use Rattle.abc2midi_live.specs.Outcome.{read_faults, write_faults, ends, read_counts, Leaves, Reads, Turn};
-ghost use Rattle.abc2midi_live.specs.Machine.{ahead};
+ghost use Rattle.abc2midi_live.specs.Outcome.{read_faults, write_faults, ends, read_counts, Ended, Leaves, Reads, Turn};
+ghost use Rattle.abc2midi_live.specs.Machine.{ahead, telling};
+ghost use Rattle.abc2midi_live.specs.Storing.{store_seen};
 ghost use Rattle.abc_fold.specs.Work.{raised};
 
 use crate::fault::RunFault;
 use crate::listener::Listener;
 use crate::machine::Machine;
-use crate::streams::{Sink, Source};
+use crate::streams::{Sink, Source, Store};
 use abc_fold::Work;
 use std::alloc::Global;
 
@@ -24,21 +24,25 @@ pub fn run_limits()
 
 // One read, and what it leads to. Whether the run goes on.
 #[tactic(auto, using(crate::proofs::Counts::raised_none))]
-fn turn<M: Machine, R: Source, W: Sink>(
+fn turn<M: Machine, R: Source, W: Sink, S: Store>(
     alloc: Global,
     listener: &mut Listener<M>,
     buffer: &mut [u8],
     reader: &mut R,
     writer: &mut W,
+    store: &mut S,
     work: &mut Work,
 ) -> Result<bool, RunFault>
     requires { 0 < length buffer.old }
     ensures answers { MatchResult result
-        (Turn (ahead (M.future listener.old.machine) listener.old.begun.items)
-        (ahead (M.future listener.new.machine) listener.new.begun.items)
-        (ends (R.remaining reader.old) (W.contents writer.old)) (ends (R.remaining reader.new) (W.contents writer.new)))
-        (Leaves (ahead (M.future listener.old.machine) listener.old.begun.items false)
-        (ends (R.remaining reader.old) (W.contents writer.old)) (ends (R.remaining reader.new) (W.contents writer.new))) }
+        (Turn (M.directory listener.old.machine)
+        (telling (ahead (M.future listener.old.machine) listener.old.begun.items) (ahead (M.future listener.new.machine) listener.new.begun.items)
+        (M.directory listener.new.machine))
+        (ends (R.remaining reader.old) (W.contents writer.old) (store_seen (S.failures store.old) (S.contents store.old)))
+        (ends (R.remaining reader.new) (W.contents writer.new) (store_seen (S.failures store.new) (S.contents store.new))))
+        (Leaves (M.directory listener.old.machine) (ahead (M.future listener.old.machine) listener.old.begun.items false)
+        (ends (R.remaining reader.old) (W.contents writer.old) (store_seen (S.failures store.old) (S.contents store.old)))
+        (ends (R.remaining reader.new) (W.contents writer.new) (store_seen (S.failures store.new) (S.contents store.new)))) }
     ensures calls { R.calls reader.new ≡ raised (R.calls reader.old) 1 }
     ensures reads { R.failures reader.new ≡ raised (R.failures reader.old) (read_faults result) }
     ensures writes { W.failures writer.new ≡ raised (W.failures writer.old) (write_faults result) }
@@ -48,29 +52,32 @@ fn turn<M: Machine, R: Source, W: Sink>(
         Err(_) => return Err(RunFault::Read),
     };
     if count > 0 {
-        return listener.feed(alloc, writer, &buffer[..count], work);
+        return listener.feed(alloc, writer, &buffer[..count], store, work);
     }
-    listener.finish(alloc, writer, work)?;
+    listener.finish(alloc, writer, store, work)?;
     Ok(false)
 }
 
 /// Reads to the end of the input, or until the machine ends, and writes what the machine answers. The buffer is
 /// what each read fills.
 #[tactic(auto, using(crate::proofs::Counts::raised_none))]
-pub fn listen<M: Machine + Drop, R: Source, W: Sink>(
+pub fn listen<M: Machine + Drop, R: Source, W: Sink, S: Store>(
     alloc: Global,
     machine: M,
     buffer: &mut [u8],
     reader: &mut R,
     writer: &mut W,
+    store: &mut S,
     work: &mut Work,
 ) -> Result<(), RunFault>
     requires { 0 < length buffer.old }
     ensures answers { MatchResult result
-        (λ _. IfSome (R.remaining reader.old) (λ input.
-        Appends (W.contents writer.old) (W.contents writer.new) (M.future machine true (input_lines true input))))
-        (Leaves (λ input. M.future machine false (input_lines false input))
-        (ends (R.remaining reader.old) (W.contents writer.old)) (ends (R.remaining reader.new) (W.contents writer.new))) }
+        (λ _. Ended (M.directory machine) (λ ended input. M.future machine ended (input_lines ended input))
+        (ends (R.remaining reader.old) (W.contents writer.old) (store_seen (S.failures store.old) (S.contents store.old)))
+        (ends (R.remaining reader.new) (W.contents writer.new) (store_seen (S.failures store.new) (S.contents store.new))))
+        (Leaves (M.directory machine) (λ input. M.future machine false (input_lines false input))
+        (ends (R.remaining reader.old) (W.contents writer.old) (store_seen (S.failures store.old) (S.contents store.old)))
+        (ends (R.remaining reader.new) (W.contents writer.new) (store_seen (S.failures store.new) (S.contents store.new)))) }
     ensures calls { (made : ℕ) × (made ≤ MOST_READS) × (R.calls reader.new ≡ raised (R.calls reader.old) made) }
     ensures reads { Reads (R.remaining reader.old) (read_counts (R.failures reader.old) (R.calls reader.old))
         (read_counts (R.failures reader.new) (R.calls reader.new)) result }
@@ -78,7 +85,7 @@ pub fn listen<M: Machine + Drop, R: Source, W: Sink>(
 {
     let mut listener = Listener::new(alloc, machine);
     'reads: for _ in 0..MOST_READS {
-        if !turn(alloc, &mut listener, buffer, reader, writer, work)? {
+        if !turn(alloc, &mut listener, buffer, reader, writer, store, work)? {
             return Ok(());
         }
     }

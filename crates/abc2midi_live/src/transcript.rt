@@ -1,12 +1,15 @@
 //! A run of commands: read, carried out, answered.
 
-ghost use Rattle.std.specs.Prelude.{◌≡◌, ◌≤◌, ℕ, List, MatchResult, IfSome, option_copied};
+ghost use Rattle.std.specs.Prelude.{◌≡◌, ◌≤◌, ℕ, List, IfOk, MatchResult, option_copied};
 ghost use Rattle.std.specs.Io.KnownBytes.{Appends};
-ghost use Rattle.abc2midi_live.specs.Outcome.{write_faults, ends, read_counts, LeavesRun, Reads, Unserved};
+ghost use Rattle.abc2midi_live.specs.Outcome.{write_faults, ends, read_counts, Completes, LeavesRun, Reads, Unserved};
 ghost use Rattle.abc_fold.specs.Work.{raised};
+ghost use Rattle.abc_publish.specs.Publishing.{maps_of};
 ghost use Rattle.abc2midi_live.specs.Dialogue.{Opens};
 ghost use Rattle.abc2midi_live.specs.Gathering.{begun_of};
-ghost use Rattle.abc2midi_live.specs.Transcript.{transcript, transcript_so_far};
+ghost use Rattle.abc2midi_live.specs.Storing.{store_seen};
+ghost use Rattle.abc2midi_live.specs.Told.{holding};
+ghost use Rattle.abc2midi_live.specs.Transcript.{no_directory, transcript, transcript_so_far};
 
 use crate::dialogue::Dialogue;
 use crate::fault::RunFault;
@@ -28,8 +31,9 @@ fn opened<W: Sink>(
 ) -> Result<Dialogue, RunFault>
     ensures answer { MatchResult result
         (λ d. (text : List ℕ) × Appends (W.contents writer.old) (W.contents writer.new) text
-        × Opens (option_copied book.entry) text d.session.text (begun_of d.gathering))
+        × Opens (option_copied book.entry) text (holding d.session.text (maps_of d.publisher).directory) (begun_of d.gathering))
         (Unserved (W.contents writer.old) (W.contents writer.new)) }
+    ensures directory { IfOk result (λ d. (maps_of d.publisher).directory ≡ no_directory) }
     ensures fails { W.failures writer.new ≡ raised (W.failures writer.old) (write_faults result) }
 {
     let mut dialogue = Dialogue::new(alloc)?;
@@ -46,10 +50,11 @@ fn opened<W: Sink>(
 }
 
 /// Puts the lines of a tune book, if there is one, into a text that is empty at first, reads commands to the end of the
-/// input or `quit`, carries them out, and writes the answers to all of these. Nothing is stored yet.
+/// input or `quit`, carries them out, and writes the answers to all of these. `build` puts files into the store and takes
+/// them out.
 ///
 /// `Read` is answered where the reader fails or 4,294,967,295 reads were made, `Write` where the writer fails, and
-/// `Memory` where there is no memory.
+/// `Memory` where there is no memory. A fault of the store is no fault of the run.
 pub fn run<R: Source, W: Sink, S: Store>(
     alloc: Global,
     book: Option<&[u8]>,
@@ -59,22 +64,23 @@ pub fn run<R: Source, W: Sink, S: Store>(
     work: &mut Work,
 ) -> Result<(), RunFault>
 
-    // What is written is the transcript of the book and of all that there is to read, or what a fault leaves of it.
+    // What is written is the transcript of the book, of all that there is to read and of what the store answers, which
+    // mirrors what this tells of it; or what a fault leaves of these.
     ensures transcript { MatchResult result
-        (λ _. IfSome (R.remaining reader.old) (λ input.
-        Appends (W.contents writer.old) (W.contents writer.new) (transcript (option_copied book.entry) input)))
+        (λ _. Completes (transcript (option_copied book.entry))
+        (ends (R.remaining reader.old) (W.contents writer.old) (store_seen (S.failures store.old) (S.contents store.old)))
+        (ends (R.remaining reader.new) (W.contents writer.new) (store_seen (S.failures store.new) (S.contents store.new))))
         (LeavesRun (option_copied book.entry) (transcript_so_far (option_copied book.entry))
-        (ends (R.remaining reader.old) (W.contents writer.old)) (ends (R.remaining reader.new) (W.contents writer.new))) }
+        (ends (R.remaining reader.old) (W.contents writer.old) (store_seen (S.failures store.old) (S.contents store.old)))
+        (ends (R.remaining reader.new) (W.contents writer.new) (store_seen (S.failures store.new) (S.contents store.new)))) }
 
     // What the counts of the reader and the writer say.
     ensures calls { (made : ℕ) × (made ≤ MOST_READS) × (R.calls reader.new ≡ raised (R.calls reader.old) made) }
     ensures reads { Reads (R.remaining reader.old) (read_counts (R.failures reader.old) (R.calls reader.old))
         (read_counts (R.failures reader.new) (R.calls reader.new)) result }
     ensures writes { W.failures writer.new ≡ raised (W.failures writer.old) (write_faults result) }
-
-    ensures store { store.new ≡ store.old }
 {
     let dialogue = opened(alloc, book, writer, work)?;
     let mut buffer = [0; PIECE];
-    listen(alloc, dialogue, &mut buffer, reader, writer, work)
+    listen(alloc, dialogue, &mut buffer, reader, writer, store, work)
 }

@@ -8,3 +8,4 @@ pub mod definitions;
 mod runs;
 #[cfg(test)]
 mod sessions;
+pub mod shelf;

@@ -2,6 +2,7 @@
 
 ghost use Rattle.std.specs.Prelude.{ℕ, Some};
 
+use crate::shelf::Shelf;
 use abc_fold::Work;
 use abc2midi_live::{Piped, RunFault, Sink, Source, Store, StoreFault, StreamFault, run};
 
@@ -200,4 +201,64 @@ fn books_come_first(rt: HostRuntime) {
     );
     assert!(rt; ended.is_ok());
     assert_eq!(rt; written.as_slice(), TUNE_ANSWERS);
+}
+
+/// A run over an input, with a store in memory.
+fn run_with(rt: &HostRuntime, input: &[u8], store: &mut Shelf) -> Outcome {
+    let mut written = Vec::new(rt.alloc());
+    let mut writer = Piped::new(&mut written);
+    let mut work = Work::mint(rt);
+    let ended = run(
+        rt.alloc(),
+        None,
+        &mut Piped::new(input),
+        &mut writer,
+        store,
+        &mut work,
+    );
+    Outcome { written, ended }
+}
+
+/// The file of the tune of one note.
+const TUNE_FILE: &[u8] =
+    b"MThd\x00\x00\x00\x06\x00\x01\x00\x02\x01\xE0MTrk\x00\x00\x00\x17\x00\xFF\x03\x01A\x00\xFF\x51\x03\x07\xA1\x20\x00\xFF\x59\x02\x00\x00\x81\x70\xFF\x2F\x00MTrk\x00\x00\x00\x0D\x00\x90\x3C\x50\x81\x70\x80\x3C\x40\x00\xFF\x2F\x00";
+
+// A store that fails at its first call: the tune is still to be stored, and the next build does it. Then there is nothing to
+// do; and a tune that went away has its file removed.
+#[test]
+fn a_fault_of_the_store_is_made_good(rt: HostRuntime) {
+    let mut store = Shelf::new(rt.alloc(), 1);
+    let input = b"insert 1 4\nX:1\nT:A\nK:C\nC\nbuild\nbuild\nbuild\n";
+    let outcome = run_with(&rt, input.as_slice(), &mut store);
+    assert!(rt; outcome.ended.is_ok());
+    assert_eq!(rt;
+        outcome.written.as_slice(),
+        b"ok written 1 removed\nfailed 1.mid\nend\nwritten 1.mid\nend\nend\n".as_slice()
+    );
+    assert!(rt; store.get("1.mid") == Some(TUNE_FILE));
+
+    let mut store = Shelf::new(rt.alloc(), 0);
+    let input = b"insert 1 4\nX:1\nT:A\nK:C\nC\nbuild\ndelete 1 4\nbuild\nbuild\n";
+    let outcome = run_with(&rt, input.as_slice(), &mut store);
+    assert!(rt; outcome.ended.is_ok());
+    assert_eq!(rt;
+        outcome.written.as_slice(),
+        b"ok written 1 removed\nwritten 1.mid\nend\nok written removed 1\nremoved 1.mid\nend\nend\n".as_slice()
+    );
+    assert!(rt; store.get("1.mid").is_none());
+}
+
+// The second of two files cannot be stored: the build ends there, and the next one goes on with it.
+#[test]
+fn a_fault_ends_the_build(rt: HostRuntime) {
+    let mut store = Shelf::new(rt.alloc(), 2);
+    let input = b"insert 1 9\nX:1\nT:A\nK:C\nC\n\nX:2\nT:A\nK:C\nC\nbuild\nbuild\n";
+    let outcome = run_with(&rt, input.as_slice(), &mut store);
+    assert!(rt; outcome.ended.is_ok());
+    assert_eq!(rt;
+        outcome.written.as_slice(),
+        b"ok written 1 2 removed\nwritten 1.mid\nfailed 2.mid\nend\nwritten 2.mid\nend\n".as_slice()
+    );
+    assert!(rt; store.get("1.mid") == Some(TUNE_FILE));
+    assert!(rt; store.get("2.mid") == Some(TUNE_FILE));
 }

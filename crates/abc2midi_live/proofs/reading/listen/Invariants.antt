@@ -1,5 +1,7 @@
 use Rattle.std.proofs.Common.{◌≡◌, []}
 use Rattle.abc2midi_live.specs.Machine.{ahead}
+use Rattle.abc2midi_live.specs.Outcome.{outlets}
+use Rattle.abc2midi_live.specs.Storing.{store_seen}
 use Rattle.abc_fold.specs.Work.{raised}
 use Rattle.abc2midi_live.proofs.Feeding.{Heard}
 use Rattle.abc2midi_live.proofs.reading.listen.Given as goal
@@ -8,9 +10,14 @@ use Rattle.abc2midi_live.proofs.reading.listen.Given as goal
 abbrev pub invariant-reads : goal.invariant-reads
 invariant-reads g l =
     let future = g.M.Machine.future in
+    let directory = g.M.Machine.directory in
+    let contents = g.W.Sink.contents in
+    let failures = g.S.Store.failures in
+    let files = g.S.Store.contents in
     record {
-      heard : Heard l.counter (ahead (future l.fn.machine) []) (ahead (future l.listener.machine) l.listener.begun.items)
-          (g.R.Source.remaining l.fn.reader) (g.R.Source.remaining l.reader) (g.W.Sink.contents l.fn.writer) (g.W.Sink.contents l.writer);
+      heard : Heard l.counter (ahead (future l.fn.machine) []) (ahead (future l.listener.machine) l.listener.begun.items) (directory l.fn.machine) (directory l.listener.machine)
+          (g.R.Source.remaining l.fn.reader) (g.R.Source.remaining l.reader)
+          (outlets (contents l.fn.writer) (store_seen (failures l.fn.store) (files l.fn.store))) (outlets (contents l.writer) (store_seen (failures l.store) (files l.store)));
       calls : g.R.Source.calls l.reader ≡ raised (g.R.Source.calls l.fn.reader) l.counter;
       reads : g.R.Source.failures l.reader ≡ g.R.Source.failures l.fn.reader;
       writes : g.W.Sink.failures l.writer ≡ g.W.Sink.failures l.fn.writer;

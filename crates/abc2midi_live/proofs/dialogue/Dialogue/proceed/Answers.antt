@@ -1,17 +1,28 @@
-use Rattle.std.proofs.Common.{◌≡◌, length, sym, ◌∙◌, subst, arith}
+use Rattle.std.proofs.Common.{◌≡◌, length, [], refl, sym, ◌∙◌, subst, arith}
 use Rattle.std.proofs.lemmas.Result.{IfOk-weaker}
 use Rattle.std.proofs.lemmas.List.{length-map}
 use Rattle.abc_lines.specs.Text.{text_of}
+use Rattle.abc_publish.specs.Publishing.{maps_of}
 use Rattle.abc2midi_live.specs.Command.{line_count}
 use Rattle.abc2midi_live.specs.Dialogue.{Proceeds}
 use Rattle.abc2midi_live.specs.Gathering.{begun_of}
+use Rattle.abc2midi_live.specs.Told.{holding}
 use Rattle.abc2midi_live.proofs.Requests.{says_whole}
+use Rattle.abc2midi_live.proofs.Storing.{follows_none}
 use Rattle.abc2midi_live.proofs.dialogue.Dialogue.proceed.Goals as goal
 
+pub invariant_of-self : goal.invariant_of-self
+invariant_of-self g c = record { idle = c.args.self.now.idle }
+
+pub returns-then-len-line_count-clause-reply : goal.returns-then-len-line_count-clause-reply
+returns-then-len-line_count-clause-reply g c = ([], (λ ended lines later. refl), follows_none _ (maps_of c.args.self.now.publisher).directory)
+
 pub returns-clause-reply : goal.returns-clause-reply
-returns-clause-reply c =
+returns-clause-reply g c =
     let lines = text_of c.args.lines in
+    let old = holding c.args.self.now.session.text (maps_of c.args.self.now.publisher).directory in
+    let new = holding c.respond.new.self.session.text (maps_of c.respond.new.self.publisher).directory in
     let whole : length lines ≡ line_count c.args.command = length-map c.args.lines.items (λ line. line.items) ∙ (omega (arith, c.args.lines.ok.0)) in
     IfOk-weaker c.respond.result _ _
-    (λ reply h. subst (λ g. Proceeds c.args.self.now.session.text c.args.command lines c.respond.new.session.text (begun_of g) reply) (sym c.requires.idle) (says_whole c.args.self.now.session.text c.respond.new.session.text c.args.command lines reply whole h))
+    (λ reply h. (h.0, subst (λ o. Proceeds old c.args.command lines new (begun_of o) h.0 reply) (sym (c.respond.ensures.gathering ∙ c.requires.idle)) (says_whole old new c.args.command lines h.0 reply whole h.1), h.2))
     c.respond.ensures.reply

@@ -1,40 +1,71 @@
-use Rattle.std.proofs.Common.{List, ℕ, [], ◌∷◌, ◌++◌, true, sym, ◌∙◌, subst}
+use Rattle.std.proofs.Common.{List, ℕ, [], ◌∷◌, ◌++◌, true, refl, sym, ◌∙◌, subst}
 use Rattle.std.specs.Borrow.{Bor}
 use Rattle.abc2midi_live.proofs.Counts.{raised_none}
 use Rattle.std.proofs.KnownBytes.{Keeps-refl}
-use Rattle.abc2midi_live.specs.Machine.{ahead, Answers}
-use Rattle.abc2midi_live.specs.Outcome.{BrokenOff}
+use Rattle.abc2midi_live.specs.Machine.{ahead, telling}
+use Rattle.abc2midi_live.specs.Outcome.{BrokenOff, Serves, outlets}
+use Rattle.abc2midi_live.specs.Storing.{store_seen}
 use Rattle.abc2midi_live.specs.declared.fault.RunFault.TheVariants.{Memory}
-use Rattle.abc2midi_live.proofs.Feeding.{Fed, fed_more, fed_end, fed_all, fed_broken, fed_fault, nothing_ahead, piece_kept, fault_exit, cut_some, cut_none}
+use Rattle.abc2midi_live.proofs.Feeding.{Fed, fed_none, fed_more, fed_end, fed_all, fed_broken, fed_fault, nothing_ahead, piece_kept, fault_exit, cut_some, cut_none}
 use Rattle.abc2midi_live.proofs.listener.Listener.feed.Goals as goal
+
+pub lines-init : goal.lines-init
+lines-init g c =
+    let now = c.args.self.now in
+    record {
+      fed = fed_none (ahead (g.M.Machine.future now.machine) now.begun.items) (g.M.Machine.directory now.machine) c.args.piece.now
+          (outlets (g.W.Sink.contents c.args.writer.now) (store_seen (g.S.Store.failures c.args.store.now) (g.S.Store.contents c.args.store.now)));
+      failures = refl;
+    }
 
 pub returns-in_err-end_line-in_default-Some-clause-answer :
     goal.returns-in_err-end_line-in_default-Some-clause-answer
 returns-in_err-end_line-in_default-Some-clause-answer g c =
     let now = c.lines.self in
-    fault_exit c.from_residual.result _ _ c.in_err-end_line-in_default-Some.field-0.0 c.from_residual.ensures
-    (fed_fault _ (ahead (g.M.Machine.future now.machine) now.begun.items) c.args.piece.now c.lines.rest.now _ _ _ _ c.lines.invariant.fed c.in_err-end_line-in_default-Some.ensures.answer
-    (nothing_ahead (g.M.Machine.future now.machine) now.begun.items now.whole (g.met.M.Machine.waits now.machine)))
+    let d = g.M.Machine.directory now.machine in
+    let out = outlets (g.W.Sink.contents c.lines.writer) (store_seen (g.S.Store.failures c.lines.store) (g.S.Store.contents c.lines.store)) in
+    let start = ahead (g.M.Machine.future c.args.self.now.machine) c.args.self.now.begun.items in
+    let from = g.M.Machine.directory c.args.self.now.machine in
+    let first = outlets (g.W.Sink.contents c.args.writer.now) (store_seen (g.S.Store.failures c.args.store.now) (g.S.Store.contents c.args.store.now)) in
+    fault_exit c.from_residual.result _ (BrokenOff start c.args.piece.now first.output (g.W.Sink.contents c.end_line.new.writer)) c.in_err-end_line-in_default-Some.field-0.0 c.from_residual.ensures
+    (fed_fault start (ahead (g.M.Machine.future now.machine) now.begun.items) from d c.args.piece.now c.lines.rest.now first out (g.W.Sink.contents c.end_line.new.writer) c.in_err-end_line-in_default-Some.field-0.0 c.lines.invariant.fed c.in_err-end_line-in_default-Some.ensures.answer
+    (nothing_ahead (g.M.Machine.future now.machine) d now.begun.items now.whole (g.met.M.Machine.waits now.machine)))
 
 pub returns-then-not-branch-clause-answer : goal.returns-then-not-branch-clause-answer
 returns-then-not-branch-clause-answer g c =
     let now = c.lines.self in
     let after = c.end_line.new.self in
-    let e = c.in_ok-end_line-in_default-Some.ensures.answer in
-    fed_end _ (ahead (g.M.Machine.future now.machine) now.begun.items) (ahead (g.M.Machine.future after.machine) after.begun.items) c.args.piece.now c.lines.rest.now c.cut.result.0.now c.in_default-Some.behind.now e.0 _ _ _ c.lines.invariant.fed
-    (cut_some c.lines.rest.now c.cut.result.0.now c.cut.result.1 c.in_default-Some.behind c.cut.ensures c.in_default-Some.is-1) e.1
-    (subst (Answers (ahead (g.M.Machine.future now.machine) now.begun.items) (ahead (g.M.Machine.future after.machine) after.begun.items) (c.cut.result.0.now ++ 10 ∷ []) e.0) c.if-not-branch.true e.2)
+    let d = g.M.Machine.directory now.machine in
+    let e = g.M.Machine.directory after.machine in
+    let out = outlets (g.W.Sink.contents c.lines.writer) (store_seen (g.S.Store.failures c.lines.store) (g.S.Store.contents c.lines.store)) in
+    let new = outlets (g.W.Sink.contents c.end_line.new.writer) (store_seen (g.S.Store.failures c.end_line.new.store) (g.S.Store.contents c.end_line.new.store)) in
+    let before = ahead (g.M.Machine.future now.machine) now.begun.items in
+    let behind = ahead (g.M.Machine.future after.machine) after.begun.items in
+    let start = ahead (g.M.Machine.future c.args.self.now.machine) c.args.self.now.begun.items in
+    let from = g.M.Machine.directory c.args.self.now.machine in
+    let first = outlets (g.W.Sink.contents c.args.writer.now) (store_seen (g.S.Store.failures c.args.store.now) (g.S.Store.contents c.args.store.now)) in
+    fed_end start before behind from d e c.args.piece.now c.lines.rest.now c.cut.result.0.now c.in_default-Some.behind.now first out new c.lines.invariant.fed
+    (cut_some c.lines.rest.now c.cut.result.0.now c.cut.result.1 c.in_default-Some.behind c.cut.ensures c.in_default-Some.is-1)
+    (subst (Serves d (telling before behind e) (c.cut.result.0.now ++ 10 ∷ []) out new) c.if-not-branch.true c.in_ok-end_line-in_default-Some.ensures.answer)
 
 pub lines-preserved : goal.lines-preserved
 lines-preserved g c =
     let now = c.lines.self in
     let after = c.end_line.new.self in
-    let e = c.in_ok-end_line-in_default-Some.ensures.answer in
-    let fed = fed_more _ (ahead (g.M.Machine.future now.machine) now.begun.items) (ahead (g.M.Machine.future after.machine) after.begun.items) c.args.piece.now c.lines.rest.now c.cut.result.0.now c.in_default-Some.behind.now e.0 _ _ _ c.lines.invariant.fed
-    (cut_some c.lines.rest.now c.cut.result.0.now c.cut.result.1 c.in_default-Some.behind c.cut.ensures c.in_default-Some.is-1) e.1
-    (subst (Answers (ahead (g.M.Machine.future now.machine) now.begun.items) (ahead (g.M.Machine.future after.machine) after.begun.items) (c.cut.result.0.now ++ 10 ∷ []) e.0) c.if-not-branch.false e.2) in
+    let d = g.M.Machine.directory now.machine in
+    let e = g.M.Machine.directory after.machine in
+    let from = g.M.Machine.directory c.args.self.now.machine in
+    let first = outlets (g.W.Sink.contents c.args.writer.now) (store_seen (g.S.Store.failures c.args.store.now) (g.S.Store.contents c.args.store.now)) in
+    let out = outlets (g.W.Sink.contents c.lines.writer) (store_seen (g.S.Store.failures c.lines.store) (g.S.Store.contents c.lines.store)) in
+    let new = outlets (g.W.Sink.contents c.end_line.new.writer) (store_seen (g.S.Store.failures c.end_line.new.store) (g.S.Store.contents c.end_line.new.store)) in
+    let start = ahead (g.M.Machine.future c.args.self.now.machine) c.args.self.now.begun.items in
+    let before = ahead (g.M.Machine.future now.machine) now.begun.items in
+    let behind = ahead (g.M.Machine.future after.machine) after.begun.items in
+    let fed = fed_more start before behind from d e c.args.piece.now c.lines.rest.now c.cut.result.0.now c.in_default-Some.behind.now first out new c.lines.invariant.fed
+    (cut_some c.lines.rest.now c.cut.result.0.now c.cut.result.1 c.in_default-Some.behind c.cut.ensures c.in_default-Some.is-1)
+    (subst (Serves d (telling before behind e) (c.cut.result.0.now ++ 10 ∷ []) out new) c.if-not-branch.false c.in_ok-end_line-in_default-Some.ensures.answer) in
     record {
-      fed = subst (λ (r : Bor (List ℕ)). Fed (ahead (g.M.Machine.future c.args.self.now.machine) c.args.self.now.begun.items) (ahead (g.M.Machine.future after.machine) after.begun.items) c.args.piece.now r.now (g.W.Sink.contents c.args.writer.now) (g.W.Sink.contents c.end_line.new.writer)) (sym c.in_default-Some.behind-is) fed;
+      fed = subst (λ (r : Bor (List ℕ)). Fed start behind from e c.args.piece.now r.now first new) (sym c.in_default-Some.behind-is) fed;
       failures = c.in_ok-end_line-in_default-Some.ensures.fails ∙ raised_none _ ∙ c.lines.invariant.failures;
     }
 
@@ -42,15 +73,26 @@ pub returns-in_err-keep-in_default-None-clause-answer :
     goal.returns-in_err-keep-in_default-None-clause-answer
 returns-in_err-keep-in_default-None-clause-answer g c =
     let now = c.lines.self in
-    fault_exit c.from_residual-in_err-keep-in_default-None.result _ (BrokenOff (ahead (g.M.Machine.future c.args.self.now.machine) c.args.self.now.begun.items) c.args.piece.now (g.W.Sink.contents c.args.writer.now) (g.W.Sink.contents c.lines.writer)) Memory c.from_residual-in_err-keep-in_default-None.ensures
-    (fed_broken _ (ahead (g.M.Machine.future now.machine) now.begun.items) c.args.piece.now c.lines.rest.now _ _ _ c.lines.invariant.fed (Keeps-refl _)
-    (nothing_ahead (g.M.Machine.future now.machine) now.begun.items now.whole (g.met.M.Machine.waits now.machine)))
+    let d = g.M.Machine.directory now.machine in
+    let out = outlets (g.W.Sink.contents c.lines.writer) (store_seen (g.S.Store.failures c.lines.store) (g.S.Store.contents c.lines.store)) in
+    let start = ahead (g.M.Machine.future c.args.self.now.machine) c.args.self.now.begun.items in
+    let from = g.M.Machine.directory c.args.self.now.machine in
+    let first = outlets (g.W.Sink.contents c.args.writer.now) (store_seen (g.S.Store.failures c.args.store.now) (g.S.Store.contents c.args.store.now)) in
+    fault_exit c.from_residual-in_err-keep-in_default-None.result _ (BrokenOff start c.args.piece.now first.output out.output) Memory c.from_residual-in_err-keep-in_default-None.ensures
+    (fed_broken start (ahead (g.M.Machine.future now.machine) now.begun.items) from d c.args.piece.now c.lines.rest.now first out out.output c.lines.invariant.fed (Keeps-refl _)
+    (nothing_ahead (g.M.Machine.future now.machine) d now.begun.items now.whole (g.met.M.Machine.waits now.machine)))
 
 pub returns-in_default-None-clause-answer : goal.returns-in_default-None-clause-answer
 returns-in_default-None-clause-answer g c =
     let now = c.lines.self in
     let after = c.keep.new.self in
-    fed_all _ (ahead (g.M.Machine.future now.machine) now.begun.items) (ahead (g.M.Machine.future after.machine) after.begun.items) c.args.piece.now c.lines.rest.now c.cut.result.0.now _ _ c.lines.invariant.fed
+    let d = g.M.Machine.directory now.machine in
+    let from = g.M.Machine.directory c.args.self.now.machine in
+    let first = outlets (g.W.Sink.contents c.args.writer.now) (store_seen (g.S.Store.failures c.args.store.now) (g.S.Store.contents c.args.store.now)) in
+    let out = outlets (g.W.Sink.contents c.lines.writer) (store_seen (g.S.Store.failures c.lines.store) (g.S.Store.contents c.lines.store)) in
+    let start = ahead (g.M.Machine.future c.args.self.now.machine) c.args.self.now.begun.items in
+    let before = ahead (g.M.Machine.future now.machine) now.begun.items in
+    let whole = fed_all start before (ahead (g.M.Machine.future now.machine) after.begun.items) from d c.args.piece.now c.lines.rest.now c.cut.result.0.now first out c.lines.invariant.fed
     (cut_none c.lines.rest.now c.cut.result.0.now c.cut.result.1 c.cut.ensures c.in_default-None.is-1)
-    (subst (λ m. Answers (ahead (g.M.Machine.future now.machine) now.begun.items) (ahead (g.M.Machine.future m) after.begun.items) c.cut.result.0.now [] true) (sym c.keep.ensures.machine)
-    (piece_kept (g.M.Machine.future now.machine) now.begun.items c.cut.result.0.now after.begun.items now.whole c.cut.ensures.clean c.in_ok-keep-in_default-None.ensures.begun))
+    (piece_kept (g.M.Machine.future now.machine) d now.begun.items c.cut.result.0.now after.begun.items now.whole c.cut.ensures.clean c.in_ok-keep-in_default-None.ensures.begun) in
+    subst (λ m. Serves from (telling start (ahead (g.M.Machine.future m) after.begun.items) (g.M.Machine.directory m)) c.args.piece.now first out true) (sym c.keep.ensures.machine) whole

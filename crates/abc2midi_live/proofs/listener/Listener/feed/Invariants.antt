@@ -1,5 +1,7 @@
 use Rattle.std.proofs.Common.{◌≡◌, length}
 use Rattle.abc2midi_live.specs.Machine.{ahead}
+use Rattle.abc2midi_live.specs.Outcome.{outlets}
+use Rattle.abc2midi_live.specs.Storing.{store_seen}
 use Rattle.abc2midi_live.proofs.Feeding.{Fed}
 use Rattle.abc2midi_live.proofs.listener.Listener.feed.Given as goal
 
@@ -7,9 +9,14 @@ use Rattle.abc2midi_live.proofs.listener.Listener.feed.Given as goal
 abbrev pub invariant-lines : goal.invariant-lines
 invariant-lines g l =
     let future = g.M.Machine.future in
+    let directory = g.M.Machine.directory in
     let contents = g.W.Sink.contents in
+    let failures = g.S.Store.failures in
+    let files = g.S.Store.contents in
     record {
-      fed : Fed (ahead (future l.fn.self.machine) l.fn.self.begun.items) (ahead (future l.self.machine) l.self.begun.items) l.fn.piece l.rest (contents l.fn.writer) (contents l.writer);
+      fed : Fed (ahead (future l.fn.self.machine) l.fn.self.begun.items) (ahead (future l.self.machine) l.self.begun.items)
+          (directory l.fn.self.machine) (directory l.self.machine) l.fn.piece l.rest
+          (outlets (contents l.fn.writer) (store_seen (failures l.fn.store) (files l.fn.store))) (outlets (contents l.writer) (store_seen (failures l.store) (files l.store)));
       failures : g.W.Sink.failures l.writer ≡ g.W.Sink.failures l.fn.writer;
     }
 

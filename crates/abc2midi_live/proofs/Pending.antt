@@ -1,0 +1,325 @@
+-- Laws of bringing a directory up to date.
+use Rattle.std.proofs.Common.{◌≡◌, ℕ, zero, suc, ◌+◌, ◌-◌, ◌^◌, ◌<◌, ◌≤◌, ◌&&◌, Bool, true, false, cond, List, [], ◌∷◌, ◌++◌, Option, Some, None, MatchOption, Result, Ok, Err, MatchResult, ◌≢◌, ◌⊎◌, inl, inr, ⊎_elim, refl, sym, ap, ◌∙◌, subst, arith, append_assoc, append-nil}
+use Rattle.std.specs.Prelude.{filter, is_none, is_ok, SomeIff, IfOk, IfSome}
+use Rattle.std.specs.declared.alloc.AllocError.{AllocError}
+use Rattle.std.specs.Result.{result_unwrap_or}
+use Rattle.std.proofs.lemmas.Bool.{cases_eq, false≢true, true≢false}
+use Rattle.std.proofs.lemmas.Bool.Decides.{nat_tests}
+use Rattle.abc_lines.specs.Text.{Text}
+use Rattle.abc_publish.specs.Publishing.{Directory, Jobs, Publishing, Slots, maps_of, begun, differs, ended, is_pending, is_wanted, stored_as, with_entry, HasNone, IsNext}
+use Rattle.abc_publish.specs.declared.slot.Stored.{Stored}
+use Rattle.abc_publish.specs.declared.slot.Stored.TheVariants.{Unknown}
+use Rattle.abc_tunebook.specs.Files.{Files, file_at}
+use Rattle.abc2midi_live.specs.Answer.{end_line, failed_line, stored_line}
+use Rattle.abc2midi_live.specs.Book.{files_of}
+use Rattle.abc2midi_live.specs.Building.{answer_line, answer_of, entry_behind, numbers_from, pending_from, pending_numbers, storing, Builds, IsIdle, Stores}
+use Rattle.abc2midi_live.specs.Storing.{StoreAnswer, Done, Fault, StoreSeen, Follows, file_name}
+use Rattle.abc2midi_live.specs.Streams.{Puts, TakesOut, KeepsOthers, faults}
+use Rattle.abc2midi_live.specs.declared.streams.StoreFault.{StoreFault}
+use Rattle.abc2midi_live.proofs.Storing.{follows_put, follows_removed, follows_fault, follows_none, follows_both}
+use Rattle.abc_fold.specs.Work.{raised}
+use Rattle.abc2midi_live.specs.Told.{Answered, answered_by, line_before}
+
+-- a number that passes a test, or does not, before others
+passes : (p : ℕ → Bool) (n : ℕ) (rest : List ℕ) → p n ≡ true → filter p (n ∷ rest) ≡ n ∷ filter p rest
+passes p n rest e = ap (λ b. cond b (n ∷ filter p rest) (filter p rest)) e
+
+fails : (p : ℕ → Bool) (n : ℕ) (rest : List ℕ) → p n ≡ false → filter p (n ∷ rest) ≡ filter p rest
+fails p n rest e = ap (λ b. cond b (n ∷ filter p rest) (filter p rest)) e
+
+first_or_later : (first m : ℕ) → first ≤ m → (first ≡ m) ⊎ (first + 1 ≤ m)
+first_or_later first m h = grind arith
+
+-- The least of rising numbers that passes a test is the first that a filter keeps.
+pub first_kept : (p : ℕ → Bool) (first count m : ℕ) → first ≤ m → m < first + count → ((n : ℕ) → first ≤ n → n < m → p n ≡ false) → p m ≡ true
+    → filter p (numbers_from first count) ≡ m ∷ filter p (numbers_from (m + 1) (first + count - (m + 1)))
+unfolding numbers_from
+first_kept p first zero m low high least here = absurd (omega arith)
+first_kept p first (suc count) m low high least here = ⊎_elim
+    (λ same.
+    let rest : count ≡ first + suc count - (m + 1) = omega arith in
+    passes p first (numbers_from (first + 1) count) (ap p same ∙ here)
+    ∙ ap (λ n. n ∷ filter p (numbers_from (n + 1) count)) same
+    ∙ ap (λ k. m ∷ filter p (numbers_from (m + 1) k)) rest)
+    (λ later.
+    let rest : first + 1 + count - (m + 1) ≡ first + suc count - (m + 1) = omega arith in
+    fails p first (numbers_from (first + 1) count) (least first (omega arith) (omega arith))
+    ∙ first_kept p (first + 1) count m later (omega arith) (λ n from to. least n (omega arith) to) here
+    ∙ ap (λ k. m ∷ filter p (numbers_from (m + 1) k)) rest)
+    (first_or_later first m low)
+
+-- none of rising numbers passes a test
+pub none_kept : (p : ℕ → Bool) (first count : ℕ) → ((n : ℕ) → first ≤ n → n < first + count → p n ≡ false) → filter p (numbers_from first count) ≡ []
+unfolding numbers_from
+none_kept p first zero none = refl
+none_kept p first (suc count) none =
+    fails p first (numbers_from (first + 1) count) (none first (omega arith) (omega arith))
+    ∙ none_kept p (first + 1) count (λ n from to. none n (omega arith) (omega arith))
+
+-- tests that agree from the first of rising numbers on
+pub same_kept : (p q : ℕ → Bool) (first count : ℕ) → ((n : ℕ) → first ≤ n → p n ≡ q n) → filter p (numbers_from first count) ≡ filter q (numbers_from first count)
+unfolding numbers_from
+same_kept p q first zero same = refl
+same_kept p q first (suc count) same =
+    let rest = numbers_from (first + 1) count in
+    ap (λ b. cond b (first ∷ filter p rest) (filter p rest)) (same first (omega arith))
+    ∙ ap (λ r. cond (q first) (first ∷ r) r) (same_kept p q (first + 1) count (λ n from. same n (omega arith)))
+
+-- an entry leaves what is pending behind its number
+pending_behind : (d : Directory) (files : Files) (m : ℕ) (entry : Option Stored) (n : ℕ) → m + 1 ≤ n → is_pending d files n ≡ is_pending (with_entry d m entry) files n
+pending_behind d files m entry n h =
+    let e : with_entry d m entry n ≡ d n = grind (arith, nat_tests) in
+    ap (λ s. differs s (file_at files n)) (sym e)
+
+-- with no job under way, what is pending is wanted
+wanted_idle : (p : Publishing) (files : Files) (n : ℕ) → IsIdle p → is_wanted p files n ≡ is_pending p.directory files n
+wanted_idle p files n idle = ap (λ j. is_pending p.directory files n && is_none j) (idle n) ∙ both (is_pending p.directory files n) where
+  both : (b : Bool) → b && true ≡ b
+  both true = refl
+  both false = refl
+
+fits_or_not : (m : ℕ) → (m + 1 < 2 ^ 32) ⊎ ((m + 1 < 2 ^ 32) → ⊥)
+fits_or_not m = grind arith
+
+-- the number to go on from behind one
+abbrev pub IsBehind : ℕ → Option ℕ → Type 0
+IsBehind m next = SomeIff next (m + 1 < 2 ^ 32) (m + 1)
+
+no_numbers : (first : ℕ) → numbers_from first 0 ≡ []
+unfolding numbers_from
+no_numbers first = refl
+
+pending_next : (d : Directory) (files : Files) (m : ℕ) (next : Option ℕ) → m < 2 ^ 32 → IsBehind m next → filter (is_pending d files) (numbers_from (m + 1) (2 ^ 32 - (m + 1))) ≡ pending_from d files next
+unfolding pending_from
+pending_next d files m None small h =
+    let all : 2 ^ 32 - (m + 1) ≡ 0 = omega arith in
+    ap (λ k. filter (is_pending d files) (numbers_from (m + 1) k)) all ∙ ap (filter (is_pending d files)) (no_numbers (m + 1))
+pending_next d files m (Some n) small h = let same : m + 1 ≡ n = sym h.1 in ap (λ k. filter (is_pending d files) (numbers_from k (2 ^ 32 - k))) same
+
+-- the first of what is pending is the least, and an entry there leaves the others
+first_pending : (p : Publishing) (files : Files) (from m : ℕ) (next : Option ℕ) (entry : Option Stored) → IsIdle p → IsNext p files from m → m < 2 ^ 32 → IsBehind m next
+    → pending_from p.directory files (Some from) ≡ m ∷ pending_from (with_entry p.directory m entry) files next
+unfolding pending_from
+first_pending p files from m next entry idle is small behind =
+    let d = p.directory in
+    let low : from ≤ m = is.inside in
+    let rest : from + (2 ^ 32 - from) - (m + 1) ≡ 2 ^ 32 - (m + 1) = omega arith in
+    first_kept (is_pending d files) from (2 ^ 32 - from) m low (omega arith) (λ n above below. sym (wanted_idle p files n idle) ∙ is.least n above below) (sym (wanted_idle p files m idle) ∙ is.wanted)
+    ∙ ap (λ k. m ∷ filter (is_pending d files) (numbers_from (m + 1) k)) rest
+    ∙ ap (λ ns. m ∷ ns) (same_kept (is_pending d files) (is_pending (with_entry d m entry) files) (m + 1) (2 ^ 32 - (m + 1)) (λ n h. pending_behind d files m entry n h)
+    ∙ pending_next (with_entry d m entry) files m next small behind)
+
+none_pending : (p : Publishing) (files : Files) (from : ℕ) → from < 2 ^ 32 → IsIdle p → HasNone p files from → pending_from p.directory files (Some from) ≡ []
+unfolding pending_from
+none_pending p files from small idle none = none_kept (is_pending p.directory files) from (2 ^ 32 - from) (λ n above below. sym (wanted_idle p files n idle) ∙ none n above (omega arith))
+
+-- none is pending, and the build ends
+pub stores_none : (text : Text) (p : Publishing) (files : Files) (from : ℕ) → files ≡ files_of text → from < 2 ^ 32 → IsIdle p → HasNone p files from → Stores text p.directory (Some from) [] [] p.directory None
+unfolding storing pending_from
+stores_none text p files from e small idle none = λ later.
+    ap (λ ns. storing text p.directory ns later) (none_pending p (files_of text) from small idle (subst (λ fs. HasNone p fs from) e none))
+
+-- the file of the least number is stored, and the build goes on behind it
+pub stores_done : (text : Text) (p : Publishing) (files : Files) (from m : ℕ) (bytes : Option (List ℕ)) (next : Option ℕ) → files ≡ files_of text → m < 2 ^ 32 → IsIdle p → IsNext p files from m
+    → bytes ≡ file_at files m → IsBehind m next
+    → Stores text p.directory (Some from) (Done ∷ []) (stored_line m bytes) (with_entry p.directory m (stored_as bytes)) next
+unfolding storing
+stores_done text p files from m bytes next e small idle is file behind = λ later.
+    let d = p.directory in
+    let same : file_at (files_of text) m ≡ bytes = sym (file ∙ ap (λ fs. file_at fs m) e) in
+    ap (λ ns. storing text d ns (Done ∷ later)) (first_pending p (files_of text) from m next (stored_as (file_at (files_of text) m)) idle (subst (λ fs. IsNext p fs from m) e is) small behind)
+    ∙ ap (λ b. line_before (stored_line m b) (storing text (with_entry d m (stored_as b)) (pending_from (with_entry d m (stored_as b)) (files_of text) next) later)) same
+
+some_next : (m : ℕ) → (next : Option ℕ) × IsBehind m next
+some_next m = ⊎_elim (λ fits. (Some (m + 1), (fits, refl))) (λ not. (None, not)) (fits_or_not m)
+
+-- the store failed, and the build ends
+pub stores_fault : (text : Text) (p : Publishing) (files : Files) (from m : ℕ) → files ≡ files_of text → m < 2 ^ 32 → IsIdle p → IsNext p files from m
+    → Stores text p.directory (Some from) (Fault ∷ []) (failed_line m) (with_entry p.directory m (Some Unknown)) None
+unfolding storing pending_from
+stores_fault text p files from m e small idle is = λ later.
+    let d = p.directory in
+    let some : (next : Option ℕ) × IsBehind m next = some_next m in
+    ap (λ ns. storing text d ns (Fault ∷ later)) (first_pending p (files_of text) from m some.0 (Some Unknown) idle (subst (λ fs. IsNext p fs from m) e is) small some.1)
+
+line_before_both : (a b : List ℕ) (rest : Option Answered) → line_before a (line_before b rest) ≡ line_before (a ++ b) rest
+line_before_both a b None = refl
+line_before_both a b (Some r) = ap (λ t. Some (answered_by t r.after r.left)) (sym (append_assoc a b r.text))
+
+line_before_none : (rest : Option Answered) → rest ≡ line_before [] rest
+line_before_none None = refl
+line_before_none (Some r) = refl
+
+-- nothing is stored yet
+pub stores_first : (text : Text) (d : Directory) (from : Option ℕ) → Stores text d from [] [] d from
+stores_first text d from = λ later. line_before_none (storing text d (pending_from d (files_of text) from) later)
+
+-- what is stored behind what was stored
+pub stores_both : (text : Text) (d e f : Directory) (at from next : Option ℕ) (a b : List StoreAnswer) (x y : List ℕ) → Stores text d at a x e from → Stores text e from b y f next
+    → Stores text d at (a ++ b) (x ++ y) f next
+stores_both text d e f at from next a b x y first second = λ later.
+    ap (storing text d (pending_from d (files_of text) at)) (append_assoc a b later) ∙ first (b ++ later) ∙ ap (line_before x) (second later)
+    ∙ line_before_both x y (storing text f (pending_from f (files_of text) next) later)
+
+-- no number is left
+pub builds_all : (text : Text) (d e : Directory) (now : List StoreAnswer) (told : List ℕ) → Stores text d (Some 0) now told e None → Builds text d now (told ++ end_line) e
+unfolding pending_from pending_numbers storing
+builds_all text d e now told stores = λ later. stores later
+
+-- how many numbers there are from one on
+abbrev pub left_from : Option ℕ → ℕ
+left_from None = 0
+left_from (Some from) = 2 ^ 32 - from
+
+pub left_fewer : (old new : Option ℕ) (from : ℕ) → old ≡ Some from → IfSome old (λ n. n < 2 ^ 32) → IfSome new (λ n. (from < n) × (n < 2 ^ 32)) → left_from new < left_from old
+left_fewer old new from e small onward = subst (λ o. left_from new < left_from o) (sym e) (fewer new onward) where
+  fits : from < 2 ^ 32
+  fits = subst (λ o. IfSome o (λ n. n < 2 ^ 32)) e small
+
+  fewer : (new : Option ℕ) → IfSome new (λ n. (from < n) × (n < 2 ^ 32)) → left_from new < left_from (Some from)
+  fewer None h = let f = fits in omega arith
+  fewer (Some n) h = let f = fits in omega (arith, h.0)
+
+pub left_small : (next : Option ℕ) (from : ℕ) → IfSome next (λ n. (from < n) × (n < 2 ^ 32)) → IfSome next (λ n. n < 2 ^ 32)
+left_small None from h = tt
+left_small (Some n) from h = h.1
+
+-- the number to go on from lies behind
+pub onward : (from m : ℕ) (next : Option ℕ) → from ≤ m → IsBehind m next → IfSome next (λ n. (from < n) × (n < 2 ^ 32))
+onward from m None low h = tt
+onward from m (Some n) low h = let e : n ≡ m + 1 = h.1 in (omega arith, let fits : m + 1 < 2 ^ 32 = h.0 in omega arith)
+
+-- the file of a number was put, or the store failed
+pub follows_stored : (r : Result (Unit {0}) StoreFault) (old new : StoreSeen) (d : Directory) (n : ℕ) (name bytes : List ℕ) → n < 2 ^ 32 → name ≡ file_name n
+    → MatchResult r (λ _. Puts old.contents new.contents name bytes) (λ _. KeepsOthers old.contents new.contents name) → new.failures ≡ raised old.failures (faults r)
+    → Follows old new (answer_of (is_ok r) ∷ []) d (with_entry d n (entry_behind (answer_of (is_ok r)) (Some bytes)))
+follows_stored (Ok x) old new d n name bytes small e put counted = follows_put old new d n name bytes small e put counted
+follows_stored (Err x) old new d n name bytes small e kept counted = follows_fault old new d n name small e kept counted
+
+-- it was removed, or the store failed
+pub follows_taken : (r : Result (Unit {0}) StoreFault) (old new : StoreSeen) (d : Directory) (n : ℕ) (name : List ℕ) → n < 2 ^ 32 → name ≡ file_name n
+    → MatchResult r (λ _. TakesOut old.contents new.contents name) (λ _. KeepsOthers old.contents new.contents name) → new.failures ≡ raised old.failures (faults r)
+    → Follows old new (answer_of (is_ok r) ∷ []) d (with_entry d n (entry_behind (answer_of (is_ok r)) None))
+follows_taken (Ok x) old new d n name small e taken counted = follows_removed old new d n name small e taken counted
+follows_taken (Err x) old new d n name small e kept counted = follows_fault old new d n name small e kept counted
+
+-- the same of the number and the bytes of a job
+pub follows_job : (old new : StoreSeen) (d : Directory) (n m : ℕ) (done stored : Bool) (bytes file : Option (List ℕ)) → n ≡ m → bytes ≡ file → done ≡ stored
+    → Follows old new (answer_of stored ∷ []) d (with_entry d n (entry_behind (answer_of stored) bytes))
+    → Follows old new (answer_of done ∷ []) d (with_entry d m (entry_behind (answer_of done) file))
+follows_job old new d n m done stored bytes file e f s h =
+    subst (λ (b : Bool). Follows old new (answer_of b ∷ []) d (with_entry d m (entry_behind (answer_of b) file))) (sym s)
+    (subst (λ (b : Option (List ℕ)). Follows old new (answer_of stored ∷ []) d (with_entry d m (entry_behind (answer_of stored) b))) f
+    (subst (λ (k : ℕ). Follows old new (answer_of stored ∷ []) d (with_entry d k (entry_behind (answer_of stored) bytes))) e h))
+
+-- what a publisher knows behind a job that was done
+pub ends_done : (r : Result Bool AllocError) (p q : Publishing) (n : ℕ) (bytes : Option (List ℕ)) → result_unwrap_or r false ≡ true → q ≡ ended p n (stored_as bytes)
+    → IfOk r (λ stored. q ≡ ended p n (entry_behind (answer_of stored) bytes))
+ends_done (Ok true) p q n bytes is e = e
+ends_done (Ok false) p q n bytes is e = absurd (false≢true is)
+ends_done (Err x) p q n bytes is e = tt
+
+-- and behind one that failed
+pub ends_failed : (r : Result Bool AllocError) (p q : Publishing) (n : ℕ) (bytes : Option (List ℕ)) → result_unwrap_or r false ≡ false → q ≡ ended p n (Some Unknown)
+    → IfOk r (λ stored. q ≡ ended p n (entry_behind (answer_of stored) bytes))
+ends_failed (Ok true) p q n bytes is e = absurd (true≢false is)
+ends_failed (Ok false) p q n bytes is e = e
+ends_failed (Err x) p q n bytes is e = tt
+
+-- the directory that a store follows is that of the publisher
+pub follows_ended : (r : Result Bool AllocError) (old new : StoreSeen) (p q : Publishing) (n : ℕ) (bytes : Option (List ℕ)) → IfOk r (λ stored. q ≡ ended p n (entry_behind (answer_of stored) bytes))
+    → IfOk r (λ stored. (d : Directory) → Follows old new (answer_of stored ∷ []) d (with_entry d n (entry_behind (answer_of stored) bytes)))
+    → IfOk r (λ stored. Follows old new (answer_of stored ∷ []) p.directory q.directory)
+follows_ended (Ok stored) old new p q n bytes e h = subst (λ (q : Publishing). Follows old new (answer_of stored ∷ []) p.directory q.directory) (sym e) (h p.directory)
+follows_ended (Err x) old new p q n bytes e h = tt
+
+-- no job is under way behind the end of the only one
+pub idle_again : (p q r : Publishing) (n : ℕ) (bytes : Option (List ℕ)) → IsIdle p → q ≡ begun p n bytes → r.jobs ≡ with_entry q.jobs n None → IsIdle r
+idle_again p q r n bytes idle e f = λ k. ap (λ (j : Jobs). j k) f ∙ ap (λ (q : Publishing). with_entry q.jobs n None k) e ∙ none k (cases_eq k n) where
+  none : (k : ℕ) → (k ≡ n) ⊎ (k ≢ n) → with_entry (with_entry p.jobs n (Some bytes)) n None k ≡ None
+  none k (inl same) = grind (arith, nat_tests)
+  none k (inr other) = let i : p.jobs k ≡ None = idle k in grind (arith, nat_tests)
+
+-- a job is under way once it has begun
+pub under_way : (p q : Publishing) (n : ℕ) (bytes : Option (List ℕ)) → q ≡ begun p n bytes → q.jobs n ≡ Some bytes
+under_way p q n bytes e = ap (λ (q : Publishing). q.jobs n) e ∙ here where
+  here : with_entry p.jobs n (Some bytes) n ≡ Some bytes
+  here = grind (arith, nat_tests)
+
+-- the directory behind the job that was begun
+pub directory_behind : (p q r : Publishing) (n : ℕ) (bytes : Option (List ℕ)) (entry : Option Stored) → q ≡ begun p n bytes → r ≡ ended q n entry → r.directory ≡ with_entry p.directory n entry
+directory_behind p q r n bytes entry e f = ap (λ (r : Publishing). r.directory) f ∙ ap (λ (q : Publishing). with_entry q.directory n entry) e
+
+pub at_none : {T : Type 0} (o : Option T) (A : Type 0) (B : T → Type 0) → o ≡ None → MatchOption o A B → A
+at_none o A B e h = subst (λ o. MatchOption o A B) e h
+
+pub at_some : {T : Type 0} (o : Option T) (x : T) (A : Type 0) (B : T → Type 0) → o ≡ Some x → MatchOption o A B → B x
+at_some o x A B e h = subst (λ o. MatchOption o A B) e h
+
+-- what one file more leads to
+abbrev pub Advances : Text → Publishing → Publishing → ℕ → List ℕ → List ℕ → StoreSeen → StoreSeen → Option ℕ → Type 0
+Advances text p r from old new s t next =
+    (now : List StoreAnswer) × (told : List ℕ) × (new ≡ old ++ told) × Stores text p.directory (Some from) now told r.directory next × Follows s t now p.directory r.directory
+
+pub next_none : (text : Text) (p q : Slots) (s : StoreSeen) (from : ℕ) (old : List ℕ) → from < 2 ^ 32 → IsIdle (maps_of p) → HasNone (maps_of p) (files_of text) from → q ≡ p
+    → Advances text (maps_of p) (maps_of q) from old old s s None
+next_none text p q s from old small idle none e =
+    subst (λ (q : Slots). Advances text (maps_of p) (maps_of q) from old old s s None) (sym e)
+    ([], [], sym (append-nil old), stores_none text (maps_of p) (files_of text) from refl small idle none, follows_none s (maps_of p).directory)
+
+pub next_done : (text : Text) (p q r : Slots) (s t : StoreSeen) (from m : ℕ) (bytes : Option (List ℕ)) (next : Option ℕ) (old new : List ℕ) (done : Bool) → done ≡ true → m < 2 ^ 32
+    → IsIdle (maps_of p) → IsNext (maps_of p) (files_of text) from m → bytes ≡ file_at (files_of text) m → IsBehind m next → maps_of q ≡ begun (maps_of p) m bytes
+    → maps_of r ≡ ended (maps_of q) m (entry_behind (answer_of done) bytes) → new ≡ old ++ answer_line (answer_of done) m bytes → Follows s t (answer_of done ∷ []) (maps_of q).directory (maps_of r).directory
+    → Advances text (maps_of p) (maps_of r) from old new s t next
+next_done text p q r s t from m bytes next old new done is small idle least file behind taken over told follows =
+    let before : (maps_of q).directory ≡ (maps_of p).directory = ap (λ (x : Publishing). x.directory) taken in
+    let over : maps_of r ≡ ended (maps_of q) m (stored_as bytes) = subst (λ b. maps_of r ≡ ended (maps_of q) m (entry_behind (answer_of b) bytes)) is over in
+    let after : (maps_of r).directory ≡ with_entry (maps_of p).directory m (stored_as bytes) = directory_behind (maps_of p) (maps_of q) (maps_of r) m bytes (stored_as bytes) taken over in (
+      Done ∷ [],
+      stored_line m bytes,
+      subst (λ b. new ≡ old ++ answer_line (answer_of b) m bytes) is told,
+      subst (λ (d : Directory). Stores text (maps_of p).directory (Some from) (Done ∷ []) (stored_line m bytes) d next) (sym after)
+          (stores_done text (maps_of p) (files_of text) from m bytes next refl small idle least file behind),
+      subst (λ (d : Directory). Follows s t (Done ∷ []) d (maps_of r).directory) before (subst (λ b. Follows s t (answer_of b ∷ []) (maps_of q).directory (maps_of r).directory) is follows),
+    )
+
+pub next_fault : (text : Text) (p q r : Slots) (s t : StoreSeen) (from m : ℕ) (bytes : Option (List ℕ)) (old new : List ℕ) (done : Bool) → done ≡ false → m < 2 ^ 32
+    → IsIdle (maps_of p) → IsNext (maps_of p) (files_of text) from m → maps_of q ≡ begun (maps_of p) m bytes
+    → maps_of r ≡ ended (maps_of q) m (entry_behind (answer_of done) bytes) → new ≡ old ++ answer_line (answer_of done) m bytes → Follows s t (answer_of done ∷ []) (maps_of q).directory (maps_of r).directory
+    → Advances text (maps_of p) (maps_of r) from old new s t None
+next_fault text p q r s t from m bytes old new done is small idle least taken over told follows =
+    let before : (maps_of q).directory ≡ (maps_of p).directory = ap (λ (x : Publishing). x.directory) taken in
+    let over : maps_of r ≡ ended (maps_of q) m (Some Unknown) = subst (λ b. maps_of r ≡ ended (maps_of q) m (entry_behind (answer_of b) bytes)) is over in
+    let after : (maps_of r).directory ≡ with_entry (maps_of p).directory m (Some Unknown) = directory_behind (maps_of p) (maps_of q) (maps_of r) m bytes (Some Unknown) taken over in (
+      Fault ∷ [],
+      failed_line m,
+      subst (λ b. new ≡ old ++ answer_line (answer_of b) m bytes) is told,
+      subst (λ (d : Directory). Stores text (maps_of p).directory (Some from) (Fault ∷ []) (failed_line m) d None) (sym after)
+          (stores_fault text (maps_of p) (files_of text) from m refl small idle least),
+      subst (λ (d : Directory). Follows s t (Fault ∷ []) d (maps_of r).directory) before (subst (λ b. Follows s t (answer_of b ∷ []) (maps_of q).directory (maps_of r).directory) is follows),
+    )
+
+-- what a build has stored so far
+abbrev pub StoresSoFar : Text → Directory → Directory → List ℕ → StoreSeen → StoreSeen → Option ℕ → Type 0
+StoresSoFar text before after told old new next =
+    (now : List StoreAnswer) × Stores text before (Some 0) now told after next × Follows old new now before after
+
+pub so_far_none : (text : Text) (d : Directory) (s : StoreSeen) → StoresSoFar text d d [] s s (Some 0)
+so_far_none text d s = ([], stores_first text d (Some 0), follows_none s d)
+
+pub so_far_more : (text : Text) (first : Directory) (p r : Publishing) (old new : List ℕ) (start s t : StoreSeen) (at : Option ℕ) (from : ℕ) (next : Option ℕ) → at ≡ Some from
+    → StoresSoFar text first p.directory old start s at → Advances text p r from old new s t next → StoresSoFar text first r.directory new start t next
+so_far_more text first p r old new start s t at from next is h step =
+    let stores : Stores text first (Some 0) h.0 old p.directory (Some from) = subst (λ o. Stores text first (Some 0) h.0 old p.directory o) is h.1 in (
+      h.0 ++ step.0,
+      subst (λ (x : List ℕ). Stores text first (Some 0) (h.0 ++ step.0) x r.directory next) (sym step.2) (stores_both text first p.directory r.directory (Some 0) (Some from) next h.0 step.0 old step.1 stores step.3),
+      follows_both start s t h.0 step.0 first p.directory r.directory h.2 step.4,
+    )
+
+pub so_far_all : (text : Text) (first after : Directory) (told answer : List ℕ) (start s : StoreSeen) (at : Option ℕ) → at ≡ None → answer ≡ told ++ end_line
+    → StoresSoFar text first after told start s at → (now : List StoreAnswer) × Builds text first now answer after × Follows start s now first after
+so_far_all text first after told answer start s at is e h = (
+  h.0,
+  subst (λ (x : List ℕ). Builds text first h.0 x after) (sym e) (builds_all text first after h.0 told (subst (λ o. Stores text first (Some 0) h.0 told after o) is h.1)),
+  h.2,
+)

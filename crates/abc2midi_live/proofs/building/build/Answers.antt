@@ -1,0 +1,45 @@
+use Rattle.std.proofs.Common.{ℕ, List, Some, sym, subst, arith}
+use Rattle.abc_publish.specs.Publishing.{maps_of}
+use Rattle.abc2midi_live.specs.Answer.{end_line}
+use Rattle.abc2midi_live.specs.Storing.{store_seen}
+use Rattle.abc2midi_live.proofs.Pending.{StoresSoFar, so_far_none, so_far_more, so_far_all, left_fewer, left_small}
+use Rattle.abc2midi_live.proofs.building.build.Goals as goal
+
+pub loop-next-init : goal.loop-next-init
+loop-next-init g c =
+    let directory = (maps_of c.args.publisher.now).directory in
+    let seen = store_seen (g.S.Store.failures c.args.store.now) (g.S.Store.contents c.args.store.now) in
+    record {
+      stored = subst (λ (t : List ℕ). StoresSoFar c.args.session.now.text directory directory t seen seen (Some 0)) (sym c.new-text.ensures.items) (so_far_none c.args.session.now.text directory seen);
+      idle = c.requires;
+      small = omega arith;
+    }
+
+pub store_next-requires : goal.store_next-requires
+store_next-requires g c = c.loop-next.invariant.idle
+
+pub loop-next-smaller : goal.loop-next-smaller
+loop-next-smaller g c = left_fewer c.loop-next.next c.in_ok-next.next c.in-Some.from c.in-Some.is c.loop-next.invariant.small c.in_ok-next.ensures.onward
+
+pub loop-next-preserved : goal.loop-next-preserved
+loop-next-preserved g c = record {
+  stored = so_far_more c.args.session.now.text (maps_of c.args.publisher.now).directory (maps_of c.loop-next.publisher) (maps_of c.store_next.new.publisher) c.loop-next.text.items c.store_next.new.text.items _ _ _
+      c.loop-next.next c.in-Some.from c.in_ok-next.next c.in-Some.is c.loop-next.invariant.stored c.in_ok-next.ensures.stored;
+  idle = c.store_next.ensures.idle;
+  small = left_small c.in_ok-next.next c.in-Some.from c.in_ok-next.ensures.onward;
+}
+
+pub returns-clause-answer : goal.returns-clause-answer
+unfolding end_line
+returns-clause-answer g c =
+    so_far_all c.args.session.now.text (maps_of c.args.publisher.now).directory (maps_of c.loop-next.publisher).directory c.loop-next.text.items c.extend_from_slice.new.self.items _ _ c.loop-next.next c.in_default.is
+    c.in_ok-extend_from_slice.ensures.items c.loop-next.invariant.stored
+
+pub returns-clause-idle : goal.returns-clause-idle
+returns-clause-idle g c = c.loop-next.invariant.idle
+
+pub returns-in_err-extend_from_slice-clause-idle : goal.returns-in_err-extend_from_slice-clause-idle
+returns-in_err-extend_from_slice-clause-idle g c = c.loop-next.invariant.idle
+
+pub returns-in_err-next-clause-idle : goal.returns-in_err-next-clause-idle
+returns-in_err-next-clause-idle g c = c.store_next.ensures.idle

@@ -1,0 +1,22 @@
+use Rattle.std.proofs.Common.{◌<◌, ◌^◌}
+use Rattle.std.specs.Prelude.{IfSome}
+use Rattle.abc_publish.specs.Publishing.{maps_of}
+use Rattle.abc2midi_live.specs.Building.{IsIdle}
+use Rattle.abc2midi_live.specs.Storing.{store_seen}
+use Rattle.abc2midi_live.proofs.Pending.{StoresSoFar, left_from}
+use Rattle.abc2midi_live.proofs.building.build.Given as goal
+
+-- what has been stored so far
+abbrev pub invariant-loop-next : goal.invariant-loop-next
+invariant-loop-next g l =
+    let failures = g.S.Store.failures in
+    let contents = g.S.Store.contents in
+    record {
+      stored : StoresSoFar l.session.text (maps_of l.fn.publisher).directory (maps_of l.publisher).directory l.text.items
+          (store_seen (failures l.fn.store) (contents l.fn.store)) (store_seen (failures l.store) (contents l.store)) l.next;
+      idle : IsIdle (maps_of l.publisher);
+      small : IfSome l.next (λ n. n < 2 ^ 32);
+    }
+
+abbrev pub decreases-loop-next : goal.decreases-loop-next
+decreases-loop-next g l = left_from l.next

@@ -1,0 +1,68 @@
+-- Bringing the directory up to date with the text. Our own.
+use Rattle.std.specs.Prelude.{◌≡◌, ℕ, zero, suc, ◌+◌, ◌-◌, ◌^◌, Bool, true, false, List, [], ◌∷◌, ◌++◌, filter, Option, Some, None}
+use Rattle.abc_lines.specs.Text.{Text}
+use Rattle.abc_publish.specs.Publishing.{Directory, Publishing, is_pending, stored_as, with_entry}
+use Rattle.abc_publish.specs.declared.slot.Stored.{Stored}
+use Rattle.abc_publish.specs.declared.slot.Stored.TheVariants.{Unknown}
+use Rattle.abc_tunebook.specs.Files.{Files, file_at}
+use Rattle.abc2midi_live.specs.Answer.{end_line, failed_line, stored_line}
+use Rattle.abc2midi_live.specs.Book.{files_of}
+use Rattle.abc2midi_live.specs.Storing.{StoreAnswer, Done, Fault}
+use Rattle.abc2midi_live.specs.Told.{Answered, answered_by, holding, line_before}
+
+-- so many numbers, rising, the first of which is this one
+unfoldable pub numbers_from : ℕ → ℕ → List ℕ
+numbers_from first zero = []
+numbers_from first (suc count) = first ∷ numbers_from (first + 1) count
+
+-- The numbers that are pending, rising.
+unfoldable pub pending_numbers : Directory → Files → List ℕ
+pending_numbers directory files = filter (is_pending directory files) (numbers_from 0 (2 ^ 32))
+
+-- The files of numbers are put or removed one after another, up to the first fault of the store. Of a text whose files are
+-- to be stored, what is known of the directory, the numbers, and what the store answers.
+unfoldable pub storing : Text → Directory → List ℕ → List StoreAnswer → Option Answered
+storing text directory [] answers = Some (answered_by end_line (holding text directory) answers)
+storing text directory (n ∷ numbers) [] = None
+storing text directory (n ∷ numbers) (Done ∷ answers) =
+    line_before (stored_line n (file_at (files_of text) n)) (storing text (with_entry directory n (stored_as (file_at (files_of text) n))) numbers answers)
+storing text directory (n ∷ numbers) (Fault ∷ answers) =
+    Some (answered_by (failed_line n ++ end_line) (holding text (with_entry directory n (Some Unknown))) answers)
+
+-- The numbers that are pending from one on, where there is one.
+unfoldable pub pending_from : Directory → Files → Option ℕ → List ℕ
+pending_from directory files None = []
+pending_from directory files (Some first) = filter (is_pending directory files) (numbers_from first (2 ^ 32 - first))
+
+-- What a store that did what it was asked for answers, and one that did not.
+abbrev pub answer_of : Bool → StoreAnswer
+answer_of true = Done
+answer_of false = Fault
+
+-- what is told of a file behind the answer of the store
+abbrev pub answer_line : StoreAnswer → ℕ → Option (List ℕ) → List ℕ
+answer_line Done number bytes = stored_line number bytes
+answer_line Fault number bytes = failed_line number
+
+-- what is known of it then
+abbrev pub entry_behind : StoreAnswer → Option (List ℕ) → Option Stored
+entry_behind Done bytes = stored_as bytes
+entry_behind Fault bytes = Some Unknown
+
+-- no job is under way
+abbrev pub IsIdle : Publishing → Type 0
+IsIdle p = (n : ℕ) → p.jobs n ≡ None
+
+-- Whatever the store answers behind these answers: what is told of the numbers pending from one on is the text, and then
+-- what is told of those pending from another one on.
+abbrev pub Stores : Text → Directory → Option ℕ → List StoreAnswer → List ℕ → Directory → Option ℕ → Type 0
+Stores text before from now told after next =
+    (later : List StoreAnswer)
+    → storing text before (pending_from before (files_of text) from) (now ++ later)
+    ≡ line_before told (storing text after (pending_from after (files_of text) next) later)
+
+-- Whatever the store answers behind these answers: bringing the directory up to date tells this text, and leads to this directory.
+abbrev pub Builds : Text → Directory → List StoreAnswer → List ℕ → Directory → Type 0
+Builds text before now told after =
+    (later : List StoreAnswer)
+    → storing text before (pending_numbers before (files_of text)) (now ++ later) ≡ Some (answered_by told (holding text after) later)

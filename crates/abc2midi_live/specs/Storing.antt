@@ -1,0 +1,59 @@
+-- The answers of a store, and what it then contains. Our own.
+use Rattle.std.specs.Prelude.{◌≡◌, ◌≢◌, ℕ, ◌+◌, ◌<◌, ◌^◌, List, [], ◌∷◌, ◌++◌, codes, decimal, Option, Some, None, ⊤}
+use Rattle.std.specs.FinMap.{get}
+use Rattle.abc_fold.specs.Work.{raised}
+use Rattle.abc_publish.specs.Publishing.{Directory}
+use Rattle.abc_publish.specs.declared.slot.Stored.{Stored}
+use Rattle.abc_publish.specs.declared.slot.Stored.TheVariants.{Known, Unknown}
+use Rattle.abc2midi_live.specs.Streams.{Contents}
+
+-- What a store answers to a file that it is to put or to remove.
+pub data StoreAnswer : Type 0 where
+  Done : StoreAnswer
+  Fault : StoreAnswer
+
+-- how many of the answers are faults
+abbrev pub faults_among : List StoreAnswer → ℕ
+faults_among [] = 0
+faults_among (Done ∷ answers) = faults_among answers
+faults_among (Fault ∷ answers) = 1 + faults_among answers
+
+-- The name of the file of a number.
+unfoldable pub file_name : ℕ → List ℕ
+file_name number = decimal number ++ codes ".mid"
+
+-- What a store has under a name is what the directory is known to hold.
+abbrev pub IsStored : Option (List ℕ) → Option Stored → Type 0
+IsStored found None = found ≡ None
+IsStored found (Some (Known bytes)) = found ≡ Some bytes
+IsStored found (Some Unknown) = ⊤
+
+-- A store that had some contents at first has, under the name of each number, what the directory is known to hold, and
+-- under every other name what it had at first.
+pub record Mirrors (first now : Contents) (directory : Directory) : Type 0 where
+  pub files : (n : ℕ) → n < 2 ^ 32 → IsStored (get now (file_name n)) (directory n)
+  pub others : (name : List ℕ) → ((n : ℕ) → n < 2 ^ 32 → name ≢ file_name n) → get now name ≡ get first name
+
+-- the same of a store that may tell its contents
+abbrev pub MirrorsWhereTold : Option Contents → Option Contents → Directory → Type 0
+MirrorsWhereTold None now directory = ⊤
+MirrorsWhereTold (Some first) None directory = ⊥
+MirrorsWhereTold (Some first) (Some now) directory = Mirrors first now directory
+
+-- No number has a file in a store that tells its contents.
+abbrev pub HasNoFiles : Option Contents → Type 0
+HasNoFiles None = ⊤
+HasNoFiles (Some contents) = (n : ℕ) → n < 2 ^ 32 → get contents (file_name n) ≡ None
+
+-- What is seen of a store: how often it failed, and its contents, where they are told.
+pub record StoreSeen : Type 0 where
+  pub failures : ℕ
+  pub contents : Option Contents
+
+abbrev pub store_seen : ℕ → Option Contents → StoreSeen
+store_seen failures contents = record { failures = failures; contents = contents }
+
+-- A store gave these answers, and no other fault; and where it mirrored a directory before, it mirrors another one after them.
+pub record Follows (old new : StoreSeen) (answers : List StoreAnswer) (before after : Directory) : Type 0 where
+  pub failures : new.failures ≡ raised old.failures (faults_among answers)
+  pub contents : (first : Option Contents) → MirrorsWhereTold first old.contents before → MirrorsWhereTold first new.contents after

@@ -1,0 +1,140 @@
+//! Bringing the files of a store up to date with a session.
+
+ghost use Rattle.std.specs.Prelude.{◌≡◌, string_bytes, ℕ, ◌<◌, ◌^◌, ◌++◌, ◌∷◌, [], List, None, Some, IfOk, IfSome, is_ok, option_copied};
+ghost use Rattle.abc_publish.specs.Publishing.{ended, maps_of, with_entry, Directory};
+ghost use Rattle.abc2midi_live.specs.Building.{answer_line, answer_of, entry_behind, Builds, IsIdle, Stores};
+ghost use Rattle.abc2midi_live.specs.Storing.{file_name, store_seen, Follows, StoreAnswer};
+
+use crate::answer::{put_failed, put_stored};
+use crate::streams::{Store, StoreFault};
+use abc_live::Session;
+use abc_publish::{Job, Publisher};
+use std::alloc::{AllocError, Global};
+
+/// The name of the file of a number.
+#[tactic(auto, unfolding(crate::specs::Storing::file_name))]
+fn file_name(alloc: Global, number: u32) -> Result<String, AllocError>
+    ensures { IfOk result (λ name. string_bytes name ≡ file_name number) }
+{
+    format!(in alloc; "{number}.mid")
+}
+
+/// Puts the bytes of a number's file into the store, or takes the file out.
+fn put_or_remove<S: Store>(
+    store: &mut S,
+    number: u32,
+    name: &str,
+    bytes: Option<&[u8]>,
+) -> Result<(), StoreFault>
+    requires { name.now ≡ file_name number }
+    ensures { (directory : Directory)
+        → Follows (store_seen (S.failures store.old) (S.contents store.old)) (store_seen (S.failures store.new) (S.contents store.new))
+        (answer_of (is_ok result) ∷ []) directory (with_entry directory number (entry_behind (answer_of (is_ok result)) (option_copied bytes.entry))) }
+{
+    match bytes {
+        Some(bytes) => store.put(name, bytes),
+        None => store.remove(name),
+    }
+}
+
+/// Stores the file of a job, says behind the text what came of it, and answers whether that was done.
+fn store_file<S: Store>(
+    alloc: Global,
+    job: &Job,
+    store: &mut S,
+    text: &mut Vec<u8>,
+) -> Result<bool, AllocError>
+    ensures text { IfOk result (λ stored. text.new.items ≡ text.old.items ++ answer_line (answer_of stored) job.now.number job.now.bytes) }
+    ensures store { IfOk result (λ stored. (directory : Directory)
+        → Follows (store_seen (S.failures store.old) (S.contents store.old)) (store_seen (S.failures store.new) (S.contents store.new))
+        (answer_of stored ∷ []) directory (with_entry directory job.now.number (entry_behind (answer_of stored) job.now.bytes))) }
+{
+    let number = job.number();
+    let bytes = job.bytes();
+    let name = file_name(alloc, number)?;
+    let stored = put_or_remove(store, number, &name, bytes).is_ok();
+    if stored {
+        put_stored(text, number, bytes)?;
+    } else {
+        put_failed(text, number)?;
+    }
+    Ok(stored)
+}
+
+/// Carries out a job and ends it, and answers whether its file was stored.
+fn carry_out<S: Store>(
+    alloc: Global,
+    publisher: &mut Publisher,
+    job: Job,
+    store: &mut S,
+    text: &mut Vec<u8>,
+) -> Result<bool, AllocError>
+    requires { (maps_of publisher.old).jobs job.number ≡ Some job.bytes }
+    ensures text { IfOk result (λ stored. text.new.items ≡ text.old.items ++ answer_line (answer_of stored) job.number job.bytes) }
+    ensures publisher { IfOk result (λ stored. maps_of publisher.new ≡ ended (maps_of publisher.old) job.number (entry_behind (answer_of stored) job.bytes)) }
+    ensures store { IfOk result (λ stored. Follows (store_seen (S.failures store.old) (S.contents store.old)) (store_seen (S.failures store.new) (S.contents store.new))
+        (answer_of stored ∷ []) (maps_of publisher.old).directory (maps_of publisher.new).directory) }
+    ensures jobs { (maps_of publisher.new).jobs ≡ with_entry (maps_of publisher.old).jobs job.number None }
+{
+    let stored = store_file(alloc, &job, store, text);
+    if stored.unwrap_or(false) {
+        publisher.done(job);
+    } else {
+        publisher.failed(job);
+    }
+    stored
+}
+
+/// Takes the job of the least number that is pending from one on, and carries it out. Answers the number to go on from:
+/// None where none is pending, and after a fault.
+fn store_next<S: Store>(
+    alloc: Global,
+    publisher: &mut Publisher,
+    session: &Session,
+    from: u32,
+    store: &mut S,
+    text: &mut Vec<u8>,
+) -> Result<Option<u32>, AllocError>
+    requires { IsIdle (maps_of publisher.old) }
+    ensures stored { IfOk result (λ next. (now : List StoreAnswer) × (told : List ℕ) × (text.new.items ≡ text.old.items ++ told)
+        × Stores session.now.text (maps_of publisher.old).directory (Some from) now told (maps_of publisher.new).directory next
+        × Follows (store_seen (S.failures store.old) (S.contents store.old)) (store_seen (S.failures store.new) (S.contents store.new))
+        now (maps_of publisher.old).directory (maps_of publisher.new).directory) }
+    ensures onward { IfOk result (λ next. IfSome next (λ n. (from < n) × (n < 2 ^ 32))) }
+    ensures idle { IsIdle (maps_of publisher.new) }
+{
+    let Some(job) = publisher.take_from(session, from)? else {
+        return Ok(None);
+    };
+    let number = job.number();
+    if carry_out(alloc, publisher, job, store, text)? {
+        Ok(number.checked_add(1))
+    } else {
+        Ok(None)
+    }
+}
+
+/// Puts and removes the files of the numbers that are pending, rising, up to the first fault of the store, and gives the
+/// answer to that.
+pub fn build<S: Store>(
+    alloc: Global,
+    publisher: &mut Publisher,
+    session: &Session,
+    store: &mut S,
+) -> Result<Vec<u8>, AllocError>
+    requires { IsIdle (maps_of publisher.old) }
+    ensures answer { IfOk result (λ text. (now : List StoreAnswer)
+        × Builds session.now.text (maps_of publisher.old).directory now text.items (maps_of publisher.new).directory
+        × Follows (store_seen (S.failures store.old) (S.contents store.old)) (store_seen (S.failures store.new) (S.contents store.new))
+        now (maps_of publisher.old).directory (maps_of publisher.new).directory) }
+    ensures idle { IsIdle (maps_of publisher.new) }
+{
+    let mut text = Vec::new(alloc);
+    // Each job is looked for behind the last one: from 0 on, each would pass over all the files that are stored.
+    let mut next = Some(0);
+    while let Some(from) = next {
+        next = store_next(alloc, publisher, session, from, store, &mut text)?;
+    }
+    text.extend_from_slice(b"end\n")?;
+    Ok(text)
+}
