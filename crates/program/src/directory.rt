@@ -1,8 +1,8 @@
 //! The folder that the MIDI files are kept in.
 
 use abc2midi_live::{Store, StoreFault};
-use std::fs;
-use std::io::{self, ErrorKind};
+use std::fs::{self, File};
+use std::io::{self, ErrorKind, Write};
 use std::rt::Files;
 
 /// What stands under a name.
@@ -40,17 +40,54 @@ impl<'a, R: Files + AllocGlobal> Directory<'a, R> {
         }
     }
 
-    fn write(&self, name: &str, bytes: &[u8]) -> io::Result<()> {
-        let path = format!(in self.rt.alloc(); "{}/{name}", self.path)?;
-        fs::write(self.rt, path.as_str(), bytes)
+    /// The path of a name in the folder. Below an empty path there is nothing.
+    fn path_of(&self, name: &str) -> io::Result<String> {
+        if self.path.is_empty() {
+            return Err(io::Error::from(ErrorKind::NotFound));
+        }
+        Ok(format!(in self.rt.alloc(); "{}/{name}", self.path)?)
     }
 
-    fn delete(&self, name: &str) -> io::Result<()> {
-        let path = format!(in self.rt.alloc(); "{}/{name}", self.path)?;
-        match fs::remove_file(self.rt, path.as_str()) {
+    /// The path that a file is written under before it takes its name.
+    fn path_beside(&self, name: &str) -> io::Result<String> {
+        let beside = format!(in self.rt.alloc(); ".{name}.new")?;
+        self.path_of(beside.as_str())
+    }
+
+    /// Puts a file in place in one step: who reads it finds the old bytes or the new ones, never a part of them. After
+    /// an error the old file stands.
+    fn write(&self, name: &str, bytes: &[u8]) -> io::Result<()> {
+        let path = self.path_of(name)?;
+        let beside = self.path_beside(name)?;
+        self.delete(beside.as_str())?;
+        let outcome = self.write_beside(beside.as_str(), path.as_str(), bytes);
+        if outcome.is_err() {
+            let _ = self.delete(beside.as_str());
+        }
+        outcome
+    }
+
+    /// Writes a file under a path that is free, and gives it another one, in place of what is there.
+    fn write_beside(&self, beside: &str, path: &str, bytes: &[u8]) -> io::Result<()> {
+        self.write_new(beside, bytes)?;
+        fs::rename(self.rt, beside, path)
+    }
+
+    fn write_new(&self, path: &str, bytes: &[u8]) -> io::Result<()> {
+        let mut file = File::create_new(self.rt, path)?;
+        file.write_all(bytes)
+    }
+
+    fn delete(&self, path: &str) -> io::Result<()> {
+        match fs::remove_file(self.rt, path) {
             Err(error) if error.kind() == ErrorKind::NotFound => Ok(()),
             outcome => outcome,
         }
+    }
+
+    fn delete_named(&self, name: &str) -> io::Result<()> {
+        let path = self.path_of(name)?;
+        self.delete(path.as_str())
     }
 }
 
@@ -69,7 +106,7 @@ impl<'a, R: Files + AllocGlobal> Store for Directory<'a, R> {
     }
 
     fn remove(&mut self, name: &str) -> Result<(), StoreFault> {
-        match self.delete(name) {
+        match self.delete_named(name) {
             Ok(()) => Ok(()),
             Err(_) => {
                 self.failures = self.failures.saturating_add(1);
