@@ -49,8 +49,7 @@ pub fn put_tempos(
     steps: &[&Item],
 ) -> Result<(), AllocError>
     requires { start.0 + duration (λ step. step.now) steps.now ≤ grains_of_the_latest_end }
-    ensures { OnOk result (tempos.new.items
-        ≡ tempos.old.items ++ set_from (λ step. step.now) tempo_of start.0 steps.now) }
+    ensures { OnOk result (tempos.new.items ≡ tempos.old.items ++ set_from (λ step. step.now) tempo_of start.0 steps.now) }
 {
     let mut at = start;
     for step in steps {
@@ -70,8 +69,7 @@ pub fn put_meters(
     steps: &[&Item],
 ) -> Result<(), AllocError>
     requires { start.0 + duration (λ step. step.now) steps.now ≤ grains_of_the_latest_end }
-    ensures { OnOk result (meters.new.items
-        ≡ meters.old.items ++ set_from (λ step. step.now) meter_of start.0 steps.now) }
+    ensures { OnOk result (meters.new.items ≡ meters.old.items ++ set_from (λ step. step.now) meter_of start.0 steps.now) }
 {
     let mut at = start;
     for step in steps {

@@ -60,8 +60,7 @@ fn set_down<'a>(
     held: &mut Vec<&'a Item>,
     item: &'a Item,
 ) -> Result<(), AllocError>
-    ensures put { OnOk result (out.new.items
-        ≡ out.old.items ++ set_down (λ step. step.now) held.old.items item.entry) }
+    ensures put { OnOk result (out.new.items ≡ out.old.items ++ set_down (λ step. step.now) held.old.items item.entry) }
     ensures held { OnOk result (held.new.items ≡ []) }
 {
     if mark_of(item).is_ending() {

@@ -37,8 +37,7 @@ fn put_tempos_at(
 ) -> Result<(), AllocError>
     requires stage { IfSome (stage_at table.now place) IsStage }
     requires end { at.0 + length_if (stage_at table.now place) ≤ grains_of_the_latest_end }
-    ensures { OnOk result (tempos.new.items
-        ≡ tempos.old.items ++ set_beside tempo_of at.0 (stage_at table.now place)) }
+    ensures { OnOk result (tempos.new.items ≡ tempos.old.items ++ set_beside tempo_of at.0 (stage_at table.now place)) }
 {
     match stage_at(table, place) {
         Some(stage) => put_stage_tempos(tempos, at, stage),
@@ -55,8 +54,7 @@ pub(crate) fn tempos_along(
 ) -> Result<Vec<(Grains, u32)>, AllocError>
     requires stages { All IsStage (at_places table.now order.now) }
     requires in_time { length_along (at_places table.now order.now) ≤ grains_of_the_latest_end }
-    ensures { IfOk result (λ tempos. tempos.items
-        ≡ (record { 0 = 0 }, opening) ∷ set_by_all tempo_of 0 (at_places table.now order.now)) }
+    ensures { IfOk result (λ tempos. tempos.items ≡ (record { 0 = 0 }, opening) ∷ set_by_all tempo_of 0 (at_places table.now order.now)) }
 {
     let mut tempos = Vec::new(alloc);
     tempos.push((Grains(0), opening))?;
@@ -78,8 +76,7 @@ fn put_part_meters(
 ) -> Result<(), AllocError>
     requires part { IsPart longest part.now }
     requires end { at.0 + longest.0 ≤ grains_of_the_latest_end }
-    ensures { OnOk result (meters.new.items
-        ≡ meters.old.items ++ set_from (λ step. step.now) meter_of at.0 part.now.steps) }
+    ensures { OnOk result (meters.new.items ≡ meters.old.items ++ set_from (λ step. step.now) meter_of at.0 part.now.steps) }
 {
     put_meters(meters, at, part.steps.as_slice())
 }
@@ -112,8 +109,7 @@ fn put_meters_at(
 ) -> Result<(), AllocError>
     requires stage { IfSome (stage_at table.now place) IsStage }
     requires end { at.0 + length_if (stage_at table.now place) ≤ grains_of_the_latest_end }
-    ensures { OnOk result (meters.new.items
-        ≡ meters.old.items ++ set_at meter_of voice at.0 (stage_at table.now place)) }
+    ensures { OnOk result (meters.new.items ≡ meters.old.items ++ set_at meter_of voice at.0 (stage_at table.now place)) }
 {
     match stage_at(table, place) {
         Some(stage) => put_stage_meters(meters, at, stage, voice),
@@ -131,8 +127,7 @@ pub(crate) fn meters_along(
 ) -> Result<Vec<(Grains, Meter)>, AllocError>
     requires stages { All IsStage (at_places table.now order.now) }
     requires in_time { length_along (at_places table.now order.now) ≤ grains_of_the_latest_end }
-    ensures { IfOk result (λ meters. meters.items
-        ≡ (record { 0 = 0 }, opening) ∷ set_by_one meter_of voice 0 (at_places table.now order.now)) }
+    ensures { IfOk result (λ meters. meters.items ≡ (record { 0 = 0 }, opening) ∷ set_by_one meter_of voice 0 (at_places table.now order.now)) }
 {
     let mut meters = Vec::new(alloc);
     meters.push((Grains(0), opening))?;
@@ -154,8 +149,7 @@ fn put_part_keys(
 ) -> Result<(), AllocError>
     requires part { IsPart longest part.now }
     requires end { at.0 + longest.0 ≤ grains_of_the_latest_end }
-    ensures { OnOk result (keys.new.items
-        ≡ keys.old.items ++ set_from (λ step. step.now) key_of at.0 part.now.steps) }
+    ensures { OnOk result (keys.new.items ≡ keys.old.items ++ set_from (λ step. step.now) key_of at.0 part.now.steps) }
 {
     put_keys(keys, at, part.steps.as_slice())
 }
@@ -206,8 +200,7 @@ pub(crate) fn keys_along(
 ) -> Result<Vec<(Grains, (i8, bool))>, AllocError>
     requires stages { All IsStage (at_places table.now order.now) }
     requires in_time { length_along (at_places table.now order.now) ≤ grains_of_the_latest_end }
-    ensures { IfOk result (λ keys. keys.items
-        ≡ (record { 0 = 0 }, opening) ∷ set_by_one key_of voice 0 (at_places table.now order.now)) }
+    ensures { IfOk result (λ keys. keys.items ≡ (record { 0 = 0 }, opening) ∷ set_by_one key_of voice 0 (at_places table.now order.now)) }
 {
     let mut keys = Vec::new(alloc);
     keys.push((Grains(0), opening))?;
