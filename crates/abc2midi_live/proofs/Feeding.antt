@@ -259,7 +259,8 @@ not_empty begun len e h = grind (arith, nat_tests)
 abbrev at : Option (List ℕ) → Outlets → Ends
 at input out = record { input = input; out = out }
 
--- What has been read of an input has been served: the bytes, at least as many as reads were made, and what they led to.
+-- What has been read of an input has been served: the bytes, at least as many as reads were made, and what they led
+-- to.
 pub record Heard (made : ℕ) (before now : Ahead) (d e : Directory) (input left : Option (List ℕ)) (old new : Outlets) : Type 0 where
   pub taken : List ℕ
   pub enough : made ≤ length taken

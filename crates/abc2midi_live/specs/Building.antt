@@ -19,8 +19,8 @@ numbers_from first (suc count) = first ∷ numbers_from (first + 1) count
 unfoldable pub pending_numbers : Directory → Files → List ℕ
 pending_numbers directory files = filter (is_pending directory files) (numbers_from 0 (2 ^ 32))
 
--- The files of numbers are put or removed one after another, up to the first fault of the store. Of a text whose files are
--- to be stored, what is known of the directory, the numbers, and what the store answers.
+-- The files of numbers are put or removed one after another, up to the first fault of the store. Of a text whose
+-- files are to be stored, what is known of the directory, the numbers, and what the store answers.
 unfoldable pub storing : Text → Directory → List ℕ → List StoreAnswer → Option Answered
 storing text directory [] answers = Some (answered_by end_line (holding text directory) answers)
 storing text directory (n ∷ numbers) [] = None
@@ -53,15 +53,16 @@ entry_behind Fault bytes = Some Unknown
 abbrev pub IsIdle : Publishing → Type 0
 IsIdle p = (n : ℕ) → p.jobs n ≡ None
 
--- Whatever the store answers behind these answers: what is told of the numbers pending from one on is the text, and then
--- what is told of those pending from another one on.
+-- Whatever the store answers behind these answers: what is told of the numbers pending from one on is the text, and
+-- then what is told of those pending from another one on.
 abbrev pub Stores : Text → Directory → Option ℕ → List StoreAnswer → List ℕ → Directory → Option ℕ → Type 0
 Stores text before from now told after next =
     (later : List StoreAnswer)
     → storing text before (pending_from before (files_of text) from) (now ++ later)
     ≡ line_before told (storing text after (pending_from after (files_of text) next) later)
 
--- Whatever the store answers behind these answers: bringing the directory up to date tells this text, and leads to this directory.
+-- Whatever the store answers behind these answers: bringing the directory up to date tells this text, and leads to
+-- this directory.
 abbrev pub Builds : Text → Directory → List StoreAnswer → List ℕ → Directory → Type 0
 Builds text before now told after =
     (later : List StoreAnswer)

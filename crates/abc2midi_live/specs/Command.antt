@@ -87,7 +87,8 @@ unfoldable pub words_behind : Option (Bor (List ℕ)) → List (List ℕ)
 words_behind None = []
 words_behind (Some rest) = words_of rest.now
 
--- The command of a line: one carriage return at its end is dropped, and one that is longer than a line of a text is none.
+-- The command of a line: one carriage return at its end is dropped, and one that is longer than a line of a text is
+-- none.
 unfoldable pub command_of : List ℕ → Command
 command_of line = if nat_le (length line) LONGEST_LINE then command_of_words (words_of (without_return line)) else Unknown
 

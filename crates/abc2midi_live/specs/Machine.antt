@@ -8,7 +8,8 @@ use Rattle.abc2midi_live.specs.Transcript.{input_lines}
 use Rattle.abc2midi_live.specs.declared.machine.Reply.{Reply}
 use Rattle.abc2midi_live.specs.declared.machine.Reply.TheVariants.{Nothing, Answer, End}
 
--- What is to be told to what still comes, where that is all of it and where it is not, for the answers that a store still gives.
+-- What is to be told to what still comes, where that is all of it and where it is not, for the answers that a store
+-- still gives.
 abbrev pub Future : Type 0 → Type 0
 Future X = Bool → List X → List StoreAnswer → Option Told
 
@@ -22,8 +23,8 @@ pub record Telling (X : Type 0) : Type 0 where
 abbrev pub telling : {X : Type 0} → Future X → Future X → Directory → Telling X
 telling before after directory = record { before = before; after = after; directory = directory }
 
--- Whatever comes behind a piece, and whatever the store answers behind these answers: what was to be told before it is the text,
--- and then, where the machine goes on, what is to be told after it.
+-- Whatever comes behind a piece, and whatever the store answers behind these answers: what was to be told before it
+-- is the text, and then, where the machine goes on, what is to be told after it.
 abbrev pub Answers : {X : Type 0} → Telling X → List X → List StoreAnswer → List ℕ → Bool → Type 0
 Answers {X} t piece now text goes_on =
     (ended : Bool) (rest : List X) (later : List StoreAnswer)

@@ -32,8 +32,8 @@ pub record Outlets : Type 0 where
 abbrev pub outlets : Option (List ℕ) → StoreSeen → Outlets
 outlets output store = record { output = output; store = store }
 
--- A piece is served: a text is written and the store gives answers, which are what is told to the piece. Of what the directory
--- was known to hold before it.
+-- A piece is served: a text is written and the store gives answers, which are what is told to the piece. Of what the
+-- directory was known to hold before it.
 abbrev pub Serves : {X : Type 0} → Directory → Telling X → List X → Outlets → Outlets → Bool → Type 0
 Serves before t piece old new goes_on =
     (text : List ℕ) × (stored : List StoreAnswer) × Appends old.output new.output text × Answers t piece stored text goes_on
@@ -52,7 +52,8 @@ BrokenOff before piece old new Write = ⊤
 BrokenOff before piece old new Memory =
     (front : List ℕ) × (back : List ℕ) × (stored : List StoreAnswer) × (told : Told) × (piece ≡ front ++ back) × (before false front stored ≡ Some told) × Appends old new told.text
 
--- The ends of a run, where they are told: what the reader has to give, what the writer holds, and what is seen of the store.
+-- The ends of a run, where they are told: what the reader has to give, what the writer holds, and what is seen of the
+-- store.
 pub record Ends : Type 0 where
   pub input : Option (List ℕ)
   pub out : Outlets
@@ -80,21 +81,23 @@ LeavesRun book answered old new Write = ⊤
 LeavesRun book answered old new Memory =
     Leaves no_directory answered old new Memory ⊎ (IsSome book × Keeps old.input new.input × Keeps old.out.output new.out.output)
 
--- All of an input is answered, where it is told; what the store gave are answers that a directory follows from, in any case.
+-- All of an input is answered, where it is told; what the store gave are answers that a directory follows from, in
+-- any case.
 abbrev pub Ended : Directory → Future ℕ → Ends → Ends → Type 0
 Ended before future old new =
     (stored : List StoreAnswer) × (told : Told) × Follows old.out.store new.out.store stored before told.directory
     × IfSome old.input (λ bytes. (future true bytes stored ≡ Some told) × Appends old.out.output new.out.output told.text)
 
--- What one read leads to, from what the directory was known to hold before it: where the run goes on, it took bytes, and
--- these are answered so far as they can be; else all that there was to read is.
+-- What one read leads to, from what the directory was known to hold before it: where the run goes on, it took bytes,
+-- and these are answered so far as they can be; else all that there was to read is.
 abbrev pub Turn : Directory → Telling ℕ → Ends → Ends → Bool → Type 0
 Turn before t old new true =
     (taken : List ℕ) × (0 < length taken) × Consumes old.input new.input taken × Serves before t taken old.out new.out true
 Turn before t old new false = Ended before t.before old new
 
--- What was written is what is told for all of an input and the answers that the store gave; these are its only faults,
--- and where none of the files stood there at first, it holds what the directory is known to hold, and nothing else of that kind.
+-- What was written is what is told for all of an input and the answers that the store gave; these are its only
+-- faults, and where none of the files stood there at first, it holds what the directory is known to hold, and nothing
+-- else of that kind.
 pub record Completes (answered : List ℕ → List StoreAnswer → Option Told) (old new : Ends) : Type 0 where
   pub stored : List StoreAnswer
   pub told : Told

@@ -28,8 +28,8 @@ IsStored found None = found ≡ None
 IsStored found (Some (Known bytes)) = found ≡ Some bytes
 IsStored found (Some Unknown) = ⊤
 
--- A store that had some contents at first has, under the name of each number, what the directory is known to hold, and
--- under every other name what it had at first.
+-- A store that had some contents at first has, under the name of each number, what the directory is known to hold,
+-- and under every other name what it had at first.
 pub record Mirrors (first now : Contents) (directory : Directory) : Type 0 where
   pub files : (n : ℕ) → n < 2 ^ 32 → IsStored (get now (file_name n)) (directory n)
   pub others : (name : List ℕ) → ((n : ℕ) → n < 2 ^ 32 → name ≢ file_name n) → get now name ≡ get first name
@@ -53,7 +53,8 @@ pub record StoreSeen : Type 0 where
 abbrev pub store_seen : ℕ → Option Contents → StoreSeen
 store_seen failures contents = record { failures = failures; contents = contents }
 
--- A store gave these answers, and no other fault; and where it mirrored a directory before, it mirrors another one after them.
+-- A store gave these answers, and no other fault; and where it mirrored a directory before, it mirrors another one
+-- after them.
 pub record Follows (old new : StoreSeen) (answers : List StoreAnswer) (before after : Directory) : Type 0 where
   pub failures : new.failures ≡ raised old.failures (faults_among answers)
   pub contents : (first : Option Contents) → MirrorsWhereTold first old.contents before → MirrorsWhereTold first new.contents after

@@ -80,8 +80,8 @@ unfoldable pub edit_answer : Text → Result Text EditError → List ℕ
 edit_answer before (Ok after) = report (files_of before) (files_of after)
 edit_answer before (Err error) = refusal error
 
--- The answer to a request. One that is cut off has its answer where the input has ended. There is none where the store gives
--- fewer answers than are asked for.
+-- The answer to a request. One that is cut off has its answer where the input has ended. There is none where the
+-- store gives fewer answers than are asked for.
 unfoldable pub answered : Bool → Holding → Request → List StoreAnswer → Option Answered
 answered ended h (Edits splice) answers =
     Some (answered_by (edit_answer h.text (edited h.text splice)) (holding (result_unwrap_or (edited h.text splice) h.text) h.directory) answers)

@@ -85,8 +85,8 @@ fn carry_out<S: Store>(
     stored
 }
 
-/// Takes the job of the least number that is pending from one on, and carries it out. Answers the number to go on from:
-/// None where none is pending, and after a fault.
+/// Takes the job of the least number that is pending from one on, and carries it out. Answers the number to go on
+/// from: None where none is pending, and after a fault.
 fn store_next<S: Store>(
     alloc: Global,
     publisher: &mut Publisher,
@@ -114,8 +114,8 @@ fn store_next<S: Store>(
     }
 }
 
-/// Puts and removes the files of the numbers that are pending, rising, up to the first fault of the store, and gives the
-/// answer to that.
+/// Puts and removes the files of the numbers that are pending, rising, up to the first fault of the store, and gives
+/// the answer to that.
 pub fn build<S: Store>(
     alloc: Global,
     publisher: &mut Publisher,

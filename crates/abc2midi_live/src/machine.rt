@@ -23,7 +23,8 @@ pub enum Reply {
 
 /// A machine that takes lines, and puts and removes files in a store.
 pub trait Machine {
-    // What it tells to the lines that come, where they are all of them and where they are not, for what the store answers.
+    // What it tells to the lines that come, where they are all of them and where they are not, for what the store
+    // answers.
     ghost future: { Self → Future (List ℕ) };
 
     // What the store is known to hold.

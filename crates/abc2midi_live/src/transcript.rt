@@ -49,9 +49,9 @@ fn opened<W: Sink>(
     }
 }
 
-/// Puts the lines of a tune book, if there is one, into a text that is empty at first, reads commands to the end of the
-/// input or `quit`, carries them out, and writes the answers to all of these. `build` puts files into the store and takes
-/// them out.
+/// Puts the lines of a tune book, if there is one, into a text that is empty at first, reads commands to the end of
+/// the input or `quit`, carries them out, and writes the answers to all of these. `build` puts files into the store
+/// and takes them out.
 ///
 /// `Read` is answered where the reader fails or 4,294,967,295 reads were made, `Write` where the writer fails, and
 /// `Memory` where there is no memory. A fault of the store is no fault of the run.
@@ -64,8 +64,8 @@ pub fn run<R: Source, W: Sink, S: Store>(
     work: &mut Work,
 ) -> Result<(), RunFault>
 
-    // What is written is the transcript of the book, of all that there is to read and of what the store answers, which
-    // mirrors what this tells of it; or what a fault leaves of these.
+    // What is written is the transcript of the book, of all that there is to read and of what the store answers,
+    // which mirrors what this tells of it; or what a fault leaves of these.
     ensures transcript { MatchResult result
         (λ _. Completes (transcript (option_copied book.entry))
         (ends (R.remaining reader.old) (W.contents writer.old) (store_seen (S.failures store.old) (S.contents store.old)))

@@ -54,8 +54,8 @@ impl<'a, R: Files + AllocGlobal> Directory<'a, R> {
         self.path_of(beside.as_str())
     }
 
-    /// Puts a file in place in one step: who reads it finds the old bytes or the new ones, never a part of them. After
-    /// an error the old file stands.
+    /// Puts a file in place in one step: who reads it finds the old bytes or the new ones, never a part of them.
+    /// After an error the old file stands.
     fn write(&self, name: &str, bytes: &[u8]) -> io::Result<()> {
         let path = self.path_of(name)?;
         let beside = self.path_beside(name)?;

@@ -1,6 +1,6 @@
-//! Worked examples by the definitions of a session: edits of a text, the differences of two books, the lines of a file of
-//! tunes, lists of faults and titles. A body here does nothing; its contract is the example. How a text is edited is our
-//! own.
+//! Worked examples by the definitions of a session: edits of a text, the differences of two books, the lines of a
+//! file of tunes, lists of faults and titles. A body here does nothing; its contract is the example. How a text is
+//! edited is our own.
 #![tactic(auto, unfolding(abc_lines::specs::Edits::edited, abc_lines::specs::Edits::replaced, abc_lines::specs::Text::spliced, abc_tunebook::specs::Files::removed, abc_tunebook::specs::Files::written))]
 
 ghost use Rattle.std.specs.Prelude.{◌≡◌, ℕ, true, false, [], ◌∷◌, ◌++◌, length, codes, replicate};
@@ -25,8 +25,8 @@ pub fn line_numbers()
     ensures behind_the_last { line_at four_lines 5 ≡ None }
 {}
 
-/// What accepted changes make of four lines. An insertion may stand behind the last line, and each list of lines may be
-/// empty.
+/// What accepted changes make of four lines. An insertion may stand behind the last line, and each list of lines may
+/// be empty.
 pub fn accepted_changes()
     ensures at_first { edited four_lines (insertion 1 (codes "x" ∷ [])) ≡ Ok (codes "x" ∷ four_lines) }
     ensures before_the_third { edited four_lines (insertion 3 (codes "x" ∷ codes "y" ∷ []))
@@ -69,8 +69,8 @@ pub fn bad_lines()
     ensures behind_a_bad_range { edited four_lines (insertion 9 (codes "\n" ∷ [])) ≡ Err BadRange }
 {}
 
-/// The numbers that two books differ in, rising: those with a file that is new or has other bytes, and those that have
-/// none any more.
+/// The numbers that two books differ in, rising: those with a file that is new or has other bytes, and those that
+/// have none any more.
 pub fn differences()
     ensures new { written [] ((1, codes "a") ∷ []) ≡ 1 ∷ [] }
     ensures other_bytes { written ((1, codes "a") ∷ []) ((1, codes "b") ∷ []) ≡ 1 ∷ [] }
@@ -108,8 +108,8 @@ pub fn large_texts()
         → edited (codes "a" ∷ []) (insertion 1 lines) ≡ Err BadLine }
 {}
 
-/// The lines of a file of tunes. One mark of UTF-8 at its start is dropped; a last line without a line feed counts where it
-/// is not empty.
+/// The lines of a file of tunes. One mark of UTF-8 at its start is dropped; a last line without a line feed counts
+/// where it is not empty.
 #[tactic(auto, unfolding(abc2midi_live::specs::Transcript::book_lines, abc2midi_live::specs::Transcript::without_mark))]
 pub fn lines_of_books()
     ensures marked { book_lines (239 ∷ 187 ∷ 191 ∷ codes "a\nb\n") ≡ codes "a" ∷ codes "b" ∷ [] }

@@ -131,8 +131,8 @@ fn run_of(
 /// The same tune as a file: the mark of UTF-8, and no line feed behind the last line.
 const BOOK: &[u8] = b"\xEF\xBB\xBFX:1\nT:A\nK:C\nC";
 
-/// A tune of one note, bytes behind `quit` that have no effect, and the answers: the file is that of Standard MIDI Files
-/// 1.0. The commands up to `quit` have 36 bytes.
+/// A tune of one note, bytes behind `quit` that have no effect, and the answers: the file is that of Standard MIDI
+/// Files 1.0. The commands up to `quit` have 36 bytes.
 const TUNE: &[u8] = b"insert 1 4\nX:1\nT:A\nK:C\nC\nhex 1\nquit\nhex 1\n";
 
 const TUNE_ANSWERS: &[u8] =
@@ -140,8 +140,8 @@ const TUNE_ANSWERS: &[u8] =
 
 const EDIT_ANSWER: &[u8] = b"ok written 1 removed\n";
 
-/// At most so many bytes a read, the read that fails, the write that fails, and what the run answers and how it ends. The
-/// commands up to `insert` and its lines take 25 bytes, `hex` 6 more.
+/// At most so many bytes a read, the read that fails, the write that fails, and what the run answers and how it ends.
+/// The commands up to `insert` and its lines take 25 bytes, `hex` 6 more.
 const RUNS: [(usize, u64, u64, &[u8], Option<RunFault>); 9] = [
     (1_000, 0, 0, TUNE_ANSWERS, None),
     (7, 0, 0, TUNE_ANSWERS, None),
@@ -223,8 +223,8 @@ fn run_with(rt: &HostRuntime, input: &[u8], store: &mut Shelf) -> Outcome {
 const TUNE_FILE: &[u8] =
     b"MThd\x00\x00\x00\x06\x00\x01\x00\x02\x01\xE0MTrk\x00\x00\x00\x17\x00\xFF\x03\x01A\x00\xFF\x51\x03\x07\xA1\x20\x00\xFF\x59\x02\x00\x00\x81\x70\xFF\x2F\x00MTrk\x00\x00\x00\x0D\x00\x90\x3C\x50\x81\x70\x80\x3C\x40\x00\xFF\x2F\x00";
 
-// A store that fails at its first call: the tune is still to be stored, and the next build does it. Then there is nothing to
-// do; and a tune that went away has its file removed.
+// A store that fails at its first call: the tune is still to be stored, and the next build does it. Then there is
+// nothing to do; and a tune that went away has its file removed.
 #[test]
 fn a_fault_of_the_store_is_made_good(rt: HostRuntime) {
     let mut store = Shelf::new(rt.alloc(), 1);

@@ -14,8 +14,8 @@ fn lines_of(alloc: Global, texts: &[&[u8]]) -> Result<Vec<Vec<u8>>, AllocError> 
     Ok(lines)
 }
 
-// A tune comes in, a line of it is changed, an edit of lines that are not there is refused and changes nothing, and the
-// tune is taken out again.
+// A tune comes in, a line of it is changed, an edit of lines that are not there is refused and changes nothing, and
+// the tune is taken out again.
 #[test]
 fn edits_are_reported(rt: HostRuntime) -> Result<(), Fail> {
     let alloc = rt.alloc();
