@@ -5,19 +5,19 @@ use Rattle.abc_voices.specs.declared.score.Change.{Change}
 use Rattle.abc_voices.specs.declared.score.ChangeKind.{ChangeKind}
 use Rattle.abc_voices.specs.declared.score.Sounding.{Sounding}
 
--- the moment of a tick
+-- The moment of a tick.
 abbrev pub at_tick : ℕ → Grains
 at_tick tick = record { 0 = tick * 484323840 }
 
--- a key that sounds from one tick to another
+-- A key that sounds from one tick to another.
 abbrev pub sounding : ℕ → ℕ → ℕ → Sounding
 sounding key on off = record { key = key; on = at_tick on; off = at_tick off }
 
--- a change at a tick
+-- A change at a tick.
 abbrev pub change_at : ℕ → ChangeKind → Change
 change_at tick what = record { at = at_tick tick; what = what }
 
--- the note of this key that sounds for the seventh part of 960 ticks, after so many others
+-- The note of this key that sounds for the seventh part of 960 ticks, after so many others.
 abbrev pub seventh : ℕ → ℕ → Sounding
 seventh key before =
     record { key = key; on = record { 0 = before * 66421555200 }; off = record { 0 = (before + 1) * 66421555200 } }

@@ -41,7 +41,7 @@ read_4 : (a b c d : ℕ) (rest : List ℕ) → 128 < a → 128 ≤ b → 128 ≤
 unfolding reading
 read_4 a b c d rest e f g h = grind (arith, nat_tests)
 
--- The number is read from its text, whatever follows.
+-- the number is read from its text, whatever follows
 pub reading-text : (n : ℕ) (rest : List ℕ) → n < 2 ^ 28 → reading (number_text n ++ rest) ≡ Ok (n, length (number_text n))
 reading-text n rest h =
     elim (cases_eq (n / 128) 0) [
@@ -71,7 +71,7 @@ read_back m n xs ys g h e =
 pub not_a_front : (m n : ℕ) (rest : List ℕ) → m < 2 ^ 28 → n < 2 ^ 28 → number_text m ++ rest ≡ number_text n → m ≡ n
 not_a_front m n rest g h e = same_number m n rest [] g h (e ∙ sym (append-nil (number_text n)))
 
--- What each answer of reading says of the bytes.
+-- what each answer of reading says of the bytes
 abbrev pub Means : List ℕ → Result (ℕ × ℕ) NumberFault → Type 0
 Means bytes (Ok v) = StartsWithNumber bytes v.0 v.1
 Means bytes (Err Padded) = IsPadded bytes
@@ -190,7 +190,7 @@ sound_1 a rest h ne =
       | inr high ↦ sound_2 a rest h (omega arith)
     ]
 
--- What reading answers is so, for bytes.
+-- what reading answers is so, for bytes
 pub sound : (bytes : List ℕ) → ((i : ℕ) → get_or bytes i 0 < 256) → Means bytes (reading bytes)
 unfolding reading
 sound [] h =
@@ -201,7 +201,7 @@ sound (a ∷ rest) h =
       | inr ne ↦ sound_1 a rest h ne
     ]
 
--- The answers that the text, or a fault of the bytes, settles.
+-- the answers that the text, or a fault of the bytes, settles
 pub complete : (bytes : List ℕ) (n used : ℕ) → StartsWithNumber bytes n used → reading bytes ≡ Ok (n, used)
 complete bytes n used h =
     ap reading h.spelled ∙ reading-text n h.rest h.in_range ∙ ap (λ k. Ok (n, k)) (sym h.counted)

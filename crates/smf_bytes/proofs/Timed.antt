@@ -17,7 +17,7 @@ use Rattle.smf_bytes.specs.Event.{end_event}
 use Rattle.smf_bytes.specs.Track.{timed}
 use Rattle.smf_bytes.proofs.Ordered.{Rises, less, rises_from}
 
--- From a tick on no event is earlier than the one before it, and none is later than the end.
+-- from a tick on no event is earlier than the one before it, and none is later than the end
 abbrev pub Follows : ℕ → ℕ → List Event → Type 0
 Follows end before [] = before ≤ end
 Follows end before (event ∷ events) = (before ≤ event.tick) × (event.tick ≤ end) × Follows end event.tick events
