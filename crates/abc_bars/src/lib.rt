@@ -26,6 +26,7 @@ mod heard_laws;
 mod item;
 mod lengths;
 mod meter;
+mod numbers;
 mod opening;
 mod pitch;
 mod reference;
@@ -53,8 +54,9 @@ pub use header_laws::{declared_voices, entries_apart, entry_views, header_views}
 pub use heard_laws::held_views;
 pub use item::{HIGHEST_KEY, Item, Items, LocalFault, MOST_NOTES, Tone};
 pub use meter::TuneMeter;
+pub use numbers::{field_letters, key_numbers, music_limits};
 pub use tempo::TuneTempo;
 pub use unit::UnitLength;
 pub use voice_laws::voice_views;
 pub use voice_name::VoiceName;
-pub use voices::{MOST_VOICES, Voices, most_voices};
+pub use voices::{MOST_VOICES, Voices};

@@ -8,7 +8,6 @@ ghost use Rattle.std.specs.List.{AllZip, IsDistinct};
 ghost use Rattle.std.specs.Map.{keys_of};
 ghost use Rattle.std.specs.Map.Iter.{deref_pair};
 ghost use Rattle.std.specs.Option.{option_copied, option_copied_mut, option_map};
-ghost use Rattle.abc_bars.specs.declared.voices.TheConstants.{MOST_VOICES};
 ghost use Rattle.abc_bars.specs.Voices.{place_of, voice_at};
 ghost use Rattle.abc_bars.specs.VoicesLent.{lends_known, lends_voice};
 
@@ -20,11 +19,6 @@ use std::marker::Model;
 
 /// The most voices of a tune. Our own.
 pub const MOST_VOICES: usize = 15;
-
-/// A tune has at most fifteen voices.
-pub fn most_voices()
-    ensures { MOST_VOICES ≡ 15 }
-{}
 
 /// Voices in the order in which they were mentioned, each with what is known of it (ABC 2.1 section
 /// 7.1). No two have the same name. Contracts see pairs of a name and what is known.
