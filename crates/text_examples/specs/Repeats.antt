@@ -42,3 +42,7 @@ first_and_second = marks.Ending 3
 
 abbrev pub first_and_third : Mark
 first_and_third = marks.Ending 5
+
+-- An ending that is for no pass.
+abbrev pub no_pass : Mark
+no_pass = marks.Ending 0

@@ -4,7 +4,7 @@
 
 ghost use Rattle.std.specs.Prelude.{◌≡◌, [], ◌∷◌};
 ghost use Rattle.abc_repeat.specs.Play.{play_of};
-ghost use Rattle.text_examples.specs.Repeats.{note, single, double, opening, closing, between, first, second, third, first_and_second, first_and_third};
+ghost use Rattle.text_examples.specs.Repeats.{note, single, double, opening, closing, between, first, second, third, first_and_second, first_and_third, no_pass};
 
 /// Repeat bars and double bars.
 pub fn repeats()
@@ -37,6 +37,7 @@ pub fn endings()
         ≡ 1 ∷ 4 ∷ 1 ∷ 7 ∷ 9 ∷ 9 ∷ [] }
     ensures no_ending_for_the_third_pass { play_of (opening 1 ∷ note ∷ single ∷ first ∷ note ∷ closing 2 ∷ second ∷ note ∷ double ∷ note ∷ [])
         ≡ 1 ∷ 4 ∷ 1 ∷ 7 ∷ 1 ∷ 9 ∷ [] }
+    ensures for_no_pass { play_of (note ∷ single ∷ no_pass ∷ note ∷ closing 1 ∷ []) ≡ 0 ∷ 0 ∷ [] }
     ensures single_bars_between { play_of (opening 1 ∷ note ∷ single ∷ first ∷ note ∷ closing 1 ∷ single ∷ second ∷ note ∷ double ∷ [])
         ≡ 1 ∷ 4 ∷ 1 ∷ 8 ∷ [] }
 {}
