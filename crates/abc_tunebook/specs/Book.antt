@@ -16,11 +16,13 @@ use Rattle.abc_tunebook.specs.Rules.{Rules}
 use Rattle.abc_tunebook.specs.Sorted.{sorted_once}
 use Rattle.abc_tunebook.specs.Tune.{cells_in, faults_along, tune_of}
 
+-- Whether a block is a file header.
 abbrev pub is_file_header : BlockKind → Bool
 is_file_header kinds.FileHeader = true
 is_file_header kinds.Tune = false
 is_file_header kinds.Free = false
 
+-- Whether a block is a tune.
 abbrev pub is_tune : BlockKind → Bool
 is_tune kinds.FileHeader = false
 is_tune kinds.Tune = true
@@ -77,6 +79,7 @@ pub record Book : Type 0 where
 abbrev pub empty_book : Book
 empty_book = record { files = []; titles = []; faults = [] }
 
+-- The entry of a tune in the title index.
 abbrev pub title_of : Tune → Title
 title_of tune = record { number = tune.number; text = tune.title }
 

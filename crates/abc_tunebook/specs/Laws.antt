@@ -1,5 +1,5 @@
 -- What holds of every book. Our own.
-use Rattle.std.specs.Prelude.{◌≡◌, ◌↔◌, ◌≤◌, ℕ, ◌+◌, List, [], map, length, All, Contains}
+use Rattle.std.specs.Prelude.{◌≡◌, ◌↔◌, ◌≤◌, ℕ, ◌+◌, List, [], ◌∷◌, map, length, All, Contains}
 use Rattle.std.specs.List.Sorted.{IsStrictlySortedBy}
 use Rattle.abc_fields.specs.declared.fault.FaultCode.{FaultCode}
 use Rattle.abc_lines.specs.Text.{Text}
@@ -29,9 +29,11 @@ FaultsRise = (faults : List Fault) → IsStrictlySortedBy fault_cmp (sorted_once
 abbrev pub moved : {A : Type 0} → ℕ → Placed A → Placed A
 moved lines one = placed_at (one.line + lines) one.here
 
+-- A fault, so many lines further down.
 abbrev pub fault_moved : ℕ → Fault → Fault
 fault_moved lines fault = record { line = fault.line + lines; column = fault.column; code = fault.code }
 
+-- What a tune gives that stands so many lines further down.
 abbrev pub tune_moved : ℕ → Tune → Tune
 tune_moved lines tune = record {
   number = tune.number;
@@ -66,11 +68,15 @@ TunesMove State Cell Items Defaults =
     → tune_from rules (first + lines) (items_along next gives opening (cells_from rules.cells (first + lines) text))
     ≡ tune_moved lines (tune_from rules first (items_along next gives opening (cells_from rules.cells first text)))
 
--- No fault of a tune stands below the end of its last line.
-abbrev pub NoFaultBelow : Type 0 → Type 0 → Type 0 → Type 0 → Type 0
-NoFaultBelow State Cell Items Defaults =
-    (next : State → Cell → State) (gives : State → Cell → Items) (rules : Rules State Cell Items Defaults) (first : ℕ) (opening : State) (text : Text)
-    → All (λ fault. fault.line ≤ first + length text) (tune_from rules first (items_along next gives opening (cells_from rules.cells first text))).faults
+-- A fault stands in one of the lines from one number to another.
+abbrev pub StandsBetween : ℕ → ℕ → Fault → Type 0
+StandsBetween low high fault = (low ≤ fault.line) × (fault.line ≤ high)
+
+-- Each fault of a tune stands in one of its lines, from its first to those behind it.
+abbrev pub FaultsInLines : Type 0 → Type 0 → Type 0 → Type 0 → Type 0
+FaultsInLines State Cell Items Defaults =
+    (next : State → Cell → State) (gives : State → Cell → Items) (rules : Rules State Cell Items Defaults) (first : ℕ) (opening : State) (line : List ℕ) (behind : Text)
+    → All (StandsBetween first (first + length behind)) (tune_from rules first (items_along next gives opening (cells_from rules.cells first (line ∷ behind)))).faults
 
 -- A text without lines has an empty book.
 abbrev pub NoLinesNoBook : Type 0 → Type 0 → Type 0 → Type 0 → Type 0

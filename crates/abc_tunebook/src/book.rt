@@ -94,6 +94,7 @@ impl Book {
     {
         &self.faults
     }
+
     /// Whether a number has the same bytes in both, or no file in either.
     fn agrees(&self, other: &Book, number: u32) -> bool
         ensures { result ≡ option_eq bytes_eq (file_at self.now.files number) (file_at other.now.files number) }

@@ -1,6 +1,6 @@
 //! The MIDI files of a book by reference number.
 
-ghost use Rattle.std.specs.Prelude.{◌≡◌, ℕ, List, [], IfOk, OnOk, option_copied};
+ghost use Rattle.std.specs.Prelude.{◌≡◌, ℕ, List, [], IfOk, OnErr, OnOk, option_copied};
 ghost use Rattle.std.specs.List.Sorted.{IsStrictlyIncreasing};
 ghost use Rattle.std.specs.Map.{keys_of};
 ghost use Rattle.abc_tunebook.specs.Files.{file_at, owned};
@@ -35,7 +35,8 @@ impl Files {
     /// Takes the file of a tune, unless its number has one.
     #[tactic(auto, using(crate::proofs::Owned::kept, crate::proofs::Owned::taken))]
     pub fn offer(&mut self, number: u32, bytes: Option<Sequence<u8>>) -> Result<(), AllocError>
-        ensures { OnOk result (self.new ≡ owned self.old number bytes) }
+        ensures taken { OnOk result (self.new ≡ owned self.old number bytes) }
+        ensures refused { OnErr result (self.new ≡ self.old) }
     {
         match bytes {
             Some(_) if self.files.contains_key(&number) => Ok(()),

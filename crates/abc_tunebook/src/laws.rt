@@ -1,6 +1,6 @@
 //! What holds of every book. Each function has no body: its contract is the law.
 
-ghost use Rattle.abc_tunebook.specs.Laws.{FirstOwner, NoFaultLost, FaultsRise, CellsMove, ItemsMove, FaultsMove, TunesMove, NoFaultBelow, NoLinesNoBook};
+ghost use Rattle.abc_tunebook.specs.Laws.{FirstOwner, NoFaultLost, FaultsRise, CellsMove, ItemsMove, FaultsMove, TunesMove, FaultsInLines, NoLinesNoBook};
 
 /// Of the tunes of a number, the first that has a file gives the number's file.
 pub fn first_owner()
@@ -21,9 +21,9 @@ pub fn tunes_move<State, Cell, Items, Defaults>()
     ensures tunes { TunesMove State Cell Items Defaults }
 {}
 
-/// The faults of a tune stand in its lines.
+/// Each fault of a tune stands in one of its lines.
 pub fn faults_stand_in_tunes<State, Cell, Items, Defaults>()
-    ensures { NoFaultBelow State Cell Items Defaults }
+    ensures { FaultsInLines State Cell Items Defaults }
 {}
 
 /// The book of a text without lines is empty.

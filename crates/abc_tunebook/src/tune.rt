@@ -1,6 +1,6 @@
 //! What a tune gives to the book.
 
-ghost use Rattle.std.specs.Prelude.{◌≡◌, ◌+◌, ◌≤◌, All, IfOk, map, option_copied};
+ghost use Rattle.std.specs.Prelude.{◌≡◌, ◌+◌, ◌≤◌, All, IfOk, map};
 ghost use Rattle.abc_tunebook.specs.Laws.{fault_moved, tune_moved};
 
 use crate::fault::Fault;
