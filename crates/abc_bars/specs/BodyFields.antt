@@ -1,5 +1,5 @@
 -- The fields of a tune's body: what holds behind each, and what it gives.
-use Rattle.std.specs.Prelude.{ℕ, false, if◌then◌else◌, List, [], ◌∷◌, slice_range, Option, Some, None, unwrap_or, Result, Ok, Err}
+use Rattle.std.specs.Prelude.{ℕ, false, if◌then◌else◌, List, [], ◌∷◌, slice_range, Option, Some, None, option_to_list, unwrap_or, Result, Ok, Err}
 use Rattle.std.specs.Char.{is_ascii_uppercase}
 use Rattle.std.specs.Option.{option_map}
 use Rattle.abc_fields.specs.declared.fault.FaultCode.{FaultCode}
@@ -34,14 +34,9 @@ pub record FieldGiven : Type 0 where
   pub items : List Item
   pub faults : List (ℕ × FaultCode)
 
--- What there is, as a list.
-abbrev pub listed : {X : Type 0} → Option X → List X
-listed None = []
-listed (Some x) = x ∷ []
-
 -- What holds behind a field, and what it gives.
 abbrev pub given_as : Body → FieldItem → FieldGiven
-given_as body given = record { body = body; items = listed given.item; faults = listed given.fault }
+given_as body given = record { body = body; items = option_to_list given.item; faults = option_to_list given.fault }
 
 -- Behind a field that is accepted and gives an item.
 abbrev pub accepted : Body → Item → FieldGiven

@@ -15,7 +15,7 @@ use std::alloc::{AllocError, Global};
 use std::mem;
 
 /// The voice that is the current one.
-#[derive(Debug, Drop, PartialEq, Eq)]
+#[derive(Drop, PartialEq, Eq)]
 pub(crate) enum Current {
     /// The voice without a name, which is not mentioned yet. As long as it is the current one, no other
     /// voice is mentioned.
@@ -53,7 +53,7 @@ impl Clone for Current {
 }
 
 /// What holds at a place of a tune's body.
-#[derive(Debug, Drop, PartialEq, Eq)]
+#[derive(Drop, PartialEq, Eq)]
 pub struct Body {
     /// The voices that are mentioned, at most fifteen.
     pub(crate) voices: Voices<Settings>,

@@ -1,6 +1,6 @@
 //! Broken rhythm: which marks act, and what they multiply the lengths beside them by.
 
-ghost use Rattle.std.specs.Prelude.{◌≡◌, ◌==◌, ◌≤◌, ◌^◌, length};
+ghost use Rattle.std.specs.Prelude.{◌≡◌, ◌==◌, ◌≤◌, ◌^◌, length, option_map, IfSome};
 ghost use Rattle.abc_bars.specs.Broken.{has_note, role_of, is_time_token, behind_after, time_follows, mark_ahead, mark_behind, halved, shorter, longer, first_factor, second_factor, factors_of, is_bad_mark};
 ghost use Rattle.abc_bars.specs.Acting.{ActsAsRead, GivesFactorsAsRead};
 ghost use Rattle.abc_time.specs.Ratio.{IsRatio};
@@ -63,7 +63,7 @@ impl BrokenFactors {
         ensures { result ≡ factors_of behind ahead.now }
     {
         BrokenFactors {
-            behind: mark_behind(behind).map(second_factor),
+            behind: factor_behind(behind),
             ahead: mark_ahead(ahead).map(first_factor),
         }
     }
@@ -149,16 +149,6 @@ fn mark_ahead(tokens: &[Token]) -> Option<BrokenRhythm>
     None
 }
 
-/// The mark that a place stands behind, which had a time token before it.
-fn mark_behind(behind: Behind) -> Option<BrokenRhythm>
-    ensures { result ≡ mark_behind behind }
-{
-    match behind {
-        Behind::Mark(mark) => Some(mark),
-        Behind::Nothing | Behind::TimeToken => None,
-    }
-}
-
 /// Two to the number of marks.
 fn halved(mark: BrokenRhythm) -> u32
     ensures value { result ≡ halved mark }
@@ -209,6 +199,17 @@ fn second_factor(mark: BrokenRhythm) -> Ratio
     match mark.direction {
         Direction::Right => shorter(mark),
         Direction::Left => longer(mark),
+    }
+}
+
+/// What the mark multiplies a note, chord or rest by that stands behind it, if there was one before the mark.
+fn factor_behind(behind: Behind) -> Option<Ratio>
+    ensures value { result ≡ option_map second_factor (mark_behind behind) }
+    ensures range { IfSome result IsRatio }
+{
+    match behind {
+        Behind::Mark(mark) => Some(second_factor(mark)),
+        Behind::Nothing | Behind::TimeToken => None,
     }
 }
 

@@ -1,7 +1,6 @@
 //! The cells of a tune's body.
 
-ghost use Rattle.std.specs.Prelude.{◌≡◌, IfOk, IfSome, OnOk};
-ghost use Rattle.abc_bars.specs.BodyFields.{listed};
+ghost use Rattle.std.specs.Prelude.{◌≡◌, option_to_list, IfOk, IfSome, OnOk};
 ghost use Rattle.abc_bars.specs.Cell.{is_tie_token, tie_ahead, may_be_tied, nothing_given, with_item, with_items, with_faults, with_fault, with_fault_if, with_some_fault, with_note, with_rest, with_chord, with_bar_rest, with_field, with_bar, with_ending, with_tuplet, with_tie, with_kind, with_token, given_from, cell_given};
 ghost use Rattle.abc_bars.specs.Item.{IsItem};
 
@@ -82,7 +81,7 @@ impl Given {
     /// A token gives this item or none.
     fn some_item(&mut self, item: Option<Item>) -> Result<(), AllocError>
         requires { IfSome item IsItem }
-        ensures { OnOk result (self.new ≡ with_items self.old (listed item)) }
+        ensures { OnOk result (self.new ≡ with_items self.old (option_to_list item)) }
     {
         if let Some(item) = item {
             self.item(item)?;
@@ -92,7 +91,7 @@ impl Given {
 
     /// A token has this fault, with its column, or none.
     fn some_local_fault(&mut self, fault: Option<LocalFault>) -> Result<(), AllocError>
-        ensures { OnOk result (self.new ≡ with_faults self.old (listed fault)) }
+        ensures { OnOk result (self.new ≡ with_faults self.old (option_to_list fault)) }
     {
         if let Some(fault) = fault {
             self.items.push_fault(fault)?;

@@ -11,7 +11,7 @@ use abc_fields::{FaultCode, Tempo};
 
 /// The last accepted values of M:, L: and Q: (ABC 2.1 section 3.1). A Q: that sets no tempo counts as
 /// none.
-#[derive(Clone, Copy, Debug, PartialEq, Eq)]
+#[derive(Clone, Copy, PartialEq, Eq)]
 pub struct Defaults {
     pub meter: Option<TuneMeter>,
     /// The unit note length.

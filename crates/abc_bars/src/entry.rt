@@ -11,7 +11,7 @@ use crate::header::Header;
 use std::alloc::Global;
 
 /// All that what follows a place of a file header or of a tune can depend on.
-#[derive(Clone, Debug, Drop, PartialEq, Eq)]
+#[derive(Drop, PartialEq, Eq)]
 pub enum Entry {
     /// In a file header: its values so far.
     FileHeader(Defaults),
@@ -36,7 +36,10 @@ impl Entry {
     pub fn tune(_alloc: Global, after: Option<&Entry>) -> Entry
         ensures { result ≡ opening_after (option_copied after.entry) }
     {
-        Entry::Opening(after.map_or(NO_DEFAULTS, Entry::defaults))
+        match after {
+            Some(entry) => Entry::Opening(entry.defaults()),
+            None => Entry::Opening(NO_DEFAULTS),
+        }
     }
 
     /// The values in a file header; elsewhere none.

@@ -4,7 +4,7 @@ ghost use Rattle.std.specs.Prelude.{◌≡◌, IfOk, IfSome, All, Some, None};
 ghost use Rattle.abc_fields.specs.Key.{IsInRange, key_of};
 ghost use Rattle.abc_fields.specs.Parts.{parts_of};
 ghost use Rattle.abc_fields.specs.Voice.{voice_of};
-ghost use Rattle.abc_bars.specs.Header.{opening_header, shift_said, said_at, declared, unchanged, reference_by, order_by, voice_by, key_item, key_by, own_given, setting_by, items_with, header_given};
+ghost use Rattle.abc_bars.specs.Header.{opening_header, shift_said, said_at, declared, declared_given, unchanged, reference_by, order_by, voice_by, key_item, key_by, own_given, setting_by, items_with, header_given};
 ghost use Rattle.abc_bars.specs.Item.{IsItem};
 ghost use Rattle.abc_bars.specs.declared.item.Item.TheVariants as items;
 ghost use Rattle.abc_bars.specs.Defaults.{setting_given};
@@ -25,7 +25,7 @@ use std::alloc::{AllocError, Global};
 
 /// What holds at a place of a tune's header: the values so far, else the file header's, and the voices
 /// that are declared, each with the parts of its shift that were said for it.
-#[derive(Clone, Debug, Drop, PartialEq, Eq)]
+#[derive(Clone, Drop, PartialEq, Eq)]
 pub struct Header {
     pub(crate) defaults: Defaults,
     pub(crate) voices: Voices<Shift>,
@@ -163,22 +163,18 @@ fn order_given(alloc: Global, header: Header, value: &[u8]) -> Result<OwnGiven, 
     }
 }
 
-/// What a V: gives.
-fn voice_given(alloc: Global, header: Header, value: &[u8]) -> Result<OwnGiven, AllocError>
-    ensures value { IfOk result (λ own. own ≡ voice_by header value.now (voice_of value.now)) }
+/// What a V: of this name gives, with what it says of the shift.
+fn declared_given(
+    alloc: Global,
+    header: Header,
+    name: &[u8],
+    shift: Shift,
+) -> Result<OwnGiven, AllocError>
+    ensures value { IfOk result (λ own. own ≡ declared_given header name.now (declared header.voices name.now shift)) }
     ensures range { IfOk result (λ own. IfSome own.item IsItem) }
 {
-    let voice = match read_voice(value) {
-        Ok(voice) => voice,
-        Err(fault) => return Ok(OwnGiven::unchanged(header, None, Some(fault))),
-    };
-    let name = &value[voice.from..voice.to];
     let mut header = header;
-    let fault = declare(
-        &mut header.voices,
-        VoiceName::new(alloc, name)?,
-        voice.shift,
-    )?;
+    let fault = declare(&mut header.voices, VoiceName::new(alloc, name)?, shift)?;
     if fault.is_some() {
         return Ok(OwnGiven::unchanged(header, None, fault));
     }
@@ -188,6 +184,20 @@ fn voice_given(alloc: Global, header: Header, value: &[u8]) -> Result<OwnGiven, 
         name,
     };
     Ok(OwnGiven::unchanged(header, Some(item), None))
+}
+
+/// What a V: gives.
+fn voice_given(alloc: Global, header: Header, value: &[u8]) -> Result<OwnGiven, AllocError>
+    ensures value { IfOk result (λ own. own ≡ voice_by header value.now (voice_of value.now)) }
+    ensures range { IfOk result (λ own. IfSome own.item IsItem) }
+{
+    match read_voice(value) {
+        Ok(voice) => {
+            let name = &value[voice.from..voice.to];
+            declared_given(alloc, header, name, voice.shift)
+        }
+        Err(fault) => Ok(OwnGiven::unchanged(header, None, Some(fault))),
+    }
 }
 
 /// The key with which a tune begins.

@@ -3,7 +3,7 @@
 use abc_scan::Letter;
 
 /// A note of a voice's last note or chord that is tied, as it was written (ABC 2.1 section 4.11).
-#[derive(Clone, Copy, Debug, PartialEq, Eq)]
+#[derive(Clone, Copy, PartialEq, Eq)]
 pub struct TiedNote {
     pub letter: Letter,
     /// Octaves above that of the capital letters.

@@ -1,7 +1,9 @@
 //! Notes, chords and rests: what each gives and what it leaves for its voice.
 
-ghost use Rattle.std.specs.Prelude.{◌≡◌, All, OnOk};
-ghost use Rattle.abc_bars.specs.Item.{AreTones, IsTone, IsWithinLongest};
+ghost use Rattle.std.specs.Prelude.{◌≡◌, ◌∷◌, All, OnOk};
+ghost use Rattle.abc_fields.specs.declared.fault.FaultCode.TheVariants.{EmptyChord};
+ghost use Rattle.abc_bars.specs.Column.{column_of};
+ghost use Rattle.abc_bars.specs.Item.{AreTones, IsTone, IsWithinLongest, and_faults};
 ghost use Rattle.abc_bars.specs.TimeTokens.{first_length, sounded, note_played, chord_played, rest_played, with_played};
 
 use crate::broken::{BrokenFactors, has_note};
@@ -78,6 +80,15 @@ pub(crate) fn note_played(
     Ok(())
 }
 
+/// Gives the faults of a chord without a note, which takes no time.
+fn take_no_time(items: &mut Items, inside: Inside, from: usize) -> Result<(), AllocError>
+    ensures { OnOk result (items.new ≡ and_faults items.old ((column_of from, EmptyChord) ∷ inside.faults)) }
+{
+    items.push_fault((column_of(from), FaultCode::EmptyChord))?;
+    items.push_faults(inside.faults.as_slice())?;
+    Ok(())
+}
+
 /// Gives a chord at a place of its line, which is tied or not: one that has no note takes no time.
 pub(crate) fn chord_played(
     alloc: Global,
@@ -101,8 +112,7 @@ pub(crate) fn chord_played(
     if has_note(parts) {
         sound(settings, items, inside)?;
     } else {
-        items.push_fault((column_of(from), FaultCode::EmptyChord))?;
-        items.push_faults(inside.faults.as_slice())?;
+        take_no_time(items, inside, from)?;
     }
     Ok(())
 }

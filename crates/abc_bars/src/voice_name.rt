@@ -9,7 +9,6 @@ ghost use Rattle.std.proofs.Common.{rules};
 
 use abc_text::Sequence;
 use std::alloc::{AllocError, Global};
-use std::fmt;
 use std::hash::{Hash, Hasher};
 use std::marker::Model;
 
@@ -38,13 +37,6 @@ impl VoiceName {
     {
         let bytes = Sequence::from_slice(alloc, bytes)?;
         Ok(VoiceName { bytes })
-    }
-
-    /// Its bytes.
-    pub fn as_bytes(&self) -> &[u8]
-        ensures { result.now ≡ self.now }
-    {
-        self.bytes.as_slice()
     }
 }
 
@@ -78,11 +70,5 @@ impl Hash for VoiceName {
 
     fn hash<H: Hasher>(&self, state: &mut H) {
         self.bytes.as_slice().hash(state);
-    }
-}
-
-impl fmt::Debug for VoiceName {
-    fn fmt<W: fmt::Write>(&self, f: &mut fmt::Formatter<W>) -> fmt::Result {
-        self.bytes.fmt(f)
     }
 }

@@ -6,7 +6,7 @@ ghost use Rattle.abc_bars.specs.VoiceShift.{with_properties};
 use abc_fields::Shift;
 
 /// How the notes of a voice are shifted (ABC 2.1 sections 4.6 and 7.1), each part 0 where no field says it.
-#[derive(Clone, Copy, Debug, PartialEq, Eq)]
+#[derive(Clone, Copy, PartialEq, Eq)]
 pub struct VoiceShift {
     /// In semitones.
     pub clef: i64,

@@ -14,7 +14,6 @@ ghost use Rattle.abc_bars.specs.VoicesLent.{lends_known, lends_voice};
 use crate::voice_name::VoiceName;
 use indexmap::IndexMap;
 use std::alloc::{AllocError, Global};
-use std::fmt;
 use std::marker::Model;
 
 /// The most voices of a tune. Our own.
@@ -137,10 +136,4 @@ impl<S: PartialEq> PartialEq for Voices<S> {
 
 impl<S: Eq> Eq for Voices<S> {
     ghost laws = { lists_equiv (and_equiv (on_equiv (λ p. p.0) nat_list_eq_equiv) (on_equiv (λ p. p.1) S.Eq.laws)) };
-}
-
-impl<S: fmt::Debug> fmt::Debug for Voices<S> {
-    fn fmt<W: fmt::Write>(&self, f: &mut fmt::Formatter<W>) -> fmt::Result {
-        self.map.fmt(f)
-    }
 }
