@@ -14,7 +14,7 @@ use Rattle.abc_scan.specs.declared.token.TokenKind.{TokenKind}
 use Rattle.abc_scan.specs.Cell.{cells_of}
 use Rattle.abc_scan.specs.Line.{tokens_of}
 use Rattle.abc_scan.specs.LineClass.{class_of}
-use Rattle.abc_tune.specs.Build.{bytes_of, build_faults_of}
+use Rattle.abc_tune.specs.Built.{bytes_of, build_faults_of}
 use Rattle.abc_tunebook.specs.Rules.{Rules}
 
 -- The reference number that an item is, if it is one. ABC 2.1 section 3.1.1.

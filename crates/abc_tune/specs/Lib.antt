@@ -1,2 +1,3 @@
 pub mod Abc
-pub mod Build
+pub mod Built
+pub mod WholeFaults

@@ -3,7 +3,8 @@
 ghost use Rattle.std.specs.Prelude.{◌≡◌, true, false, Some, None, is_none, IfOk};
 ghost use Rattle.std.specs.List.{list_any};
 ghost use Rattle.abc_fold.specs.Work.{raised};
-ghost use Rattle.abc_tune.specs.Build.{bytes_of, build_faults_of, faults_with, is_too_long_fault, AreRisingFrom};
+ghost use Rattle.abc_tune.specs.Built.{bytes_of, build_faults_of};
+ghost use Rattle.abc_tune.specs.WholeFaults.{faults_with, is_too_long_fault, AreRisingFrom};
 ghost use Rattle.abc_voices.specs.Arrange.{items_in};
 ghost use Rattle.abc_voices.specs.Limits.{IsWithinLimits};
 ghost use Rattle.smf_bytes.specs.File.{file_bytes};
@@ -59,7 +60,7 @@ fn without_file(alloc: Global, cells: &[Items], unknown: bool) -> Result<Built, 
 
 /// The file of a tune and its faults as a whole, of what its cells give in order: there is a file exactly
 /// where the tune is not too long. A call that finds no memory is counted too.
-#[tactic(auto, unfolding(crate::specs::Build::bytes_of, crate::specs::Build::build_faults_of))]
+#[tactic(auto, unfolding(crate::specs::Built::bytes_of, crate::specs::Built::build_faults_of))]
 pub fn build(alloc: Global, items: &[Items], work: &mut Work) -> Result<Built, AllocError>
     ensures bytes { IfOk result (λ built. built.bytes ≡ bytes_of items.now) }
     ensures faults { IfOk result (λ built. built.faults ≡ build_faults_of items.now) }

@@ -2,7 +2,7 @@
 
 ghost use Rattle.std.specs.Prelude.{◌≡◌, ◌++◌, IfOk, OnOk};
 ghost use Rattle.std.specs.List.{list_any};
-ghost use Rattle.abc_tune.specs.Build.{is_opening_key, lacks_key, out_past, opens_out_of_range, fault_if, faults_with, is_too_long_fault, AreRisingFrom};
+ghost use Rattle.abc_tune.specs.WholeFaults.{is_opening_key, lacks_key, out_past, opens_out_of_range, fault_if, faults_with, is_too_long_fault, AreRisingFrom};
 ghost use Rattle.abc_voices.specs.Arrange.{items_in};
 ghost use Rattle.abc_voices.specs.Opening.{past_all};
 
@@ -33,7 +33,7 @@ fn has_key(cells: &[Items]) -> bool
 }
 
 /// Whether the header of a tune has no K:.
-#[tactic(auto, using(crate::proofs::Whole::lacks_key_in_cells))]
+#[tactic(auto, using(crate::proofs::WholeFaults::lacks_key_in_cells))]
 fn lacks_key(cells: &[Items]) -> bool
     ensures { result ≡ lacks_key (items_in cells.now) }
 {
@@ -80,7 +80,7 @@ fn put_if(faults: &mut Sequence<FaultCode>, there: bool, fault: FaultCode) -> Re
 }
 
 /// The faults of a tune, by whether a part is unknown, voices are uneven and the tune is too long.
-#[tactic(auto, using(std::proofs::Common::append_assoc, crate::proofs::Whole::faults_rise, crate::proofs::Whole::long_among))]
+#[tactic(auto, using(std::proofs::Common::append_assoc, crate::proofs::WholeFaults::faults_rise, crate::proofs::WholeFaults::long_among))]
 pub(crate) fn faults_with(
     alloc: Global,
     cells: &[Items],

@@ -1,4 +1,4 @@
-use Rattle.abc_tune.proofs.Whole.{out_more}
+use Rattle.abc_tune.proofs.WholeFaults.{out_more}
 use Rattle.abc_tune.proofs.whole_faults.opens_out_of_range.Goals as goal
 
 pub loop-cell-preserved : goal.loop-cell-preserved

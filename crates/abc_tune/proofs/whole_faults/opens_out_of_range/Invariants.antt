@@ -1,5 +1,5 @@
 use Rattle.std.proofs.Common.{◌≡◌, false, drop}
-use Rattle.abc_tune.specs.Build.{out_past}
+use Rattle.abc_tune.specs.WholeFaults.{out_past}
 use Rattle.abc_voices.specs.Arrange.{items_in}
 use Rattle.abc_voices.specs.Opening.{past_all}
 use Rattle.abc_tune.proofs.whole_faults.opens_out_of_range.Given as goal

@@ -1,5 +1,5 @@
 use Rattle.std.proofs.Common.{◌≡◌, drop}
-use Rattle.abc_tune.specs.Build.{out_past}
+use Rattle.abc_tune.specs.WholeFaults.{out_past}
 use Rattle.abc_voices.specs.Opening.{past_all}
 use Rattle.abc_tune.proofs.whole_faults.out_behind.Given as goal
 

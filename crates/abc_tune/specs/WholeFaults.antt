@@ -1,16 +1,12 @@
--- The file of a tune, and its faults as a whole.
-use Rattle.std.specs.Prelude.{ℕ, ◌<◌, Bool, true, false, not, ◌&&◌, if◌then◌else◌, List, [], ◌∷◌, ◌++◌, Option, Some, None}
+-- The faults of a tune as a whole.
+use Rattle.std.specs.Prelude.{ℕ, ◌<◌, Bool, true, false, not, if◌then◌else◌, List, [], ◌∷◌, ◌++◌}
 use Rattle.std.specs.List.{list_any}
 use Rattle.abc_bars.specs.declared.item.Item.{Item}
 use Rattle.abc_bars.specs.declared.item.Item.TheVariants as items
-use Rattle.abc_bars.specs.Item.{Items}
 use Rattle.abc_fields.specs.declared.fault.FaultCode.{FaultCode}
 use Rattle.abc_fields.specs.declared.fault.FaultCode.TheVariants as codes
 use Rattle.abc_fields.specs.Fault.{number_of}
-use Rattle.abc_voices.specs.declared.arranged.Arranged.{Arranged}
-use Rattle.abc_voices.specs.Arrange.{arranged_of, is_too_long, items_in}
 use Rattle.abc_voices.specs.Opening.{past_all}
-use Rattle.smf_bytes.specs.File.{file_bytes}
 
 -- The key of a tune, which the K: says that ends its header, whatever it says. ABC 2.1 section 3.1.14.
 abbrev pub is_opening_key : Item → Bool
@@ -30,22 +26,6 @@ out_past before _ = before
 abbrev pub opens_out_of_range : List Item → Bool
 opens_out_of_range tune = past_all (λ item. item) out_past false tune
 
--- The layout of a tune.
-abbrev pub layout_of : List Item → Arranged
-layout_of tune = arranged_of (λ item. item) tune
-
--- Whether a tune is too long for a file. Our own.
-abbrev pub is_long : List Item → Bool
-is_long tune = is_too_long (λ item. item) tune
-
--- Whether the order of the parts names one that the tune does not have, also where the tune is too long. Our own.
-abbrev pub names_unknown_part : List Item → Bool
-names_unknown_part tune = (layout_of tune).unknown
-
--- Whether voices differ in length in a section that is played; it is said of a tune with a file alone. Our own.
-abbrev pub has_uneven_voices : List Item → Bool
-has_uneven_voices tune = not (is_long tune) && (layout_of tune).uneven
-
 -- A fault, if it is there.
 abbrev pub fault_if : Bool → FaultCode → List FaultCode
 fault_if there code = if there then code ∷ [] else []
@@ -59,18 +39,6 @@ faults_with tune unknown uneven long =
     ++ fault_if unknown codes.UnknownPart
     ++ fault_if uneven codes.UnevenVoices
     ++ fault_if long codes.TuneTooLong
-
--- The faults of a tune as a whole, of what its cells give.
-unfoldable pub build_faults_of : List Items → List FaultCode
-build_faults_of cells =
-    let tune = items_in cells in
-    faults_with tune (names_unknown_part tune) (has_uneven_voices tune) (is_long tune)
-
--- The bytes of a tune's file, of what its cells give: that of its score. A tune that is too long has none.
-unfoldable pub bytes_of : List Items → Option (List ℕ)
-bytes_of cells =
-    let tune = items_in cells in
-    if is_long tune then None else Some (file_bytes (layout_of tune).score)
 
 -- The faults have numbers that rise from above this one.
 abbrev pub AreRisingFrom : ℕ → List FaultCode → Type 0

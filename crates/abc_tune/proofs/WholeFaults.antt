@@ -9,7 +9,7 @@ use Rattle.abc_bars.specs.Item.{Items}
 use Rattle.abc_fields.specs.declared.fault.FaultCode.{FaultCode}
 use Rattle.abc_fields.specs.declared.fault.FaultCode.TheVariants as codes
 use Rattle.abc_fields.specs.Fault.{number_of}
-use Rattle.abc_tune.specs.Build.{is_opening_key, lacks_key, out_past, opens_out_of_range, fault_if, faults_with, AreRisingFrom, is_too_long_fault}
+use Rattle.abc_tune.specs.WholeFaults.{is_opening_key, lacks_key, out_past, opens_out_of_range, fault_if, faults_with, AreRisingFrom, is_too_long_fault}
 use Rattle.abc_voices.specs.Arrange.{items_in}
 use Rattle.abc_voices.specs.Opening.{past_all}
 
