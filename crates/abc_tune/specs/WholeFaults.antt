@@ -10,7 +10,7 @@ use Rattle.abc_voices.specs.Opening.{past_all}
 
 -- The key of a tune, which the K: says that ends its header, whatever it says. ABC 2.1 section 3.1.14.
 abbrev pub is_opening_key : Item → Bool
-is_opening_key (items.Key true key) = true
+is_opening_key (items.Key opening key) = opening
 is_opening_key _ = false
 
 -- Whether the header of a tune has no K:. ABC 2.1 section 3.1.14; how it is read then is our own.

@@ -15,7 +15,10 @@ use std::alloc::{AllocError, Global};
 fn is_opening_key(item: &Item) -> bool
     ensures { result ≡ is_opening_key item.now }
 {
-    matches!(item, Item::Key { opening: true, .. })
+    match item {
+        Item::Key { opening, .. } => *opening,
+        _ => false,
+    }
 }
 
 /// Whether the header of a tune ends in a cell with a K:.
