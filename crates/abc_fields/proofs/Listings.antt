@@ -16,15 +16,6 @@ use Rattle.abc_fields.specs.Spelling.Listed.{IsChanged, AreListed}
 use Rattle.abc_fields.proofs.Accidentals.{changes_exact}
 use Rattle.abc_fields.proofs.Signatures.{altered_range}
 
--- one more change
-changed_more : (other signature : Signature) (change : Change) (more : Option (List Change)) → changed_or other signature (option_map (λ cs. change ∷ cs) more) ≡ changed_or other (with_change signature change) more
-changed_more other signature change None = refl
-changed_more other signature change (Some cs) = refl
-
-pub changed_step : (other signature : Signature) (change : Change) (text rest : List ℕ) → changes_of text ≡ option_map (λ cs. change ∷ cs) (changes_of rest)
-    → changed_or other signature (changes_of text) ≡ changed_or other (with_change signature change) (changes_of rest)
-changed_step other signature change text rest e = ap (changed_or other signature) e ∙ changed_more other signature change (changes_of rest)
-
 -- no more changes
 pub changed_all : (other signature : Signature) (text : List ℕ) → (length text == 0) ≡ true → changed_or other signature (changes_of text) ≡ signature
 unfolding changes_of

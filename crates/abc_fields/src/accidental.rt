@@ -32,7 +32,8 @@ fn first_letter(text: &[u8]) -> Option<usize>
 
 /// The first change of a text, and what stands behind it.
 pub(crate) fn next_change(text: &[u8]) -> Option<(Change, &[u8])>
-    ensures changes { MatchOption result ((text.now ≡ []) ⊎ (changes_of text.now ≡ None)) (λ p. changes_of text.now ≡ option_map (λ more. p.0 ∷ more) (changes_of p.1.now)) }
+    ensures changes { MatchOption result ((text.now ≡ []) ⊎ (changes_of text.now ≡ None))
+        (λ p. changes_of text.now ≡ option_map (λ more. p.0 ∷ more) (changes_of p.1.now)) }
     ensures shorter { IfSome result (λ p. length p.1.now < length text.now) }
     ensures grammar { (changes : List Change) → (changes_of text.now ≡ Some changes) ↔ AreChanges text.now changes }
 {

@@ -13,57 +13,57 @@ use thiserror::Error;
 #[derive(Clone, Copy, Debug, Hash, Error)]
 #[error("{}", self.name())]
 pub enum FaultCode {
-    /// The reference number is none.
+    /// An `X:` that is no number from 1.
     BadReference = 1,
-    /// The meter is none.
+    /// An `M:` that is no meter.
     BadMeter,
-    /// The unit note length is none.
+    /// An `L:` that is no unit note length.
     BadUnit,
-    /// The tempo is none.
+    /// A `Q:` that is no tempo.
     BadTempo,
-    /// The key is none.
+    /// A `K:` that is no key.
     BadKey,
-    /// The order of parts is none.
+    /// A `P:` of a header that is no order of parts.
     BadOrder,
-    /// The part is none.
+    /// A `P:` of a body that is no part.
     BadPart,
-    /// The voice is none.
+    /// A `V:` that is no voice.
     BadVoice,
-    /// The tune has too many voices.
+    /// A voice more than a tune may have.
     TooManyVoices,
-    /// The byte begins nothing.
+    /// A byte that begins nothing.
     BadByte,
-    /// The bracket, quote or brace is not closed.
+    /// A bracket, quote or brace that is not closed.
     Unclosed,
-    /// The length is none.
+    /// A length that is none.
     BadLength,
-    /// The tuplet is out of range.
+    /// A tuplet that is out of range.
     BadTuplet,
-    /// The tuplet begins inside another.
+    /// A tuplet that begins inside another.
     NestedTuplet,
-    /// The broken rhythm has no two notes.
+    /// A broken rhythm without two notes.
     BadBroken,
-    /// The tie follows no note.
+    /// A tie that follows no note.
     LooseTie,
-    /// The chord has no note.
+    /// A chord without notes.
     EmptyChord,
-    /// The chord has too many notes.
+    /// A note more than a chord may have.
     BigChord,
-    /// The ending is out of range.
+    /// An ending that is out of range.
     BadEnding,
-    /// The bar rest stands in free meter.
+    /// A rest of measures in free meter.
     FreeBarRest,
-    /// The note has no MIDI key.
+    /// A note that MIDI has no key for.
     KeyRange,
-    /// The header has no key.
+    /// A header without a key.
     MissingKey,
-    /// The tempo is out of range.
+    /// A tempo that is out of range.
     TempoRange,
-    /// The order names a part that is not there.
+    /// An order with a part that is not there.
     UnknownPart,
-    /// The voices of a section differ in length.
+    /// Voices of a section that differ in length.
     UnevenVoices,
-    /// The tune is too long.
+    /// A tune that is too long.
     TuneTooLong,
 }
 

@@ -54,7 +54,8 @@ fn with_property(shift: Shift, property: Property) -> Shift
 pub(crate) fn shift_in(text: &[u8]) -> Option<Shift>
     ensures value { result ≡ shift_of (words_of text.now) }
     ensures small { IfSome result IsSmallShift }
-    ensures grammar { (shift : Shift) → (shift_of (words_of text.now) ≡ Some shift) ↔ IsShift (words_of text.now) shift }
+    ensures grammar { (shift : Shift) →
+        (shift_of (words_of text.now) ≡ Some shift) ↔ IsShift (words_of text.now) shift }
 {
     let mut shift = NO_SHIFT;
     let mut rest = text;

@@ -27,7 +27,8 @@ fn voice_in(value: &[u8]) -> Option<Voice>
     ensures value { result ≡ voice_in value.now }
     ensures some { IfSome result (λ voice. voice.from < voice.to) }
     ensures inside { IfSome result (λ voice. voice.to ≤ length value.now) }
-    ensures name { IfSome result (λ voice. words_of value.now ≡ slice_range value.now voice.from voice.to ∷ words_of (drop voice.to value.now)) }
+    ensures name { IfSome result
+        (λ voice. words_of value.now ≡ slice_range value.now voice.from voice.to ∷ words_of (drop voice.to value.now)) }
     ensures small { IfSome result (λ voice. IsSmallShift voice.shift) }
 {
     let (from, to) = first_word(value)?;
@@ -44,7 +45,8 @@ pub fn read_voice(value: &[u8]) -> Result<Voice, FaultCode>
     ensures refused { (result ≡ Err BadVoice) ↔ ((voice : Voice) → ¬ IsVoice value.now voice) }
     ensures some { IfOk result (λ voice. voice.from < voice.to) }
     ensures inside { IfOk result (λ voice. voice.to ≤ length value.now) }
-    ensures name { IfOk result (λ voice. words_of value.now ≡ slice_range value.now voice.from voice.to ∷ words_of (drop voice.to value.now)) }
+    ensures name { IfOk result
+        (λ voice. words_of value.now ≡ slice_range value.now voice.from voice.to ∷ words_of (drop voice.to value.now)) }
     ensures small { IfOk result (λ voice. IsSmallShift voice.shift) }
 {
     voice_in(value).ok_or(FaultCode::BadVoice)

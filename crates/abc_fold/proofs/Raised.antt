@@ -1,4 +1,5 @@
-use Rattle.std.proofs.Common.{◌≡◌, ℕ, ◌+◌, ◌^◌, ◌<◌, ◌≤◌, arith}
+-- Laws of counters.
+use Rattle.std.proofs.Common.{◌≡◌, ℕ, ◌+◌, ◌≤◌, arith}
 use Rattle.abc_fold.specs.Work.{raised}
 
 -- Raising a counter by 0 changes nothing, whatever it is at.
@@ -10,16 +11,6 @@ raised-zero count = omega arith
 pub raised-raised : (count j k : ℕ) → raised (raised count j) k ≡ raised count (j + k)
 unfolding raised
 raised-raised count j k = omega arith
-
--- Below the greatest u64 raising is adding.
-pub raised-small : (count k : ℕ) → count + k < 2 ^ 64 → raised count k ≡ count + k
-unfolding raised
-raised-small count k small = omega arith
-
--- A counter never falls.
-pub le-raised : (count k : ℕ) → count ≤ raised count k
-unfolding raised
-le-raised count k = omega arith
 
 -- The more it is raised by, the greater it is.
 pub raised-mono : (count j k : ℕ) → j ≤ k → raised count j ≤ raised count k

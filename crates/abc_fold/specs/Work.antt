@@ -1,3 +1,4 @@
+-- The counters of an edit's work.
 use Rattle.std.specs.Prelude.{ℕ, ◌+◌, ◌-◌, ◌^◌, min, max}
 
 -- How many lines were scanned, steps folded and tunes built. Our own.

@@ -1,3 +1,5 @@
+//! Counters that can be read.
+
 ghost use Rattle.std.specs.Prelude.{◌≡◌};
 ghost use Rattle.abc_fold.specs.Work.{Counters};
 

@@ -1,3 +1,5 @@
+//! Folds that can be taken up again at any cell.
+
 ghost use Rattle.std.specs.Prelude.{◌≡◌, IfOk};
 ghost use Rattle.abc_fold.specs.Work.{after_steps};
 

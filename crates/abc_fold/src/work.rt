@@ -1,3 +1,5 @@
+//! The work that an edit costs, counted.
+
 ghost use Rattle.std.specs.Prelude.{◌≡◌, ℕ};
 ghost use Rattle.abc_fold.specs.Work.{Counters, raised};
 

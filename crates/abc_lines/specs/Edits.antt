@@ -6,7 +6,7 @@ use Rattle.abc_lines.specs.declared.edit_error.EditError.{EditError}
 use Rattle.abc_lines.specs.declared.edit_error.EditError.TheVariants.{BadRange, BadLine, TooLarge, OutOfMemory}
 use Rattle.abc_lines.specs.Text.{Text, Splice, is_line, spliced}
 
--- the text after a splice, or the first reason why there is none
+-- The text after a splice, or the first reason why there is none.
 unfoldable pub replaced : Text → Splice → Result Text EditError
 replaced text s =
     if not (nat_le (s.at + s.removed) (length text)) then Err BadRange else
@@ -16,24 +16,24 @@ replaced text s =
 
 -- Edits count lines from 1. One that names no lines, as line 0 or a range that runs backwards, is no splice.
 
--- lines put before a line
+-- Lines put before a line.
 abbrev pub insertion : ℕ → Text → Option Splice
 insertion at lines = if at == 0 then None else Some (record { at = at - 1; removed = 0; lines = lines })
 
--- lines put in the place of those from one to another
+-- Lines put in the place of those from one to another.
 abbrev pub replacement : ℕ → ℕ → Text → Option Splice
 replacement from to lines =
     if nat_le 1 from && nat_le from to then Some (record { at = from - 1; removed = to + 1 - from; lines = lines }) else None
 
--- the lines from one to another taken out
+-- The lines from one to another taken out.
 abbrev pub deletion : ℕ → ℕ → Option Splice
 deletion from to = replacement from to []
 
--- the text after an edit, or the first reason why there is none
+-- The text after an edit, or the first reason why there is none.
 unfoldable pub edited : Text → Option Splice → Result Text EditError
 edited text None = Err BadRange
 edited text (Some splice) = replaced text splice
 
--- a refusal for this reason, or for want of memory where there is no reason
+-- A refusal for this reason, or for want of memory where there is no reason.
 abbrev pub Refuses : EditError → Result Text EditError → Type 0
 Refuses e answer = (answer ≡ Err e) ⊎ ((e ≡ OutOfMemory) × IsOk answer)

@@ -1,4 +1,5 @@
--- A tune book's text. ABC 2.1 says what it means; that it is a list of lines within limits, of which a splice replaces a run, is our own.
+-- A tune book's text. ABC 2.1 says what it means; that it is a list of lines within limits, of which a
+-- splice replaces a run, is our own.
 use Rattle.std.specs.Prelude.{◌≡◌, ℕ, ◌+◌, ◌≤◌, ◌&&◌, ◌==◌, Bool, true, not, List, ◌++◌, length, take, drop, map, nat_le}
 use Rattle.std.specs.Borrow.{Bor}
 use Rattle.std.specs.Global.{Vec}
@@ -6,41 +7,41 @@ use Rattle.std.specs.List.{list_all, list_any}
 use Rattle.abc_lines.specs.declared.limits.TheConstants.{LONGEST_LINE, MOST_LINES}
 use Rattle.abc_text.specs.Byte.{line_feed}
 
--- the lines of a tune book, each its bytes without the line feed
+-- The lines of a tune book, each its bytes without the line feed.
 abbrev pub Text : Type 0
 Text = List (List ℕ)
 
--- what lines contain
+-- What lines contain.
 abbrev pub lines_of : List (Vec ℕ) → Text
 lines_of lines = map (λ line. line.items) lines
 
--- what a list of lines contains
+-- What a list of lines contains.
 abbrev pub text_of : Vec (Vec ℕ) → Text
 text_of lines = lines_of lines.items
 
--- what borrowed lines contain
+-- What borrowed lines contain.
 abbrev pub seen_lines : List (Bor (List ℕ)) → Text
 seen_lines lines = map (λ line. line.now) lines
 
--- a line has no line feed and not too many bytes
+-- A line has no line feed and not too many bytes.
 abbrev pub is_line : List ℕ → Bool
 is_line bytes = nat_le (length bytes) LONGEST_LINE && not (list_any (λ byte. byte == line_feed) bytes)
 
--- a text within the limits
+-- A text within the limits.
 pub record IsText (text : Text) : Type 0 where
   pub count : length text ≤ MOST_LINES
   pub lines : list_all is_line text ≡ true
 
--- a splice: how many lines stand before it, how many go, which come
+-- A splice: how many lines stand before it, how many go, which come.
 pub record Splice : Type 0 where
   pub at : ℕ
   pub removed : ℕ
   pub lines : Text
 
--- the splice that leaves out so many lines behind the first few and puts lines in their place
+-- The splice that leaves out so many lines behind the first few and puts lines in their place.
 abbrev pub splice_from : ℕ → ℕ → List (Vec ℕ) → Splice
 splice_from at removed lines = record { at = at; removed = removed; lines = lines_of lines }
 
--- the lines before the splice, the lines handed in, the lines after it
+-- The lines before the splice, the lines handed in, the lines after it.
 unfoldable pub spliced : Text → Splice → Text
 spliced text s = take s.at text ++ s.lines ++ drop (s.at + s.removed) text

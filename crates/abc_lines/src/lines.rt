@@ -90,7 +90,8 @@ impl LineBuffer {
         lines: &[Vec<u8>],
     ) -> Result<LinePatch, EditError>
         ensures on { IfOk result (λ patch. patch.on ≡ self.now) }
-        ensures after { IfOk result (λ patch. replaced self.now.text (splice_from at removed lines.now) ≡ Ok patch.after) }
+        ensures after { IfOk result
+            (λ patch. replaced self.now.text (splice_from at removed lines.now) ≡ Ok patch.after) }
         ensures limits { IfOk result (λ patch. IsText patch.after) }
         ensures refused { IfErr result (λ e. Refuses e (replaced self.now.text (splice_from at removed lines.now))) }
     {
@@ -113,11 +114,15 @@ impl LineBuffer {
 
     /// How many lines the text would have, or the first reason why there is none.
     fn count_after(&self, at: usize, removed: usize, lines: &[Vec<u8>]) -> Result<usize, EditError>
-        ensures count { let s = splice_from at removed lines.now in IfOk result (λ count. count ≡ length (spliced self.now.text s)) }
+        ensures count { let s = splice_from at removed lines.now in
+            IfOk result (λ count. count ≡ length (spliced self.now.text s)) }
         ensures inside { IfOk result (λ _. at + removed ≤ length self.now.text) }
-        ensures limits { let s = splice_from at removed lines.now in IfOk result (λ _. IsText (spliced self.now.text s)) }
-        ensures accepted { let s = splice_from at removed lines.now in IfOk result (λ _. replaced self.now.text s ≡ Ok (spliced self.now.text s)) }
-        ensures refused { let s = splice_from at removed lines.now in IfErr result (λ e. replaced self.now.text s ≡ Err e) }
+        ensures limits { let s = splice_from at removed lines.now in
+            IfOk result (λ _. IsText (spliced self.now.text s)) }
+        ensures accepted { let s = splice_from at removed lines.now in
+            IfOk result (λ _. replaced self.now.text s ≡ Ok (spliced self.now.text s)) }
+        ensures refused { let s = splice_from at removed lines.now in
+            IfErr result (λ e. replaced self.now.text s ≡ Err e) }
     {
         let count = self.len();
         if at > count || removed > count - at {

@@ -54,13 +54,3 @@ no_place byte text e = ⊎_elim
     (λ inside. let found : Some (position_or_len (λ b. b == byte) text) ≡ None = sym (cond-true _ _ _ (lt-ltb _ _ inside)) ∙ sym e in cc)
     (λ past. subst (Without byte) (take_all (position_or_len (λ b. b == byte) text) text past) (front_passes (λ b. not (b == byte)) text))
     (cases_lt (position_or_len (λ b. b == byte) text) (length text))
-
--- nor has a text that is not cut
-pub cut_at-without : (byte : ℕ) (text : List ℕ) → cut_at byte text ≡ None → Without byte text
-unfolding cut_at
-cut_at-without byte text e = ⊎_elim
-    (λ inside.
-    let found : Some (before_first (λ b. b == byte) text, after_first (λ b. b == byte) text) ≡ None = sym (cond-true _ _ _ (lt-ltb _ _ inside)) ∙ e in
-    cc)
-    (λ past. subst (Without byte) (take_all (position_or_len (λ b. b == byte) text) text past) (front_passes (λ b. not (b == byte)) text))
-    (cases_lt (position_or_len (λ b. b == byte) text) (length text))

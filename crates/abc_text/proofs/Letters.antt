@@ -45,16 +45,7 @@ letter_exact byte letter = (
   λ is. ⊎_elim (λ e. ap letter_of e ∙ letter_of-capital letter) (λ e. ap letter_of e ∙ letter_of-small letter) is,
 )
 
--- an accidental is read from its spelling
-pub accidental_of-spelling : (accidental : Accidental) → accidental_of (spelling accidental) ≡ Some accidental
-unfolding accidental_of
-accidental_of-spelling DoubleFlat = refl
-accidental_of-spelling Flat = refl
-accidental_of-spelling Natural = refl
-accidental_of-spelling Sharp = refl
-accidental_of-spelling DoubleSharp = refl
-
--- and from no other text
+-- an accidental is read from its spelling, and from no other text
 tried : (text : List ℕ) (known : Accidental) (others : Option Accidental) (accidental : Accidental) → cond (bytes_eq text (spelling known)) (Some known) others ≡ Some accidental
     → (others ≡ Some accidental → text ≡ spelling accidental) → text ≡ spelling accidental
 tried text known others accidental e later = ⊎_elim

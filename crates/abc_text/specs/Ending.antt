@@ -6,7 +6,8 @@ use Rattle.abc_text.specs.Byte.{carriage_return}
 -- The rest of a line without one carriage return at its end.
 abbrev pub IsWithoutReturn : List ℕ → List ℕ → Type 0
 IsWithoutReturn line rest =
-    (line ≡ rest ++ carriage_return ∷ []) ⊎ ((line ≡ rest) × ((front : List ℕ) → line ≢ front ++ carriage_return ∷ []))
+    (line ≡ rest ++ carriage_return ∷ [])
+    ⊎ ((line ≡ rest) × ((front : List ℕ) → line ≢ front ++ carriage_return ∷ []))
 
 -- The line without the carriage return at its end. Of two only the last is dropped.
 abbrev pub without_return : List ℕ → List ℕ

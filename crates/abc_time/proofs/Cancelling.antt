@@ -1,3 +1,4 @@
+-- Cancelling numerators by a divisor.
 use Rattle.std.proofs.Common.{◌∙◌, ◌≡◌, ℕ, ◌+◌, ◌*◌, ◌/◌, ◌%◌, ◌<◌, ◌≤◌, List, zero, suc, length, get_or, set, drop, arith, ap, sym, subst}
 use Rattle.std.proofs.Math.Nat.{mul-one, mul_comm, dvd-mul_right, eq-one_of_dvd-one, div_self, div-mul_cancel, eq_of_mul-eq-mul_right, mul-dvd-mul_right, dvd_of_mul-dvd-mul_left, dvd_of_mod-eq-zero}
 use Rattle.std.proofs.lemmas.Nat.Gcd.{dvd_trans}

@@ -1,3 +1,4 @@
+-- Dividing by one denominator after another.
 use Rattle.std.proofs.Common.{◌∙◌, ◌≡◌, ℕ, ◌+◌, ◌*◌, ◌<◌, ◌≤◌, List, length, get_or, map, take, drop, arith, ap, sym, subst}
 use Rattle.std.proofs.Math.Nat.{mul_assoc, mul_comm, mul-pos, mul-dvd-mul_left, dvd-mul_right, dvd_trans, dvd_of_mul-dvd-mul_left}
 use Rattle.std.proofs.lemmas.List.{take-map, take_all, take-append-drop}
@@ -31,10 +32,6 @@ dens-positive factors h =
 pub denominator_positive : (unit : Ratio) (factors : List Ratio) → IsRatio unit → All IsRatio factors → 1 ≤ denominator_of unit factors
 denominator_positive unit factors u h = mul-pos u.den_least (dens-positive factors h)
 
-pub IsDivided-start : (before : ℕ) (unit : Ratio) (factors : List Ratio) (now : List ℕ)
-    → product_of now * unit.den ≡ before → All (λ n. 1 ≤ n) now → IsDivided before unit factors now 0
-IsDivided-start before unit factors now e p = record { quotient = omega (arith, e); positive = p }
-
 pub IsDivided-step : (before : ℕ) (unit : Ratio) (factors : List Ratio) (now next : List ℕ) (i : ℕ) (d : Ratio)
     → IsDivided before unit factors now i → i < length factors → product_of next * (get_or factors i d).den ≡ product_of now
     → All (λ n. 1 ≤ n) next → IsDivided before unit factors next (i + 1)
@@ -44,10 +41,6 @@ IsDivided-step before unit factors now next i d h inside e p = record {
 } where
   regrouped : (n u t e m b : ℕ) → n * e ≡ m → m * (u * t) ≡ b → n * (u * (t * e)) ≡ b
   regrouped n u t e m b p q = omega (arith, ap (λ x. x * (u * t)) p, q)
-
-pub IsDivided-end : (before : ℕ) (unit : Ratio) (factors : List Ratio) (now : List ℕ) (i : ℕ)
-    → IsDivided before unit factors now i → length factors ≤ i → product_of now * denominator_of unit factors ≡ before
-IsDivided-end before unit factors now i h over = subst (λ l. product_of now * denominator_of unit l ≡ before) (take_all i factors over) h.quotient
 
 -- where the unit's denominator does not divide the product, neither do all of them
 pub not_divided_first : (before : ℕ) (unit : Ratio) (factors : List Ratio) → ¬ (unit.den ∣ before) → ¬ (denominator_of unit factors ∣ before)

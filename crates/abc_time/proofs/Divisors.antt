@@ -1,3 +1,4 @@
+-- Common divisors by Euclid's steps.
 use Rattle.std.proofs.Common.{◌∙◌, ◌≡◌, ℕ, ◌+◌, ◌*◌, ◌/◌, ◌%◌, ◌↔◌, arith, ap, sym, subst}
 use Rattle.std.proofs.Math.Nat.{dvd-zero, dvd-add_iff_right, dvd-mul_left_of_dvd, zero-mul}
 use Rattle.std.proofs.lemmas.Nat.{div-add-mod'}

@@ -1,8 +1,8 @@
+-- The numbers of the definitions are the constants of the code.
 use Rattle.std.proofs.Common.{◌≡◌, refl}
 use Rattle.abc_time.specs.declared.grains.TheConstants.{WHOLE_NOTE, TICK, LONGEST_LENGTH, LATEST_END}
 use Rattle.abc_time.specs.Grains.{grains_of_a_whole_note, grains_of_a_tick, grains_of_the_longest_length, grains_of_the_latest_end}
 
--- The numbers of the specs are the constants of the code.
 pub whole_note_is : grains_of_a_whole_note ≡ WHOLE_NOTE.0
 unfolding grains_of_a_whole_note
 whole_note_is = refl

@@ -1,3 +1,4 @@
+-- What a result says of the length.
 use Rattle.std.proofs.Common.{◌∙◌, ◌≡◌, ℕ, ◌*◌, ◌<◌, ◌≤◌, ◌↔◌, List, Result, Ok, Err, sym, subst}
 use Rattle.std.specs.Int.{◌∣◌}
 use Rattle.std.specs.List.{All}

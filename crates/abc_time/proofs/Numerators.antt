@@ -1,3 +1,4 @@
+-- One numerator after another.
 use Rattle.std.proofs.Common.{◌≡◌, ◌≢◌, ℕ, ◌+◌, ◌*◌, ◌<◌, ◌≤◌, List, [], ◌∷◌, zero, suc, length, get_or, set, take, replicate, arith, ap, sym, subst, refl, lit≤}
 use Rattle.std.proofs.lemmas.List.{take_all, get_or-set_other, get_or-replicate, length-set}
 use Rattle.std.proofs.lemmas.List.Elements.{All-cons, All-set, All-replicate}
@@ -55,7 +56,3 @@ HasNumerators-step whole unit factors now i d h inside room fs =
     } where
       regrouped : (p m w u t v : ℕ) → p ≡ m * v → m ≡ w * (u * t) → p ≡ w * (u * (t * v))
       regrouped p m w u t v e f = omega (arith, e, ap (λ x. x * v) f)
-
-pub HasNumerators-end : (whole : ℕ) (unit : Ratio) (factors : List Ratio) (now : List ℕ) (i : ℕ)
-    → HasNumerators whole unit factors now i → length factors ≤ i → product_of now ≡ whole * numerator_of unit factors
-HasNumerators-end whole unit factors now i h over = subst (λ l. product_of now ≡ whole * numerator_of unit l) (take_all i factors over) h.product

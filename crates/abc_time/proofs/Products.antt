@@ -1,3 +1,4 @@
+-- Laws of products.
 use Rattle.std.proofs.Common.{◌∙◌, ◌≡◌, ℕ, ◌+◌, ◌*◌, ◌^◌, ◌<◌, ◌≤◌, List, [], ◌∷◌, ◌++◌, zero, suc, length, get_or, set, map, take, drop, arith, ap, sym, refl}
 use Rattle.std.proofs.Math.Nat.{mul-pos, one-mul, mul-one, mul_assoc, le-mul_of_pos_right}
 use Rattle.std.proofs.lemmas.List.{drop_more, take_more, take-append-drop, take-map, get_or-map, length-map}

@@ -1,3 +1,4 @@
+-- A quotient as a length.
 use Rattle.std.proofs.Common.{◌≡◌, ℕ, ◌*◌, ◌/◌, ◌%◌, ◌<◌, ◌≤◌, ◌↔◌, ◌⊎◌, zero, suc, inl, inr, Ok, Err, arith, ap, subst, refl}
 use Rattle.std.proofs.Math.Nat.{dvd-mul_left, mod-eq-zero_of_dvd, dvd_of_mod-eq-zero, mul-div_cancel, div-mul_cancel}
 use Rattle.std.proofs.lemmas.Bool.{cases_lt}

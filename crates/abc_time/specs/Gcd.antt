@@ -1,3 +1,4 @@
+-- Greatest common divisors.
 use Rattle.std.specs.Prelude.{ℕ, ◌*◌, ◌↔◌}
 use Rattle.std.specs.Int.{◌∣◌}
 

@@ -1,3 +1,4 @@
+-- Grains and ticks.
 use Rattle.std.specs.Prelude.{ℕ, ◌*◌, ◌/◌, ◌≤◌, ◌≡◌, refl}
 use Rattle.std.proofs.Common.{lit<, le_trans}
 use Rattle.std.proofs.Math.Nat.{div-le_of_le-mul, div-mul-le_self, le-div_iff_mul-le}
@@ -22,11 +23,6 @@ grains_of_the_latest_end = 131072 * grains_of_a_whole_note
 -- The tick of a moment: the whole ticks that are over by then. Our own.
 abbrev pub tick_at : ℕ → ℕ
 tick_at moment = moment / grains_of_a_tick
-
--- A whole note is 1,920 ticks.
-pub ticks_of_a_whole_note : 1920 * grains_of_a_tick ≡ grains_of_a_whole_note
-unfolding grains_of_a_tick grains_of_a_whole_note
-ticks_of_a_whole_note = refl
 
 -- The tick of the latest end is the last tick.
 pub tick_at-below : (moment : ℕ) → moment ≤ grains_of_the_latest_end → tick_at moment ≤ LAST_TICK

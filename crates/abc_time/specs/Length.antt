@@ -1,3 +1,4 @@
+-- The length that a unit and its factors make.
 use Rattle.std.specs.Prelude.{ℕ, List, ◌*◌, ◌/◌, ◌%◌, ◌==◌, nat_le, map, Result, Ok, Err, if◌then◌else◌, ◌≡◌}
 use Rattle.abc_time.specs.declared.grains.Grains.{Grains}
 use Rattle.abc_time.specs.declared.lengths.LengthFault.{LengthFault}

@@ -1,3 +1,4 @@
+-- Products.
 use Rattle.std.specs.Prelude.{ℕ, List, [], ◌∷◌, ◌*◌}
 
 -- The product of the numbers: 1 where there is none. Our own.

@@ -1,3 +1,4 @@
+-- Fractions as a tune book writes them.
 use Rattle.std.specs.Prelude.{◌≤◌}
 use Rattle.abc_text.specs.declared.digit.TheConstants.{LARGEST_NUMBER}
 use Rattle.abc_time.specs.declared.ratio.Ratio.{Ratio}

@@ -1,3 +1,4 @@
+-- The microseconds of a quarter note.
 use Rattle.std.specs.Prelude.{ℕ, ◌+◌, ◌*◌, ◌/◌, ◌<◌, ◌≤◌, ◌&&◌, nat_le, if◌then◌else◌, Option, Some, None}
 use Rattle.abc_time.specs.declared.ratio.Ratio.{Ratio}
 

@@ -1,3 +1,5 @@
+//! What factors and a divisor have in common.
+
 ghost use Rattle.std.specs.Prelude.{◌≡◌, ◌*◌, ◌≤◌, All};
 ghost use Rattle.std.specs.Int.{◌∣◌};
 ghost use Rattle.abc_time.specs.Product.{product_of};

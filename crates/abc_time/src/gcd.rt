@@ -1,3 +1,5 @@
+//! Greatest common divisors.
+
 ghost use Rattle.abc_time.specs.Gcd.{IsGcdOfMultiples};
 
 /// The greatest common divisor, by Euclid's steps.

@@ -1,3 +1,5 @@
+//! Grains, ticks, and how long a note and a tune may be.
+
 ghost use Rattle.std.specs.Prelude.{◌≡◌, ◌≤◌, ◌*◌, ◌^◌};
 ghost use Rattle.abc_time.specs.Grains.{grains_of_a_tick, grains_of_a_whole_note, grains_of_the_latest_end, grains_of_the_longest_length, tick_at};
 

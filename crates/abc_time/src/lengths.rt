@@ -1,3 +1,5 @@
+//! The length that a unit and its factors make.
+
 ghost use Rattle.std.specs.Prelude.{
   ◌≡◌,
   ◌<◌,

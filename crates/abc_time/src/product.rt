@@ -1,3 +1,5 @@
+//! Products up to a limit.
+
 ghost use Rattle.std.specs.Prelude.{◌≤◌, All, SomeIff};
 ghost use Rattle.abc_time.specs.Product.{product_of};
 

@@ -1,3 +1,5 @@
+//! The microseconds of a quarter note.
+
 ghost use Rattle.std.specs.Prelude.{◌≡◌, ◌≤◌, ◌↔◌, ℕ, SomeIff};
 ghost use Rattle.abc_text.specs.declared.digit.TheConstants.{LARGEST_NUMBER};
 ghost use Rattle.abc_time.specs.Ratio.{IsRatio};

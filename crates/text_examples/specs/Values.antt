@@ -13,40 +13,40 @@ use Rattle.abc_scan.specs.declared.token.TokenKind.TheVariants as kinds
 use Rattle.abc_time.specs.declared.grains.Grains.{Grains}
 use Rattle.abc_time.specs.declared.ratio.Ratio.{Ratio}
 
--- one number over another
+-- One number over another.
 abbrev pub ratio : ℕ → ℕ → Ratio
 ratio num den = record { num = num; den = den }
 
--- the moment of a tick
+-- The moment of a tick.
 abbrev pub at_tick : ℕ → Grains
 at_tick tick = record { 0 = tick * 484323840 }
 
--- a note without accidental
+-- A note without accidental.
 abbrev pub note : Letter → ℤ → WrittenLength → TokenKind
 note letter octave length = kinds.Note (record { accidental = None; letter = letter; octave = octave; length = length })
 
--- no length is written, which is one unit
+-- No length is written, which is one unit.
 abbrev pub plain : WrittenLength
 plain = Factor 1 1
 
--- a token from one byte of a line to another, counted from 0
+-- A token from one byte of a line to another, counted from 0.
 abbrev pub token : TokenKind → ℕ → ℕ → Spanned TokenKind
 token kind from to = record { kind = kind; from = from; to = to }
 
--- a shift with these parts
+-- A shift with these parts.
 abbrev pub shift : Option ℤ → Option ℤ → Option ℤ → Shift
 shift clef octave transpose = record { clef = clef; octave = octave; transpose = transpose }
 
--- a voice that is named by the bytes from one place to another, with the parts of its shift
+-- A voice that is named by the bytes from one place to another, with the parts of its shift.
 abbrev pub voice : ℕ → ℕ → Option ℤ → Option ℤ → Option ℤ → Voice
 voice from to clef octave transpose = record { from = from; to = to; shift = shift clef octave transpose }
 
--- the sharps of a key that is accepted
+-- The sharps of a key that is accepted.
 abbrev pub sharps_of : Result Key FaultCode → Option ℤ
 sharps_of (Ok key) = Some key.sharps
 sharps_of (Err fault) = None
 
--- the shift of a key that is accepted
+-- The shift of a key that is accepted.
 abbrev pub shift_in_key : Result Key FaultCode → Option Shift
 shift_in_key (Ok key) = Some key.shift
 shift_in_key (Err fault) = None

@@ -14,4 +14,5 @@ IsChanged signature word changed =
 -- Words change a signature, one word after another.
 abbrev pub AreListed : Signature → List (List ℕ) → Signature → Type 0
 AreListed signature [] changed = changed ≡ signature
-AreListed signature (word ∷ words) changed = (next : Signature) × IsChanged signature word next × AreListed next words changed
+AreListed signature (word ∷ words) changed =
+    (next : Signature) × IsChanged signature word next × AreListed next words changed

@@ -10,7 +10,9 @@ use Rattle.abc_text.specs.Byte.{open_parenthesis, close_parenthesis, plus_sign, 
 abbrev pub IsSum : List ℕ → List ℕ → Type 0
 IsSum text [] = ⊥
 IsSum text (n ∷ []) = IsNumber text n
-IsSum text (n ∷ m ∷ more) = (front : List ℕ) × (rest : List ℕ) × (text ≡ front ++ plus_sign ∷ rest) × IsNumber front n × IsSum rest (m ∷ more)
+IsSum text (n ∷ m ∷ more) =
+    (front : List ℕ) × (rest : List ℕ) × (text ≡ front ++ plus_sign ∷ rest)
+    × IsNumber front n × IsSum rest (m ∷ more)
 
 -- A sum of two numbers or more in parentheses.
 pub record IsInParentheses (text : List ℕ) (numbers : List ℕ) : Type 0 where

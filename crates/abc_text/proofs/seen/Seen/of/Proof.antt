@@ -1,5 +1,5 @@
 -- `of` makes the empty struct, with the value that its clause names. Assumes `Logic`.
-use Rattle.std.proofs.Common.{◌≡◌, List, [], ◌∷◌, ◌++◌, refl}
+use Rattle.std.proofs.Common.{List, [], ◌∷◌, ◌++◌, refl}
 use seplogic.Ra.Ura.{Ura}
 use mir.Syntax.{Fn, Args, a_type}
 use mir.Val.{Val, vptr, vstruct, vcons, vnil}
