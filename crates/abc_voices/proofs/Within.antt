@@ -1,9 +1,8 @@
 -- What stages set stands within their time; an order of a tune is accepted.
-use Rattle.std.proofs.Common.{◌≡◌, ℕ, ◌+◌, ◌<◌, ◌≤◌, List, [], ◌∷◌, length, map, Option, Some, None, Ok, refl, sym, subst, ap, ◌∙◌, arith}
+use Rattle.std.proofs.Common.{◌≡◌, ℕ, ◌+◌, ◌<◌, ◌≤◌, List, [], ◌∷◌, length, map, Option, Some, None, Ok, sym, subst, ap, ◌∙◌, arith}
 use Rattle.abc_repeat.specs.Order.{sections_of, has_unknown}
-use Rattle.std.proofs.lemmas.List.Elements.{All-nil, All-cons, All-head, All-tail, All-append, All-get_or}
+use Rattle.std.proofs.lemmas.List.Elements.{All-nil, All-cons, All-head, All-tail, All-append}
 use Rattle.std.proofs.lemmas.List.Sums.{sum_by_from}
-use Rattle.std.proofs.lemmas.Option.{slice_get_within, get_or_from_slice_get}
 use Rattle.std.specs.Borrow.{Bor}
 use Rattle.std.specs.Prelude.{All, IfSome, slice_get}
 use Rattle.std.specs.List.{cons_option, flat_map}
@@ -20,6 +19,7 @@ use Rattle.abc_voices.specs.Change.{at_moment, set_from}
 use Rattle.abc_voices.specs.Opening.{order_past, past_all}
 use Rattle.abc_voices.specs.Play.{duration}
 use Rattle.abc_voices.specs.Step.{length_of}
+use Rattle.abc_voices.proofs.Fitting.Kept.{got}
 
 -- a value that is set no later than this
 abbrev pub IsBefore : {V : Type 0} → ℕ → Grains × V → Type 0
@@ -64,11 +64,6 @@ all_before value_of end at (stage ∷ stages) early all =
     (parts_before value_of end at stage.longest stage.parts (omega (arith, sum)) is.parts)
     (all_before value_of end (at + stage.longest.0) stages (omega (arith, sum)) (All-tail IsStage stage stages all))
 
--- what stands at a place
-at_place : {X : Type 0} (P : X → Type 0) (xs : List X) (k : ℕ) (found : Option X) → slice_get xs k ≡ found → All P xs → IfSome found P
-at_place P xs k None e all = tt
-at_place P xs k (Some x) e all = subst P (get_or_from_slice_get xs k x x e) (All-get_or P xs k x (slice_get_within xs k x e) all)
-
 -- what a part sets, if there is one
 if_part_before : {V : Type 0} (value_of : Item → Option V) (end at : ℕ) (longest : Grains) (part : Option Part) → at + longest.0 ≤ end → IfSome part (IsPart longest)
     → All (IsBefore end) (set_from (λ step. step.now) value_of at (steps_of part))
@@ -84,7 +79,7 @@ one_before value_of voice end at (stage ∷ stages) early all =
     let is : IsStage stage = All-head IsStage stage stages all in
     All-append (IsBefore end) (set_from (λ step. step.now) value_of at (steps_of (slice_get stage.parts voice))) (set_by_one value_of voice (at + stage.longest.0) stages)
     (if_part_before value_of end at stage.longest (slice_get stage.parts voice) (omega (arith, sum))
-    (at_place (IsPart stage.longest) stage.parts voice (slice_get stage.parts voice) refl is.parts))
+    (got (IsPart stage.longest) stage.parts voice is.parts))
     (one_before value_of voice end (at + stage.longest.0) stages (omega (arith, sum)) (All-tail IsStage stage stages all))
 
 -- behind what holds at the beginning

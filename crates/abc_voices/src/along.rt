@@ -38,7 +38,8 @@ pub(crate) fn length_at(table: &[Option<Stage>], place: usize) -> Grains
 pub(crate) fn length_along(table: &[Option<Stage>], order: &[usize]) -> Option<Grains>
     ensures { MatchOption result
         (grains_of_the_latest_end < length_along (at_places table.now order.now))
-        (λ grains. (grains.0 ≡ length_along (at_places table.now order.now)) × (grains.0 ≤ grains_of_the_latest_end)) }
+        (λ grains. (grains.0 ≡ length_along (at_places table.now order.now))
+        × (grains.0 ≤ grains_of_the_latest_end)) }
 {
     let mut sum: u64 = 0;
     for place in order {

@@ -1,6 +1,7 @@
 //! Changes of tempo, meter and key, at their moments.
 
-ghost use Rattle.std.specs.Prelude.{◌≡◌, ◌+◌, ◌++◌, ◌≤◌, OnOk};
+ghost use Rattle.std.specs.Prelude.{◌≡◌, ◌+◌, ◌++◌, ◌≤◌, Option, OnOk};
+ghost use Rattle.abc_bars.specs.declared.item.Item.{Item};
 ghost use Rattle.abc_time.specs.Grains.{grains_of_the_latest_end};
 ghost use Rattle.abc_voices.specs.Change.{tempo_of, meter_of, key_of, set_from};
 ghost use Rattle.abc_voices.specs.Play.{duration};
@@ -11,78 +12,115 @@ use abc_fields::Meter;
 use abc_time::Grains;
 use std::alloc::AllocError;
 
-/// The tempo that it sets.
-fn tempo_of(item: &Item) -> Option<u32>
-    ensures { result ≡ tempo_of item.now }
-{
-    match item {
-        Item::Tempo { micros, .. } => *micros,
-        _ => None,
+/// A sort of changes: tempos, meters or keys.
+pub(crate) trait Setting {
+    /// What a change of this sort sets.
+    type Value: Copy;
+
+    // What an item sets, if it sets a value of this sort.
+    ghost value_of: { Item → Option Self.Value };
+
+    /// What an item sets, if it sets a value of this sort.
+    fn value_of(item: &Item) -> Option<Self::Value>
+        ensures { result ≡ value_of item.now };
+}
+
+/// Tempos, as the microseconds of a quarter note.
+pub(crate) struct Tempos;
+
+impl Setting for Tempos {
+    type Value = u32;
+
+    ghost value_of = { tempo_of };
+
+    fn value_of(item: &Item) -> Option<u32> {
+        match item {
+            Item::Tempo { micros, .. } => *micros,
+            _ => None,
+        }
     }
 }
 
-/// The meter that it sets.
-fn meter_of(item: &Item) -> Option<Meter>
-    ensures { result ≡ meter_of item.now }
-{
-    match item {
-        Item::Meter { meter, .. } => *meter,
-        _ => None,
+/// Meters, free meter among them.
+pub(crate) struct Meters;
+
+impl Setting for Meters {
+    type Value = Meter;
+
+    ghost value_of = { meter_of };
+
+    fn value_of(item: &Item) -> Option<Meter> {
+        match item {
+            Item::Meter { meter, .. } => *meter,
+            _ => None,
+        }
     }
 }
 
-/// The sharps that it sets, and whether the key is minor.
-fn key_of(item: &Item) -> Option<(i8, bool)>
-    ensures { result ≡ key_of item.now }
-{
-    match item {
-        Item::Key { key, .. } => *key,
-        _ => None,
+/// Keys: their sharps, and whether they are minor.
+pub(crate) struct Keys;
+
+impl Setting for Keys {
+    type Value = (i8, bool);
+
+    ghost value_of = { key_of };
+
+    fn value_of(item: &Item) -> Option<(i8, bool)> {
+        match item {
+            Item::Key { key, .. } => *key,
+            _ => None,
+        }
     }
+}
+
+/// Puts what is set by items played one after another from a moment on.
+#[tactic(auto, unfolding(abc_time::specs::Grains::grains_of_a_whole_note, abc_time::specs::Grains::grains_of_the_latest_end))]
+pub(crate) fn put_set<S: Setting>(
+    sets: &mut Vec<(Grains, S::Value)>,
+    start: Grains,
+    steps: &[&Item],
+) -> Result<(), AllocError>
+    requires { start.0 + duration (λ step. step.now) steps.now ≤ grains_of_the_latest_end }
+    ensures { OnOk result (sets.new.items
+        ≡ sets.old.items ++ set_from (λ step. step.now) S.value_of start.0 steps.now) }
+{
+    let mut at = start;
+    for step in steps {
+        if let Some(value) = S::value_of(step) {
+            sets.push((at, value))?;
+        }
+        at.0 += length_of(step).0;
+    }
+    Ok(())
 }
 
 /// Puts the tempos that are set by items played one after another from a moment on.
-#[tactic(auto, unfolding(abc_time::specs::Grains::grains_of_a_whole_note, abc_time::specs::Grains::grains_of_the_latest_end))]
 pub fn put_tempos(
     tempos: &mut Vec<(Grains, u32)>,
     start: Grains,
     steps: &[&Item],
 ) -> Result<(), AllocError>
     requires { start.0 + duration (λ step. step.now) steps.now ≤ grains_of_the_latest_end }
-    ensures { OnOk result (tempos.new.items ≡ tempos.old.items ++ set_from (λ step. step.now) tempo_of start.0 steps.now) }
+    ensures { OnOk result (tempos.new.items
+        ≡ tempos.old.items ++ set_from (λ step. step.now) tempo_of start.0 steps.now) }
 {
-    let mut at = start;
-    for step in steps {
-        if let Some(micros) = tempo_of(step) {
-            tempos.push((at, micros))?;
-        }
-        at.0 += length_of(step).0;
-    }
-    Ok(())
+    put_set::<Tempos>(tempos, start, steps)
 }
 
 /// Puts the meters that are set by items played one after another from a moment on.
-#[tactic(auto, unfolding(abc_time::specs::Grains::grains_of_a_whole_note, abc_time::specs::Grains::grains_of_the_latest_end))]
 pub fn put_meters(
     meters: &mut Vec<(Grains, Meter)>,
     start: Grains,
     steps: &[&Item],
 ) -> Result<(), AllocError>
     requires { start.0 + duration (λ step. step.now) steps.now ≤ grains_of_the_latest_end }
-    ensures { OnOk result (meters.new.items ≡ meters.old.items ++ set_from (λ step. step.now) meter_of start.0 steps.now) }
+    ensures { OnOk result (meters.new.items
+        ≡ meters.old.items ++ set_from (λ step. step.now) meter_of start.0 steps.now) }
 {
-    let mut at = start;
-    for step in steps {
-        if let Some(meter) = meter_of(step) {
-            meters.push((at, meter))?;
-        }
-        at.0 += length_of(step).0;
-    }
-    Ok(())
+    put_set::<Meters>(meters, start, steps)
 }
 
 /// Puts the keys that are set by items played one after another from a moment on.
-#[tactic(auto, unfolding(abc_time::specs::Grains::grains_of_a_whole_note, abc_time::specs::Grains::grains_of_the_latest_end))]
 pub fn put_keys(
     keys: &mut Vec<(Grains, (i8, bool))>,
     start: Grains,
@@ -91,12 +129,5 @@ pub fn put_keys(
     requires { start.0 + duration (λ step. step.now) steps.now ≤ grains_of_the_latest_end }
     ensures { OnOk result (keys.new.items ≡ keys.old.items ++ set_from (λ step. step.now) key_of start.0 steps.now) }
 {
-    let mut at = start;
-    for step in steps {
-        if let Some(key) = key_of(step) {
-            keys.push((at, key))?;
-        }
-        at.0 += length_of(step).0;
-    }
-    Ok(())
+    put_set::<Keys>(keys, start, steps)
 }

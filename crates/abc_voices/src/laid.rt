@@ -9,10 +9,11 @@ ghost use Rattle.abc_voices.specs.Along.{IsStage, at_places, length_along, voice
 ghost use Rattle.abc_voices.specs.Arrange.{last_off, or_else, usual_tempo};
 ghost use Rattle.abc_voices.specs.Opening.{tempo_past, meter_past, key_past, past_all};
 
+use crate::change::{Keys, Meters};
 use crate::conduct::conductor;
 use crate::opening::{opening_key, opening_meter, opening_tempo, title_of};
 use crate::score::{Change, Score, Sounding};
-use crate::setting::{keys_along, meters_along, tempos_along};
+use crate::setting::{one_along, tempos_along};
 use crate::stage::{Stage, StageFault};
 use crate::timing::last_off;
 use crate::voice::voices_notes;
@@ -68,8 +69,8 @@ fn changes_along(
     ensures { IfOk result (λ changes. changes.items ≡ changes_along tune.now first (at_places table.now order.now)) }
 {
     let tempos = tempos_along(alloc, table, order, tempo_at_start(tune))?;
-    let meters = meters_along(alloc, table, order, first, meter_at_start(tune))?;
-    let keys = keys_along(alloc, table, order, first, key_at_start(tune))?;
+    let meters = one_along::<Meters>(alloc, table, order, first, meter_at_start(tune))?;
+    let keys = one_along::<Keys>(alloc, table, order, first, key_at_start(tune))?;
     conductor(alloc, &tempos, &meters, &keys)
 }
 

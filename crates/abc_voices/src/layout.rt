@@ -32,7 +32,8 @@ use std::alloc::{AllocError, Global};
 
 /// Puts items behind those of a tune.
 fn put_items<'a>(tune: &mut Vec<&'a Item>, items: &'a [Item]) -> Result<(), AllocError>
-    ensures { OnOk result (map (λ step. step.now) tune.new.items ≡ map (λ step. step.now) tune.old.items ++ items.entry.now) }
+    ensures { OnOk result (map (λ step. step.now) tune.new.items
+        ≡ map (λ step. step.now) tune.old.items ++ items.entry.now) }
 {
     for item in items {
         tune.push(item)?;
@@ -60,7 +61,8 @@ fn order_played(alloc: Global, tune: &[&Item]) -> Result<Played, BuildFault>
     ensures few { IfOk result (λ _. sections_played (λ step. step.now) tune.now ≤ MOST_SECTIONS) }
     ensures unknown { IfOk result (λ played. played.unknown
         ≡ has_unknown (past_all (λ step. step.now) order_past None tune.now) (letters (λ step. step.now) tune.now)) }
-    ensures too_long { (unknown : Bool) → result ≡ Err (BuildFault.TooLong unknown) → MOST_SECTIONS < sections_played (λ step. step.now) tune.now }
+    ensures too_long { (unknown : Bool) → result ≡ Err (BuildFault.TooLong unknown)
+        → MOST_SECTIONS < sections_played (λ step. step.now) tune.now }
     ensures too_long_unknown { (unknown : Bool) → result ≡ Err (BuildFault.TooLong unknown)
         → unknown ≡ has_unknown (past_all (λ step. step.now) order_past None tune.now) (letters (λ step. step.now) tune.now) }
 {
@@ -163,7 +165,8 @@ fn within_limits(
     ensures value { IfOk result (λ laid. laid ≡ arranged_of (λ step. step.now) tune.now) }
     ensures short { IfOk result (λ _. is_too_long (λ step. step.now) tune.now ≡ false) }
     ensures limits { IfOk result (λ laid. IsWithinLimits laid.score) }
-    ensures too_long { (other : Bool) → result ≡ Err (BuildFault.TooLong other) → is_too_long (λ step. step.now) tune.now ≡ true }
+    ensures too_long { (other : Bool) → result ≡ Err (BuildFault.TooLong other)
+        → is_too_long (λ step. step.now) tune.now ≡ true }
     ensures unknown { (other : Bool) → result ≡ Err (BuildFault.TooLong other) → other ≡ unknown }
 {
     match laid_out(alloc, tune, played) {
@@ -190,8 +193,10 @@ fn arranged(alloc: Global, tune: &[&Item]) -> Result<Arranged, BuildFault>
     ensures value { IfOk result (λ laid. laid ≡ arranged_of (λ step. step.now) tune.now) }
     ensures short { IfOk result (λ _. is_too_long (λ step. step.now) tune.now ≡ false) }
     ensures limits { IfOk result (λ laid. IsWithinLimits laid.score) }
-    ensures too_long { (unknown : Bool) → result ≡ Err (BuildFault.TooLong unknown) → is_too_long (λ step. step.now) tune.now ≡ true }
-    ensures unknown { (unknown : Bool) → result ≡ Err (BuildFault.TooLong unknown) → unknown ≡ (arranged_of (λ step. step.now) tune.now).unknown }
+    ensures too_long { (unknown : Bool) → result ≡ Err (BuildFault.TooLong unknown)
+        → is_too_long (λ step. step.now) tune.now ≡ true }
+    ensures unknown { (unknown : Bool) → result ≡ Err (BuildFault.TooLong unknown)
+        → unknown ≡ (arranged_of (λ step. step.now) tune.now).unknown }
 {
     match order_played(alloc, tune) {
         Ok(played) => within_limits(alloc, tune, &played.sections, played.unknown),
@@ -204,8 +209,10 @@ pub fn arrange(alloc: Global, items: &[Items]) -> Result<Arranged, BuildFault>
     ensures value { IfOk result (λ laid. laid ≡ arranged_of (λ item. item) (items_in items.now)) }
     ensures short { IfOk result (λ _. is_too_long (λ item. item) (items_in items.now) ≡ false) }
     ensures limits { IfOk result (λ laid. IsWithinLimits laid.score) }
-    ensures too_long { (unknown : Bool) → result ≡ Err (BuildFault.TooLong unknown) → is_too_long (λ item. item) (items_in items.now) ≡ true }
-    ensures unknown { (unknown : Bool) → result ≡ Err (BuildFault.TooLong unknown) → unknown ≡ (arranged_of (λ item. item) (items_in items.now)).unknown }
+    ensures too_long { (unknown : Bool) → result ≡ Err (BuildFault.TooLong unknown)
+        → is_too_long (λ item. item) (items_in items.now) ≡ true }
+    ensures unknown { (unknown : Bool) → result ≡ Err (BuildFault.TooLong unknown)
+        → unknown ≡ (arranged_of (λ item. item) (items_in items.now)).unknown }
 {
     let tune = tune_of(alloc, items)?;
     arranged(alloc, &tune)

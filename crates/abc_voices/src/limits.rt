@@ -1,5 +1,6 @@
 //! The limits within which a file can hold a score.
 ghost use Rattle.std.specs.Prelude.{◌≡◌, ◌≤◌, ◌↔◌, ◌-◌, ◌^◌, nat_le, All, IsTrue};
+ghost use Rattle.abc_bars.specs.declared.item.TheConstants.{HIGHEST_KEY, MOST_NOTES as MOST_TONES};
 ghost use Rattle.abc_bars.specs.declared.voices.TheConstants.{MOST_VOICES};
 ghost use Rattle.abc_time.specs.Grains.{grains_of_the_latest_end};
 ghost use Rattle.std.specs.List.{list_all};
@@ -21,11 +22,14 @@ pub const MOST_NOTES: usize = 16_000_000;
 
 /// The limits are these numbers. A title is as long as sixteen bits can say. A score has no more voices than a
 /// tune may have, so each has a channel of MIDI's sixteen without the drums'.
+/// A chord has sixteen tones at most, and MIDI's keys go to 127.
 pub fn score_limits()
     ensures title { LONGEST_TITLE ≡ 2 ^ 16 - 1 }
     ensures changes { MOST_CHANGES ≡ 1000003 }
     ensures voices { MOST_VOICES ≡ 15 }
     ensures notes { MOST_NOTES ≡ 16000000 }
+    ensures tones { MOST_TONES ≡ 16 }
+    ensures key { HIGHEST_KEY ≡ 127 }
 {}
 
 /// How often a whole note may be halved: a meter counts in 64ths at the finest.

@@ -9,7 +9,7 @@ use abc_repeat::Mark;
 use std::alloc::{AllocError, Global};
 
 /// Where in its strain something stands.
-#[derive(Clone, Copy, Debug, PartialEq, Eq)]
+#[derive(Clone, Copy)]
 pub(crate) enum Region {
     /// In front of the first ending.
     Common,
@@ -60,7 +60,8 @@ fn set_down<'a>(
     held: &mut Vec<&'a Item>,
     item: &'a Item,
 ) -> Result<(), AllocError>
-    ensures put { OnOk result (out.new.items ≡ out.old.items ++ set_down (λ step. step.now) held.old.items item.entry) }
+    ensures put { OnOk result (out.new.items
+        ≡ out.old.items ++ set_down (λ step. step.now) held.old.items item.entry) }
     ensures held { OnOk result (held.new.items ≡ []) }
 {
     if mark_of(item).is_ending() {

@@ -46,7 +46,8 @@ fn chosen<'a>(
 /// places. Memory for the play is asked for only where there is room.
 pub fn played<'a>(alloc: Global, part: &[&'a Item], room: u64) -> Result<Vec<&'a Item>, RepeatFault>
     ensures value { IfOk result (λ items. items.items ≡ played (λ step. step.now) part.now) }
-    ensures size { IfOk result (λ items. length items.items ≡ length (places_of (λ step. step.now) (moved (λ step. step.now) part.now))) }
+    ensures size { IfOk result (λ items. length items.items
+        ≡ length (places_of (λ step. step.now) (moved (λ step. step.now) part.now))) }
     ensures within { IfOk result (λ items. length items.items ≤ min room MOST_PLACES) }
     ensures too_long { result ≡ Err TooLong
         → min room MOST_PLACES < length (places_of (λ step. step.now) (moved (λ step. step.now) part.now)) }

@@ -89,7 +89,8 @@ pub fn sections<'s, 't>(
     alloc: Global,
     tune: &'s [&'t Item],
 ) -> Result<Vec<Section<'s, 't>>, AllocError>
-    ensures { IfOk result (λ found. map (λ section. (section.voice.now, section.items.now)) found.items ≡ sections (λ step. step.now) tune.entry.now) }
+    ensures { IfOk result (λ found. map (λ section. (section.voice.now, section.items.now)) found.items
+        ≡ sections (λ step. step.now) tune.entry.now) }
 {
     let mut found = Vec::new(alloc);
     let mut voice = opening_voice(tune);

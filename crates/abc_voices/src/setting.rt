@@ -3,12 +3,11 @@
 ghost use Rattle.std.specs.Prelude.{◌≡◌, ◌+◌, ◌≤◌, ◌∷◌, ◌++◌, All, IfOk, IfSome, OnOk, Some};
 ghost use Rattle.abc_time.specs.Grains.{grains_of_the_latest_end};
 ghost use Rattle.abc_voices.specs.Along.{IsStage, IsPart, stage_at, at_places, length_if, length_along, set_beside, set_by_all, set_at, set_by_one};
-ghost use Rattle.abc_voices.specs.Change.{tempo_of, meter_of, key_of, set_from};
+ghost use Rattle.abc_voices.specs.Change.{tempo_of, set_from};
 
 use crate::along::{length_at, stage_at};
-use crate::change::{put_keys, put_meters, put_tempos};
+use crate::change::{Setting, put_set, put_tempos};
 use crate::stage::{Part, Stage};
-use abc_fields::Meter;
 use abc_time::Grains;
 use std::alloc::{AllocError, Global};
 
@@ -37,7 +36,8 @@ fn put_tempos_at(
 ) -> Result<(), AllocError>
     requires stage { IfSome (stage_at table.now place) IsStage }
     requires end { at.0 + length_if (stage_at table.now place) ≤ grains_of_the_latest_end }
-    ensures { OnOk result (tempos.new.items ≡ tempos.old.items ++ set_beside tempo_of at.0 (stage_at table.now place)) }
+    ensures { OnOk result (tempos.new.items
+        ≡ tempos.old.items ++ set_beside tempo_of at.0 (stage_at table.now place)) }
 {
     match stage_at(table, place) {
         Some(stage) => put_stage_tempos(tempos, at, stage),
@@ -54,7 +54,8 @@ pub(crate) fn tempos_along(
 ) -> Result<Vec<(Grains, u32)>, AllocError>
     requires stages { All IsStage (at_places table.now order.now) }
     requires in_time { length_along (at_places table.now order.now) ≤ grains_of_the_latest_end }
-    ensures { IfOk result (λ tempos. tempos.items ≡ (record { 0 = 0 }, opening) ∷ set_by_all tempo_of 0 (at_places table.now order.now)) }
+    ensures { IfOk result (λ tempos. tempos.items
+        ≡ (record { 0 = 0 }, opening) ∷ set_by_all tempo_of 0 (at_places table.now order.now)) }
 {
     let mut tempos = Vec::new(alloc);
     tempos.push((Grains(0), opening))?;
@@ -66,42 +67,43 @@ pub(crate) fn tempos_along(
     Ok(tempos)
 }
 
-/// Puts the meters of a part that is played from a moment on.
+/// Puts what is set in a part that is played from a moment on.
 #[tactic(auto, unfolding(abc_time::specs::Grains::grains_of_a_whole_note, abc_time::specs::Grains::grains_of_the_latest_end))]
-fn put_part_meters(
-    meters: &mut Vec<(Grains, Meter)>,
+fn put_part<S: Setting>(
+    sets: &mut Vec<(Grains, S::Value)>,
     at: Grains,
     longest: Grains,
     part: &Part,
 ) -> Result<(), AllocError>
     requires part { IsPart longest part.now }
     requires end { at.0 + longest.0 ≤ grains_of_the_latest_end }
-    ensures { OnOk result (meters.new.items ≡ meters.old.items ++ set_from (λ step. step.now) meter_of at.0 part.now.steps) }
+    ensures { OnOk result (sets.new.items
+        ≡ sets.old.items ++ set_from (λ step. step.now) S.value_of at.0 part.now.steps) }
 {
-    put_meters(meters, at, part.steps.as_slice())
+    put_set::<S>(sets, at, part.steps.as_slice())
 }
 
-/// Puts the meters of a voice in a stage that is played from a moment on.
-fn put_stage_meters(
-    meters: &mut Vec<(Grains, Meter)>,
+/// Puts what a voice sets in a stage that is played from a moment on.
+fn put_stage<S: Setting>(
+    sets: &mut Vec<(Grains, S::Value)>,
     at: Grains,
     stage: &Stage,
     voice: usize,
 ) -> Result<(), AllocError>
     requires stage { IsStage stage.now }
     requires end { at.0 + stage.now.longest.0 ≤ grains_of_the_latest_end }
-    ensures { OnOk result (meters.new.items ≡ meters.old.items ++ set_at meter_of voice at.0 (Some stage.now)) }
+    ensures { OnOk result (sets.new.items ≡ sets.old.items ++ set_at S.value_of voice at.0 (Some stage.now)) }
 {
     let parts = stage.parts.as_slice();
     match parts.get(voice) {
-        Some(part) => put_part_meters(meters, at, stage.longest, part),
+        Some(part) => put_part::<S>(sets, at, stage.longest, part),
         None => Ok(()),
     }
 }
 
-/// Puts the meters of a voice in the stage at a place, which is played from a moment on.
-fn put_meters_at(
-    meters: &mut Vec<(Grains, Meter)>,
+/// Puts what a voice sets in the stage at a place, which is played from a moment on.
+fn put_at<S: Setting>(
+    sets: &mut Vec<(Grains, S::Value)>,
     at: Grains,
     table: &[Option<Stage>],
     place: usize,
@@ -109,105 +111,34 @@ fn put_meters_at(
 ) -> Result<(), AllocError>
     requires stage { IfSome (stage_at table.now place) IsStage }
     requires end { at.0 + length_if (stage_at table.now place) ≤ grains_of_the_latest_end }
-    ensures { OnOk result (meters.new.items ≡ meters.old.items ++ set_at meter_of voice at.0 (stage_at table.now place)) }
+    ensures { OnOk result (sets.new.items
+        ≡ sets.old.items ++ set_at S.value_of voice at.0 (stage_at table.now place)) }
 {
     match stage_at(table, place) {
-        Some(stage) => put_stage_meters(meters, at, stage, voice),
+        Some(stage) => put_stage::<S>(sets, at, stage, voice),
         None => Ok(()),
     }
 }
 
-/// The meters of a voice in the stages that are played, behind the one with which the tune opens.
-pub(crate) fn meters_along(
+/// What a voice sets in the stages that are played, behind the one with which the tune opens.
+pub(crate) fn one_along<S: Setting>(
     alloc: Global,
     table: &[Option<Stage>],
     order: &[usize],
     voice: usize,
-    opening: Meter,
-) -> Result<Vec<(Grains, Meter)>, AllocError>
+    opening: S::Value,
+) -> Result<Vec<(Grains, S::Value)>, AllocError>
     requires stages { All IsStage (at_places table.now order.now) }
     requires in_time { length_along (at_places table.now order.now) ≤ grains_of_the_latest_end }
-    ensures { IfOk result (λ meters. meters.items ≡ (record { 0 = 0 }, opening) ∷ set_by_one meter_of voice 0 (at_places table.now order.now)) }
+    ensures { IfOk result (λ sets. sets.items
+        ≡ (record { 0 = 0 }, opening) ∷ set_by_one S.value_of voice 0 (at_places table.now order.now)) }
 {
-    let mut meters = Vec::new(alloc);
-    meters.push((Grains(0), opening))?;
+    let mut sets = Vec::new(alloc);
+    sets.push((Grains(0), opening))?;
     let mut at = Grains(0);
     for place in order {
-        put_meters_at(&mut meters, at, table, *place, voice)?;
+        put_at::<S>(&mut sets, at, table, *place, voice)?;
         at.0 += length_at(table, *place).0;
     }
-    Ok(meters)
-}
-
-/// Puts the keys of a part that is played from a moment on.
-#[tactic(auto, unfolding(abc_time::specs::Grains::grains_of_a_whole_note, abc_time::specs::Grains::grains_of_the_latest_end))]
-fn put_part_keys(
-    keys: &mut Vec<(Grains, (i8, bool))>,
-    at: Grains,
-    longest: Grains,
-    part: &Part,
-) -> Result<(), AllocError>
-    requires part { IsPart longest part.now }
-    requires end { at.0 + longest.0 ≤ grains_of_the_latest_end }
-    ensures { OnOk result (keys.new.items ≡ keys.old.items ++ set_from (λ step. step.now) key_of at.0 part.now.steps) }
-{
-    put_keys(keys, at, part.steps.as_slice())
-}
-
-/// Puts the keys of a voice in a stage that is played from a moment on.
-fn put_stage_keys(
-    keys: &mut Vec<(Grains, (i8, bool))>,
-    at: Grains,
-    stage: &Stage,
-    voice: usize,
-) -> Result<(), AllocError>
-    requires stage { IsStage stage.now }
-    requires end { at.0 + stage.now.longest.0 ≤ grains_of_the_latest_end }
-    ensures { OnOk result (keys.new.items ≡ keys.old.items ++ set_at key_of voice at.0 (Some stage.now)) }
-{
-    let parts = stage.parts.as_slice();
-    match parts.get(voice) {
-        Some(part) => put_part_keys(keys, at, stage.longest, part),
-        None => Ok(()),
-    }
-}
-
-/// Puts the keys of a voice in the stage at a place, which is played from a moment on.
-fn put_keys_at(
-    keys: &mut Vec<(Grains, (i8, bool))>,
-    at: Grains,
-    table: &[Option<Stage>],
-    place: usize,
-    voice: usize,
-) -> Result<(), AllocError>
-    requires stage { IfSome (stage_at table.now place) IsStage }
-    requires end { at.0 + length_if (stage_at table.now place) ≤ grains_of_the_latest_end }
-    ensures { OnOk result (keys.new.items ≡ keys.old.items ++ set_at key_of voice at.0 (stage_at table.now place)) }
-{
-    match stage_at(table, place) {
-        Some(stage) => put_stage_keys(keys, at, stage, voice),
-        None => Ok(()),
-    }
-}
-
-/// The keys of a voice in the stages that are played, behind the one with which the tune opens.
-pub(crate) fn keys_along(
-    alloc: Global,
-    table: &[Option<Stage>],
-    order: &[usize],
-    voice: usize,
-    opening: (i8, bool),
-) -> Result<Vec<(Grains, (i8, bool))>, AllocError>
-    requires stages { All IsStage (at_places table.now order.now) }
-    requires in_time { length_along (at_places table.now order.now) ≤ grains_of_the_latest_end }
-    ensures { IfOk result (λ keys. keys.items ≡ (record { 0 = 0 }, opening) ∷ set_by_one key_of voice 0 (at_places table.now order.now)) }
-{
-    let mut keys = Vec::new(alloc);
-    keys.push((Grains(0), opening))?;
-    let mut at = Grains(0);
-    for place in order {
-        put_keys_at(&mut keys, at, table, *place, voice)?;
-        at.0 += length_at(table, *place).0;
-    }
-    Ok(keys)
+    Ok(sets)
 }

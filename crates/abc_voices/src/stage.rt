@@ -15,7 +15,7 @@ use abc_time::Grains;
 use std::alloc::{AllocError, Global};
 
 /// What a voice plays of a section.
-#[derive(Debug, Drop)]
+#[derive(Drop)]
 pub(crate) struct Part<'t> {
     /// What is played, in order of play.
     pub steps: Sequence<&'t Item>,
@@ -24,7 +24,7 @@ pub(crate) struct Part<'t> {
 }
 
 /// What the voices of a tune play of a section, beside one another.
-#[derive(Debug, Drop)]
+#[derive(Drop)]
 pub(crate) struct Stage<'t> {
     /// The part of each voice, in the order of the voices.
     pub parts: Sequence<Part<'t>>,
@@ -33,7 +33,7 @@ pub(crate) struct Stage<'t> {
 }
 
 /// Why the stages of a tune are not given.
-#[derive(Clone, Copy, Debug, PartialEq, Eq)]
+#[derive(Clone, Copy)]
 pub(crate) enum StageFault {
     /// More places are played than there is room for.
     TooMany,
@@ -76,11 +76,14 @@ impl<'t> Part<'t> {
     ) -> Result<Part<'t>, StageFault>
         requires { room ≤ MOST_PLACES }
         ensures value { IfOk result (λ own. own ≡ part_of (content section.now) voice.now) }
-        ensures size { IfOk result (λ own. part_size own ≡ size_in (λ step. step.now) (content section.now) voice.now) }
+        ensures size { IfOk result (λ own. part_size own
+            ≡ size_in (λ step. step.now) (content section.now) voice.now) }
         ensures within { IfOk result (λ own. part_size own ≤ room) }
         ensures in_time { IfOk result (λ own. own.length.0 ≤ grains_of_the_latest_end) }
-        ensures too_many { result ≡ Err StageFault.TooMany → room < size_in (λ step. step.now) (content section.now) voice.now }
-        ensures too_late { result ≡ Err StageFault.TooLate → grains_of_the_latest_end < length_in (λ step. step.now) (content section.now) voice.now }
+        ensures too_many { result ≡ Err StageFault.TooMany
+            → room < size_in (λ step. step.now) (content section.now) voice.now }
+        ensures too_late { result ≡ Err StageFault.TooLate
+            → grains_of_the_latest_end < length_in (λ step. step.now) (content section.now) voice.now }
     {
         let items = part(alloc, voice, section.voice, section.items)?;
         let steps = played(alloc, &items, room)?;
@@ -110,8 +113,10 @@ impl<'t> Stage<'t> {
         room: u64,
     ) -> Result<Stage<'t>, StageFault>
         requires { room ≤ MOST_PLACES }
-        ensures value { IfOk result (λ stage. stage ≡ stage_of (map (λ voice. voice.now) voices.now) (content section.now)) }
-        ensures size { IfOk result (λ stage. stage_size stage ≡ sum_by (size_in (λ step. step.now) (content section.now)) (map (λ voice. voice.now) voices.now)) }
+        ensures value { IfOk result (λ stage. stage
+            ≡ stage_of (map (λ voice. voice.now) voices.now) (content section.now)) }
+        ensures size { IfOk result (λ stage. stage_size stage
+            ≡ sum_by (size_in (λ step. step.now) (content section.now)) (map (λ voice. voice.now) voices.now)) }
         ensures within { IfOk result (λ stage. stage_size stage ≤ room) }
         ensures in_time { IfOk result (λ stage. stage.longest.0 ≤ grains_of_the_latest_end) }
         ensures too_many { result ≡ Err StageFault.TooMany

@@ -75,7 +75,8 @@ fn put_stage<'t>(
     requires room { room ≤ MOST_PLACES }
     requires table { AreStages (map (λ voice. voice.now) voices.now) sections.now table.old }
     ensures put { IfOk result (λ left. IsPut (map (λ voice. voice.now) voices.now) sections.now place room table.old table.new left) }
-    ensures too_many { result ≡ Err StageFault.TooMany → room < size_for (map (λ voice. voice.now) voices.now) sections.now place }
+    ensures too_many { result ≡ Err StageFault.TooMany
+        → room < size_for (map (λ voice. voice.now) voices.now) sections.now place }
     ensures too_late { result ≡ Err StageFault.TooLate
         → grains_of_the_latest_end < longest_for (map (λ voice. voice.now) voices.now) sections.now place }
 {

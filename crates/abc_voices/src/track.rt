@@ -22,7 +22,8 @@ fn is_known(known: &[&[u8]], name: &[u8]) -> bool
 
 /// Puts the name of a voice behind those that are known, unless it is one of them.
 fn put_name<'a>(known: &mut Vec<&'a [u8]>, name: &'a [u8]) -> Result<(), AllocError>
-    ensures { OnOk result (map (λ voice. voice.now) known.new.items ≡ with_name (map (λ voice. voice.now) known.old.items) name.entry.now) }
+    ensures { OnOk result (map (λ voice. voice.now) known.new.items
+        ≡ with_name (map (λ voice. voice.now) known.old.items) name.entry.now) }
 {
     if !is_known(known, name) {
         known.push(name)?;

@@ -62,7 +62,8 @@ fn put_voice(
     requires end { end.0 ≤ grains_of_the_latest_end }
     requires place { place < MOST_VOICES }
     requires notes { IsVoiceWithin end notes.now }
-    ensures { OnOk result (out.new.items ≡ out.old.items ++ track (tick_at end.0) (voice_events (channel_of place) notes.now)) }
+    ensures { OnOk result (out.new.items
+        ≡ out.old.items ++ track (tick_at end.0) (voice_events (channel_of place) notes.now)) }
 {
     let events = voice(alloc, end, channel(place), notes.as_slice())?;
     put_track(out, tick_of(end), events)

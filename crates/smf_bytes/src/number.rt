@@ -95,6 +95,8 @@ fn followed(n: u32, byte: u8) -> u32
 /// A number is read back from its text whatever follows, so no number's text is the beginning of
 /// another's.
 pub fn number_texts()
-    ensures read_back { (m n : ℕ) (xs ys : List ℕ) → m < 2 ^ 28 → n < 2 ^ 28 → number_text m ++ xs ≡ number_text n ++ ys → (m ≡ n) × (xs ≡ ys) }
-    ensures not_a_front { (m n : ℕ) (rest : List ℕ) → m < 2 ^ 28 → n < 2 ^ 28 → number_text m ++ rest ≡ number_text n → m ≡ n }
+    ensures read_back { (m n : ℕ) (xs ys : List ℕ) → m < 2 ^ 28 → n < 2 ^ 28
+        → number_text m ++ xs ≡ number_text n ++ ys → (m ≡ n) × (xs ≡ ys) }
+    ensures not_a_front { (m n : ℕ) (rest : List ℕ) → m < 2 ^ 28 → n < 2 ^ 28
+        → number_text m ++ rest ≡ number_text n → m ≡ n }
 {}

@@ -21,5 +21,6 @@ pub fn order_events(events: Vec<Event>) -> Result<Vec<Event>, AllocError>
 pub fn one_order()
     ensures permutation { (events : List Event) → IsPermutation events (in_order events) }
     ensures sorted { (events : List Event) → IsSorted event_cmp (in_order events) }
-    ensures unique { (xs ys : List Event) → IsPermutation xs ys → IsSorted event_cmp xs → IsSorted event_cmp ys → xs ≡ ys }
+    ensures unique { (xs ys : List Event) → IsPermutation xs ys → IsSorted event_cmp xs → IsSorted event_cmp ys
+        → xs ≡ ys }
 {}

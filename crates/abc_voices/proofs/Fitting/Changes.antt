@@ -13,25 +13,21 @@ use Rattle.abc_voices.specs.Change.{at_moment, set_from}
 use Rattle.abc_voices.specs.Opening.{past_all}
 use Rattle.abc_voices.specs.Settle.{has_tick, settled}
 use Rattle.abc_voices.specs.Step.{length_of}
-use Rattle.abc_voices.proofs.Fitting.Kept.{play_kept}
+use Rattle.abc_voices.proofs.Fitting.Kept.{either, play_kept}
 use Rattle.abc_voices.proofs.Fitting.Notes.{lasting}
 use Rattle.abc_voices.proofs.Fitting.Voices.{IsHeard, ItemsIn, lasts}
 
--- A value that is set by a moment, and that is one of these.
+-- a value that is set by a moment, and that is one of these
 pub record IsSetBy {V : Type 0} (end : ℕ) (Q : V → Type 0) (set : Grains × V) : Type 0 where
   pub before : set.0.0 ≤ end
   pub value : Q set.1
 
-cond_All : {X : Type 0} (P : X → Type 0) (b : Bool) (xs ys : List X) → All P xs → All P ys → All P (cond b xs ys)
-cond_All P true xs ys here there = here
-cond_All P false xs ys here there = there
-
--- What stands of changes is among them.
+-- what stands of changes is among them
 pub settled_kept : {V : Type 0} (P : Grains × V → Type 0) (changes : List (Grains × V)) → All P changes → All P (settled changes)
 settled_kept P [] all = All-nil P
 settled_kept P (change ∷ later) all =
     let rest : All P (settled later) = settled_kept P later (All-tail P change later all) in
-    cond_All P (has_tick (tick_at change.0.0) later) (settled later) (settled later ++ change ∷ []) rest (All-push P (settled later) change rest (All-head P change later all))
+    either P (has_tick (tick_at change.0.0) later) (settled later) (settled later ++ change ∷ []) rest (All-push P (settled later) change rest (All-head P change later all))
 
 cond_few : {X : Type 0} (b : Bool) (xs ys : List X) (n : ℕ) → length xs ≤ n → length ys ≤ n → length (cond b xs ys) ≤ n
 cond_few true xs ys n here there = here
@@ -70,7 +66,7 @@ module _ {A V : Type 0} (item_of : A → Item) (value_of : Item → Option V) (Q
       (play_kept item_of Items section voice all))
       (voices_set end at voices those section by (All-tail (IsHeard item_of voices) voice those heard) all)
 
-  -- What voices set in sections that are played from a moment on.
+  -- what voices set in sections that are played from a moment on
   pub sections_set : (end at : ℕ) (voices those : List (List ℕ)) (sections : List (List ℕ × List A)) → at + sum_by (longest item_of voices) sections ≤ end
       → All (IsHeard item_of voices) those → All (ItemsIn item_of) sections
       → All (IsSetBy end Q) (set_in item_of value_of voices those at sections)
@@ -81,7 +77,7 @@ module _ {A V : Type 0} (item_of : A → Item) (value_of : Item → Option V) (Q
       (sections_set end (at + longest item_of voices section) voices those rest (omega (arith, by, sum_by-cons (longest item_of voices) section rest)) heard
       (All-tail (ItemsIn item_of) section rest all))
 
--- What a tune opens with.
+-- what a tune opens with
 pub past_kept : {A V : Type 0} (item_of : A → Item) (past : V → Item → V) (Q : V → Type 0) → ((value : V) (item : Item) → Q value → IsItem item → Q (past value item))
     → (value : V) (tune : List A) → Q value → All (λ step. IsItem (item_of step)) tune → Q (past_all item_of past value tune)
 past_kept item_of past Q step_kept value [] is all = is

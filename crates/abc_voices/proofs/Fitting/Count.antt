@@ -11,7 +11,7 @@ use Rattle.abc_voices.specs.declared.score.Sounding.{Sounding}
 use Rattle.abc_voices.specs.Linked.{Linked, Notes, own_note, lengthened, with_note, next_place, with_key, with_tones, before, notes_from}
 use Rattle.abc_voices.specs.Step.{length_of, tones_of}
 
--- How many notes of both kinds there are.
+-- how many notes of both kinds there are
 abbrev pub linked_notes : Linked → ℕ
 linked_notes linked = length linked.begun + length linked.next
 
@@ -37,7 +37,7 @@ tones_more at linked [] = omega arith
 tones_more at linked (tone ∷ tones) =
     omega (arith, tones_more at (with_key at tone linked tone.key) tones, key_more at tone linked tone.key)
 
--- How many tones a time token has at most.
+-- how many tones a time token has at most
 abbrev pub IsFew : Option (List Tone) → Type 0
 IsFew tones = IfSome tones (λ these. length these ≤ 16)
 
@@ -62,7 +62,7 @@ few_tones (items.Voice opening name) is = tt
 few_tones (items.Title title) is = tt
 few_tones (items.Order order) is = tt
 
--- Each step gives sixteen notes at most.
+-- each step gives sixteen notes at most
 pub notes_few : {A : Type 0} (item_of : A → Item) (at : ℕ) (steps : List A) (notes : Notes) → All (λ step. IsItem (item_of step)) steps
     → notes_of (notes_from item_of at steps notes) ≤ notes_of notes + 16 * length steps
 notes_few item_of at [] notes all = omega arith
@@ -79,7 +79,7 @@ one_more : {A : Type 0} (x : Option A) (xs : List A) (n : ℕ) → length xs ≤
 one_more None xs n few = omega (arith, few)
 one_more (Some x) xs n few = omega (arith, few)
 
--- What stands at some places is no more than the places.
+-- what stands at some places is no more than the places
 pub picked_few : {A : Type 0} (xs : List A) (places : List ℕ) → length (filter_map (slice_get xs) places) ≤ length places
 picked_few xs [] = omega arith
 picked_few xs (place ∷ places) = one_more (slice_get xs place) (filter_map (slice_get xs) places) (length places) (picked_few xs places)

@@ -13,7 +13,8 @@ use Rattle.abc_voices.specs.Play.{places_of}
 use Rattle.abc_voices.specs.Section.{is_step, is_section, voice_past, opening_voice, sections_from, sections, part_from}
 use Rattle.abc_voices.specs.Step.{mark_of}
 
-got : {X : Type 0} (P : X → Type 0) (xs : List X) (place : ℕ) → All P xs → IfSome (slice_get xs place) P
+-- what stands at a place, if there is one
+pub got : {X : Type 0} (P : X → Type 0) (xs : List X) (place : ℕ) → All P xs → IfSome (slice_get xs place) P
 got P [] place all = tt
 got P (x ∷ xs) zero all = All-head P x xs all
 got P (x ∷ xs) (suc place) all = got P xs place (All-tail P x xs all)
@@ -28,7 +29,7 @@ picked P xs [] all = All-nil P
 picked P xs (place ∷ places) all = one_more P (slice_get xs place) (filter_map (slice_get xs) places) (got P xs place all) (picked P xs places all)
 
 -- of two lists that are chosen from
-either : {X : Type 0} (P : X → Type 0) (b : Bool) (xs ys : List X) → All P xs → All P ys → All P (cond b xs ys)
+pub either : {X : Type 0} (P : X → Type 0) (b : Bool) (xs ys : List X) → All P xs → All P ys → All P (cond b xs ys)
 either P true xs ys here there = here
 either P false xs ys here there = there
 

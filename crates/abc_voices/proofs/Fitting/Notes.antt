@@ -10,7 +10,7 @@ use Rattle.abc_voices.specs.declared.score.Sounding.{Sounding}
 use Rattle.abc_voices.specs.Linked.{Linked, Notes, own_note, lengthened, with_note, next_place, with_key, with_tones, before, notes_from}
 use Rattle.abc_voices.specs.Step.{length_of, tones_of}
 
--- A note that begins then or later, ends no sooner than it begins, and has a key of MIDI.
+-- a note that begins then or later, ends no sooner than it begins, and has a key of MIDI
 pub record Fits (at : ℕ) (note : Sounding) : Type 0 where
   pub begins : at ≤ note.on.0
   pub forward : note.on.0 ≤ note.off.0
@@ -22,7 +22,7 @@ earlier at k note fits = record { begins = omega (arith, fits.begins); forward =
 own_fits : (at grains key : ℕ) → key ≤ 127 → Fits at (own_note at grains key)
 own_fits at grains key within = record { begins = omega arith; forward = omega arith; key = within }
 
--- The element of a list where there is one, else a spare one.
+-- the element of a list where there is one, else a spare one
 at_place : {X : Type 0} (P : X → Type 0) (xs : List X) (place : ℕ) (spare : X) → All P xs → P spare → P (slice_index_or xs place spare)
 at_place P [] place spare all own = own
 at_place P (x ∷ xs) zero spare all own = All-head P x xs all
@@ -33,11 +33,11 @@ lengthened_fits at note next place begins own all =
     let other : Fits at (slice_index_or next place note) = at_place (Fits at) next place note all own in
     record { begins = own.begins; forward = omega (arith, begins, other.begins, other.forward); key = own.key }
 
--- What is left of a list where one element is taken out.
+-- what is left of a list where one element is taken out
 All-remove : {X : Type 0} (P : X → Type 0) (xs : List X) (place : ℕ) → All P xs → All P (remove xs place)
 All-remove P xs place all = All-append P (take place xs) (drop (suc place) xs) (All-take P place xs all) (All-drop P (suc place) xs all)
 
--- Notes that begin at a time token, and those behind it.
+-- notes that begin at a time token, and those behind it
 pub record AreFitting (at : ℕ) (linked : Linked) : Type 0 where
   pub begun : All (Fits at) linked.begun
   pub next : All (Fits at) linked.next
@@ -62,7 +62,7 @@ with_tones_fit at linked (tone ∷ tones) all fits =
     with_tones_fit at (with_key at tone linked tone.key) tones (All-tail IsTone tone tones all)
     (with_key_fits at tone linked tone.key (All-head IsTone tone tones all).key fits)
 
--- Notes of a play.
+-- notes of a play
 pub record AllFit (at : ℕ) (notes : Notes) : Type 0 where
   pub first : All (Fits at) notes.first
   pub others : All (Fits at) notes.others
@@ -98,12 +98,12 @@ all_earlier at k notes fits = record {
 same_moment : (a b : ℕ) → a ≡ b → (notes : Notes) → AllFit a notes → AllFit b notes
 same_moment a b same notes fits = subst (λ at. AllFit at notes) same fits
 
--- How long steps take one after another.
+-- how long steps take one after another
 abbrev pub lasting : {A : Type 0} → (A → Item) → List A → ℕ
 lasting item_of [] = 0
 lasting item_of (step ∷ steps) = length_of (item_of step) + lasting item_of steps
 
--- The notes of steps that are played from a moment on, in front of notes that begin behind them or later.
+-- the notes of steps that are played from a moment on, in front of notes that begin behind them or later
 pub notes_fit : {A : Type 0} (item_of : A → Item) (at : ℕ) (steps : List A) (notes : Notes) → All (λ step. IsItem (item_of step)) steps
     → AllFit (at + lasting item_of steps) notes → AllFit at (notes_from item_of at steps notes)
 notes_fit item_of at [] notes all fits = all_earlier at 0 notes fits

@@ -1,5 +1,5 @@
 -- A step sets a tempo, a meter or a key, and at most one of them: so many changes there are at most.
-use Rattle.std.proofs.Common.{ℕ, ℤ, ◌+◌, ◌≤◌, Bool, true, false, List, [], ◌∷◌, length, drop, Some, None, arith, cond, length-append}
+use Rattle.std.proofs.Common.{ℕ, ℤ, ◌+◌, ◌≤◌, Bool, List, [], ◌∷◌, length, drop, Some, None, arith, length-append}
 use Rattle.std.specs.Prelude.{All, sum_by}
 use Rattle.std.specs.List.{cons_option, flat_map}
 use Rattle.std.proofs.lemmas.List.Elements.{All-nil, All-cons, All-head, All-drop, All-weaker}
@@ -16,6 +16,7 @@ use Rattle.abc_voices.specs.Section.{part}
 use Rattle.abc_voices.specs.Step.{length_of}
 use Rattle.abc_voices.specs.Track.{everyone, tracks, nameless_plays}
 use Rattle.abc_voices.proofs.Fitting.Count.{picked_few}
+use Rattle.abc_voices.proofs.Fitting.Kept.{either}
 use Rattle.abc_voices.proofs.Fitting.Voices.{size_of}
 
 one_of_three : (at : ℕ) (item : Item) (tempos : List (Grains × ℕ)) (meters : List (Grains × Meter)) (keys : List (Grains × (ℤ × Bool)))
@@ -38,7 +39,7 @@ one_of_three at (items.Title title) tempos meters keys = omega arith
 one_of_three at (items.Order order) tempos meters keys = omega arith
 
 module _ {A : Type 0} (item_of : A → Item) where
-  -- How many values steps set.
+  -- how many values steps set
   abbrev tempos : ℕ → List A → ℕ
   tempos at steps = length (set_from item_of tempo_of at steps)
 
@@ -68,7 +69,7 @@ module _ {A : Type 0} (item_of : A → Item) where
         picked_few (moved item_of (part item_of voice section)) (places_of item_of (moved item_of (part item_of voice section))),
       )
 
-  -- The tempos of all voices in a section.
+  -- the tempos of all voices in a section
   abbrev all_tempos : ℕ → List ℕ × List A → List (List ℕ) → ℕ
   all_tempos at section voices = length (flat_map (λ voice. set_from item_of tempo_of at (play_in item_of section voice)) voices)
 
@@ -83,7 +84,7 @@ module _ {A : Type 0} (item_of : A → Item) where
         length-append (set_from item_of tempo_of at (play_in item_of section voice)) (flat_map (λ v. set_from item_of tempo_of at (play_in item_of section v)) voices),
       )
 
-  -- There is room for the tempos of all voices and the meters and keys of one of them.
+  -- there is room for the tempos of all voices and the meters and keys of one of them
   abbrev pub HasRoom : List (List ℕ) → List ℕ → Type 0
   HasRoom voices voice = (at : ℕ) (section : List ℕ × List A)
       → all_tempos at section voices + meters at (play_in item_of section voice) + keys at (play_in item_of section voice) ≤ size_of item_of voices section
@@ -114,16 +115,12 @@ module _ {A : Type 0} (item_of : A → Item) where
       All-cons (HasRoom (voice ∷ voices)) voice voices (room_first voice voices)
       (All-weaker (HasRoom voices) (HasRoom (voice ∷ voices)) (room_more voice voices) voices (all_room voices))
 
-  chosen : (P : List ℕ → Type 0) (b : Bool) (xs ys : List (List ℕ)) → All P xs → All P ys → All P (cond b xs ys)
-  chosen P true xs ys here there = here
-  chosen P false xs ys here there = there
-
   pub tracks_room : (tune : List A) → All (HasRoom (everyone item_of tune)) (tracks item_of tune)
   tracks_room tune =
       let P : List ℕ → Type 0 = HasRoom (everyone item_of tune) in
-      chosen P (nameless_plays item_of tune) (everyone item_of tune) (drop 1 (everyone item_of tune)) (all_room (everyone item_of tune)) (All-drop P 1 (everyone item_of tune) (all_room (everyone item_of tune)))
+      either P (nameless_plays item_of tune) (everyone item_of tune) (drop 1 (everyone item_of tune)) (all_room (everyone item_of tune)) (All-drop P 1 (everyone item_of tune) (all_room (everyone item_of tune)))
 
-  -- With the meters and keys of the first of these, if there is one.
+  -- with the meters and keys of the first of these, if there is one
   section_few : (at : ℕ) (section : List ℕ × List A) (voices those : List (List ℕ)) → All (HasRoom voices) those
       → all_tempos at section voices
       + length (flat_map (λ voice. set_from item_of meter_of at (play_in item_of section voice)) (first_of those))
@@ -138,8 +135,8 @@ module _ {A : Type 0} (item_of : A → Item) where
         length-append (set_from item_of key_of at (play_in item_of section voice)) [],
       )
 
-  -- The tempos of all voices and the meters and keys of the first of these, in sections that are played from a
-  -- moment on.
+  -- the tempos of all voices and the meters and keys of the first of these, in sections that are played from a
+  -- moment on
   pub sets_few : (voices those : List (List ℕ)) → All (HasRoom voices) those → (at : ℕ) (sections : List (List ℕ × List A))
       → length (set_in item_of tempo_of voices voices at sections) + length (set_in item_of meter_of voices (first_of those) at sections)
       + length (set_in item_of key_of voices (first_of those) at sections) ≤ sum_by (size_of item_of voices) sections

@@ -1,5 +1,5 @@
 -- The notes of each voice are few enough and fit a file.
-use Rattle.std.proofs.Common.{◌≡◌, ℕ, ◌+◌, ◌-◌, ◌*◌, ◌≤◌, max, Bool, true, false, cond, List, [], ◌∷◌, ◌++◌, drop, arith, refl, sym, ap, ◌∙◌, subst}
+use Rattle.std.proofs.Common.{◌≡◌, ℕ, ◌+◌, ◌-◌, ◌*◌, ◌≤◌, max, List, [], ◌∷◌, ◌++◌, drop, arith, refl, sym, ap, ◌∙◌, subst}
 use Rattle.std.specs.Prelude.{All, sum_by}
 use Rattle.std.specs.List.{flat_map}
 use Rattle.std.proofs.lemmas.List.Elements.{All-nil, All-cons, All-head, All-tail, All-drop, All-weaker}
@@ -15,7 +15,7 @@ use Rattle.abc_voices.specs.Section.{part}
 use Rattle.abc_voices.specs.Step.{length_of}
 use Rattle.abc_voices.specs.Track.{everyone, tracks, nameless_plays}
 use Rattle.abc_voices.proofs.Fitting.Count.{notes_of, notes_few, picked_few}
-use Rattle.abc_voices.proofs.Fitting.Kept.{play_kept}
+use Rattle.abc_voices.proofs.Fitting.Kept.{either, play_kept}
 use Rattle.abc_voices.proofs.Fitting.Notes.{Fits, AllFit, all_earlier, lasting, notes_fit}
 
 module _ {A : Type 0} (item_of : A → Item) where
@@ -23,11 +23,11 @@ module _ {A : Type 0} (item_of : A → Item) where
   lasts [] = refl
   lasts (step ∷ steps) = ap (λ n. length_of (item_of step) + n) (lasts steps) ∙ sym (sum_by-cons (λ s. length_of (item_of s)) step steps)
 
-  -- How many places of a section are played, over all voices.
+  -- how many places of a section are played, over all voices
   abbrev pub size_of : List (List ℕ) → List ℕ × List A → ℕ
   size_of voices section = sum_by (size_in item_of section) voices
 
-  -- A voice is no longer than the longest in each section, and plays no more than all together.
+  -- a voice is no longer than the longest in each section, and plays no more than all together
   pub record IsHeard (voices : List (List ℕ)) (voice : List ℕ) : Type 0 where
     pub lasts : (section : List ℕ × List A) → length_in item_of section voice ≤ longest item_of voices section
     pub plays : (section : List ℕ × List A) → size_in item_of section voice ≤ size_of voices section
@@ -50,15 +50,11 @@ module _ {A : Type 0} (item_of : A → Item) where
       All-cons (IsHeard (voice ∷ voices)) voice voices (heard_first voice voices)
       (All-weaker (IsHeard voices) (IsHeard (voice ∷ voices)) (heard_more voice voices) voices (all_heard voices))
 
-  chosen : (P : List ℕ → Type 0) (b : Bool) (xs ys : List (List ℕ)) → All P xs → All P ys → All P (cond b xs ys)
-  chosen P true xs ys here there = here
-  chosen P false xs ys here there = there
-
-  -- The voices that have a track are heard.
+  -- the voices that have a track are heard
   pub tracks_heard : (tune : List A) → All (IsHeard (everyone item_of tune)) (tracks item_of tune)
   tracks_heard tune =
       let P : List ℕ → Type 0 = IsHeard (everyone item_of tune) in
-      chosen P (nameless_plays item_of tune) (everyone item_of tune) (drop 1 (everyone item_of tune)) (all_heard (everyone item_of tune)) (All-drop P 1 (everyone item_of tune) (all_heard (everyone item_of tune)))
+      either P (nameless_plays item_of tune) (everyone item_of tune) (drop 1 (everyone item_of tune)) (all_heard (everyone item_of tune)) (All-drop P 1 (everyone item_of tune) (all_heard (everyone item_of tune)))
 
   abbrev Items : A → Type 0
   Items step = IsItem (item_of step)
@@ -73,7 +69,7 @@ module _ {A : Type 0} (item_of : A → Item) where
   later_fit at k n notes within fits =
       all_earlier (at + k) (n - k) notes (subst (λ m. AllFit m notes) (moment at k n within) fits)
 
-  -- The notes of a voice in sections that are played from a moment on.
+  -- the notes of a voice in sections that are played from a moment on
   pub voice_fits : (voices : List (List ℕ)) (voice : List ℕ) → IsHeard voices voice → (at : ℕ) (sections : List (List ℕ × List A)) → All ItemsIn sections
       → AllFit at (voice_notes item_of voices voice at sections)
   voice_fits voices voice heard at [] all = record { first = All-nil (Fits at); others = All-nil (Fits at) }
@@ -84,7 +80,7 @@ module _ {A : Type 0} (item_of : A → Item) where
       (later_fit at (lasting item_of play) (longest item_of voices section) behind (omega (arith, lasts play, heard.lasts section))
       (voice_fits voices voice heard (at + longest item_of voices section) rest (All-tail ItemsIn section rest all)))
 
-  -- How many there are.
+  -- how many there are
   pub voice_few : (voices : List (List ℕ)) (voice : List ℕ) → IsHeard voices voice → (at : ℕ) (sections : List (List ℕ × List A)) → All ItemsIn sections
       → notes_of (voice_notes item_of voices voice at sections) ≤ 16 * sum_by (size_of voices) sections
   voice_few voices voice heard at [] all = omega arith
@@ -100,16 +96,16 @@ module _ {A : Type 0} (item_of : A → Item) where
         voice_few voices voice heard (at + longest item_of voices section) rest (All-tail ItemsIn section rest all),
       )
 
--- The latest end of notes is no sooner than where it was looked for from.
+-- the latest end of notes is no sooner than where it was looked for from
 pub last_past : (at : ℕ) (notes : List Sounding) → at ≤ last_off at notes
 last_past at [] = omega arith
 last_past at (note ∷ notes) = omega (arith, last_past (max at note.off.0) notes)
 
--- A note that ends by a moment.
+-- a note that ends by a moment
 abbrev pub EndsBy : ℕ → Sounding → Type 0
 EndsBy end note = note.off.0 ≤ end
 
--- All notes end by the latest end.
+-- all notes end by the latest end
 pub last_of_all : (at : ℕ) (notes : List Sounding) → All (EndsBy (last_off at notes)) notes
 last_of_all at [] = All-nil (EndsBy at)
 last_of_all at (note ∷ notes) =
@@ -123,7 +119,7 @@ back : {X : Type 0} (P : X → Type 0) (xs ys : List X) → All P (xs ++ ys) →
 back P [] ys all = all
 back P (x ∷ xs) ys all = back P xs ys (All-tail P x (xs ++ ys) all)
 
--- What holds of all elements of lists put end to end holds of each list's.
+-- what holds of all elements of lists put end to end holds of each list's
 pub each_list : {X : Type 0} (P : X → Type 0) (lists : List (List X)) → All P (flat_map (λ list. list) lists) → All (All P) lists
 each_list P [] all = All-nil (All P)
 each_list P (list ∷ lists) all =

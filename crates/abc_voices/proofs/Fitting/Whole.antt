@@ -1,8 +1,9 @@
 -- A score within the limits of time and of places, with few enough voices and a short enough title, fits a file.
-use Rattle.std.proofs.Common.{◌≡◌, ℕ, ℤ, pos, negsuc, int_le, ◌+◌, ◌^◌, ◌≤◌, ◌&&◌, nat_le, nat_lt, Bool, true, false, List, [], ◌∷◌, ◌++◌, length, map, filter_map, Option, Some, None, arith, refl, suc, ap, length-append}
+use Rattle.std.proofs.Common.{◌≡◌, ℕ, ℤ, pos, negsuc, int_le, ◌+◌, ◌^◌, ◌≤◌, ◌&&◌, nat_le, nat_lt, Bool, true, false, List, [], ◌∷◌, ◌++◌, length, map, filter_map, Option, Some, None, arith, refl, length-append}
 use Rattle.std.specs.Prelude.{All, IfSome, sum_by, slice_index_or}
 use Rattle.std.specs.List.{flat_map, list_all}
 use Rattle.std.proofs.lemmas.Bool.{le-leb, lt-ltb}
+use Rattle.std.proofs.lemmas.List.{length-map}
 use Rattle.std.proofs.lemmas.List.Elements.{All-nil, All-cons, All-head, All-tail, All-append, All-map, All-weaker}
 use Rattle.std.proofs.lemmas.List.Sums.{list_all-from_AllPass}
 use Rattle.abc_bars.specs.Item.{IsItem}
@@ -51,11 +52,7 @@ of_map : {X Y : Type 0} (P : Y → Type 0) (f : X → Y) (xs : List X) → All P
 of_map P f [] all = All-nil (λ x. P (f x))
 of_map P f (x ∷ xs) all = All-cons (λ y. P (f y)) x xs (All-head P (f x) (map f xs) all) (of_map P f xs (All-tail P (f x) (map f xs) all))
 
-length_map : {X Y : Type 0} (f : X → Y) (xs : List X) → length (map f xs) ≡ length xs
-length_map f [] = refl
-length_map f (x ∷ xs) = ap (λ n. suc n) (length_map f xs)
-
--- A note of a voice.
+-- a note of a voice
 note_within : (end : Grains) (note : Sounding) → Fits 0 note → EndsBy end.0 note → is_note_within end note ≡ true
 note_within end note fits ends =
     and_true (nat_le note.on.0 note.off.0 && nat_le note.off.0 end.0) (nat_le note.key 127)
@@ -67,7 +64,7 @@ notes_within end notes fits ends few =
     and_true (nat_le (length notes) MOST_NOTES) (list_all (is_note_within end) notes) (le-leb (length notes) MOST_NOTES few)
     (list_all-from_AllPass (is_note_within end) notes (both (Fits 0) (EndsBy end.0) (λ note. is_note_within end note ≡ true) (note_within end) notes fits ends))
 
--- What the fields of a header and of a body say.
+-- what the fields of a header and of a body say
 tempo_is : (item : Item) → IsItem item → IfSome (tempo_of item) FitsInTempoEvent
 tempo_is (items.Tempo opening micros out) is = is
 tempo_is (items.Tone tones length) is = tt
@@ -162,7 +159,7 @@ or_else_is : {V : Type 0} (Q : V → Type 0) (value : V) (other : Option V) → 
 or_else_is Q value None is known = is
 or_else_is Q value (Some other) is known = known
 
--- Changes that a file can say.
+-- changes that a file can say
 tempo_fits : (end : Grains) (set : Grains × ℕ) → IsSetBy end.0 FitsInTempoEvent set → is_change_within end (tempo_change set) ≡ true
 tempo_fits end (at, micros) set =
     and_true (nat_le at.0 end.0) (nat_le 1 micros && nat_lt micros (2 ^ 24)) (le-leb at.0 end.0 set.before)
@@ -207,7 +204,7 @@ three_lists xs ys zs x y z first second third =
     omega (arith, length-append (xs ++ ys) zs, length-append xs ys, first, second, third)
 
 as_few : {X Y : Type 0} (f : X → Y) (xs : List X) (n : ℕ) → length xs ≤ n → length (map f xs) ≤ n
-as_few f xs n few = omega (arith, length_map f xs, few)
+as_few f xs n few = omega (arith, length-map xs f, few)
 
 meters_standing : (sets : List (Grains × Meter)) → length (filter_map meter_change (settled sets)) ≤ length sets
 meters_standing sets = omega (arith, meters_few (settled sets), settled_few sets)
@@ -219,7 +216,7 @@ conductor_few tempos meters keys =
     (as_few tempo_change (settled tempos) (length tempos) (settled_few tempos)) (meters_standing meters)
     (as_few key_change (settled keys) (length keys) (settled_few keys))
 
--- What the law asks of a tune.
+-- what the law asks of a tune
 pub record IsShort (tune : List Item) : Type 0 where
   pub each : All IsItem tune
   pub places : places_played (λ item. item) tune ≤ MOST_PLACES
@@ -334,7 +331,7 @@ module _ (tune : List Item) (short : IsShort tune) where
       (le-leb (length (changes_of (λ item. item) tune)) MOST_CHANGES few_changes))
       (le-leb (length (map notes_of_voice those)) MOST_VOICES (as_few notes_of_voice those MOST_VOICES short.voices))
 
-  -- Its score fits a file.
+  -- its score fits a file
   pub score_fits : is_within_limits (score_of (λ item. item) tune) ≡ true
   unfolding is_within_limits
   score_fits = and_yes (and_yes counts_fit changes_fit) voices_fit
