@@ -252,10 +252,7 @@ fn kind_given(
         FieldKind::UnitLength => Ok(unit_given(body, value, place)),
         FieldKind::Tempo => Ok(tempo_given(body, value, place)),
         FieldKind::Key => Ok(key_given(body, value, place)),
-        FieldKind::Voice => {
-            let given = voice_given(alloc, body, value, place)?;
-            Ok(given)
-        }
+        FieldKind::Voice => voice_given(alloc, body, value, place),
         FieldKind::Reference | FieldKind::Title | FieldKind::Other => Ok(FieldItem::none()),
     }
 }
@@ -270,12 +267,11 @@ pub(crate) fn field_given(
     ensures value { IfOk result (λ given. given_as body.new given ≡ field_given body.old field.now.letter field.now.value place) }
     ensures range { IfOk result (λ given. IfSome given.item IsItem) }
 {
-    let given = kind_given(
+    kind_given(
         alloc,
         body,
         kind_of(field.letter),
         field.value.as_slice(),
         place,
-    )?;
-    Ok(given)
+    )
 }

@@ -163,27 +163,27 @@ fn order_given(alloc: Global, header: Header, value: &[u8]) -> Result<OwnGiven, 
     }
 }
 
-/// What a V: of this name gives, with what it says of the shift.
-fn declared_given(
+/// Declares the voice of this name, with what is said of its shift: its item, or its fault.
+fn declare_named(
     alloc: Global,
-    header: Header,
+    header: &mut Header,
     name: &[u8],
     shift: Shift,
-) -> Result<OwnGiven, AllocError>
-    ensures value { IfOk result (λ own. own ≡ declared_given header name.now (declared header.voices name.now shift)) }
-    ensures range { IfOk result (λ own. IfSome own.item IsItem) }
+) -> Result<(Option<Item>, Option<FaultCode>), AllocError>
+    ensures value { IfOk result (λ said. unchanged header.new said.0 said.1
+        ≡ declared_given header.old name.now (declared header.old.voices name.now shift)) }
+    ensures range { IfOk result (λ said. IfSome said.0 IsItem) }
 {
-    let mut header = header;
     let fault = declare(&mut header.voices, VoiceName::new(alloc, name)?, shift)?;
     if fault.is_some() {
-        return Ok(OwnGiven::unchanged(header, None, fault));
+        return Ok((None, fault));
     }
     let name = Sequence::from_slice(alloc, name)?;
     let item = Item::Voice {
         opening: true,
         name,
     };
-    Ok(OwnGiven::unchanged(header, Some(item), None))
+    Ok((Some(item), None))
 }
 
 /// What a V: gives.
@@ -194,7 +194,9 @@ fn voice_given(alloc: Global, header: Header, value: &[u8]) -> Result<OwnGiven, 
     match read_voice(value) {
         Ok(voice) => {
             let name = &value[voice.from..voice.to];
-            declared_given(alloc, header, name, voice.shift)
+            let mut header = header;
+            let (item, fault) = declare_named(alloc, &mut header, name, voice.shift)?;
+            Ok(OwnGiven::unchanged(header, item, fault))
         }
         Err(fault) => Ok(OwnGiven::unchanged(header, None, Some(fault))),
     }

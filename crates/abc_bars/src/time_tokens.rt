@@ -9,13 +9,13 @@ ghost use Rattle.abc_bars.specs.TimeTokens.{first_length, sounded, note_played, 
 use crate::broken::{BrokenFactors, has_note};
 use crate::chords::{Outside, inside_of};
 use crate::column::column_of;
-use crate::item::{Item, Items, Tone};
+use crate::item::{Item, Items, LocalFault, Tone};
 use crate::settings::Settings;
 use crate::sound::{Inside, add_note, length_in};
 use crate::tuplet::counted_down;
 use abc_fields::FaultCode;
 use abc_scan::{Chord, Note, WrittenLength};
-use abc_text::ShortSequence;
+use abc_text::{Sequence, ShortSequence};
 use abc_time::Grains;
 use std::alloc::{AllocError, Global};
 
@@ -45,11 +45,11 @@ fn sound(settings: &mut Settings, items: &mut Items, inside: Inside) -> Result<(
         big: _,
     } = inside;
     let length = first_length(tones.as_slice());
-    items.push_faults(faults.as_slice())?;
-    items.push_item(Item::Tone { tones, length })?;
     settings.accidentals = accidentals;
     settings.tuplet = counted_down(settings.tuplet);
     settings.tied = tied;
+    items.push_faults(faults.as_slice())?;
+    items.push_item(Item::Tone { tones, length })?;
     Ok(())
 }
 
@@ -80,12 +80,21 @@ pub(crate) fn note_played(
     Ok(())
 }
 
+/// The faults of a chord, of which nothing else is given.
+fn only_faults(inside: Inside) -> Sequence<LocalFault>
+    ensures { result ≡ inside.faults }
+{
+    let Inside { faults, .. } = inside;
+    faults
+}
+
 /// Gives the faults of a chord without a note, which takes no time.
 fn take_no_time(items: &mut Items, inside: Inside, from: usize) -> Result<(), AllocError>
     ensures { OnOk result (items.new ≡ and_faults items.old ((column_of from, EmptyChord) ∷ inside.faults)) }
 {
+    let faults = only_faults(inside);
     items.push_fault((column_of(from), FaultCode::EmptyChord))?;
-    items.push_faults(inside.faults.as_slice())?;
+    items.push_faults(faults.as_slice())?;
     Ok(())
 }
 
