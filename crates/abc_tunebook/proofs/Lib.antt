@@ -1,5 +1,4 @@
 pub mod Difference
-pub mod Examples
 pub mod Members
 pub mod Moves
 pub mod Order

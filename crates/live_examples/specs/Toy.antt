@@ -33,6 +33,7 @@ cells_of_class Comment line = []
 cells_of_class (Field letter) line = line ∷ []
 cells_of_class Music line = line ∷ []
 
+-- The cells of a line.
 abbrev pub cells_of : List ℕ → List (List ℕ)
 cells_of line = cells_of_class (class_of line) line
 
@@ -40,6 +41,7 @@ cells_of line = cells_of_class (class_of line) line
 abbrev pub next_byte : ℕ → List ℕ → ℕ
 next_byte byte line = if begins_with 68 line then first_of_value line else byte
 
+-- A line, and the byte that stands before music lines there.
 abbrev pub played : ℕ → List ℕ → Played
 played byte line = record { byte = byte; line = line }
 
@@ -47,12 +49,15 @@ played byte line = record { byte = byte; line = line }
 abbrev pub no_byte : ℕ
 no_byte = 48
 
+-- The reference number that an X: line gives: its first digit.
 abbrev pub number_of : Played → Option ℕ
 number_of one = if begins_with 88 one.line then Some (first_of_value one.line - 48) else None
 
+-- The title that a T: line gives.
 abbrev pub title_of : Played → Option (List ℕ)
 title_of one = if begins_with 84 one.line then Some (value_of one.line) else None
 
+-- The fault of a line that begins with `!`.
 abbrev pub faults_of : Played → List (ℕ × FaultCode)
 faults_of one = if begins_with 33 one.line then (1, BadByte) ∷ [] else []
 
@@ -63,12 +68,15 @@ bytes_of_class Comment one = []
 bytes_of_class (Field letter) one = []
 bytes_of_class Music one = one.byte ∷ one.line
 
+-- Whether a tune has too many lines for a file.
 abbrev pub is_long : List Played → Bool
 is_long all = nat_le 5 (length all)
 
+-- The file of a tune: its music lines, each with its byte before it.
 abbrev pub file_of : List Played → Option (List ℕ)
 file_of all = if is_long all then None else Some (flat_map (λ one. bytes_of_class (class_of one.line) one) all)
 
+-- The fault of a tune that is too long.
 abbrev pub tune_faults_of : List Played → List FaultCode
 tune_faults_of all = if is_long all then TuneTooLong ∷ [] else []
 
