@@ -23,6 +23,7 @@ pub record Kept : Type 0 where
 abbrev pub kept_at : Block → Tune → Kept
 kept_at block tune = record { block = block; tune = tune }
 
+-- What is kept of the tune of a block, begun in this state.
 abbrev pub kept_of : {State Cell Items Defaults : Type 0} → (State → Cell → State) → (State → Cell → Items) → Rules State Cell Items Defaults → State → Text → Block → Kept
 kept_of next gives rules opening text block = kept_at block (tune_alone next gives rules opening (lines_in text block))
 

@@ -35,6 +35,7 @@ pub(crate) fn blocks_within(alloc: Global, classes: &[LineClass]) -> Result<Vec<
     blocks(alloc, classes)
 }
 
+/// Whether a block is a file header.
 fn is_file_header(kind: BlockKind) -> bool
     ensures { result ≡ is_file_header kind }
 {
@@ -44,6 +45,7 @@ fn is_file_header(kind: BlockKind) -> bool
     }
 }
 
+/// Whether a block is a tune.
 fn is_tune(kind: BlockKind) -> bool
     ensures { result ≡ is_tune kind }
 {

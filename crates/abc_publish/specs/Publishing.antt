@@ -36,13 +36,16 @@ kept stored carried = record { stored = stored; carried = carried }
 abbrev pub Slots : Type 0
 Slots = List (ℕ × Kept)
 
+-- What a publisher holds for a number, if it has a slot.
 abbrev pub slot_at : Slots → ℕ → Option Kept
 slot_at slots n = lookup (is_at (nat_cmp n)) slots
 
+-- The entry of the directory that a slot has; where there is no slot there is no file.
 abbrev pub stored_of : Option Kept → Option Stored
 stored_of None = None
 stored_of (Some slot) = slot.stored
 
+-- What the job carries that a slot has under way.
 abbrev pub carried_of : Option Kept → Option (Option (List ℕ))
 carried_of None = None
 carried_of (Some slot) = slot.carried
