@@ -9,4 +9,5 @@ pub mod definitions;
 mod runs;
 #[cfg(test)]
 mod sessions;
-pub mod shelf;
+#[cfg(test)]
+mod shelf;

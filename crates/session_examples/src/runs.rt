@@ -84,23 +84,44 @@ impl Store for Failing {
     }
 }
 
-/// What a run answers, and how it ends.
-#[derive(Drop)]
-struct Outcome {
-    written: Vec<u8>,
-    ended: Result<(), RunFault>,
-}
+/// A tune, the list of titles, and bytes behind `quit` that have no effect. The commands up to `quit` have 31 bytes,
+/// those up to `titles` 26, `insert` and its lines 19.
+const TUNE: &[u8] = b"insert 1 2\nX:1\nT:A\ntitles\nquit\ntitles\n";
 
-/// A run over an input that comes in pieces of at most `most` bytes; the reader and the writer fail at a call.
-fn run_of(
+/// The same tune as a file: the mark of UTF-8, and no line feed behind the last line.
+const BOOK: &[u8] = b"\xEF\xBB\xBFX:1\nT:A";
+
+const EDIT_ANSWER: &[u8] = b"ok written 1 removed\n";
+
+const TUNE_ANSWERS: &[u8] = b"ok written 1 removed\n1 A\nend\n";
+
+/// At most so many bytes a read, the read that fails, the write that fails, and what the run over the tune answers and
+/// how it ends.
+const RUNS: [(usize, u64, u64, &[u8], Option<RunFault>); 9] = [
+    (1_000, 0, 0, TUNE_ANSWERS, None),
+    (7, 0, 0, TUNE_ANSWERS, None),
+    // nothing is read behind `quit`: a 32nd read would fail
+    (1, 32, 0, TUNE_ANSWERS, None),
+    (1, 31, 0, TUNE_ANSWERS, Some(RunFault::Read)),
+    (1, 27, 0, TUNE_ANSWERS, Some(RunFault::Read)),
+    (1, 26, 0, EDIT_ANSWER, Some(RunFault::Read)),
+    (1, 19, 0, b"", Some(RunFault::Read)),
+    (1, 0, 2, EDIT_ANSWER, Some(RunFault::Write)),
+    (1, 0, 1, b"", Some(RunFault::Write)),
+];
+
+/// Whether a run over the tune, which comes in pieces of at most `most` bytes while the reader and the writer fail at a
+/// call, answers this text and ends so.
+fn answers(
     rt: &HostRuntime,
-    input: &[u8],
     most: usize,
     read_fails_at: u64,
     write_fails_at: u64,
-) -> Outcome {
+    answered: &[u8],
+    fault: Option<RunFault>,
+) -> bool {
     let mut reader = Pieces {
-        rest: input,
+        rest: TUNE,
         most,
         fails_at: read_fails_at,
         calls: 0,
@@ -122,143 +143,105 @@ fn run_of(
         &mut store,
         &mut work,
     );
-    Outcome {
-        written: writer.bytes,
-        ended,
-    }
+    writer.bytes.as_slice() == answered && ended.err() == fault
 }
-
-/// The same tune as a file: the mark of UTF-8, and no line feed behind the last line.
-const BOOK: &[u8] = b"\xEF\xBB\xBFX:1\nT:A\nK:C\nC";
-
-/// A tune of one note, bytes behind `quit` that have no effect, and the answers: the file is that of Standard MIDI
-/// Files 1.0. The commands up to `quit` have 36 bytes.
-const TUNE: &[u8] = b"insert 1 4\nX:1\nT:A\nK:C\nC\nhex 1\nquit\nhex 1\n";
-
-const TUNE_ANSWERS: &[u8] =
-    b"ok written 1 removed\n4D546864000000060001000201E04D54726B0000001700FF03014100FF510307A12000FF590200008170FF2F004D54726B0000000D00903C508170803C4000FF2F00\n";
-
-const EDIT_ANSWER: &[u8] = b"ok written 1 removed\n";
-
-/// At most so many bytes a read, the read that fails, the write that fails, and what the run answers and how it ends.
-/// The commands up to `insert` and its lines take 25 bytes, `hex` 6 more.
-const RUNS: [(usize, u64, u64, &[u8], Option<RunFault>); 9] = [
-    (1_000, 0, 0, TUNE_ANSWERS, None),
-    (7, 0, 0, TUNE_ANSWERS, None),
-    // nothing is read behind `quit`: a 37th read would fail
-    (1, 37, 0, TUNE_ANSWERS, None),
-    (1, 36, 0, TUNE_ANSWERS, Some(RunFault::Read)),
-    (1, 32, 0, TUNE_ANSWERS, Some(RunFault::Read)),
-    (1, 31, 0, EDIT_ANSWER, Some(RunFault::Read)),
-    (1, 25, 0, b"", Some(RunFault::Read)),
-    (1, 0, 2, EDIT_ANSWER, Some(RunFault::Write)),
-    (1, 0, 1, b"", Some(RunFault::Write)),
-];
 
 // However the input comes in pieces the answers are the same, and where a stream fails those before it were given.
 #[test]
 fn pieces_and_failing_streams(rt: HostRuntime) {
     for (most, read_fails_at, write_fails_at, answered, fault) in RUNS.iter() {
-        let outcome = run_of(&rt, TUNE, *most, *read_fails_at, *write_fails_at);
-        assert_eq!(rt; outcome.written.as_slice(), *answered);
-        assert!(rt; outcome.ended.err() == *fault);
+        assert!(rt;
+            answers(
+                &rt,
+                *most,
+                *read_fails_at,
+                *write_fails_at,
+                *answered,
+                *fault
+            )
+        );
     }
 }
 
-// Readers and writers of std.
-#[test]
-fn streams_of_std(rt: HostRuntime) {
-    let mut written = Vec::new(rt.alloc());
-    let mut writer = Piped::new(&mut written);
-    let mut store = Failing { failures: 0 };
-    let mut work = Work::mint(&rt);
-    let ended = run(
-        rt.alloc(),
-        None,
-        &mut Piped::new(TUNE),
-        &mut writer,
-        &mut store,
-        &mut work,
-    );
-    assert!(rt; ended.is_ok());
-    assert_eq!(rt; written.as_slice(), TUNE_ANSWERS);
-}
-
-// A tune book is answered before the commands.
-#[test]
-fn books_come_first(rt: HostRuntime) {
-    let mut written = Vec::new(rt.alloc());
-    let mut writer = Piped::new(&mut written);
-    let mut store = Failing { failures: 0 };
-    let mut work = Work::mint(&rt);
-    let ended = run(
-        rt.alloc(),
-        Some(BOOK),
-        &mut Piped::new(b"hex 1".as_slice()),
-        &mut writer,
-        &mut store,
-        &mut work,
-    );
-    assert!(rt; ended.is_ok());
-    assert_eq!(rt; written.as_slice(), TUNE_ANSWERS);
-}
-
-/// A run over an input, with a store in memory.
-fn run_with(rt: &HostRuntime, input: &[u8], store: &mut Shelf) -> Outcome {
+/// Whether a run over a tune book and an input, by a reader and a writer of std and with a store, answers this text.
+fn writes<S: Store>(
+    rt: &HostRuntime,
+    book: Option<&[u8]>,
+    input: &[u8],
+    store: &mut S,
+    answered: &[u8],
+) -> bool {
     let mut written = Vec::new(rt.alloc());
     let mut writer = Piped::new(&mut written);
     let mut work = Work::mint(rt);
     let ended = run(
         rt.alloc(),
-        None,
+        book,
         &mut Piped::new(input),
         &mut writer,
         store,
         &mut work,
     );
-    Outcome { written, ended }
+    ended.is_ok() && written.as_slice() == answered
 }
 
-/// The file of the tune of one note.
+// Readers and writers of std. A tune book is answered before the commands.
+#[test]
+fn streams_of_std(rt: HostRuntime) {
+    let mut store = Failing { failures: 0 };
+    assert!(rt; writes(&rt, None, TUNE, &mut store, TUNE_ANSWERS));
+    assert!(rt;
+        writes(
+            &rt,
+            Some(BOOK),
+            b"titles".as_slice(),
+            &mut store,
+            TUNE_ANSWERS
+        )
+    );
+}
+
+/// The file of a tune without notes and without a title.
 const TUNE_FILE: &[u8] =
-    b"MThd\x00\x00\x00\x06\x00\x01\x00\x02\x01\xE0MTrk\x00\x00\x00\x17\x00\xFF\x03\x01A\x00\xFF\x51\x03\x07\xA1\x20\x00\xFF\x59\x02\x00\x00\x81\x70\xFF\x2F\x00MTrk\x00\x00\x00\x0D\x00\x90\x3C\x50\x81\x70\x80\x3C\x40\x00\xFF\x2F\x00";
+    b"MThd\x00\x00\x00\x06\x00\x01\x00\x01\x01\xE0MTrk\x00\x00\x00\x11\x00\xFF\x51\x03\x07\xA1\x20\x00\xFF\x59\x02\x00\x00\x00\xFF\x2F\x00";
+
+/// Whether a run over an input, with a store in memory that fails at this call, answers this text, and whether the store
+/// then has a file under this name, that of the tune, or none.
+fn stores(
+    rt: &HostRuntime,
+    fails_at: u64,
+    input: &[u8],
+    answered: &[u8],
+    name: &str,
+    file: Option<&[u8]>,
+) -> bool {
+    let mut store = Shelf::new(rt.alloc(), fails_at);
+    writes(rt, None, input, &mut store, answered) && store.get(name) == file
+}
 
 // A store that fails at its first call: the tune is still to be stored, and the next build does it. Then there is
-// nothing to do; and a tune that went away has its file removed.
+// nothing to do.
 #[test]
 fn a_fault_of_the_store_is_made_good(rt: HostRuntime) {
-    let mut store = Shelf::new(rt.alloc(), 1);
-    let input = b"insert 1 4\nX:1\nT:A\nK:C\nC\nbuild\nbuild\nbuild\n";
-    let outcome = run_with(&rt, input.as_slice(), &mut store);
-    assert!(rt; outcome.ended.is_ok());
-    assert_eq!(rt;
-        outcome.written.as_slice(),
-        b"ok written 1 removed\nfailed 1.mid\nend\nwritten 1.mid\nend\nend\n".as_slice()
-    );
-    assert!(rt; store.get("1.mid") == Some(TUNE_FILE));
+    let input = b"insert 1 2\nX:1\nK:C\nbuild\nbuild\nbuild\n".as_slice();
+    let answered = b"ok written 1 removed\nfailed 1.mid\nend\nwritten 1.mid\nend\nend\n".as_slice();
+    assert!(rt; stores(&rt, 1, input, answered, "1.mid", Some(TUNE_FILE)));
+}
 
-    let mut store = Shelf::new(rt.alloc(), 0);
-    let input = b"insert 1 4\nX:1\nT:A\nK:C\nC\nbuild\ndelete 1 4\nbuild\nbuild\n";
-    let outcome = run_with(&rt, input.as_slice(), &mut store);
-    assert!(rt; outcome.ended.is_ok());
-    assert_eq!(rt;
-        outcome.written.as_slice(),
-        b"ok written 1 removed\nwritten 1.mid\nend\nok written removed 1\nremoved 1.mid\nend\nend\n".as_slice()
-    );
-    assert!(rt; store.get("1.mid").is_none());
+// A tune that went away has its file removed.
+#[test]
+fn a_file_is_removed(rt: HostRuntime) {
+    let input = b"insert 1 2\nX:1\nK:C\nbuild\ndelete 1 2\nbuild\n".as_slice();
+    let answered =
+        b"ok written 1 removed\nwritten 1.mid\nend\nok written removed 1\nremoved 1.mid\nend\n".as_slice();
+    assert!(rt; stores(&rt, 0, input, answered, "1.mid", None));
 }
 
 // The second of two files cannot be stored: the build ends there, and the next one goes on with it.
 #[test]
 fn a_fault_ends_the_build(rt: HostRuntime) {
-    let mut store = Shelf::new(rt.alloc(), 2);
-    let input = b"insert 1 9\nX:1\nT:A\nK:C\nC\n\nX:2\nT:A\nK:C\nC\nbuild\nbuild\n";
-    let outcome = run_with(&rt, input.as_slice(), &mut store);
-    assert!(rt; outcome.ended.is_ok());
-    assert_eq!(rt;
-        outcome.written.as_slice(),
-        b"ok written 1 2 removed\nwritten 1.mid\nfailed 2.mid\nend\nwritten 2.mid\nend\n".as_slice()
-    );
-    assert!(rt; store.get("1.mid") == Some(TUNE_FILE));
-    assert!(rt; store.get("2.mid") == Some(TUNE_FILE));
+    let input = b"insert 1 5\nX:1\nK:C\n\nX:2\nK:C\nbuild\nbuild\n".as_slice();
+    let answered =
+        b"ok written 1 2 removed\nwritten 1.mid\nfailed 2.mid\nend\nwritten 2.mid\nend\n".as_slice();
+    assert!(rt; stores(&rt, 2, input, answered, "2.mid", Some(TUNE_FILE)));
 }

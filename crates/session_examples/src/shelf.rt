@@ -1,18 +1,19 @@
-//! A store in memory that fails at one of its calls.
+//! A store in memory that tells what it contains, and fails at one of its calls.
 
-ghost use Rattle.std.specs.Prelude.{◌≡◌, IsErr};
+ghost use Rattle.std.specs.Prelude.{◌≡◌, ◌∷◌, Some, IsErr, OnErr, OnOk};
 ghost use Rattle.abc_fold.specs.Work.{raised};
+ghost use Rattle.session_examples.specs.Shelf.{contents_of};
 
 use abc_text::Sequence;
 use abc2midi_live::{Store, StoreFault};
 use std::alloc::{AllocError, Global};
 use std::collections::VecDeque;
 
-/// Files by their names, of a name put twice the newest first.
+/// What was put and removed, newest first: each name, and the bytes if it was put.
 #[derive(Drop)]
 pub struct Shelf {
     alloc: Global,
-    files: VecDeque<(Sequence<u8>, Sequence<u8>)>,
+    changes: VecDeque<(Sequence<u8>, Option<Sequence<u8>>)>,
     fails_at: u64,
     calls: u64,
     failures: u64,
@@ -23,7 +24,7 @@ impl Shelf {
     pub fn new(alloc: Global, fails_at: u64) -> Shelf {
         Shelf {
             alloc,
-            files: VecDeque::new(alloc),
+            changes: VecDeque::new(alloc),
             fails_at,
             calls: 0,
             failures: 0,
@@ -32,33 +33,42 @@ impl Shelf {
 
     /// The bytes under a name.
     pub fn get(&self, name: &str) -> Option<&[u8]> {
-        for (known, bytes) in &self.files {
+        for (known, bytes) in &self.changes {
             if known.as_slice() == name.as_bytes() {
-                return Some(bytes.as_slice());
+                return match bytes {
+                    Some(bytes) => Some(bytes.as_slice()),
+                    None => None,
+                };
             }
         }
         None
     }
 
-    fn keep(&mut self, name: &str, bytes: &[u8]) -> Result<(), AllocError>
-        ensures { self.new.failures ≡ self.old.failures }
+    /// Notes that a name was put or removed.
+    fn note(&mut self, name: &str, bytes: Option<Sequence<u8>>) -> Result<(), AllocError>
+        ensures ok { OnOk result (self.new.changes.items ≡ (name.now, bytes) ∷ self.old.changes.items) }
+        ensures err { OnErr result (self.new.changes.items ≡ self.old.changes.items) }
+        ensures failures { self.new.failures ≡ self.old.failures }
     {
         let name = Sequence::from_slice(self.alloc, name.as_bytes())?;
-        let bytes = Sequence::from_slice(self.alloc, bytes)?;
-        self.files.push_front((name, bytes))?;
+        self.changes.push_front((name, bytes))?;
         Ok(())
     }
 
-    fn forget(&mut self, name: &[u8])
-        ensures { self.new.failures ≡ self.old.failures }
+    fn note_bytes(&mut self, name: &str, bytes: &[u8]) -> Result<(), AllocError>
+        ensures ok { OnOk result (self.new.changes.items ≡ (name.now, Some bytes.now) ∷ self.old.changes.items) }
+        ensures err { OnErr result (self.new.changes.items ≡ self.old.changes.items) }
+        ensures failures { self.new.failures ≡ self.old.failures }
     {
-        self.files.retain(|(known, _)| known.as_slice() != name);
+        let bytes = Sequence::from_slice(self.alloc, bytes)?;
+        self.note(name, Some(bytes))
     }
 
     /// Counts a failure, and answers it.
     #[tactic(auto, using(abc2midi_live::proofs::Counts::raised_within))]
     fn fail(&mut self) -> Result<(), StoreFault>
         ensures failures { self.new.failures ≡ raised self.old.failures 1 }
+        ensures changes { self.new.changes ≡ self.old.changes }
         ensures fault { IsErr result }
     {
         self.failures = self.failures.saturating_add(1);
@@ -67,22 +77,25 @@ impl Shelf {
 
     /// Counts a call. Whether it is the one that fails.
     fn is_failing(&mut self) -> bool
-        ensures { self.new.failures ≡ self.old.failures }
+        ensures failures { self.new.failures ≡ self.old.failures }
+        ensures changes { self.new.changes ≡ self.old.changes }
     {
         self.calls = self.calls.saturating_add(1);
         self.calls == self.fails_at
     }
 }
 
-#[tactic(auto, using(abc2midi_live::proofs::Counts::raised_none, abc2midi_live::proofs::Counts::raised_within))]
+#[tactic(auto, using(abc2midi_live::proofs::Counts::raised_none))]
 impl Store for Shelf {
     ghost failures = { λ s. s.failures };
+
+    ghost contents = { λ s. Some (contents_of s.changes.items) };
 
     fn put(&mut self, name: &str, bytes: &[u8]) -> Result<(), StoreFault> {
         if self.is_failing() {
             return self.fail();
         }
-        match self.keep(name, bytes) {
+        match self.note_bytes(name, bytes) {
             Ok(()) => Ok(()),
             Err(_) => self.fail(),
         }
@@ -92,7 +105,9 @@ impl Store for Shelf {
         if self.is_failing() {
             return self.fail();
         }
-        self.forget(name.as_bytes());
-        Ok(())
+        match self.note(name, None) {
+            Ok(()) => Ok(()),
+            Err(_) => self.fail(),
+        }
     }
 }
