@@ -29,8 +29,9 @@ use Rattle.abc_voices.specs.Linked.{notes_from}
 use Rattle.abc_voices.specs.Opening.{tempo_past, meter_past, key_past, order_past, past_all}
 use Rattle.abc_voices.specs.Stage.{part_of, stage_of}
 use Rattle.abc_voices.specs.Track.{everyone, nameless_plays, names_from, names_past}
+use Rattle.abc_voices.proofs.Fitting.Kept.{played_kept}
 use Rattle.abc_voices.proofs.Mapped.{conductor_same, score_same, laid_same}
-use Rattle.abc_voices.proofs.Staged.{stages_are, played_all, total_within}
+use Rattle.abc_voices.proofs.Staged.{stages_are, total_within}
 
 -- an item behind a reference
 abbrev there : Bor Item → Item
@@ -218,7 +219,7 @@ pub stages_hold : (tune : List (Bor Item)) (stages : List Stage) → AreOf tune 
 stages_hold tune stages is all =
     subst (All IsStage) (sym is)
     (stages_are (everyone there tune) (played_sections there tune)
-    (played_all (λ step. IsItem step.now) there tune (sections_of (past_all there order_past None tune) (letters there tune)) all))
+    (played_kept there (λ step. IsItem step.now) tune all))
 
 pub late_total : (tune : List (Bor Item)) (stages : List Stage) → AreOf tune stages → grains_of_the_latest_end < length_along stages → grains_of_the_latest_end < end_of there tune
 late_total tune stages is late =
