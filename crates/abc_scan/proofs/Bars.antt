@@ -6,15 +6,12 @@ use Rattle.std.proofs.lemmas.Bool.{cond-true, cond-false, cases_Bool, cases_eq, 
 use Rattle.std.proofs.lemmas.List.{length-replicate}
 use Rattle.std.proofs.lemmas.List.Sums.{prefix_len-le-length}
 use Rattle.abc_scan.specs.declared.bar.BarLine.{BarLine}
-use Rattle.abc_scan.specs.Closing.{colon}
+use Rattle.abc_scan.specs.Byte.{colon}
 use Rattle.abc_scan.specs.Note.{begins_with}
 use Rattle.abc_scan.specs.Bar.{Strokes, strokes_text, middle_text, is_double, HasStrokes, HasColons, IsBar, colons, goes_on, middle_from, middle_size, colons_alone, with_middle, bar_behind, bar_at}
-use Rattle.abc_scan.proofs.Marks.{some_where_false, cut_in_three, all_same, same_pass}
+use Rattle.abc_scan.proofs.Marks.{one_more, some_where_false, cut_in_three, all_same, same_pass}
 use Rattle.abc_text.proofs.Fronts.{front_passes, front_append, front_exact, take_exact, drop_exact}
 use Rattle.abc_scan.proofs.Readings.{Finds, IsFront}
-
-one_more : (n : ℕ) → 1 + n ≡ suc n
-one_more n = omega arith
 
 abbrev closing : Bool → List ℕ
 closing closed = cond closed (93 ∷ []) []

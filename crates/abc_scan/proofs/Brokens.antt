@@ -82,11 +82,3 @@ pub broken_sound : (text : List ℕ) (value : BrokenRhythm) (size : ℕ) → bro
 unfolding broken_at
 broken_sound [] value size e = cc
 broken_sound (b ∷ bs) value size e = marks_known b bs (direction_of b) value size refl e
-
--- what begins with another byte than a mark is none
-abbrev pub IsMark : ℕ → Type 0
-IsMark b = (b ≡ 62) ⊎ (b ≡ 60)
-
-pub broken_none : (b : ℕ) (rest : List ℕ) → (b == 62) ≡ false → (b == 60) ≡ false → broken_at (b ∷ rest) ≡ None
-unfolding broken_at
-broken_none b rest right left = ap (option_map (marks_of (b ∷ rest))) (cond-false _ _ _ right ∙ cond-false _ _ _ left)

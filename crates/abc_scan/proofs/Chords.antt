@@ -21,7 +21,7 @@ use Rattle.abc_scan.proofs.Delimiters.{delimited_longest, delimited_sound}
 use Rattle.abc_scan.proofs.Frames.{frame_longest, frame_sound}
 use Rattle.abc_text.proofs.Fronts.{take_exact}
 use Rattle.abc_scan.proofs.Notes.{note_longest, note_sound}
-use Rattle.abc_scan.proofs.Readings.{Finds, IsFront}
+use Rattle.abc_scan.proofs.Readings.{Finds, IsFront, one_front}
 use Rattle.abc_scan.proofs.Starts.{note_starts, tie_starts, blank_starts, delimited_starts, space_starts, single_start, Known, start_known}
 use Rattle.abc_scan.proofs.Wraps.{finds-wrapped, finds-sized, finds-one, wrapped-sound, sized-sound, one-sound}
 
@@ -58,9 +58,6 @@ part_longest after_bar text front rest kinds.BadByte cut is = absurd is
 -- what is read is a part
 abbrev IsPart : Bool → List ℕ → ChordPartKind → ℕ → Type 0
 IsPart after_bar text kind size = IsFront text size × SpellsPart after_bar (take size text) kind
-
-one_front : (b : ℕ) (rest : List ℕ) → IsFront (b ∷ rest) 1
-one_front b rest = record { some = omega arith; inside = omega arith }
 
 part_by_sound : (start : Start) (after_bar : Bool) (b : ℕ) (rest : List ℕ) (kind : ChordPartKind) (size : ℕ) → Known b start → part_by start (b ∷ rest) ≡ Some (kind, size) → IsPart after_bar (b ∷ rest) kind size
 part_by_sound starts.Note after_bar b rest kind size known e =

@@ -6,8 +6,10 @@ use Rattle.std.proofs.lemmas.List.{take_all}
 use Rattle.std.proofs.lemmas.List.Elements.{All-drop}
 use Rattle.std.proofs.lemmas.List.{drop-drop}
 use Rattle.abc_scan.specs.declared.closing.Missing.{Missing}
-use Rattle.abc_scan.specs.Closing.{closing_brace, closing_bracket, is_other, Lacks, place_of, IsMissing}
+use Rattle.abc_scan.specs.Byte.{closing_brace, closing_bracket}
+use Rattle.abc_scan.specs.Closing.{is_other, Lacks, place_of, IsMissing}
 use Rattle.abc_text.proofs.Fronts.{front_passes, front_append, front_exact, front_none}
+use Rattle.abc_scan.proofs.Marks.{one_more}
 
 -- a text without such a byte has no place of it
 pub place-none : (closing : ℕ) (text : List ℕ) → Lacks closing text → place_of closing text ≡ None
@@ -25,9 +27,6 @@ place-first closing inside rest lacks =
     front_exact (is_other closing) inside (closing ∷ rest) lacks (front_none (is_other closing) closing rest closes) in
     let within : prefix_len (is_other closing) (inside ++ closing ∷ rest) < length (inside ++ closing ∷ rest) = omega (arith, size, length-append inside (closing ∷ rest)) in
     cond-true _ _ _ (lt-ltb _ _ within) ∙ ap Some size
-
-one_more : (n : ℕ) → 1 + n ≡ suc n
-one_more n = omega arith
 
 stops : (closing : ℕ) (text : List ℕ) (n : ℕ) → n ≡ prefix_len (is_other closing) text → n < length text → text ≡ take n text ++ closing ∷ drop (suc n) text
 stops closing [] n e h = absurd (omega arith)

@@ -4,7 +4,8 @@ use Rattle.std.specs.Prelude.{◌==◌}
 use Rattle.std.specs.Option.{option_map}
 use Rattle.std.proofs.Math.Seq.{take-append-add}
 use Rattle.std.proofs.lemmas.Bool.{cond-true, cond-false, cases_Bool, eqb-true}
-use Rattle.abc_scan.specs.Closing.{quote, exclamation, opening_brace, closing_brace, Lacks, place_of}
+use Rattle.abc_scan.specs.Byte.{quote, exclamation, opening_brace, closing_brace}
+use Rattle.abc_scan.specs.Closing.{Lacks, place_of}
 use Rattle.abc_scan.specs.Delimited.{AreDelimiters, IsDelimited, closed_by, delimited_at}
 use Rattle.abc_scan.proofs.Closings.{IsFirst, place-first, place-sound}
 use Rattle.abc_scan.proofs.Readings.{IsFront}

@@ -6,7 +6,7 @@ use Rattle.std.proofs.lemmas.Bool.{cond-true, cond-false, cases_Bool, eqb-true, 
 use Rattle.std.proofs.lemmas.List.Sums.{prefix_len-le-length}
 use Rattle.std.specs.List.{AllPass}
 use Rattle.abc_scan.specs.declared.frame.Frame.{Frame}
-use Rattle.abc_scan.specs.Closing.{opening_bracket, closing_bracket}
+use Rattle.abc_scan.specs.Byte.{opening_bracket, closing_bracket}
 use Rattle.abc_scan.specs.Field.{begins_field}
 use Rattle.abc_scan.specs.Frame.{is_inside, IsFrame, closed_frame, inside_size, frame_at}
 use Rattle.abc_scan.specs.Length.{length_at, length_size}

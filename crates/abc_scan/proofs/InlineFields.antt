@@ -7,7 +7,8 @@ use Rattle.std.proofs.Math.Seq.{take-append-add}
 use Rattle.std.proofs.lemmas.Bool.{cond-true, cond-false, cases_Bool, eqb-true, ne_eqb, and_parts, and_from, not_from_false, false≢true}
 use Rattle.std.proofs.lemmas.List.Elements.{All-cons, All-tail}
 use Rattle.abc_scan.specs.declared.field.Field.{Field}
-use Rattle.abc_scan.specs.Closing.{opening_bracket, closing_bracket, colon, is_other, Lacks, place_of}
+use Rattle.abc_scan.specs.Byte.{opening_bracket, closing_bracket, colon}
+use Rattle.abc_scan.specs.Closing.{is_other, Lacks, place_of}
 use Rattle.abc_scan.specs.Field.{begins_field, field_of}
 use Rattle.abc_scan.specs.InlineField.{IsInlineField, closed_field, inline_field_at}
 use Rattle.abc_scan.proofs.Closings.{IsFirst, place-first, place-sound}

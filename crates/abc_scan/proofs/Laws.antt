@@ -15,6 +15,7 @@ use Rattle.abc_scan.specs.Bar.{bar_at}
 use Rattle.abc_scan.specs.BarRest.{bar_rest_at}
 use Rattle.abc_scan.specs.Broken.{broken_at}
 use Rattle.abc_scan.specs.Chord.{IsChord, chord_at}
+use Rattle.abc_scan.specs.Cutting.{as_kind}
 use Rattle.abc_scan.specs.Delimited.{IsDelimited, delimited_at}
 use Rattle.abc_scan.specs.Ending.{IsEnding, ending_at}
 use Rattle.abc_scan.specs.InlineField.{inline_field_at}
@@ -22,7 +23,7 @@ use Rattle.abc_scan.specs.Line.{CutsEachText, CutsOnce}
 use Rattle.abc_scan.specs.NoEffect.{IsExtraSpace, IsSingle, HasNoEffect, extra_space_at}
 use Rattle.abc_scan.specs.Note.{note_at, rest_at}
 use Rattle.abc_scan.specs.Start.{start_of}
-use Rattle.abc_scan.specs.Token.{Spells, line_kinds, as_token, or_else, reading_by, reading_at}
+use Rattle.abc_scan.specs.Token.{Spells, line_kinds, or_else, reading_by, reading_at}
 use Rattle.abc_scan.specs.Tuplet.{tuplet_at}
 use Rattle.abc_scan.proofs.BarRests.{bar_rest_longest, bar_rest_sound, extra_space_longest, extra_space_sound}
 use Rattle.abc_scan.proofs.Bars.{bar_longest, bar_sound}
@@ -33,7 +34,7 @@ use Rattle.abc_scan.proofs.Delimiters.{delimited_longest, delimited_sound}
 use Rattle.abc_scan.proofs.Endings.{is_range_byte, ending_bytes, ending_longest, ending_sound}
 use Rattle.abc_scan.proofs.InlineFields.{inline_field_longest, inline_field_sound}
 use Rattle.abc_scan.proofs.Notes.{note_longest, note_sound, rest_longest, rest_sound}
-use Rattle.abc_scan.proofs.Readings.{Finds, IsFront}
+use Rattle.abc_scan.proofs.Readings.{Finds, IsFront, one_front}
 use Rattle.abc_scan.proofs.Starts.{note_starts, rest_starts, bar_rest_starts, bar_starts, field_starts, chord_starts, ending_starts, tuplet_starts, broken_starts, tie_starts, blank_starts, delimited_starts, space_starts, single_start, Known, start_known}
 use Rattle.abc_scan.proofs.Tuplets.{tuplet_longest, tuplet_sound}
 use Rattle.abc_scan.proofs.Wraps.{finds-wrapped, finds-sized, finds-one, wrapped-sound, sized-sound, one-sound}
@@ -75,7 +76,7 @@ chord_longer text front rest written chord size cut spelled bytes is = ⊎_elim
     (cases_lt (length front) size)
 
 -- an ending that begins with `[` is read where no chord is
-bracket_finds : (after_bar : Bool) (text front rest written : List ℕ) (passes : Option ℕ) (o : Option (Chord × ℕ)) → chord_at text ≡ o → text ≡ front ++ rest → front ≡ 91 ∷ written → AllPass is_range_byte written → Finds (ending_at after_bar text) front passes → Finds (or_else (as_token (λ c. kinds.Chord c) o) (as_token (λ p. kinds.Ending p) (ending_at after_bar text))) front (kinds.Ending passes)
+bracket_finds : (after_bar : Bool) (text front rest written : List ℕ) (passes : Option ℕ) (o : Option (Chord × ℕ)) → chord_at text ≡ o → text ≡ front ++ rest → front ≡ 91 ∷ written → AllPass is_range_byte written → Finds (ending_at after_bar text) front passes → Finds (or_else (as_kind (λ c. kinds.Chord c) o) (as_kind (λ p. kinds.Ending p) (ending_at after_bar text))) front (kinds.Ending passes)
 bracket_finds after_bar text front rest written passes None read cut spelled bytes f = finds-wrapped (λ p. kinds.Ending p) (ending_at after_bar text) front passes f
 bracket_finds after_bar text front rest written passes (Some r) read cut spelled bytes f =
     let longer = chord_longer text front rest written r.0 r.1 cut spelled bytes (chord_sound text r.0 r.1 read).1 in
@@ -103,7 +104,7 @@ tuplet_two text tuplet size read =
     let p = is.p_is.some in
     omega (arith, p, length-take-le size text sound.0.inside, ap length is.spelling, length-append is.p_text (is.q_text ++ is.r_text))
 
-parenthesis_finds : (text front : List ℕ) (o : Option (Tuplet × ℕ)) → tuplet_at text ≡ o → length front ≡ 1 → Finds (or_else (as_token (λ t. kinds.Tuplet t) o) (Some (kinds.NoEffect, 1))) front kinds.NoEffect
+parenthesis_finds : (text front : List ℕ) (o : Option (Tuplet × ℕ)) → tuplet_at text ≡ o → length front ≡ 1 → Finds (or_else (as_kind (λ t. kinds.Tuplet t) o) (Some (kinds.NoEffect, 1))) front kinds.NoEffect
 parenthesis_finds text front None read one = finds-one kinds.NoEffect front one
 parenthesis_finds text front (Some r) read one =
     let two = tuplet_two text r.0 r.1 read in
@@ -138,7 +139,7 @@ token_longest after_bar text front rest (kinds.BarRest bars) cut is =
     by_start starts.BarRest after_bar text front (kinds.BarRest bars) (bar_rest_starts text front rest bars cut is) (finds-wrapped (λ x. kinds.BarRest x) (bar_rest_at text) front bars (bar_rest_longest text front rest bars cut is))
 token_longest after_bar text front rest (kinds.Chord chord) cut is =
     by_start starts.Bracket after_bar text front (kinds.Chord chord) (chord_starts text front rest is.frame cut is.framed)
-    (finds-first (as_token (λ x. kinds.Chord x) (chord_at text)) (as_token (λ x. kinds.Ending x) (ending_at after_bar text)) front (kinds.Chord chord) (finds-wrapped (λ x. kinds.Chord x) (chord_at text) front chord (chord_longest text front rest chord cut is)))
+    (finds-first (as_kind (λ x. kinds.Chord x) (chord_at text)) (as_kind (λ x. kinds.Ending x) (ending_at after_bar text)) front (kinds.Chord chord) (finds-wrapped (λ x. kinds.Chord x) (chord_at text) front chord (chord_longest text front rest chord cut is)))
 token_longest after_bar text front rest (kinds.InlineField field) cut is =
     by_start starts.InlineField after_bar text front (kinds.InlineField field) (field_starts text front rest field cut is) (finds-wrapped (λ x. kinds.InlineField x) (inline_field_at text) front field (inline_field_longest text front rest field cut is))
 token_longest after_bar text front rest (kinds.Bar bar) cut is =
@@ -146,7 +147,7 @@ token_longest after_bar text front rest (kinds.Bar bar) cut is =
 token_longest after_bar text front rest (kinds.Ending passes) cut is = ending_finds after_bar text front rest passes cut is
 token_longest after_bar text front rest (kinds.Tuplet tuplet) cut is =
     by_start starts.Parenthesis after_bar text front (kinds.Tuplet tuplet) (tuplet_starts text front rest tuplet cut is)
-    (finds-first (as_token (λ x. kinds.Tuplet x) (tuplet_at text)) (Some (kinds.NoEffect, 1)) front (kinds.Tuplet tuplet) (finds-wrapped (λ x. kinds.Tuplet x) (tuplet_at text) front tuplet (tuplet_longest text front rest tuplet cut is)))
+    (finds-first (as_kind (λ x. kinds.Tuplet x) (tuplet_at text)) (Some (kinds.NoEffect, 1)) front (kinds.Tuplet tuplet) (finds-wrapped (λ x. kinds.Tuplet x) (tuplet_at text) front tuplet (tuplet_longest text front rest tuplet cut is)))
 token_longest after_bar text front rest (kinds.Broken broken) cut is =
     by_start starts.Broken after_bar text front (kinds.Broken broken) (broken_starts text front rest broken cut is) (finds-wrapped (λ x. kinds.Broken x) (broken_at text) front broken (broken_longest text front rest broken cut is))
 token_longest after_bar text front rest kinds.Tie cut is =
@@ -162,16 +163,13 @@ token_longest after_bar text front rest kinds.BadByte cut is = absurd is
 abbrev IsToken : Bool → List ℕ → TokenKind → ℕ → Type 0
 IsToken after_bar text kind size = IsFront text size × Spells after_bar (take size text) kind
 
-one_front : (b : ℕ) (rest : List ℕ) → IsFront (b ∷ rest) 1
-one_front b rest = record { some = omega arith; inside = omega arith }
-
-bracket_sound : (after_bar : Bool) (text : List ℕ) (o : Option (Chord × ℕ)) (kind : TokenKind) (size : ℕ) → chord_at text ≡ o → or_else (as_token (λ c. kinds.Chord c) o) (as_token (λ p. kinds.Ending p) (ending_at after_bar text)) ≡ Some (kind, size) → IsToken after_bar text kind size
+bracket_sound : (after_bar : Bool) (text : List ℕ) (o : Option (Chord × ℕ)) (kind : TokenKind) (size : ℕ) → chord_at text ≡ o → or_else (as_kind (λ c. kinds.Chord c) o) (as_kind (λ p. kinds.Ending p) (ending_at after_bar text)) ≡ Some (kind, size) → IsToken after_bar text kind size
 bracket_sound after_bar text None kind size read e =
     wrapped-sound (λ p. kinds.Ending p) (IsToken after_bar text) (ending_at after_bar text) kind size (λ x n found. ending_sound after_bar text x n found) e
 bracket_sound after_bar text (Some r) kind size read e =
     wrapped-sound (λ c. kinds.Chord c) (IsToken after_bar text) (Some r) kind size (λ x n found. chord_sound text x n (read ∙ found)) e
 
-parenthesis_sound : (after_bar : Bool) (b : ℕ) (rest : List ℕ) (o : Option (Tuplet × ℕ)) (kind : TokenKind) (size : ℕ) → b ≡ 40 → tuplet_at (b ∷ rest) ≡ o → or_else (as_token (λ t. kinds.Tuplet t) o) (Some (kinds.NoEffect, 1)) ≡ Some (kind, size) → IsToken after_bar (b ∷ rest) kind size
+parenthesis_sound : (after_bar : Bool) (b : ℕ) (rest : List ℕ) (o : Option (Tuplet × ℕ)) (kind : TokenKind) (size : ℕ) → b ≡ 40 → tuplet_at (b ∷ rest) ≡ o → or_else (as_kind (λ t. kinds.Tuplet t) o) (Some (kinds.NoEffect, 1)) ≡ Some (kind, size) → IsToken after_bar (b ∷ rest) kind size
 parenthesis_sound after_bar b rest None kind size known read e =
     one-sound kinds.NoEffect (IsToken after_bar (b ∷ rest)) kind size (one_front b rest, inr (inr (record { byte = 40; spelling = ap (λ x. x ∷ []) known; silent = refl }))) e
 parenthesis_sound after_bar b rest (Some r) kind size known read e =

@@ -11,6 +11,7 @@ use Rattle.abc_scan.specs.declared.length.WrittenLength.{WrittenLength}
 use Rattle.abc_scan.specs.Length.{is_slash, written_length, IsLength, over_size, slashes_size, under_size, length_size, length_at}
 use Rattle.abc_text.proofs.Decimals.{digit_range}
 use Rattle.abc_text.proofs.Fronts.{front_passes, front_append, front_exact, take_exact, drop_exact, front_none}
+use Rattle.abc_scan.proofs.Marks.{cut_in_three}
 
 -- a digit is no slash
 digit_no_slash : (b : ℕ) → is_digit b ≡ true → is_slash b ≡ false
@@ -128,10 +129,6 @@ one_slash_of rest some = ⊎_elim
     (λ yes. eqb-true (slashes_size rest) 1 yes)
     (λ fails. let none : take (under_size rest) (drop (slashes_size rest) rest) ≡ [] = ap (λ n. take n (drop (slashes_size rest) rest)) (cond-false _ _ _ fails) in absurd (omega (arith, some, ap length none)))
     (cases_Bool (slashes_size rest == 1))
-
-cut_in_three : (a b c : ℕ) (xs : List ℕ) → take (a + b + c) xs ≡ take a xs ++ (take b (drop a xs) ++ take c (drop b (drop a xs)))
-cut_in_three a b c xs =
-    take-add (a + b) c xs ∙ (λ i. take-add a b xs i ++ take c (sym (drop-drop b a xs) i)) ∙ append_assoc (take a xs) (take b (drop a xs)) (take c (drop b (drop a xs)))
 
 -- and it is one
 pub length_sound : (text : List ℕ) → IsLength (take (length_size text) text) (length_at text)

@@ -1,18 +1,17 @@
 -- What the readers of numbers, bar lines, endings and marks share.
-use Rattle.std.proofs.Common.{◌≡◌, ℕ, ◌+◌, Bool, true, false, cond, Some, None, List, [], ◌∷◌, ◌++◌, length, take, drop, replicate, refl, sym, ◌∙◌, take-add, drop-drop, append_assoc}
+use Rattle.std.proofs.Common.{◌≡◌, ℕ, suc, ◌+◌, Bool, true, false, cond, Some, None, List, [], ◌∷◌, ◌++◌, length, take, drop, replicate, refl, sym, ◌∙◌, arith, take-add, drop-drop, append_assoc}
 use Rattle.std.specs.Prelude.{◌==◌}
 use Rattle.std.specs.List.{AllPass}
 use Rattle.std.proofs.lemmas.Bool.{eqb-true, eq-eqb}
 use Rattle.std.proofs.lemmas.List.Elements.{All-head, All-tail, All-replicate}
 
+pub one_more : (n : ℕ) → 1 + n ≡ suc n
+one_more n = omega arith
+
 -- what a test chose
 pub some_where_false : {V : Type 0} (b : Bool) (x y : V) → cond b None (Some x) ≡ Some y → (b ≡ false) × (x ≡ y)
 some_where_false true x y e = cc
 some_where_false false x y e = (refl, cc)
-
-pub some_where_true : {V : Type 0} (b : Bool) (x y : V) → cond b (Some x) None ≡ Some y → (b ≡ true) × (x ≡ y)
-some_where_true true x y e = (refl, cc)
-some_where_true false x y e = cc
 
 -- a front in three parts
 pub cut_in_three : (a b c : ℕ) (xs : List ℕ) → take (a + b + c) xs ≡ take a xs ++ (take b (drop a xs) ++ take c (drop b (drop a xs)))

@@ -12,9 +12,6 @@ use Rattle.abc_scan.specs.Number.{IsOptionalNumber, number_size, number_at, opti
 use Rattle.abc_scan.proofs.Marks.{some_where_false}
 use Rattle.abc_scan.proofs.Readings.{Finds, IsFront}
 
-one_more : (n : ℕ) → 1 + n ≡ suc n
-one_more n = omega arith
-
 -- a front that passes, counted up to a limit
 pub prefix_take : (p : ℕ → Bool) (n : ℕ) (xs : List ℕ) → prefix_len p (take n xs) ≡ min (prefix_len p xs) n
 prefix_take p zero [] = refl

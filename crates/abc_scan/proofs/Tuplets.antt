@@ -11,12 +11,9 @@ use Rattle.abc_text.proofs.Fronts.{drop_exact}
 use Rattle.abc_scan.specs.declared.tuplet.Tuplet.{Tuplet}
 use Rattle.abc_scan.specs.Number.{number_at, optional, optional_number_at}
 use Rattle.abc_scan.specs.Tuplet.{HasColon, IsFurther, IsTuplet, further_at, tuplet_of, tuplet_behind, tuplet_at}
-use Rattle.abc_scan.proofs.Marks.{cut_in_three}
+use Rattle.abc_scan.proofs.Marks.{one_more, cut_in_three}
 use Rattle.abc_scan.proofs.Readings.{Finds, IsFront}
 use Rattle.abc_scan.proofs.Numbers.{number_longest, number_exact, number_sound, number_none, optional_number_longest, optional_number_sound, optional_number-le}
-
-one_more : (n : ℕ) → 1 + n ≡ suc n
-one_more n = omega arith
 
 -- a further number: at least as long is read, and if not longer the same
 abbrev Covers : List ℕ → List ℕ → Option ℕ → Type 0

@@ -2,9 +2,8 @@
 use Rattle.std.specs.Prelude.{ℕ, ◌≡◌, ◌≤◌, ◌<◌, ◌+◌, ◌-◌, ◌⊎◌, ◌==◌, ◌&&◌, ◌||◌, nat_lt, not, Bool, true, if◌then◌else◌, List, [], ◌∷◌, ◌++◌, length, take, drop, replicate, codes, flat_map, Option, Some, None}
 use Rattle.std.specs.List.{prefix_len}
 use Rattle.std.specs.Str.{bytes_eq}
-use Rattle.abc_text.specs.Byte.{space}
 use Rattle.abc_scan.specs.declared.bar.BarLine.{BarLine}
-use Rattle.abc_scan.specs.Closing.{opening_bracket, closing_bracket, colon, bar_stroke}
+use Rattle.abc_scan.specs.Byte.{space, opening_bracket, closing_bracket, colon, bar_stroke}
 use Rattle.abc_scan.specs.Note.{begins_with}
 
 -- Strokes that stand together: a `[` or none, one stroke and any more, a `]` or none.

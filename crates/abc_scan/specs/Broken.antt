@@ -5,18 +5,12 @@ use Rattle.std.specs.Option.{option_map}
 use Rattle.abc_scan.specs.declared.broken.BrokenRhythm.{BrokenRhythm}
 use Rattle.abc_scan.specs.declared.broken.Direction.{Direction}
 use Rattle.abc_scan.specs.declared.broken.Direction.TheVariants.{Right, Left}
+use Rattle.abc_scan.specs.Byte.{less_sign, greater_sign}
 
--- The marks, `>` and `<`.
-abbrev pub right_mark : ℕ
-right_mark = 62
-
-abbrev pub left_mark : ℕ
-left_mark = 60
-
--- The mark of a direction.
+-- The mark of a direction, `>` or `<`.
 abbrev pub mark_of : Direction → ℕ
-mark_of Right = right_mark
-mark_of Left = left_mark
+mark_of Right = greater_sign
+mark_of Left = less_sign
 
 -- One to three marks of one direction. ABC 2.1 section 4.4; that there are at most three is our own.
 pub record IsBroken (text : List ℕ) (value : BrokenRhythm) : Type 0 where
@@ -26,7 +20,7 @@ pub record IsBroken (text : List ℕ) (value : BrokenRhythm) : Type 0 where
 
 -- The direction of a mark.
 abbrev pub direction_of : ℕ → Option Direction
-direction_of b = if b == right_mark then Some Right else (if b == left_mark then Some Left else None)
+direction_of b = if b == greater_sign then Some Right else (if b == less_sign then Some Left else None)
 
 -- How many of the same mark stand at the front of a text: the fourth belongs to another token.
 abbrev pub marks_at : ℕ → List ℕ → ℕ

@@ -8,7 +8,7 @@ use Rattle.abc_scan.specs.declared.frame.Frame.{Frame}
 use Rattle.abc_scan.specs.declared.spanned.Spanned.{Spanned}
 use Rattle.abc_scan.specs.declared.start.Start.{Start}
 use Rattle.abc_scan.specs.declared.start.Start.TheVariants as starts
-use Rattle.abc_scan.specs.Cutting.{Kinds, IsCuttingFrom, cutting_from}
+use Rattle.abc_scan.specs.Cutting.{Kinds, IsCuttingFrom, as_kind, of_kind, cutting_from}
 use Rattle.abc_scan.specs.Delimited.{delimited_at}
 use Rattle.abc_scan.specs.Frame.{IsFrame, frame_at}
 use Rattle.abc_scan.specs.NoEffect.{HasNoEffect, extra_space_at}
@@ -38,13 +38,9 @@ pub record IsChord (text : List ℕ) (chord : Chord) : Type 0 where
   pub length_is : chord.length ≡ frame.length
   pub parts_are : IsCuttingFrom part_kinds SpellsPart false 1 (inside_of frame text) chord.parts
 
--- A value that was read, as a part.
-abbrev pub as_silent_part : Option ℕ → Option (ChordPartKind × ℕ)
-as_silent_part found = option_map (λ size. (kinds.NoEffect, size)) found
-
 -- The longest part at the front of a text that begins in this way, and how many bytes it takes.
 abbrev pub part_by : Start → List ℕ → Option (ChordPartKind × ℕ)
-part_by starts.Note text = option_map (λ r. (kinds.Note r.0, r.1)) (note_at text)
+part_by starts.Note text = as_kind kinds.Note (note_at text)
 part_by starts.Rest text = None
 part_by starts.BarRest text = None
 part_by starts.BarLine text = None
@@ -55,8 +51,8 @@ part_by starts.Parenthesis text = Some (kinds.NoEffect, 1)
 part_by starts.Broken text = None
 part_by starts.Tie text = Some (kinds.Tie, 1)
 part_by starts.Blank text = Some (kinds.NoEffect, 1)
-part_by starts.Delimited text = as_silent_part (delimited_at text)
-part_by starts.Space text = as_silent_part (extra_space_at text)
+part_by starts.Delimited text = of_kind kinds.NoEffect (delimited_at text)
+part_by starts.Space text = of_kind kinds.NoEffect (extra_space_at text)
 part_by starts.Single text = Some (kinds.NoEffect, 1)
 part_by starts.Nothing text = None
 

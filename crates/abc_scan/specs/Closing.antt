@@ -2,31 +2,7 @@
 use Rattle.std.specs.Prelude.{◌≡◌, ℕ, Bool, true, not, Option, List, ◌==◌}
 use Rattle.std.specs.List.{position, AllPass}
 use Rattle.abc_scan.specs.declared.closing.Missing.{Missing}
-
--- The bytes at the ends of quoted text, decorations, grace groups, chords, inline fields and bars.
-abbrev pub quote : ℕ
-quote = 34
-
-abbrev pub exclamation : ℕ
-exclamation = 33
-
-abbrev pub opening_brace : ℕ
-opening_brace = 123
-
-abbrev pub closing_brace : ℕ
-closing_brace = 125
-
-abbrev pub opening_bracket : ℕ
-opening_bracket = 91
-
-abbrev pub closing_bracket : ℕ
-closing_bracket = 93
-
-abbrev pub colon : ℕ
-colon = 58
-
-abbrev pub bar_stroke : ℕ
-bar_stroke = 124
+use Rattle.abc_scan.specs.Byte.{closing_brace, closing_bracket}
 
 -- Any byte but this one.
 abbrev pub is_other : ℕ → ℕ → Bool

@@ -1,6 +1,7 @@
 -- A text cut from left to right, each time the longest part that begins there: a line into its tokens, the
 -- inside of a chord into its parts. ABC 2.1 section 4.
 use Rattle.std.specs.Prelude.{◌≡◌, ℕ, zero, suc, ◌+◌, ◌-◌, ◌<◌, ◌≤◌, ◌⊎◌, Bool, Option, List, [], ◌∷◌, ◌++◌, length, unwrap_or}
+use Rattle.std.specs.Option.{option_map}
 use Rattle.abc_scan.specs.declared.spanned.Spanned.{Spanned}
 
 -- What a byte is that begins no part, and which parts are bar lines.
@@ -34,6 +35,14 @@ IsCuttingFrom kinds spells after_bar at text [] = text ≡ []
 IsCuttingFrom kinds spells after_bar at text (t ∷ ts) =
     (front : List ℕ) × (rest : List ℕ) × (text ≡ front ++ rest) × IsNext kinds (spells after_bar) text front t.kind
     × (t.from ≡ at) × (t.to ≡ at + length front) × IsCuttingFrom kinds spells (kinds.is_bar t.kind) t.to rest ts
+
+-- A value that was read, as a part of this kind.
+abbrev pub as_kind : {V K : Type 0} → (V → K) → Option (V × ℕ) → Option (K × ℕ)
+as_kind kind found = option_map (λ r. (kind r.0, r.1)) found
+
+-- So many bytes that were read, as a part of this kind.
+abbrev pub of_kind : {K : Type 0} → K → Option ℕ → Option (K × ℕ)
+of_kind kind found = option_map (λ size. (kind, size)) found
 
 -- What comes first in a text, and how many bytes it takes: what is read there, else one byte.
 abbrev pub next : {K : Type 0} → Kinds K → (Bool → List ℕ → Option (K × ℕ)) → Bool → List ℕ → K × ℕ

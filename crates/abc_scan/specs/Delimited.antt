@@ -1,7 +1,8 @@
 -- Tokens between delimiters. ABC 2.1 sections 4.12 (grace notes), 4.14 (decorations), 4.18 and 4.19 (quoted text).
 use Rattle.std.specs.Prelude.{◌≡◌, ◌⊎◌, ℕ, ◌+◌, Option, None, List, [], ◌∷◌, ◌++◌, if◌then◌else◌, ◌==◌}
 use Rattle.std.specs.Option.{option_map}
-use Rattle.abc_scan.specs.Closing.{quote, exclamation, opening_brace, closing_brace, Lacks, place_of}
+use Rattle.abc_scan.specs.Byte.{quote, exclamation, opening_brace, closing_brace}
+use Rattle.abc_scan.specs.Closing.{Lacks, place_of}
 
 -- The bytes that open and close quoted text `".."`, a decoration `!..!` and a grace group `{..}`.
 abbrev pub AreDelimiters : ℕ → ℕ → Type 0

@@ -5,14 +5,8 @@ use Rattle.std.specs.Option.{option_map}
 use Rattle.abc_text.specs.Number.{IsNumber}
 use Rattle.abc_scan.specs.declared.ending.PassRange.{PassRange}
 use Rattle.abc_scan.specs.declared.ending.TheConstants.{LAST_PASS}
-use Rattle.abc_scan.specs.Closing.{opening_bracket}
+use Rattle.abc_scan.specs.Byte.{minus_sign, comma, opening_bracket}
 use Rattle.abc_scan.specs.Number.{number_at}
-
-abbrev pub dash : ℕ
-dash = 45
-
-abbrev pub comma : ℕ
-comma = 44
 
 -- One number, the only pass of its range.
 pub record IsOnePass (text : List ℕ) (range : PassRange) : Type 0 where
@@ -23,7 +17,7 @@ pub record IsOnePass (text : List ℕ) (range : PassRange) : Type 0 where
 pub record IsFromTo (text : List ℕ) (range : PassRange) : Type 0 where
   pub first_text : List ℕ
   pub last_text : List ℕ
-  pub spelling : text ≡ first_text ++ dash ∷ last_text
+  pub spelling : text ≡ first_text ++ minus_sign ∷ last_text
   pub first_is : IsNumber first_text range.first
   pub last_is : IsNumber last_text range.last
 
@@ -93,7 +87,7 @@ passes_of ranges = fold with_range (Some 0) ranges
 -- The number behind a dash at the front of a text, and how many bytes it takes without the dash.
 abbrev pub last_at : List ℕ → Option (ℕ × ℕ)
 last_at [] = None
-last_at (b ∷ bs) = if b == dash then number_at bs else None
+last_at (b ∷ bs) = if b == minus_sign then number_at bs else None
 
 -- The longest range of its first number and, perhaps, its last, and how many bytes it takes.
 abbrev pub range_of : ℕ → ℕ → Option (ℕ × ℕ) → PassRange × ℕ

@@ -3,7 +3,7 @@ use Rattle.std.specs.Prelude.{ℕ, Bool, false, ◌&&◌, ◌==◌, List, [], �
 use Rattle.std.specs.Char.{is_ascii_alphabetic}
 use Rattle.abc_text.specs.Blank.{trimmed}
 use Rattle.abc_scan.specs.declared.field.Field.{Field}
-use Rattle.abc_scan.specs.Closing.{colon}
+use Rattle.abc_scan.specs.Byte.{colon}
 
 -- The text begins with a letter and a colon.
 abbrev pub begins_field : List ℕ → Bool

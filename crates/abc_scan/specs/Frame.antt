@@ -2,7 +2,7 @@
 use Rattle.std.specs.Prelude.{◌≡◌, ℕ, ◌+◌, Bool, false, not, ◌&&◌, Option, Some, None, List, [], ◌∷◌, ◌++◌, length, drop, if◌then◌else◌, ◌==◌}
 use Rattle.std.specs.List.{prefix_len, AllPass}
 use Rattle.abc_scan.specs.declared.frame.Frame.{Frame}
-use Rattle.abc_scan.specs.Closing.{opening_bracket, closing_bracket, bar_stroke}
+use Rattle.abc_scan.specs.Byte.{opening_bracket, closing_bracket, bar_stroke}
 use Rattle.abc_scan.specs.Field.{begins_field}
 use Rattle.abc_scan.specs.Length.{IsLength, length_at, length_size}
 

@@ -4,7 +4,8 @@ use Rattle.std.specs.Char.{is_ascii_alphabetic}
 use Rattle.std.specs.Option.{option_map}
 use Rattle.abc_text.specs.Blank.{trimmed}
 use Rattle.abc_scan.specs.declared.field.Field.{Field}
-use Rattle.abc_scan.specs.Closing.{opening_bracket, closing_bracket, colon, Lacks, place_of}
+use Rattle.abc_scan.specs.Byte.{opening_bracket, closing_bracket, colon}
+use Rattle.abc_scan.specs.Closing.{Lacks, place_of}
 use Rattle.abc_scan.specs.Field.{begins_field, field_of}
 
 -- `[`, a letter, a colon, bytes other than `]`, and `]`. The value is the bytes without the blanks at

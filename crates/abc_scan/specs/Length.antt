@@ -3,12 +3,13 @@ use Rattle.std.specs.Prelude.{◌≤◌, ◌≡◌, ℕ, ◌+◌, ◌^◌, ◌<�
 use Rattle.std.specs.List.{prefix_len, AllPass}
 use Rattle.abc_text.specs.declared.digit.TheConstants.{LONGEST_NUMBER, LARGEST_NUMBER}
 use Rattle.abc_text.specs.Digit.{is_digit, decimal}
+use Rattle.abc_scan.specs.Byte.{slash}
 use Rattle.abc_scan.specs.declared.length.WrittenLength.{WrittenLength}
 use Rattle.abc_scan.specs.declared.length.WrittenLength.TheVariants.{Factor, Refused}
 
 -- A slash.
 abbrev pub is_slash : ℕ → Bool
-is_slash b = b == 47
+is_slash b = b == slash
 
 -- The number that digits write, or another where there are none. It is refused where it has more than
 -- nine digits or is 0. Our own.
@@ -35,7 +36,7 @@ pub record IsLength (text : List ℕ) (value : WrittenLength) : Type 0 where
   pub over : List ℕ
   pub slashes : ℕ
   pub under : List ℕ
-  pub spelling : text ≡ over ++ (replicate slashes 47 ++ under)
+  pub spelling : text ≡ over ++ (replicate slashes slash ++ under)
   pub over_digits : AllPass is_digit over
   pub under_digits : AllPass is_digit under
   pub one_slash : 0 < length under → slashes ≡ 1

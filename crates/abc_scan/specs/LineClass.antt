@@ -5,6 +5,7 @@ use Rattle.abc_text.specs.Blank.{is_blank}
 use Rattle.abc_text.specs.Ending.{without_return}
 use Rattle.abc_scan.specs.declared.class.LineClass.{LineClass}
 use Rattle.abc_scan.specs.declared.class.LineClass.TheVariants.{Blank, Comment, Field, Music}
+use Rattle.abc_scan.specs.Byte.{percent, plus_sign, colon, bar_stroke}
 
 -- The first byte of a text that is no blank.
 abbrev pub first_visible : List ℕ → Option ℕ
@@ -12,7 +13,7 @@ first_visible text = find (λ b. not (is_blank b)) text
 
 -- A letter, or the `+` of a continued field. ABC 2.1 sections 3 and 3.3.
 abbrev pub names_field : ℕ → Bool
-names_field b = is_ascii_alphabetic b || (b == 43)
+names_field b = is_ascii_alphabetic b || (b == plus_sign)
 
 -- A letter of a note or of a rest: A to G, a to g, x or z. ABC 2.1 sections 4.1 and 4.5.
 abbrev pub is_music_letter : ℕ → Bool
@@ -21,15 +22,15 @@ is_music_letter b = (nat_le 65 b && nat_le b 71) || (nat_le 97 b && nat_le b 103
 -- The text begins with `|` or `:`.
 abbrev pub begins_bar : List ℕ → Bool
 begins_bar [] = false
-begins_bar (b ∷ bs) = (b == 124) || (b == 58)
+begins_bar (b ∷ bs) = (b == bar_stroke) || (b == colon)
 
--- The letter of the field that a text is: a letter, a colon (58), and what follows. A note or rest
+-- The letter of the field that a text is: a letter, a colon, and what follows. A note or rest
 -- before a repeat bar, as `C:|`, is no field. ABC 2.1 section 3; the exception is our own.
 abbrev pub field_letter : List ℕ → Option ℕ
 field_letter [] = None
 field_letter (letter ∷ []) = None
-field_letter (letter ∷ colon ∷ rest) =
-    if names_field letter && (colon == 58) && not (is_music_letter letter && begins_bar rest) then Some letter else None
+field_letter (letter ∷ sign ∷ rest) =
+    if names_field letter && (sign == colon) && not (is_music_letter letter && begins_bar rest) then Some letter else None
 
 -- A field with this letter, or music without one.
 abbrev pub field_or_music : Option ℕ → LineClass
@@ -39,7 +40,7 @@ field_or_music (Some letter) = Field letter
 -- The class by the first visible byte and the field's letter.
 abbrev pub class_by : Option ℕ → Option ℕ → LineClass
 class_by None letter = Blank
-class_by (Some b) letter = if b == 37 then Comment else field_or_music letter
+class_by (Some b) letter = if b == percent then Comment else field_or_music letter
 
 -- The class of a text that has no carriage return at its end.
 abbrev pub class_of_text : List ℕ → LineClass
@@ -55,13 +56,13 @@ IsBlankLine text = All (λ b. IsTrue (is_blank b)) text
 
 -- Blanks, a `%`, and anything. ABC 2.1 section 2.2.
 abbrev pub IsCommentLine : List ℕ → Type 0
-IsCommentLine text = (blanks : List ℕ) × (rest : List ℕ) × IsBlankLine blanks × (text ≡ blanks ++ 37 ∷ rest)
+IsCommentLine text = (blanks : List ℕ) × (rest : List ℕ) × IsBlankLine blanks × (text ≡ blanks ++ percent ∷ rest)
 
 -- A field with this letter: the letter, a colon, and what follows, which after a letter of a note or
 -- rest is not `|` or `:`. ABC 2.1 section 3; the exception is our own.
 pub record IsFieldLine (text : List ℕ) (letter : ℕ) : Type 0 where
   pub value : List ℕ
-  pub spelling : text ≡ letter ∷ 58 ∷ value
+  pub spelling : text ≡ letter ∷ colon ∷ value
   pub named : IsTrue (names_field letter)
   pub no_repeat : IsTrue (is_music_letter letter) → IsTrue (begins_bar value) → ⊥
 

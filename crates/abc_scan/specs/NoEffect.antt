@@ -1,5 +1,6 @@
 -- Tokens without effect. ABC 2.1 sections 4.7, 4.11, 4.12, 4.14, 4.16, 4.18, 4.19, 6.1 and 8.1.
 use Rattle.std.specs.Prelude.{◌≡◌, ◌⊎◌, ℕ, ◌+◌, Option, Some, None, List, [], ◌∷◌, IsTrue, if◌then◌else◌, ◌==◌}
+use Rattle.abc_scan.specs.Byte.{small_y}
 use Rattle.abc_scan.specs.Delimited.{IsDelimited}
 use Rattle.abc_scan.specs.Number.{IsOptionalNumber, optional_number_at}
 use Rattle.abc_scan.specs.Start.{has_no_effect}
@@ -8,7 +9,7 @@ use Rattle.abc_scan.specs.Start.{has_no_effect}
 pub record IsExtraSpace (text : List ℕ) : Type 0 where
   pub written : List ℕ
   pub width : Option ℕ
-  pub spelling : text ≡ 121 ∷ written
+  pub spelling : text ≡ small_y ∷ written
   pub width_is : IsOptionalNumber written width
 
 -- One byte that has no effect.
@@ -24,4 +25,4 @@ HasNoEffect text = IsDelimited text ⊎ (IsExtraSpace text ⊎ IsSingle text)
 -- How many bytes the extra space at the front of a text takes.
 unfoldable pub extra_space_at : List ℕ → Option ℕ
 extra_space_at [] = None
-extra_space_at (b ∷ rest) = if b == 121 then Some (1 + (optional_number_at rest).1) else None
+extra_space_at (b ∷ rest) = if b == small_y then Some (1 + (optional_number_at rest).1) else None

@@ -9,6 +9,7 @@ use Rattle.abc_text.specs.Accidental.{spelling}
 use Rattle.abc_text.specs.Letter.{IsLetter, letter_of}
 use Rattle.abc_scan.specs.declared.length.WrittenLength.{WrittenLength}
 use Rattle.abc_scan.specs.declared.note.Note.{Note}
+use Rattle.abc_scan.specs.Byte.{apostrophe, comma, equals_sign, caret, underscore}
 use Rattle.abc_scan.specs.Length.{IsLength, length_at, length_size}
 
 -- How an accidental, or none, is written. ABC 2.1 section 4.2.
@@ -18,16 +19,16 @@ accidental_text (Some accidental) = spelling accidental
 
 -- `'` and `,`, which raise and lower a note by an octave. ABC 2.1 section 4.1.
 abbrev pub is_octave_mark : ℕ → Bool
-is_octave_mark b = (b == 39) || (b == 44)
+is_octave_mark b = (b == apostrophe) || (b == comma)
 
 -- Octaves above the one of the capital letters: 1 for a small letter.
 abbrev pub letter_octave : ℕ → ℕ
 letter_octave letter = if nat_lt letter 97 then 0 else 1
 
--- The octave of a letter with marks: one more for each `'` (39), one less for each `,` (44).
+-- The octave of a letter with marks: one more for each `'`, one less for each `,`.
 abbrev pub octave : ℕ → List ℕ → ℤ
 octave letter marks =
-    pos (letter_octave letter + count_by (λ b. b == 39) marks) -ℤ pos (count_by (λ b. b == 44) marks)
+    pos (letter_octave letter + count_by (λ b. b == apostrophe) marks) -ℤ pos (count_by (λ b. b == comma) marks)
 
 -- A note: an accidental or none, a letter, octave marks, and a length.
 pub record IsNote (text : List ℕ) (note : Note) : Type 0 where
@@ -57,9 +58,9 @@ begins_with byte (b ∷ bs) = b == byte
 unfoldable pub accidental_at : List ℕ → Option Accidental
 accidental_at [] = None
 accidental_at (b ∷ bs) =
-    if b == 94 then (if begins_with 94 bs then Some DoubleSharp else Some Sharp)
-    else (if b == 95 then (if begins_with 95 bs then Some DoubleFlat else Some Flat)
-    else (if b == 61 then Some Natural else None))
+    if b == caret then (if begins_with caret bs then Some DoubleSharp else Some Sharp)
+    else (if b == underscore then (if begins_with underscore bs then Some DoubleFlat else Some Flat)
+    else (if b == equals_sign then Some Natural else None))
 
 -- How many bytes an accidental takes.
 abbrev pub accidental_size : Option Accidental → ℕ

@@ -1,6 +1,7 @@
 -- Tokens of one byte.
 use Rattle.std.specs.Prelude.{◌≡◌, ℕ, List, [], ◌∷◌, IsTrue}
 use Rattle.abc_text.specs.Blank.{is_blank}
+use Rattle.abc_scan.specs.Byte.{minus_sign}
 
 -- A blank token is one space or tab. Our own.
 pub record IsBlankToken (text : List ℕ) : Type 0 where
@@ -10,4 +11,4 @@ pub record IsBlankToken (text : List ℕ) : Type 0 where
 
 -- A tie: `-`. ABC 2.1 section 4.11.
 abbrev pub IsTie : List ℕ → Type 0
-IsTie text = text ≡ 45 ∷ []
+IsTie text = text ≡ minus_sign ∷ []

@@ -1,16 +1,17 @@
 -- The part of a line that is read.
 use Rattle.std.specs.Prelude.{◌≡◌, ◌≢◌, ◌⊎◌, ℕ, ◌&&◌, not, List, [], ◌∷◌, ◌++◌, if◌then◌else◌, ◌==◌}
 use Rattle.abc_text.specs.Ending.{without_return}
+use Rattle.abc_scan.specs.Byte.{space, percent, backslash}
 
--- What stands before the comment in a text that follows this byte: a comment begins at a `%` (37)
--- that does not directly follow a backslash (92). ABC 2.1 section 2.2; that backslashes do not pair up is our own.
+-- What stands before the comment in a text that follows this byte: a comment begins at a `%` that does not directly
+-- follow a backslash. ABC 2.1 section 2.2; that backslashes do not pair up is our own.
 abbrev pub before_comment : ℕ → List ℕ → List ℕ
 before_comment before [] = []
-before_comment before (b ∷ bs) = if (b == 37) && not (before == 92) then [] else b ∷ before_comment b bs
+before_comment before (b ∷ bs) = if (b == percent) && not (before == backslash) then [] else b ∷ before_comment b bs
 
--- A text without its comment. Nothing, as good as a blank (32), stands before it.
+-- A text without its comment. Nothing, as good as a space, stands before it.
 abbrev pub without_comment : List ℕ → List ℕ
-without_comment text = before_comment 32 text
+without_comment text = before_comment space text
 
 -- The bytes of a line that are read: the carriage return is dropped first. ABC 2.1 section 2.2; the order is our own.
 abbrev pub content : List ℕ → List ℕ
@@ -26,9 +27,9 @@ last_or before (b ∷ bs) = last_or b bs
 pub record IsRead (before : ℕ) (text read : List ℕ) : Type 0 where
   pub comment : List ℕ
   pub spelling : text ≡ read ++ comment
-  pub escaped : (front rest : List ℕ) → read ≡ front ++ 37 ∷ rest → last_or before front ≡ 92
-  pub begins : (comment ≡ []) ⊎ ((rest : List ℕ) × (comment ≡ 37 ∷ rest) × (last_or before read ≢ 92))
+  pub escaped : (front rest : List ℕ) → read ≡ front ++ percent ∷ rest → last_or before front ≡ backslash
+  pub begins : (comment ≡ []) ⊎ ((rest : List ℕ) × (comment ≡ percent ∷ rest) × (last_or before read ≢ backslash))
 
 -- What is left of each text without its comment is what is read of it.
 abbrev pub CutsComments : Type 0
-CutsComments = (text : List ℕ) → IsRead 32 text (without_comment text)
+CutsComments = (text : List ℕ) → IsRead space text (without_comment text)

@@ -1,6 +1,5 @@
 -- What a music line is made of. ABC 2.1 section 4.
 use Rattle.std.specs.Prelude.{ℕ, Bool, true, false, Option, Some, None, List, if◌then◌else◌, ◌||◌, ◌==◌}
-use Rattle.std.specs.Option.{option_map}
 use Rattle.abc_scan.specs.declared.start.Start.{Start}
 use Rattle.abc_scan.specs.declared.start.Start.TheVariants as starts
 use Rattle.abc_scan.specs.declared.token.TokenKind.{TokenKind}
@@ -8,8 +7,9 @@ use Rattle.abc_scan.specs.declared.token.TokenKind.TheVariants as kinds
 use Rattle.abc_scan.specs.Bar.{IsBar, bar_at}
 use Rattle.abc_scan.specs.BarRest.{IsBarRest, bar_rest_at}
 use Rattle.abc_scan.specs.Broken.{IsBroken, broken_at}
+use Rattle.abc_scan.specs.Byte.{quote, exclamation, opening_bracket, opening_brace}
 use Rattle.abc_scan.specs.Chord.{IsChord, chord_at}
-use Rattle.abc_scan.specs.Cutting.{Kinds, next}
+use Rattle.abc_scan.specs.Cutting.{Kinds, as_kind, of_kind, next}
 use Rattle.abc_scan.specs.Delimited.{delimited_at}
 use Rattle.abc_scan.specs.Ending.{IsEnding, ending_at}
 use Rattle.abc_scan.specs.InlineField.{IsInlineField, inline_field_at}
@@ -40,7 +40,7 @@ Spells after_bar text kinds.BadByte = ⊥
 
 -- A byte that opens something: `[`, `"`, `!` or `{`.
 abbrev pub opens : ℕ → Bool
-opens b = (b == 91) || (b == 34) || (b == 33) || (b == 123)
+opens b = (b == opening_bracket) || (b == quote) || (b == exclamation) || (b == opening_brace)
 
 -- A byte of a line that begins no token is unclosed if it opens something. Our own.
 abbrev pub alone_of : ℕ → TokenKind
@@ -68,14 +68,6 @@ is_bar kinds.BadByte = false
 abbrev pub line_kinds : Kinds TokenKind
 line_kinds = record { alone = alone_of; is_bar = is_bar }
 
--- A value that was read, as a token.
-abbrev pub as_token : {V : Type 0} → (V → TokenKind) → Option (V × ℕ) → Option (TokenKind × ℕ)
-as_token kind found = option_map (λ r. (kind r.0, r.1)) found
-
--- So many bytes, as a token without effect.
-abbrev pub as_silent : Option ℕ → Option (TokenKind × ℕ)
-as_silent found = option_map (λ size. (kinds.NoEffect, size)) found
-
 -- The first of two readings that there is.
 abbrev pub or_else : Option (TokenKind × ℕ) → Option (TokenKind × ℕ) → Option (TokenKind × ℕ)
 or_else (Some token) other = Some token
@@ -84,19 +76,19 @@ or_else None other = other
 -- The longest token at the front of a text that begins in this way, if it can be told without memory and
 -- without a search for its end, and how many bytes it takes. A tuplet is longer than its `(`.
 abbrev pub mark_by : Start → Bool → List ℕ → Option (TokenKind × ℕ)
-mark_by starts.Note after_bar text = as_token kinds.Note (note_at text)
-mark_by starts.Rest after_bar text = as_token kinds.Rest (rest_at text)
-mark_by starts.BarRest after_bar text = as_token kinds.BarRest (bar_rest_at text)
-mark_by starts.BarLine after_bar text = as_token kinds.Bar (bar_at text)
+mark_by starts.Note after_bar text = as_kind kinds.Note (note_at text)
+mark_by starts.Rest after_bar text = as_kind kinds.Rest (rest_at text)
+mark_by starts.BarRest after_bar text = as_kind kinds.BarRest (bar_rest_at text)
+mark_by starts.BarLine after_bar text = as_kind kinds.Bar (bar_at text)
 mark_by starts.InlineField after_bar text = None
 mark_by starts.Bracket after_bar text = None
-mark_by starts.Digit after_bar text = as_token kinds.Ending (ending_at after_bar text)
-mark_by starts.Parenthesis after_bar text = or_else (as_token kinds.Tuplet (tuplet_at text)) (Some (kinds.NoEffect, 1))
-mark_by starts.Broken after_bar text = as_token kinds.Broken (broken_at text)
+mark_by starts.Digit after_bar text = as_kind kinds.Ending (ending_at after_bar text)
+mark_by starts.Parenthesis after_bar text = or_else (as_kind kinds.Tuplet (tuplet_at text)) (Some (kinds.NoEffect, 1))
+mark_by starts.Broken after_bar text = as_kind kinds.Broken (broken_at text)
 mark_by starts.Tie after_bar text = Some (kinds.Tie, 1)
 mark_by starts.Blank after_bar text = Some (kinds.Blank, 1)
 mark_by starts.Delimited after_bar text = None
-mark_by starts.Space after_bar text = as_silent (extra_space_at text)
+mark_by starts.Space after_bar text = of_kind kinds.NoEffect (extra_space_at text)
 mark_by starts.Single after_bar text = Some (kinds.NoEffect, 1)
 mark_by starts.Nothing after_bar text = None
 
@@ -107,14 +99,14 @@ reading_by starts.Note after_bar text = mark_by starts.Note after_bar text
 reading_by starts.Rest after_bar text = mark_by starts.Rest after_bar text
 reading_by starts.BarRest after_bar text = mark_by starts.BarRest after_bar text
 reading_by starts.BarLine after_bar text = mark_by starts.BarLine after_bar text
-reading_by starts.InlineField after_bar text = as_token kinds.InlineField (inline_field_at text)
-reading_by starts.Bracket after_bar text = or_else (as_token kinds.Chord (chord_at text)) (as_token kinds.Ending (ending_at after_bar text))
+reading_by starts.InlineField after_bar text = as_kind kinds.InlineField (inline_field_at text)
+reading_by starts.Bracket after_bar text = or_else (as_kind kinds.Chord (chord_at text)) (as_kind kinds.Ending (ending_at after_bar text))
 reading_by starts.Digit after_bar text = mark_by starts.Digit after_bar text
 reading_by starts.Parenthesis after_bar text = mark_by starts.Parenthesis after_bar text
 reading_by starts.Broken after_bar text = mark_by starts.Broken after_bar text
 reading_by starts.Tie after_bar text = mark_by starts.Tie after_bar text
 reading_by starts.Blank after_bar text = mark_by starts.Blank after_bar text
-reading_by starts.Delimited after_bar text = as_silent (delimited_at text)
+reading_by starts.Delimited after_bar text = of_kind kinds.NoEffect (delimited_at text)
 reading_by starts.Space after_bar text = mark_by starts.Space after_bar text
 reading_by starts.Single after_bar text = mark_by starts.Single after_bar text
 reading_by starts.Nothing after_bar text = mark_by starts.Nothing after_bar text

@@ -3,11 +3,8 @@ use Rattle.std.specs.Prelude.{ℕ, ◌≡◌, ◌+◌, ◌⊎◌, ◌==◌, if�
 use Rattle.std.specs.Option.{option_map}
 use Rattle.abc_text.specs.Number.{IsNumber}
 use Rattle.abc_scan.specs.declared.tuplet.Tuplet.{Tuplet}
-use Rattle.abc_scan.specs.Closing.{colon}
+use Rattle.abc_scan.specs.Byte.{open_parenthesis, colon}
 use Rattle.abc_scan.specs.Number.{IsOptionalNumber, number_at, optional_number_at}
-
-abbrev pub parenthesis : ℕ
-parenthesis = 40
 
 -- A colon, and a number or none.
 pub record HasColon (text : List ℕ) (value : Option ℕ) : Type 0 where
@@ -25,7 +22,7 @@ pub record IsTuplet (text : List ℕ) (tuplet : Tuplet) : Type 0 where
   pub p_text : List ℕ
   pub q_text : List ℕ
   pub r_text : List ℕ
-  pub spelling : text ≡ parenthesis ∷ (p_text ++ (q_text ++ r_text))
+  pub spelling : text ≡ open_parenthesis ∷ (p_text ++ (q_text ++ r_text))
   pub p_is : IsNumber p_text tuplet.p
   pub q_is : IsFurther q_text tuplet.q
   pub r_is : IsFurther r_text tuplet.r
@@ -51,4 +48,4 @@ tuplet_behind rest p = tuplet_of p.0 p.1 (drop p.1 rest)
 -- The longest tuplet mark at the front of a text, and how many bytes it takes.
 unfoldable pub tuplet_at : List ℕ → Option (Tuplet × ℕ)
 tuplet_at [] = None
-tuplet_at (b ∷ rest) = if b == parenthesis then option_map (tuplet_behind rest) (number_at rest) else None
+tuplet_at (b ∷ rest) = if b == open_parenthesis then option_map (tuplet_behind rest) (number_at rest) else None

@@ -12,6 +12,7 @@ use std::mem;
 /// carries all that is known of its tokens: nobody has to look at the line again.
 pub type Cell = Sequence<Token>;
 
+/// A copy of a token.
 fn copy_of(token: &Token) -> Result<Token, AllocError>
     ensures { IfOk result (λ copy. copy ≡ token.now) }
 {

@@ -19,18 +19,21 @@ pub enum LineClass {
     Music,
 }
 
+/// Whether a byte may stand before the colon of a field.
 fn names_field(byte: u8) -> bool
     ensures { result ≡ names_field byte }
 {
     byte.is_ascii_alphabetic() || byte == b'+'
 }
 
+/// Whether a byte is the letter of a note or a rest.
 fn is_music_letter(byte: u8) -> bool
     ensures { result ≡ is_music_letter byte }
 {
     matches!(byte, b'A'..=b'G' | b'a'..=b'g' | b'x' | b'z')
 }
 
+/// Whether a text begins as the rest of a repeat bar does, behind its first colon.
 fn begins_bar(text: &[u8]) -> bool
     ensures { result ≡ begins_bar text.now }
 {
@@ -40,6 +43,7 @@ fn begins_bar(text: &[u8]) -> bool
     }
 }
 
+/// The letter of the field that a text is, if it is one.
 fn field_letter(text: &[u8]) -> Option<u8>
     ensures { result ≡ field_letter text.now }
 {
@@ -57,6 +61,7 @@ fn field_letter(text: &[u8]) -> Option<u8>
     }
 }
 
+/// The first byte of a text that is no blank.
 fn first_visible(text: &[u8]) -> Option<u8>
     ensures { result ≡ first_visible text.now }
 {

@@ -1,7 +1,8 @@
 //! Tokens between delimiters.
 
 ghost use Rattle.std.specs.Prelude.{◌≡◌, ◌≤◌, ◌<◌, length, drop, true, IfSome};
-ghost use Rattle.abc_scan.specs.Closing.{opening_brace, IsMissing};
+ghost use Rattle.abc_scan.specs.Byte.{opening_brace};
+ghost use Rattle.abc_scan.specs.Closing.{IsMissing};
 ghost use Rattle.abc_scan.specs.Delimited.{delimited_at};
 ghost use Rattle.abc_scan.specs.Note.{begins_with};
 

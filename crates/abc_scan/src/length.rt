@@ -50,6 +50,7 @@ fn number_or(digits: &[u8], other: u32) -> Option<u32>
     }
 }
 
+/// The value of digits, slashes and the digits behind them.
 fn written_length(over: &[u8], slashes: usize, under: &[u8]) -> WrittenLength
     requires over { AllPass is_digit over.now }
     requires under { AllPass is_digit under.now }

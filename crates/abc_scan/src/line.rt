@@ -49,6 +49,7 @@ fn field_token(alloc: Global, text: &[u8]) -> Result<Vec<Token>, AllocError>
     Ok(tokens)
 }
 
+/// The tokens of a text of this class.
 fn tokens_in(alloc: Global, class: LineClass, text: &[u8]) -> Result<Vec<Token>, AllocError>
     ensures tokens { IfOk result (λ tokens. tokens.items ≡ tokens_in class text.now) }
     ensures silent { has_tokens class ≡ false → IsOk result }

@@ -20,8 +20,8 @@ pub struct Note {
     pub length: WrittenLength,
 }
 
-#[tactic(auto, unfolding(crate::specs::Note::accidental_at))]
 /// The accidental at the front of a text, and how many bytes it takes.
+#[tactic(auto, unfolding(crate::specs::Note::accidental_at))]
 fn accidental_at(text: &[u8]) -> (Option<Accidental>, usize)
     ensures value { result.0 ≡ accidental_at text.now }
     ensures size { result.1 ≡ accidental_size result.0 }

@@ -44,6 +44,7 @@ fn has_no_effect(byte: u8) -> bool
         )
 }
 
+/// Whether a byte is an accidental or the letter of a note.
 fn begins_note(byte: u8) -> bool
     ensures { result ≡ begins_note byte }
 {
@@ -101,6 +102,7 @@ fn bracket_start(rest: &[u8]) -> Start
     }
 }
 
+/// What a text begins with.
 pub(crate) fn start_of(text: &[u8]) -> Start
     ensures { result ≡ start_of text.now }
 {

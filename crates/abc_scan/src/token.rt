@@ -2,7 +2,7 @@
 
 ghost use Rattle.std.specs.Prelude.{◌≡◌, ◌≤◌, ◌<◌, drop, length, false, IfOk, IfSome};
 ghost use Rattle.abc_scan.specs.Closing.{IsMissing};
-ghost use Rattle.abc_scan.specs.Token.{opens, is_bar, mark_by, reading_by, reading_at, alone_of, next_token};
+ghost use Rattle.abc_scan.specs.Token.{is_bar, mark_by, reading_by, reading_at, alone_of, next_token};
 
 use crate::bar::{BarLine, bar_at};
 use crate::bar_rest::bar_rest_at;
@@ -53,13 +53,6 @@ pub enum TokenKind {
     BadByte,
 }
 
-/// Whether a byte opens something that another byte closes.
-fn opens(byte: u8) -> bool
-    ensures { result ≡ opens byte }
-{
-    matches!(byte, b'[' | b'"' | b'!' | b'{')
-}
-
 /// Whether a token is a bar line.
 pub(crate) fn is_bar(kind: &TokenKind) -> bool
     ensures { result ≡ is_bar kind.now }
@@ -67,15 +60,24 @@ pub(crate) fn is_bar(kind: &TokenKind) -> bool
     matches!(kind, TokenKind::Bar(_))
 }
 
-/// A byte of a line that begins no token.
+/// A byte of a line that begins no token: whether it opens something that another byte closes.
 fn alone_of(byte: u8) -> TokenKind
     ensures { result ≡ alone_of byte }
 {
-    if opens(byte) {
-        TokenKind::Unclosed
-    } else {
-        TokenKind::BadByte
+    match byte {
+        b'[' | b'"' | b'!' | b'{' => TokenKind::Unclosed,
+        _ => TokenKind::BadByte,
     }
+}
+
+/// The ending at the front of a text, and how many bytes it takes.
+fn ending_mark_at(after_bar: bool, text: &[u8]) -> Option<(TokenKind, usize)>
+    ensures value { result ≡ mark_by Start.Digit after_bar text.now }
+    ensures some { IfSome result (λ r. 0 < r.1) }
+    ensures inside { IfSome result (λ r. r.1 ≤ length text.now) }
+{
+    let (passes, size) = ending_at(after_bar, text)?;
+    Some((TokenKind::Ending(passes), size))
 }
 
 /// The chord at the front of a text, or the ending, and how many bytes it takes.
@@ -91,10 +93,7 @@ fn bracket_at(
     if let Some((chord, size)) = chord_at(alloc, text)? {
         return Ok(Some((TokenKind::Chord(chord), size)));
     }
-    match ending_at(after_bar, text) {
-        Some((passes, size)) => Ok(Some((TokenKind::Ending(passes), size))),
-        None => Ok(None),
-    }
+    Ok(ending_mark_at(after_bar, text))
 }
 
 /// The inline field at the front of a text, and how many bytes it takes.
@@ -153,10 +152,7 @@ fn mark_at(start: Start, after_bar: bool, text: &[u8]) -> Option<(TokenKind, usi
             let (bar, size) = bar_at(text)?;
             Some((TokenKind::Bar(bar), size))
         }
-        Start::Digit => {
-            let (passes, size) = ending_at(after_bar, text)?;
-            Some((TokenKind::Ending(passes), size))
-        }
+        Start::Digit => ending_mark_at(after_bar, text),
         Start::Parenthesis => parenthesis_at(text),
         Start::Broken => {
             let (broken, size) = broken_at(text)?;
