@@ -1,7 +1,7 @@
 -- Marks are strains in one way at least: the texts that they are cut into.
 use Rattle.std.proofs.Common.{◌≡◌, ℕ, Bool, true, false, not, ◌&&◌, ◌||◌, Some, None, List, [], ◌∷◌, ◌++◌, map, refl, sym, ap, ◌∙◌, subst, ⊎_elim, append_assoc, append-nil}
 use Rattle.std.specs.List.{AllPass}
-use Rattle.std.proofs.lemmas.Bool.{cases_Bool, and_parts}
+use Rattle.std.proofs.lemmas.Bool.{cases_Bool, and_parts, not-true}
 use Rattle.std.proofs.lemmas.List.Elements.{All-nil, All-cons, All-head, All-tail}
 use Rattle.abc_repeat.specs.declared.mark.Mark.{Mark}
 use Rattle.abc_repeat.specs.declared.mark.Mark.TheVariants as marks
@@ -10,7 +10,7 @@ use Rattle.abc_repeat.specs.Strain.{Ending, Strain, without_endings, endings_tex
 use Rattle.std.proofs.Common.{ltb, arith}
 use Rattle.std.proofs.lemmas.Bool.Decides.{nat_tests}
 use Rattle.abc_repeat.proofs.Cuts.{one_or_cut}
-use Rattle.abc_repeat.proofs.Readings.{not_true, single_stays, stays, ends, inside_stays, bar_stays, bar_ends, sign_stays}
+use Rattle.abc_repeat.proofs.Readings.{single_stays, stays, ends, inside_stays, bar_stays, bar_ends, sign_stays}
 
 -- what stands inside an ending, and the strains that it makes, of which the first's common part is the run
 data IsInside : List Mark → List Strain → Type 0 where
@@ -166,11 +166,6 @@ record Readings (ms : List Mark) : Type 0 where
   pub outside : (opened : Bool) → IsStrains opened ms (strains_from opened ms)
   pub inside : (opened : Bool) → IsInside ms (map strain_of (texts_of opened true ms))
 
-closes_plain : (opened : Bool) (m : Mark) → closes_common opened m ≡ true → is_ending m ≡ false
-closes_plain opened marks.Play e = refl
-closes_plain opened (marks.Bar closes opens double) e = refl
-closes_plain opened (marks.Ending numbers) e = cc
-
 plain_common : (opened : Bool) (m : Mark) → is_ending m ≡ false → closes_common opened m ≡ false → in_common opened m ≡ true
 plain_common opened m e f = ap (λ b. not b && not (closes_common opened m)) e ∙ ap not f
 
@@ -204,7 +199,7 @@ inside_bar opened bar ms closes plain rest = ⊎_elim
     (λ goes.
     let both = and_parts (not (opens_next bar)) (leads_to_ending ms) goes in
     subst (IsInside (bar ∷ ms)) (sym (ap (map strain_of) (bar_stays opened bar ms goes) ∙ map_first bar opened true ms))
-    (bar_more bar ms (map strain_of (texts_of opened true ms)) closes (not_true (opens_next bar) both.0) plain both.1 (rest.inside opened)))
+    (bar_more bar ms (map strain_of (texts_of opened true ms)) closes (not-true (opens_next bar) both.0) plain both.1 (rest.inside opened)))
     (λ stops. subst (IsInside (bar ∷ ms))
     (sym (ap (map strain_of) (bar_ends opened bar ms closes stops) ∙ ap (λ s. s ∷ strains_from (opens_next bar) ms) (with_plain bar (without_endings []) plain)))
     (closed_run [] ms bar (strains_from (opens_next bar) ms) (All-nil (λ x. in_ending x ≡ true)) closes stops (rest.outside (opens_next bar))))

@@ -1,16 +1,12 @@
 -- Marks are strains in one way only.
 use Rattle.std.proofs.Common.{◌≡◌, ℕ, Bool, true, false, not, ◌&&◌, ◌||◌, ◌==◌, Option, Some, None, List, [], ◌∷◌, ◌++◌, map, refl, sym, ap, ◌∙◌, append_assoc, append-nil}
 use Rattle.std.specs.List.{AllPass}
-use Rattle.std.proofs.lemmas.Bool.{cond-true, cond-false, and_parts, eqb-true}
+use Rattle.std.proofs.lemmas.Bool.{cond-true, cond-false, and_parts, eqb-true, not-true}
 use Rattle.std.proofs.lemmas.List.Elements.{All-nil, All-cons, All-head, All-tail, All-append}
 use Rattle.abc_repeat.specs.declared.mark.Mark.{Mark}
 use Rattle.abc_repeat.specs.declared.mark.Mark.TheVariants as marks
 use Rattle.abc_repeat.specs.Mark.{is_ending, is_single, opens_next, closes_common, closes_ending}
 use Rattle.abc_repeat.specs.Strain.{Ending, Strain, without_endings, endings_text, in_common, in_ending, leads_to_ending, goes_on, IsInnerRun, straight, barred, AreEndings, to_the_end, to_a_bar, another, IsStrains, last_common, last_endings, common_part, with_endings, ends_strain, put_first, texts_of, with_mark, strain_of, strains_from}
-
-pub not_true : (b : Bool) → not b ≡ true → b ≡ false
-not_true true e = cc
-not_true false e = refl
 
 or_second : (a b : Bool) → b ≡ true → (a || b) ≡ true
 or_second true b e = refl
@@ -41,8 +37,8 @@ common_front : (opened : Bool) (body rest : List Mark) → AllPass (in_common op
 common_front opened [] rest h = refl
 common_front opened (m ∷ body) rest h =
     let here = and_parts (not (is_ending m)) (not (closes_common opened m)) (All-head (λ x. in_common opened x ≡ true) m body h) in
-    stays opened false m (body ++ rest) (not_true (closes_common opened m) here.1)
-    ∙ ap (λ b. put_first m (texts_of opened b (body ++ rest))) (not_true (is_ending m) here.0)
+    stays opened false m (body ++ rest) (not-true (closes_common opened m) here.1)
+    ∙ ap (λ b. put_first m (texts_of opened b (body ++ rest))) (not-true (is_ending m) here.0)
     ∙ ap (put_first m) (common_front opened body rest (All-tail (λ x. in_common opened x ≡ true) m body h))
 
 -- a single bar ends no ending
@@ -53,7 +49,7 @@ single_stays (marks.Bar closes opens double) e =
     let zeros = and_parts (closes == 0) (opens == 0) both.0 in
     let first : closes ≡ 0 = eqb-true closes 0 zeros.0 in
     let second : opens ≡ 0 = eqb-true opens 0 zeros.1 in
-    (λ i. closes_ending (marks.Bar (first i) (second i) (not_true double both.1 i)))
+    (λ i. closes_ending (marks.Bar (first i) (second i) (not-true double both.1 i)))
 single_stays (marks.Ending numbers) e = refl
 
 in_ending_stays : (m : Mark) → in_ending m ≡ true → closes_ending m ≡ false

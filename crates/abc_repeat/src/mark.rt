@@ -45,6 +45,7 @@ impl Mark {
         matches!(self, Mark::Play)
     }
 
+    /// Whether it begins an ending.
     pub fn is_ending(self) -> bool
         ensures { result ≡ is_ending self }
     {
