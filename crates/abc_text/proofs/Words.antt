@@ -1,5 +1,5 @@
 -- Laws of words.
-use Rattle.std.proofs.Common.{◌≡◌, ℕ, suc, ◌+◌, ◌-◌, ◌<◌, ◌≤◌, true, false, ltb, List, [], ◌∷◌, ◌++◌, length, get_or, take, drop, MatchOption, IfSome, Option, Some, None, append-nil, refl, sym, ap, ◌∙◌, subst, inl, inr, ⊎_elim, arith, length-append, length-take, length-take-le, drop-cons, add-one}
+use Rattle.std.proofs.Common.{◌≡◌, ℕ, suc, ◌+◌, ◌-◌, ◌<◌, ◌≤◌, true, false, ltb, List, [], ◌∷◌, ◌++◌, length, get_or, take, drop, MatchOption, IfSome, Option, Some, None, append-nil, refl, sym, ap, ◌∙◌, subst, inl, inr, ⊎_elim, arith, length-append, length-drop, length-take, length-take-le, drop-cons, add-one}
 use Rattle.std.specs.Prelude.{◌⊎◌, ◌↔◌, not}
 use Rattle.std.specs.List.{All, AllPass, filter, slice_range, slice_split}
 use Rattle.std.proofs.Math.Seq.{take-append_seam, drop-append_seam}
@@ -186,6 +186,12 @@ first_at text from to e = ⊎_elim
     (λ past. let none : None ≡ Some (from, to) = sym (cond-false _ _ _ (le-ltb _ _ past)) ∙ sym e in cc)
     (cases_lt (leading_blanks text) (length text))
 
+-- the same where what stands behind is cut out of the text
+pub first_cut : (text : List ℕ) (from to : ℕ) → Some (from, to) ≡ first_word text → IsFirstWord text (slice_range text from to) (slice_range text to (length text))
+first_cut text from to e =
+    let all : take (length text - to) (drop to text) ≡ drop to text = take_all (length text - to) (drop to text) (omega (arith, length-drop to text)) in
+    subst (IsFirstWord text (slice_range text from to)) (sym all) (first_at text from to e).first
+
 front_blanks : (front rest : List ℕ) → AllPass is_blank front → leading_blanks (front ++ rest) ≡ length front + leading_blanks rest
 front_blanks [] rest are = omega arith
 front_blanks (b ∷ bs) rest are =
@@ -229,7 +235,7 @@ first_known text word behind is =
     }
 
 -- the words of a text are those of the grammar
-all_blank : (text : List ℕ) → None ≡ first_word text → AllPass is_blank text
+pub all_blank : (text : List ℕ) → None ≡ first_word text → AllPass is_blank text
 unfolding first_word
 all_blank text e = ⊎_elim
     (λ inside.

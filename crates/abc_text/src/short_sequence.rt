@@ -1,6 +1,6 @@
 //! A list of few elements that contracts see as nothing but its elements.
 
-ghost use Rattle.std.specs.Prelude.{◌≡◌, [], ◌∷◌, ◌++◌, IfOk, OnOk};
+ghost use Rattle.std.specs.Prelude.{◌≡◌, [], ◌∷◌, ◌++◌, IfOk, OnOk, OnErr};
 ghost use Rattle.std.specs.Cmp.{on_per, on_equiv};
 ghost use Rattle.std.specs.Cmp.Lexicographic.{pointwise, lists_per, lists_equiv};
 ghost use Rattle.std.specs.List.{AllZip};
@@ -10,11 +10,15 @@ use std::alloc::{AllocError, Global};
 use std::fmt;
 use std::marker::Model;
 
-/// The elements of a list in order, whatever place in memory they have: up to four need none of
+/// How many elements need no memory of their own. Most lists have one element or none, and each value that holds a
+/// list pays for this room.
+const ROOM_IN_PLACE: usize = 1;
+
+/// The elements of a list in order, whatever place in memory they have: up to `ROOM_IN_PLACE` need none of
 /// their own.
 #[derive(Drop)]
 pub struct ShortSequence<T: Default + Drop> {
-    elements: SmallVec<T, 4>,
+    elements: SmallVec<T, ROOM_IN_PLACE>,
 }
 
 impl<T: Default + Drop> Model for ShortSequence<T> {
@@ -40,7 +44,8 @@ impl<T: Default + Drop> ShortSequence<T> {
 
     /// Puts one more element at the end.
     pub fn push(&mut self, element: T) -> Result<(), AllocError>
-        ensures { OnOk result (self.new ≡ self.old ++ element ∷ []) }
+        ensures ok { OnOk result (self.new ≡ self.old ++ element ∷ []) }
+        ensures err { OnErr result (self.new ≡ self.old) }
     {
         self.elements.push(element)?;
         Ok(())

@@ -1,7 +1,8 @@
 //! The words of a text.
 
 ghost use Rattle.std.specs.Prelude.{◌≡◌, ◌↔◌, ◌<◌, ◌≤◌, ℕ, List, [], ◌∷◌, length, drop, slice_range, MatchOption, IfSome};
-ghost use Rattle.abc_text.specs.Word.{leading_blanks, before_blank, first_word, words_of, AreWords};
+ghost use Rattle.abc_text.specs.Blank.{AreBlanks};
+ghost use Rattle.abc_text.specs.Word.{leading_blanks, before_blank, first_word, words_of, AreWords, IsFirstWord};
 
 use crate::blank::is_blank;
 
@@ -36,8 +37,11 @@ pub fn first_word(text: &[u8]) -> Option<(usize, usize)>
     Some((from, from + before_blank(&text[from..])))
 }
 
-/// The first word of a text, and what stands behind it.
+/// The first word of a text, and what stands behind it, from the blank that ends the word on; none where
+/// the text has nothing but blanks.
+#[tactic(auto, using(crate::proofs::Words::all_blank, crate::proofs::Words::first_cut, crate::proofs::Words::words_exact))]
 pub fn next_word(text: &[u8]) -> Option<(&[u8], &[u8])>
+    ensures first { MatchOption result (AreBlanks text.now) (λ p. IsFirstWord text.now p.0.now p.1.now) }
     ensures words { MatchOption result (words_of text.now ≡ []) (λ p. words_of text.now ≡ p.0.now ∷ words_of p.1.now) }
     ensures shorter { IfSome result (λ p. length p.1.now < length text.now) }
     ensures grammar { (words : List (List ℕ)) → (words_of text.now ≡ words) ↔ AreWords text.now words }
