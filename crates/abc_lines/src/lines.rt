@@ -177,7 +177,8 @@ impl LinePatch {
         requires { self.now.on ≡ lines.now }
         ensures { IfOk result (λ after. seen_lines after.items ≡ self.now.after) }
     {
-        let mut after = Vec::new(lines.allocator());
+        let count = lines.len() - self.removed + self.lines.len();
+        let mut after = Vec::with_capacity(lines.allocator(), count)?;
         append_borrowed(&mut after, &lines.lines[..self.at])?;
         append_borrowed(&mut after, &self.lines)?;
         append_borrowed(&mut after, &lines.lines[self.at + self.removed..])?;
