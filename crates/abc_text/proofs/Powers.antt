@@ -1,10 +1,10 @@
 -- Laws of powers of two.
-use Rattle.std.proofs.Common.{◌≡◌, ℕ, zero, suc, ◌^◌, ◌≤◌, true, false, ap, ◌∙◌, ⊎_elim, arith}
+use Rattle.std.proofs.Common.{◌≡◌, ℕ, zero, suc, ◌^◌, ◌≤◌, Bool, true, false, cond, Option, Some, None, refl, sym, ap, ◌∙◌, subst, ⊎_elim, arith}
 use Rattle.std.specs.Prelude.{◌==◌}
-use Rattle.std.proofs.lemmas.Bool.{eqb-true, eq-eqb, ne_eqb, or_cases, or_from, or_left, or_right, cases_eq}
+use Rattle.std.proofs.lemmas.Bool.{cond-true, eqb-true, eq-eqb, ne_eqb, or_cases, or_from, or_left, or_right, cases_eq}
 use Rattle.std.proofs.lemmas.Nat.{pow_pos}
 use Rattle.std.proofs.Math.Nat.{pow-le-pow_right}
-use Rattle.abc_text.specs.Power.{IsPowerUpTo, is_power_up_to}
+use Rattle.abc_text.specs.Power.{IsPowerUpTo, is_power_up_to, power_up_to}
 
 -- what passes is a power
 pub power_from : (most n : ℕ) → is_power_up_to most n ≡ true → IsPowerUpTo most n
@@ -39,3 +39,15 @@ power_least most n h = omega (arith, pow_pos h.power, h.value)
 
 pub power_most : (most n : ℕ) → IsPowerUpTo most n → n ≤ 2 ^ most
 power_most most n h = let below : 2 ^ h.power ≤ 2 ^ most = pow-le-pow_right (omega arith) h.small in omega (arith, below, h.value)
+
+-- a number that is known to be a power, and the other way round
+passed : (most n m : ℕ) (t : Bool) → t ≡ is_power_up_to most n → cond t (Some n) None ≡ Some m → (n ≡ m) × IsPowerUpTo most m
+passed most n m true e h = let same : n ≡ m = cc in (same, subst (IsPowerUpTo most) same (power_from most n (sym e)))
+passed most n m false e h = cc
+
+pub power_up_to-from : (most : ℕ) (o : Option ℕ) (m : ℕ) → power_up_to most o ≡ Some m → (o ≡ Some m) × IsPowerUpTo most m
+power_up_to-from most None m h = cc
+power_up_to-from most (Some n) m h = let is = passed most n m (is_power_up_to most n) refl h in (ap Some is.0, is.1)
+
+pub power_up_to-to : (most : ℕ) (o : Option ℕ) (m : ℕ) → o ≡ Some m → IsPowerUpTo most m → power_up_to most o ≡ Some m
+power_up_to-to most o m e h = ap (power_up_to most) e ∙ cond-true _ _ _ (power_to most m h)

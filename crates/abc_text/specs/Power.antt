@@ -1,5 +1,5 @@
 -- Powers of two.
-use Rattle.std.specs.Prelude.{ℕ, zero, suc, ◌≡◌, ◌≤◌, ◌^◌, ◌||◌, ◌==◌, Bool}
+use Rattle.std.specs.Prelude.{ℕ, zero, suc, ◌≡◌, ◌≤◌, ◌^◌, ◌||◌, ◌==◌, Bool, if◌then◌else◌, Option, Some, None}
 
 -- A number is two to a power of at most this.
 pub record IsPowerUpTo (most n : ℕ) : Type 0 where
@@ -11,3 +11,8 @@ pub record IsPowerUpTo (most n : ℕ) : Type 0 where
 unfoldable pub is_power_up_to : ℕ → ℕ → Bool
 is_power_up_to zero n = n == 1
 is_power_up_to (suc most) n = (n == 2 ^ suc most) || is_power_up_to most n
+
+-- The number, where it is two to a power of at most this.
+abbrev pub power_up_to : ℕ → Option ℕ → Option ℕ
+power_up_to most None = None
+power_up_to most (Some n) = if is_power_up_to most n then Some n else None

@@ -27,4 +27,4 @@ pub use power::is_power_up_to;
 pub use seen::Seen;
 pub use sequence::Sequence;
 pub use short_sequence::ShortSequence;
-pub use word::{first_word, leading_blanks, next_word};
+pub use word::{before_blank, first_word, leading_blanks, next_word};

@@ -15,7 +15,7 @@ pub fn leading_blanks(text: &[u8]) -> usize
 }
 
 /// How many bytes stand before the first blank of a text.
-fn before_blank(text: &[u8]) -> usize
+pub fn before_blank(text: &[u8]) -> usize
     ensures value { result ≡ before_blank text.now }
     ensures inside { result ≤ length text.now }
 {
