@@ -6,7 +6,7 @@ ghost use Rattle.abc_time.specs.Grains.{grains_of_a_tick, grains_of_a_whole_note
 /// A length, or a moment counted from the start of the tune, in grains. A whole note has
 /// 929,901,772,800 of them (2^16 * 3^4 * 5^2 * 7^2 * 11 * 13), so that the usual lengths and
 /// tuplets are whole numbers.
-#[derive(Clone, Copy, Debug, PartialEq, Eq, PartialOrd, Ord, Hash)]
+#[derive(Clone, Copy, Debug, PartialEq, Eq, PartialOrd, Ord)]
 pub struct Grains(pub u64);
 
 /// A whole note.
