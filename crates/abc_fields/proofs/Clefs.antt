@@ -1,53 +1,72 @@
--- The first word of a key without a tonic is read as its grammar says.
-use Rattle.std.proofs.Common.{◌≡◌, ◌≤◌, ◌<◌, ◌-◌, ◌==◌, ℕ, suc, ◌⊎◌, true, ◌||◌, ◌&&◌, List, [], ◌∷◌, ◌++◌, length, get_or, take, drop, codes, refl, sym, ap, ◌∙◌, subst, inl, inr, ⊎_elim, arith, append-nil, length-append, drop-cons}
-use Rattle.std.specs.Prelude.{nat_le, nat_eq, All, slice_index}
-use Rattle.std.specs.List.{Contains, list_any, ends_with}
+-- Clefs are read as their grammar says.
+use Rattle.std.proofs.Common.{◌≡◌, ◌≤◌, ◌-◌, ℕ, ℤ, true, false, ◌&&◌, List, [], ◌∷◌, ◌++◌, length, get_or, take, codes, Option, Some, None, refl, sym, ap, ◌∙◌, subst, inl, inr, ⊎_elim, arith, append-nil, length-append}
+use Rattle.std.specs.Prelude.{pos, negsuc, nat_le, nat_eq, All, slice_index}
+use Rattle.std.specs.List.{Contains, ends_with}
+use Rattle.std.specs.Option.{unwrap_or}
 use Rattle.std.specs.Str.{bytes_eq}
 use Rattle.std.proofs.Math.Seq.{get_or-append_seam, take-append_seam}
-use Rattle.std.proofs.lemmas.Bool.{cond-true, cond-false, cases_Bool, and_parts, and_from, or_cases, or_left, or_right, le-leb, leb-true, eqb-true, eq-eqb}
-use Rattle.std.proofs.lemmas.List.{take-append-drop, drop_all}
+use Rattle.std.proofs.lemmas.Bool.{cond-true, cond-false, cases_Bool, and_parts, and_from, or_cases, le-leb, leb-true, false_from_ne_true}
+use Rattle.std.proofs.lemmas.Bool.Decides.{Decides-eqb}
 use Rattle.std.proofs.lemmas.List.Elements.{All-nil, All-cons, All-contains}
-use Rattle.std.proofs.lemmas.List.Folds.{list_any_at}
-use Rattle.std.proofs.lemmas.Slice.Eq.{bytes_eq-Decides}
-use Rattle.abc_fields.specs.Key.{ends_in_octave, names_clef, without_line, is_clef_name, sets_properties, begins_accidental}
-use Rattle.abc_fields.specs.Spelling.Key.{BeginsAccidental, EndsInOctave, clef_names, IsClefName, SetsProperties}
-use Rattle.abc_fields.proofs.Properties.{ends_true, ends_from}
+use Rattle.std.proofs.lemmas.List.Prefix.{end_rest}
+use Rattle.std.proofs.lemmas.Slice.Eq.{bytes_eq-Decides, ends_is}
+use Rattle.abc_text.proofs.Fronts.{last_split}
+use Rattle.abc_fields.specs.Clef.{mark_of, clef_of, names_clef, without_line, is_clef_name}
+use Rattle.abc_fields.specs.Spelling.Clef.{EndsIn, HasMark, HasNoMark, IsClef, clef_names, IsClefName}
 
--- accidentals
-pub begins_from : (word : List ℕ) → begins_accidental word ≡ true → BeginsAccidental word
-begins_from [] e = cc
-begins_from (b ∷ rest) e = (
-  b,
-  rest,
-  refl,
-  ⊎_elim
-      (λ both. ⊎_elim (λ t. inl (eqb-true b 94 t)) (λ t. inr (inl (eqb-true b 95 t))) (or_cases (b == 94) (b == 95) both))
-      (λ t. inr (inr (eqb-true b 61 t)))
-      (or_cases ((b == 94) || (b == 95)) (b == 61) e),
-)
+-- the mark of a clef
+ends_true : (text end : List ℕ) → ends_with nat_eq text end ≡ true → EndsIn text end
+ends_true text end e = (take (length text - length end) text, (ends_is Decides-eqb text end (ends_with nat_eq text end) refl).0 e)
 
-mark_to : (b : ℕ) → (b ≡ 94) ⊎ ((b ≡ 95) ⊎ (b ≡ 61)) → ((b == 94) || (b == 95) || (b == 61)) ≡ true
-mark_to b h = ⊎_elim
-    (λ e. or_left ((b == 94) || (b == 95)) (b == 61) (or_left (b == 94) (b == 95) (eq-eqb b 94 e)))
-    (λ h. ⊎_elim
-    (λ e. or_left ((b == 94) || (b == 95)) (b == 61) (or_right (b == 94) (b == 95) (eq-eqb b 95 e)))
-    (λ e. or_right ((b == 94) || (b == 95)) (b == 61) (eq-eqb b 61 e))
-    h)
-    h
+ends_from : (text end : List ℕ) → EndsIn text end → ends_with nat_eq text end ≡ true
+ends_from text end is = (ends_is Decides-eqb text end (ends_with nat_eq text end) refl).1 is.0 is.1
 
-pub begins_to : (word : List ℕ) → BeginsAccidental word → begins_accidental word ≡ true
-begins_to word h = ap begins_accidental h.2 ∙ mark_to h.0 h.3
+one_end : (text : List ℕ) → EndsIn text (codes "-8") → EndsIn text (codes "+8") → ⊥
+one_end text low high =
+    let e : codes "-8" ≡ codes "+8" = sym (end_rest text (codes "-8") low.0 low.1) ∙ end_rest text (codes "+8") high.0 high.1 in
+    let first : 45 ≡ 43 = ap (λ l. get_or l 0 0) e in
+    omega (arith, first)
 
--- the mark of an octave
-octave_from : (word : List ℕ) → ends_in_octave word ≡ true → EndsInOctave word
-octave_from word e = ⊎_elim (λ t. inl (ends_true word (codes "+8") t)) (λ t. inr (ends_true word (codes "-8") t))
-    (or_cases (ends_with nat_eq word (codes "+8")) (ends_with nat_eq word (codes "-8")) e)
+pub mark_read : (text : List ℕ) (n : ℤ) → mark_of text ≡ Some n → HasMark text n
+unfolding mark_of
+mark_read text n e = ⊎_elim
+    (λ high. inl (ends_true text _ high, let same : Some (pos 12) ≡ Some n = sym (cond-true _ _ _ high) ∙ e in cc))
+    (λ no_high.
+    let rest = sym (cond-false _ _ _ no_high) ∙ e in
+    ⊎_elim
+    (λ low. inr (ends_true text _ low, let same : Some (negsuc 11) ≡ Some n = sym (cond-true _ _ _ low) ∙ rest in cc))
+    (λ no_low. let none : None ≡ Some n = sym (cond-false _ _ _ no_low) ∙ rest in cc)
+    (cases_Bool (ends_with nat_eq text (codes "-8"))))
+    (cases_Bool (ends_with nat_eq text (codes "+8")))
 
-octave_to : (word : List ℕ) → EndsInOctave word → ends_in_octave word ≡ true
-octave_to word h = ⊎_elim
-    (λ k. or_left (ends_with nat_eq word (codes "+8")) (ends_with nat_eq word (codes "-8")) (ends_from word (codes "+8") k))
-    (λ k. or_right (ends_with nat_eq word (codes "+8")) (ends_with nat_eq word (codes "-8")) (ends_from word (codes "-8") k))
-    h
+pub mark_known : (text : List ℕ) (n : ℤ) → HasMark text n → mark_of text ≡ Some n
+unfolding mark_of
+mark_known text n has = ⊎_elim
+    (λ high. cond-true _ _ _ (ends_from text (codes "+8") high.0) ∙ ap Some (sym high.1))
+    (λ low.
+    let no_high : ends_with nat_eq text (codes "+8") ≡ false = false_from_ne_true _ (λ e. one_end text low.0 (ends_true text _ e)) in
+    cond-false _ _ _ no_high ∙ cond-true _ _ _ (ends_from text (codes "-8") low.0) ∙ ap Some (sym low.1))
+    has
+
+pub no_mark_read : (text : List ℕ) → mark_of text ≡ None → HasNoMark text
+no_mark_read text e n has = let some : None ≡ Some n = sym e ∙ mark_known text n has in cc
+
+no_mark_from : (text : List ℕ) (o : Option ℤ) → mark_of text ≡ o → HasNoMark text → o ≡ None
+no_mark_from text None e has = refl
+no_mark_from text (Some n) e has = absurd (has n (mark_read text n e))
+
+pub no_mark_known : (text : List ℕ) → HasNoMark text → mark_of text ≡ None
+no_mark_known text has = no_mark_from text (mark_of text) refl has
+
+pub clef_by : (text : List ℕ) (o : Option ℤ) → mark_of text ≡ o → IsClef text (unwrap_or o (pos 0))
+clef_by text None e = inr (no_mark_read text e, refl)
+clef_by text (Some n) e = inl (mark_read text n e)
+
+pub clef_known : (text : List ℕ) (n : ℤ) → IsClef text n → clef_of text ≡ n
+clef_known text n is = ⊎_elim
+    (λ has. ap (λ o. unwrap_or o (pos 0)) (mark_known text n has))
+    (λ none. ap (λ o. unwrap_or o (pos 0)) (no_mark_known text none.0) ∙ sym none.1)
+    is
 
 -- the name of a clef
 name_at : (name known : List ℕ) → bytes_eq name known ≡ true → known ≡ name
@@ -82,14 +101,6 @@ all_names =
     (All-cons NamesIt (codes "perc") [] (refl, refl) (All-nil NamesIt)))))
 
 -- without the line of a clef
-last_byte : (b : ℕ) (bs : List ℕ) → drop (length (b ∷ bs) - 1) (b ∷ bs) ≡ get_or (b ∷ bs) (length (b ∷ bs) - 1) 0 ∷ []
-last_byte b bs =
-    let word = b ∷ bs in
-    let front = length word - 1 in
-    let inside : front < length word = omega arith in
-    let past : length word ≤ suc front = omega arith in
-    drop-cons word front 0 inside ∙ ap (λ l. get_or word front 0 ∷ l) (drop_all (suc front) word past)
-
 line_from : (word : List ℕ) → (nat_le 49 (slice_index word (length word - 1)) && nat_le (slice_index word (length word - 1)) 53) ≡ true
     → Contains clef_names (take (length word - 1) word) → IsClefName word
 line_from [] test named = cc
@@ -100,14 +111,14 @@ line_from (b ∷ bs) test named =
     record {
       name = take (length word - 1) word;
       line = digit ∷ [];
-      spelling = sym (take-append-drop (length word - 1) word) ∙ ap (λ l. take (length word - 1) word ++ l) (last_byte b bs);
+      spelling = last_split word (omega arith);
       is_name = named;
       is_line = inr (digit, leb-true 49 digit both.0, leb-true digit 53 both.1, refl);
     }
 
-clef_from : (word : List ℕ) → is_clef_name word ≡ true → IsClefName word
+pub name_from : (word : List ℕ) → is_clef_name word ≡ true → IsClefName word
 unfolding without_line
-clef_from word e = ⊎_elim
+name_from word e = ⊎_elim
     (λ t. line_from word t (names_from (take (length word - 1) word) (ap names_clef (sym (cond-true _ (take (length word - 1) word) word t)) ∙ e)))
     (λ t. record {
       name = word;
@@ -128,36 +139,10 @@ with_line name digit least most =
     subst (λ d. (nat_le 49 d && nat_le d 53) ≡ true) last (and_from (nat_le 49 digit) (nat_le digit 53) (le-leb 49 digit least) (le-leb digit 53 most)) in
     cond-true _ _ _ test ∙ ap (λ n. take n word) front ∙ take-append_seam name (digit ∷ [])
 
-clef_to : (word : List ℕ) → IsClefName word → is_clef_name word ≡ true
-clef_to word h =
+pub name_to : (word : List ℕ) → IsClefName word → is_clef_name word ≡ true
+name_to word h =
     let known : NamesIt h.name = All-contains NamesIt clef_names h.name all_names h.is_name in
     ⊎_elim
     (λ bare. ap is_clef_name (h.spelling ∙ ap (λ l. h.name ++ l) bare ∙ append-nil h.name) ∙ ap names_clef known.1 ∙ known.0)
     (λ line. ap is_clef_name (h.spelling ∙ ap (λ l. h.name ++ l) line.3) ∙ ap names_clef (with_line h.name line.0 line.1 line.2) ∙ known.0)
     h.is_line
-
--- properties
-equals_from : (word : List ℕ) → list_any (λ b. b == 61) word ≡ true → Contains word 61
-equals_from [] e = cc
-equals_from (b ∷ bs) e = ⊎_elim
-    (λ t. (0, omega arith, eqb-true b 61 t))
-    (λ t. let more = equals_from bs t in (suc more.0, omega (arith, more.1), more.2))
-    (or_cases (b == 61) (list_any (λ b. b == 61) bs) e)
-
-equals_to : (word : List ℕ) → Contains word 61 → list_any (λ b. b == 61) word ≡ true
-equals_to word h = list_any_at (λ b. b == 61) word h.0 61 h.1 (eq-eqb _ 61 h.2)
-
-pub sets_from : (word : List ℕ) → sets_properties word ≡ true → SetsProperties word
-sets_from word e = ⊎_elim
-    (λ both. ⊎_elim (λ t. inl (equals_from word t)) (λ t. inr (inl (octave_from word t))) (or_cases (list_any (λ b. b == 61) word) (ends_in_octave word) both))
-    (λ t. inr (inr (clef_from word t)))
-    (or_cases (list_any (λ b. b == 61) word || ends_in_octave word) (is_clef_name word) e)
-
-pub sets_to : (word : List ℕ) → SetsProperties word → sets_properties word ≡ true
-sets_to word h = ⊎_elim
-    (λ k. or_left (list_any (λ b. b == 61) word || ends_in_octave word) (is_clef_name word) (or_left (list_any (λ b. b == 61) word) (ends_in_octave word) (equals_to word k)))
-    (λ h. ⊎_elim
-    (λ k. or_left (list_any (λ b. b == 61) word || ends_in_octave word) (is_clef_name word) (or_right (list_any (λ b. b == 61) word) (ends_in_octave word) (octave_to word k)))
-    (λ k. or_right (list_any (λ b. b == 61) word || ends_in_octave word) (is_clef_name word) (clef_to word k))
-    h)
-    h

@@ -14,7 +14,8 @@ use Rattle.abc_text.specs.Blank.{is_blank, trim_start, AreBlanks}
 use Rattle.abc_text.specs.Number.{number_of, IsNumber}
 use Rattle.abc_text.specs.Cut.{cut_at}
 use Rattle.abc_text.specs.Power.{IsPowerUpTo}
-use Rattle.abc_fields.specs.Tempo.{part_of, fraction_of, word_size, first_word, behind_word, added, sum_with, sum_of}
+use Rattle.abc_text.specs.Word.{before_blank}
+use Rattle.abc_fields.specs.Tempo.{part_of, fraction_of, first_word, behind_word, added, sum_with, sum_of}
 use Rattle.abc_fields.specs.Spelling.Tempo.{IsFraction, IsSum}
 use Rattle.abc_text.proofs.Powers.{power_from, power_to}
 use Rattle.abc_fields.proofs.Readings.{bound}
@@ -143,7 +144,7 @@ pub record IsWord (text : List ℕ) : Type 0 where
 pub word_cut : (text : List ℕ) → IsWord text
 unfolding first_word behind_word
 word_cut text =
-    let n = word_size text in
+    let n = before_blank text in
     let rest = drop n text in
     let whole : text ≡ take n text ++ rest = sym (take-append-drop n text) in
     ⊎_elim
@@ -171,11 +172,11 @@ gap_or_end (b ∷ bs) h = front_none (λ b. not (is_blank b)) b bs (blank_hidden
 
 first_word-is : (text word more : List ℕ) → text ≡ word ++ more → AllPass (λ b. not (is_blank b)) word → prefix_len (λ b. not (is_blank b)) more ≡ 0 → first_word text ≡ word
 unfolding first_word
-first_word-is text word more e visible stops = ap (λ t. take (word_size t) t) e ∙ take_exact _ word more (front_exact (λ b. not (is_blank b)) word more visible stops)
+first_word-is text word more e visible stops = ap (λ t. take (before_blank t) t) e ∙ take_exact _ word more (front_exact (λ b. not (is_blank b)) word more visible stops)
 
 behind_word-is : (text word more : List ℕ) → text ≡ word ++ more → AllPass (λ b. not (is_blank b)) word → prefix_len (λ b. not (is_blank b)) more ≡ 0 → behind_word text ≡ trim_start more
 unfolding behind_word
-behind_word-is text word more e visible stops = ap (λ t. trim_start (drop (word_size t) t)) e ∙ ap trim_start (drop_exact _ word more (front_exact (λ b. not (is_blank b)) word more visible stops))
+behind_word-is text word more e visible stops = ap (λ t. trim_start (drop (before_blank t) t)) e ∙ ap trim_start (drop_exact _ word more (front_exact (λ b. not (is_blank b)) word more visible stops))
 
 -- a sum begins with a digit
 begins_with : (text word more rest : List ℕ) (part : ℕ) → text ≡ word ++ more → IsFraction word part → (prefix_len is_blank (text ++ rest) ≡ 0) × (1 ≤ length text)

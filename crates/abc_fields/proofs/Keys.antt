@@ -1,7 +1,7 @@
 -- A value is read as its grammar says.
-use Rattle.std.proofs.Common.{◌≡◌, ◌==◌, ◌||◌, ℕ, ◌⊎◌, ℤ, pos, negsuc, ◌+ℤ◌, Bool, true, false, List, [], ◌∷◌, length, codes, Option, Some, None, Result, Ok, Err, refl, sym, ap, ◌∙◌, subst, inl, inr, ⊎_elim, arith}
-use Rattle.std.specs.Prelude.{◌↔◌, int_lt, IfSome, IfOk}
-use Rattle.std.specs.Option.{option_map, ok_or}
+use Rattle.std.proofs.Common.{◌≡◌, ◌==◌, ◌||◌, ℕ, ◌⊎◌, ℤ, pos, negsuc, ◌+ℤ◌, Bool, true, false, List, [], ◌∷◌, length, codes, Option, Some, None, Result, refl, sym, ap, ◌∙◌, subst, inl, inr, ⊎_elim, arith}
+use Rattle.std.specs.Prelude.{int_lt, IfSome}
+use Rattle.std.specs.Option.{option_map}
 use Rattle.std.specs.Str.{bytes_eq}
 use Rattle.std.proofs.lemmas.Bool.{cond-true, cond-false, cases_Bool, eqb-true, or_cases, or_parts, or_from, false_from_ne_true, both_ways}
 use Rattle.std.proofs.lemmas.Int.{ints}
@@ -22,7 +22,8 @@ use Rattle.abc_fields.specs.Tonic.{tonic_at, basis_at}
 use Rattle.abc_fields.specs.Spelling.Tonic.{IsTonic}
 use Rattle.abc_text.specs.Letter.{letter_of}
 use Rattle.abc_text.specs.Word.{IsFirstWord, words_of}
-use Rattle.abc_fields.specs.Key.{empty_signature, unchanged_signature, IsInRange, key_with, key_on, names_clef, without_line, sets_properties, begins_accidental, toneless_start, tonal_start, start_by_words, start_by, start_of, key_after, completed, spelled_key, key_in, key_of}
+use Rattle.abc_fields.specs.Clef.{mark_of, names_clef, without_line}
+use Rattle.abc_fields.specs.Key.{empty_signature, unchanged_signature, IsInRange, key_with, key_on, sets_properties, begins_accidental, toneless_start, tonal_start, start_by_words, start_by, start_of, key_after, completed, spelled_key, key_in, key_of}
 use Rattle.abc_fields.specs.Spelling.Key.{IsKeyOn, HasNoTonic, IsStart, IsCompleted, IsSpelled, IsKey}
 use Rattle.abc_fields.specs.Spelling.Key.IsStart.{tonal, listed, properties}
 use Rattle.abc_fields.specs.Spelling.Key.IsKey.{nothing, spelled}
@@ -30,9 +31,10 @@ use Rattle.abc_text.proofs.Fronts.{empty_list}
 use Rattle.abc_text.proofs.Words.{words_exact}
 use Rattle.abc_fields.proofs.Shifts.{shift_exact, shift_small}
 use Rattle.abc_fields.proofs.Tonics.{tonic_from, tonic_to, basis_from, basis_to}
-use Rattle.abc_fields.proofs.Clefs.{begins_from, begins_to, sets_from, sets_to}
+use Rattle.abc_fields.proofs.Starts.{begins_from, begins_to, sets_from, sets_to}
 use Rattle.abc_fields.proofs.Signatures.{natural_range, signature_of_range}
 use Rattle.abc_fields.proofs.Listings.{listed_from, listed_to, listed_range}
+use Rattle.abc_fields.proofs.Readings.{Reads, reads}
 
 -- the key on a tonic
 in_range : (sharps : ℤ) → int_lt sharps (negsuc 6) ≡ false → int_lt (pos 7) sharps ≡ false → IsSharps sharps
@@ -199,7 +201,7 @@ nothing_to value h = ⊎_elim
     h
 
 no_start : (value : List ℕ) → (value ≡ []) ⊎ (value ≡ codes "none") → start_of value ≡ None
-unfolding start_of letter_of words_of without_line names_clef
+unfolding start_of letter_of words_of mark_of without_line names_clef
 no_start value h = ⊎_elim (λ e. ap start_of e) (λ e. ap start_of e) h
 
 by_start : (value : List ℕ) (key : Key) (o : Option (Key × List ℕ)) → start_of value ≡ o → spelled_key o ≡ Some key → IsSpelled value key
@@ -243,19 +245,6 @@ key_in_to value key (spelled h) =
     ∙ ap (completed h.start) words
     ∙ done
 
--- a value is accepted, or refused by one fault
-read_from : (value : List ℕ) (key : Key) (o : Option Key) → key_in value ≡ o → ok_or o BadKey ≡ Ok key → IsKey value key
-read_from value key None k e = cc
-read_from value key (Some found) k e = let same : found ≡ key = cc in key_in_from value key (k ∙ ap Some same)
-
-refused_from : (value : List ℕ) (o : Option Key) → key_in value ≡ o → ok_or o BadKey ≡ Err BadKey → (key : Key) → IsKey value key → ⊥
-refused_from value None k e key is = let known : None ≡ Some key = sym k ∙ key_in_to value key is in cc
-refused_from value (Some found) k e key is = cc
-
-refused_to : (value : List ℕ) (o : Option Key) → key_in value ≡ o → ((key : Key) → IsKey value key → ⊥) → ok_or o BadKey ≡ Err BadKey
-refused_to value None k h = refl
-refused_to value (Some found) k h = absurd (h found (key_in_from value found k))
-
 -- a key is within its bounds
 no_sharps : IsSharps (pos 0)
 no_sharps = (omega (arith, ints), omega (arith, ints))
@@ -290,16 +279,6 @@ key_range value key (spelled h) =
       shift = shift_small h.words (Some key.shift) (sym ((shift_exact h.words key.shift).1 h.shift));
     }
 
-in_range_by : (value : List ℕ) (o : Option Key) → key_in value ≡ o → IfOk (ok_or o BadKey) IsInRange
-in_range_by value None k = tt
-in_range_by value (Some key) k = key_range value key (key_in_from value key k)
-
--- the laws of a reading
-pub key_exact : (value : List ℕ) (r : Result Key FaultCode) → r ≡ key_of value → (key : Key) → (r ≡ Ok key) ↔ IsKey value key
-key_exact value r e key = (λ h. read_from value key (key_in value) refl (sym e ∙ h), λ is. e ∙ ap (λ o. ok_or o BadKey) (key_in_to value key is))
-
-pub key_refused : (value : List ℕ) (r : Result Key FaultCode) → r ≡ key_of value → (r ≡ Err BadKey) ↔ ((key : Key) → IsKey value key → ⊥)
-key_refused value r e = (λ h. refused_from value (key_in value) refl (sym e ∙ h), λ h. e ∙ refused_to value (key_in value) refl h)
-
-pub key_in_range : (value : List ℕ) (r : Result Key FaultCode) → r ≡ key_of value → IfOk r IsInRange
-key_in_range value r e = subst (λ x. IfOk x IsInRange) (sym e) (in_range_by value (key_in value) refl)
+-- so the reader answers it
+pub key_read : (value : List ℕ) (r : Result Key FaultCode) → r ≡ key_of value → Reads (IsKey value) IsInRange BadKey r
+key_read value = reads (IsKey value) IsInRange BadKey (key_in value) (key_in_from value) (key_in_to value) (key_range value)

@@ -16,6 +16,7 @@ pub mod Properties
 pub mod Readings
 pub mod Shifts
 pub mod Signatures
+pub mod Starts
 pub mod SumTexts
 pub mod Sums
 pub mod Tempos

@@ -1,11 +1,11 @@
 -- A text is a meter exactly where it is read.
-use Rattle.std.proofs.Common.{◌≡◌, ℕ, ◌-◌, ◌≤◌, ◌<◌, ◌^◌, ◌&&◌, ◌||◌, ◌==◌, ◌↔◌, Bool, true, false, cond, List, [], ◌∷◌, ◌++◌, length, get_or, take, drop, sum, codes, bytes_eq, Option, Some, None, Result, Ok, Err, ok_or, refl, sym, ap, ◌∙◌, subst, inl, inr, ⊎_elim, arith, IfOk, suc}
+use Rattle.std.proofs.Common.{◌≡◌, ℕ, ◌-◌, ◌≤◌, ◌^◌, ◌&&◌, ◌||◌, ◌==◌, Bool, true, false, cond, List, [], ◌∷◌, ◌++◌, length, get_or, take, sum, codes, bytes_eq, Option, Some, None, Result, refl, sym, ap, ◌∙◌, subst, inl, inr, ⊎_elim, arith}
 use Rattle.std.specs.Prelude.{not}
 use Rattle.std.specs.Option.{option_and_then}
-use Rattle.std.proofs.Math.Seq.{take-append_seam, get_or-append_seam, drop-cons}
+use Rattle.std.proofs.Math.Seq.{take-append_seam, get_or-append_seam}
 use Rattle.std.proofs.lemmas.Bool.{eqb-true, and_parts, and_from, and_left, cases_Bool, not_from_false, cond-true, cond-false, or_cases, or_from, false_from_ne_true}
 use Rattle.std.proofs.lemmas.Bool.Decides.{nat_tests}
-use Rattle.std.proofs.lemmas.List.{drop_all, take-append-drop, length-append}
+use Rattle.std.proofs.lemmas.List.{length-append}
 use Rattle.std.proofs.lemmas.List.Elements.{All-nil, All-cons, All-head, All-same, All-append, All-weaker}
 use Rattle.std.proofs.lemmas.Slice.Eq.{bytes_eq-Decides}
 use Rattle.abc_fields.specs.declared.fault.FaultCode.{FaultCode}
@@ -15,23 +15,20 @@ use Rattle.abc_fields.specs.declared.meter.Meter.TheVariants.{Free, Of}
 use Rattle.abc_text.specs.Byte.{slash}
 use Rattle.abc_text.specs.Cut.{Without, cut_at}
 use Rattle.abc_text.specs.Number.{number_of}
-use Rattle.abc_text.specs.Power.{IsPowerUpTo, is_power_up_to}
-use Rattle.abc_fields.specs.Meter.{IsMeterInRange, has_plus, sum_of, closes_a_sum, above_of, power_up_to_64, meter_by, meter_of_parts, fraction_of, symbol_or_fraction, meter_of}
+use Rattle.abc_text.specs.Power.{IsPowerUpTo, power_up_to}
+use Rattle.abc_fields.specs.Meter.{IsMeterInRange, has_plus, sum_of, closes_a_sum, above_of, meter_by, meter_of_parts, fraction_of, symbol_or_fraction, meter_of}
 use Rattle.abc_fields.specs.Spelling.Meter.{IsSum, IsAbove, IsFraction, IsMeter}
 use Rattle.abc_text.proofs.Cuts.{cut_at-found, cut_at-cuts}
+use Rattle.abc_text.proofs.Fronts.{last_split}
 use Rattle.abc_text.proofs.Numbers.{number_of-spells, number_of-spelled}
-use Rattle.abc_text.proofs.Powers.{power_from, power_to, power_least, power_most}
-use Rattle.abc_fields.proofs.Readings.{bound, refused_from}
+use Rattle.abc_text.proofs.Powers.{power_least, power_most, power_up_to-from, power_up_to-to}
+use Rattle.abc_fields.proofs.Readings.{bound, Reads, reads}
 use Rattle.abc_fields.proofs.SumTexts.{sum_of-from, sum_of-to, has_plus-from, has_plus-to, IsSumByte, sum_bytes}
 
 -- a list ends with its last element
 last_is : (xs : List ℕ) (c : ℕ) → 1 ≤ c → get_or xs (length xs - 1) 0 ≡ c → xs ≡ take (length xs - 1) xs ++ c ∷ []
 last_is [] c some e = absurd (omega (arith, e))
-last_is (x ∷ xs) c some e =
-    let i = length (x ∷ xs) - 1 in
-    let inside : i < length (x ∷ xs) = omega arith in
-    let over : length (x ∷ xs) ≤ suc i = omega arith in
-    sym (take-append-drop i (x ∷ xs)) ∙ ap (λ l. take i (x ∷ xs) ++ l) (drop-cons (x ∷ xs) i 0 inside ∙ ap (λ b. b ∷ drop (suc i) (x ∷ xs)) e ∙ ap (λ l. c ∷ l) (drop_all (suc i) (x ∷ xs) over))
+last_is (x ∷ xs) c some e = last_split (x ∷ xs) (omega arith) ∙ ap (λ b. take (length (x ∷ xs) - 1) (x ∷ xs) ++ b ∷ []) e
 
 -- what stands above
 record IsRead (text : List ℕ) (n : ℕ) : Type 0 where
@@ -100,18 +97,6 @@ above_Without text n h = ⊎_elim
     All-same clean text (40 ∷ p.inner ++ 41 ∷ []) p.spelling (All-cons clean 40 (p.inner ++ 41 ∷ []) refl (All-append clean p.inner (41 ∷ []) (sum_Without p.inner h.numbers p.summed) (All-cons clean 41 [] refl (All-nil clean)))))
     h.spelling
 
--- what stands below
-low_at : (n d : ℕ) (t : Bool) → t ≡ is_power_up_to 6 n → cond t (Some n) None ≡ Some d → (n ≡ d) × IsPowerUpTo 6 d
-low_at n d true e h = let same : n ≡ d = cc in (same, subst (IsPowerUpTo 6) same (power_from 6 n (sym e)))
-low_at n d false e h = cc
-
-low_from : (o : Option ℕ) (d : ℕ) → power_up_to_64 o ≡ Some d → (o ≡ Some d) × IsPowerUpTo 6 d
-low_from None d h = cc
-low_from (Some n) d h = let k = low_at n d (is_power_up_to 6 n) refl h in (ap Some k.0, k.1)
-
-low_to : (o : Option ℕ) (d : ℕ) → o ≡ Some d → IsPowerUpTo 6 d → power_up_to_64 o ≡ Some d
-low_to o d e h = ap power_up_to_64 e ∙ cond-true _ _ _ (power_to 6 d h)
-
 -- a fraction
 record Parts (o p : Option ℕ) (m : Meter) : Type 0 where
   num : ℕ
@@ -141,9 +126,9 @@ unfolding fraction_of
 fraction_from text m e =
     let cut = bound meter_of_parts (cut_at slash text) m e in
     let is = cut_at-cuts slash text cut.0 cut.1 in
-    let p = parts (above_of cut.0.0) (power_up_to_64 (number_of cut.0.1)) m cut.2 in
+    let p = parts (above_of cut.0.0) (power_up_to 6 (number_of cut.0.1)) m cut.2 in
     let above = above_from cut.0.0 p.num p.num_is in
-    let below = low_from (number_of cut.0.1) p.den p.den_is in
+    let below = power_up_to-from 6 (number_of cut.0.1) p.den p.den_is in
     record {
       num = p.num;
       den = p.den;
@@ -160,7 +145,7 @@ fraction_from text m e =
       };
     }
 
-fraction_cut : (above below : List ℕ) → Without slash above → fraction_of (above ++ slash ∷ below) ≡ meter_by (above_of above) (power_up_to_64 (number_of below))
+fraction_cut : (above below : List ℕ) → Without slash above → fraction_of (above ++ slash ∷ below) ≡ meter_by (above_of above) (power_up_to 6 (number_of below))
 unfolding fraction_of
 fraction_cut above below clean = ap (option_and_then meter_of_parts) (cut_at-found slash above below clean)
 
@@ -168,8 +153,8 @@ fraction_to : (text : List ℕ) (num den : ℕ) → IsFraction text num den → 
 fraction_to text num den h =
     let some : 1 ≤ num = h.num_least in
     ap fraction_of h.spelling ∙ fraction_cut h.above h.below (above_Without h.above num h.num_is)
-    ∙ ap (λ o. meter_by o (power_up_to_64 (number_of h.below))) (above_to h.above num h.num_is h.num_most)
-    ∙ ap (meter_by (Some num)) (low_to (number_of h.below) den (number_of-spelled h.below den h.den_is) h.den_power)
+    ∙ ap (λ o. meter_by o (power_up_to 6 (number_of h.below))) (above_to h.above num h.num_is h.num_most)
+    ∙ ap (meter_by (Some num)) (power_up_to-to 6 (number_of h.below) den (number_of-spelled h.below den h.den_is) h.den_power)
     ∙ cond-false (num == 0) _ _ (grind (arith, nat_tests))
 
 -- the meter by what its tests say
@@ -238,28 +223,6 @@ meter_range text (Of num den) h = ⊎_elim
     (λ k. record { num_least = k.num_least; num_most = k.num_most; den_least = power_least 6 den k.den_power; den_most = power_most 6 den k.den_power; den_power = k.den_power })
     h
 
-pub record Laws (text : List ℕ) (r : Result Meter FaultCode) : Type 0 where
-  pub ok : (m : Meter) → (r ≡ Ok m) ↔ IsMeter text m
-  pub refused : (r ≡ Err BadMeter) ↔ ((m : Meter) → IsMeter text m → ⊥)
-  pub range : IfOk r IsMeterInRange
-
-ok_from : (o : Option Meter) (m : Meter) → ok_or o BadMeter ≡ Ok m → o ≡ Some m
-ok_from None m e = cc
-ok_from (Some n) m e = cc
-
-bad : (o : Option Meter) (e : FaultCode) → ok_or o BadMeter ≡ Err e → e ≡ BadMeter
-bad None e h = cc
-bad (Some n) e h = cc
-
-in_range : (r : Result Meter FaultCode) {P : Meter → Type 0} → ((m : Meter) → r ≡ Ok m → P m) → IfOk r P
-in_range (Ok m) h = h m refl
-in_range (Err e) h = tt
-
-pub laws : (text : List ℕ) (r : Result Meter FaultCode) → r ≡ meter_of text → Laws text r
-laws text r e =
-    let ok : (m : Meter) → (r ≡ Ok m) ↔ IsMeter text m = λ m. (λ k. read_from text m (ok_from (symbol_or_fraction text) m (sym e ∙ k)), λ h. e ∙ ap (λ o. ok_or o BadMeter) (read_to text m h)) in
-    record {
-      ok = ok;
-      refused = refused_from r BadMeter (IsMeter text) ok (λ f k. bad (symbol_or_fraction text) f (sym e ∙ k));
-      range = in_range r (λ m k. meter_range text m ((ok m).0 k));
-    }
+-- so the reader answers it
+pub meter_read : (text : List ℕ) (r : Result Meter FaultCode) → r ≡ meter_of text → Reads (IsMeter text) IsMeterInRange BadMeter r
+meter_read text = reads (IsMeter text) IsMeterInRange BadMeter (symbol_or_fraction text) (read_from text) (read_to text) (meter_range text)

@@ -1,22 +1,23 @@
 -- Laws of properties.
-use Rattle.std.proofs.Common.{◌≡◌, ℕ, ℤ, suc, ◌+◌, ◌-◌, ◌<◌, ◌≤◌, true, false, leb, eqb, List, [], ◌∷◌, ◌++◌, length, get_or, take, drop, Option, Some, None, refl, sym, ap, ◌∙◌, subst, inl, inr, ⊎_elim, arith, length-append, drop-cons}
-use Rattle.std.specs.Prelude.{◌⊎◌, ◌&&◌, pos, negsuc, neg_ℤ, codes, nat_eq}
-use Rattle.std.specs.List.{ends_with, slice_range}
-use Rattle.std.specs.Option.{option_map, option_map_or, unwrap_or}
+use Rattle.std.proofs.Common.{◌≡◌, ℕ, ℤ, suc, ◌+◌, ◌-◌, ◌≤◌, true, false, leb, eqb, List, [], ◌∷◌, ◌++◌, length, get_or, take, drop, Option, Some, None, refl, sym, ap, ◌∙◌, subst, inl, inr, ⊎_elim, arith, length-append}
+use Rattle.std.specs.Prelude.{◌⊎◌, ◌&&◌, pos, neg_ℤ}
+use Rattle.std.specs.List.{slice_range}
+use Rattle.std.specs.Option.{option_map, option_map_or}
 use Rattle.std.proofs.Math.Seq.{take-append_seam, drop-append_seam, get_or-append_seam}
 use Rattle.std.proofs.lemmas.Bool.{cond-true, cond-false, cases_Bool, le-leb, eqb-true, eq-eqb, ne_eqb, and_parts, and_from, true≢false, false_from_ne_true}
-use Rattle.std.proofs.lemmas.Bool.Decides.{Decides-eqb}
-use Rattle.std.proofs.lemmas.List.{take-append-drop, drop_all}
+use Rattle.std.proofs.lemmas.List.{take-append-drop}
 use Rattle.std.proofs.lemmas.List.Elements.{All-head}
-use Rattle.std.proofs.lemmas.List.Prefix.{end_rest}
-use Rattle.std.proofs.lemmas.Slice.Eq.{bytes_eq-Decides, ends_is}
+use Rattle.std.proofs.lemmas.Slice.Eq.{bytes_eq-Decides}
 use Rattle.std.specs.Char.{is_ascii_digit}
 use Rattle.abc_text.specs.Number.{IsNumber, number_of}
 use Rattle.abc_fields.specs.declared.property.Property.{Property}
 use Rattle.abc_fields.specs.declared.property.Property.TheVariants.{Clef, Octave, Transpose, Other}
-use Rattle.abc_fields.specs.Property.{clef_name, octave_name, transpose_name, is_quoted, unquoted, signed_number, mark_of, clef_of, begins_with, property_of}
-use Rattle.abc_fields.specs.Spelling.Property.{IsUnquoted, IsSignedNumber, EndsIn, HasMark, HasNoMark, IsClef, Gives, BeginsWith, HasNoName, IsProperty}
+use Rattle.abc_fields.specs.Property.{clef_name, octave_name, transpose_name, is_quoted, unquoted, signed_number, begins_with, property_of}
+use Rattle.abc_fields.specs.Spelling.Property.{IsUnquoted, IsSignedNumber, Gives, BeginsWith, HasNoName, IsProperty}
+use Rattle.abc_fields.specs.Clef.{mark_of, clef_of}
+use Rattle.abc_text.proofs.Fronts.{last_split}
 use Rattle.abc_text.proofs.Numbers.{number_of-spells, number_of-spelled}
+use Rattle.abc_fields.proofs.Clefs.{mark_read, mark_known, no_mark_read, no_mark_known, clef_by, clef_known}
 
 -- quotes
 quoted_of : (text value : List ℕ) → text ≡ 34 ∷ (value ++ 34 ∷ []) → (is_quoted text ≡ true) × (slice_range text 1 (length text - 1) ≡ value)
@@ -30,13 +31,6 @@ quoted_of text value e =
       (λ i. take (count i) (drop 1 (e i))) ∙ take-append_seam value (34 ∷ []),
     )
 
-one_left : (bs : List ℕ) → 0 < length bs → bs ≡ take (length bs - 1) bs ++ (get_or bs (length bs - 1) 0 ∷ [])
-one_left bs some =
-    let n = length bs - 1 in
-    let inside : n < length bs = omega arith in
-    let past : length bs ≤ suc n = omega arith in
-    sym (take-append-drop n bs) ∙ ap (λ l. take n bs ++ l) (drop-cons bs n 0 inside ∙ ap (λ l. get_or bs n 0 ∷ l) (drop_all (suc n) bs past))
-
 quoted_is : (text : List ℕ) → is_quoted text ≡ true → text ≡ 34 ∷ (slice_range text 1 (length text - 1) ++ 34 ∷ [])
 quoted_is [] test = cc
 quoted_is (b ∷ []) test = cc
@@ -48,7 +42,7 @@ quoted_is (b ∷ c ∷ cs) test =
     let count : length text - 1 - 1 ≡ length bs - 1 = omega arith in
     let last : length text - 1 ≡ suc (length bs - 1) = omega arith in
     let closes : get_or bs (length bs - 1) 0 ≡ 34 = ap (λ n. get_or text n 0) (sym last) ∙ eqb-true _ 34 both.1 in
-    (λ i. opens i ∷ one_left bs (omega arith) i) ∙ (λ i. 34 ∷ (take (sym count i) bs ++ closes i ∷ []))
+    (λ i. opens i ∷ last_split bs (omega arith) i) ∙ (λ i. 34 ∷ (take (sym count i) bs ++ closes i ∷ []))
 
 unquoted_is : (text : List ℕ) → IsUnquoted text (unquoted text)
 unfolding unquoted
@@ -129,60 +123,6 @@ signed_known text n is =
     (λ h. ap signed_number h.0 ∙ ap (option_map pos) known ∙ ap Some (sym h.1))
     (λ h. ap signed_number h.0 ∙ ap (option_map (λ k. neg_ℤ (pos k))) known ∙ ap Some (sym h.1)))
     is.sign
-
--- the mark of a clef
-pub ends_true : (text end : List ℕ) → ends_with nat_eq text end ≡ true → EndsIn text end
-ends_true text end e = (take (length text - length end) text, (ends_is Decides-eqb text end (ends_with nat_eq text end) refl).0 e)
-
-pub ends_from : (text end : List ℕ) → EndsIn text end → ends_with nat_eq text end ≡ true
-ends_from text end is = (ends_is Decides-eqb text end (ends_with nat_eq text end) refl).1 is.0 is.1
-
-one_end : (text : List ℕ) → EndsIn text (codes "-8") → EndsIn text (codes "+8") → ⊥
-one_end text low high =
-    let e : codes "-8" ≡ codes "+8" = sym (end_rest text (codes "-8") low.0 low.1) ∙ end_rest text (codes "+8") high.0 high.1 in
-    let first : 45 ≡ 43 = ap (λ l. get_or l 0 0) e in
-    omega (arith, first)
-
-mark_read : (text : List ℕ) (n : ℤ) → mark_of text ≡ Some n → HasMark text n
-unfolding mark_of
-mark_read text n e = ⊎_elim
-    (λ high. inl (ends_true text _ high, let same : Some (pos 12) ≡ Some n = sym (cond-true _ _ _ high) ∙ e in cc))
-    (λ no_high.
-    let rest = sym (cond-false _ _ _ no_high) ∙ e in
-    ⊎_elim
-    (λ low. inr (ends_true text _ low, let same : Some (negsuc 11) ≡ Some n = sym (cond-true _ _ _ low) ∙ rest in cc))
-    (λ no_low. let none : None ≡ Some n = sym (cond-false _ _ _ no_low) ∙ rest in cc)
-    (cases_Bool (ends_with nat_eq text (codes "-8"))))
-    (cases_Bool (ends_with nat_eq text (codes "+8")))
-
-mark_known : (text : List ℕ) (n : ℤ) → HasMark text n → mark_of text ≡ Some n
-unfolding mark_of
-mark_known text n has = ⊎_elim
-    (λ high. cond-true _ _ _ (ends_from text (codes "+8") high.0) ∙ ap Some (sym high.1))
-    (λ low.
-    let no_high : ends_with nat_eq text (codes "+8") ≡ false = false_from_ne_true _ (λ e. one_end text low.0 (ends_true text _ e)) in
-    cond-false _ _ _ no_high ∙ cond-true _ _ _ (ends_from text (codes "-8") low.0) ∙ ap Some (sym low.1))
-    has
-
-no_mark_read : (text : List ℕ) → mark_of text ≡ None → HasNoMark text
-no_mark_read text e n has = let some : None ≡ Some n = sym e ∙ mark_known text n has in cc
-
-no_mark_from : (text : List ℕ) (o : Option ℤ) → mark_of text ≡ o → HasNoMark text → o ≡ None
-no_mark_from text None e has = refl
-no_mark_from text (Some n) e has = absurd (has n (mark_read text n e))
-
-no_mark_known : (text : List ℕ) → HasNoMark text → mark_of text ≡ None
-no_mark_known text has = no_mark_from text (mark_of text) refl has
-
-clef_by : (text : List ℕ) (o : Option ℤ) → mark_of text ≡ o → IsClef text (unwrap_or o (pos 0))
-clef_by text None e = inr (no_mark_read text e, refl)
-clef_by text (Some n) e = inl (mark_read text n e)
-
-clef_known : (text : List ℕ) (n : ℤ) → IsClef text n → clef_of text ≡ n
-clef_known text n is = ⊎_elim
-    (λ has. ap (λ o. unwrap_or o (pos 0)) (mark_known text n has))
-    (λ none. ap (λ o. unwrap_or o (pos 0)) (no_mark_known text none.0) ∙ sym none.1)
-    is
 
 -- names
 begins_true : (name word : List ℕ) → begins_with name word ≡ true → word ≡ name ++ drop (length name) word

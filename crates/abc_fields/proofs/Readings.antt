@@ -1,15 +1,33 @@
 -- What a reader goes on with, and what it refuses.
-use Rattle.std.proofs.Common.{◌≡◌, Option, Some, None, Result, Ok, Err, refl, ap}
-use Rattle.std.specs.Prelude.{◌↔◌, option_and_then}
+use Rattle.std.proofs.Common.{◌≡◌, Option, Some, None, Result, Ok, Err, refl, sym, subst, IfOk}
+use Rattle.std.specs.Prelude.{◌↔◌, option_and_then, ok_or}
 use Rattle.abc_fields.specs.declared.fault.FaultCode.{FaultCode}
-
--- a result that is this fault or a value is the fault exactly where no value is read
-pub refused_from : {V : Type 0} (r : Result V FaultCode) (fault : FaultCode) (Reads : V → Type 0) → ((v : V) → (r ≡ Ok v) ↔ Reads v) → ((e : FaultCode) → r ≡ Err e → e ≡ fault)
-    → (r ≡ Err fault) ↔ ((v : V) → Reads v → ⊥)
-refused_from (Ok x) fault Reads reads same = (λ e. cc, λ no. absurd (no x ((reads x).0 refl)))
-refused_from (Err e) fault Reads reads same = (λ _. λ v h. let k = (reads v).1 h in cc, λ _. ap Err (same e refl))
 
 -- a step that goes on has a value
 pub bound : {A B : Type 0} (f : A → Option B) (o : Option A) (y : B) → option_and_then f o ≡ Some y → (x : A) × (o ≡ Some x) × (f x ≡ Some y)
 bound f None y e = cc
 bound f (Some x) y e = (x, refl, e)
+
+-- a reader answers a value where the grammar gives it, and its fault where it gives none
+pub record Reads {V : Type 0} (Says : V → Type 0) (InRange : V → Type 0) (fault : FaultCode) (r : Result V FaultCode) : Type 0 where
+  pub ok : (v : V) → (r ≡ Ok v) ↔ Says v
+  pub refused : (r ≡ Err fault) ↔ ((v : V) → ¬ Says v)
+  pub range : IfOk r InRange
+
+read_by : {V : Type 0} (Says InRange : V → Type 0) (fault : FaultCode) (o : Option V) → ((v : V) → o ≡ Some v → Says v) → ((v : V) → Says v → o ≡ Some v) → ((v : V) → Says v → InRange v)
+    → Reads Says InRange fault (ok_or o fault)
+read_by Says InRange fault None from to range = record {
+  ok = λ v. (λ e. cc, λ says. let some = to v says in cc);
+  refused = (λ e v says. let some = to v says in cc, λ no. refl);
+  range = tt;
+}
+read_by Says InRange fault (Some x) from to range = record {
+  ok = λ v. (λ e. let same : x ≡ v = cc in subst Says same (from x refl), λ says. let some = to v says in cc);
+  refused = (λ e. cc, λ no. absurd (no x (from x refl)));
+  range = range x (from x refl);
+}
+
+-- so it is where an option has a value exactly where the grammar gives it
+pub reads : {V : Type 0} (Says InRange : V → Type 0) (fault : FaultCode) (o : Option V) → ((v : V) → o ≡ Some v → Says v) → ((v : V) → Says v → o ≡ Some v) → ((v : V) → Says v → InRange v)
+    → (r : Result V FaultCode) → r ≡ ok_or o fault → Reads Says InRange fault r
+reads Says InRange fault o from to range r e = subst (Reads Says InRange fault) (sym e) (read_by Says InRange fault o from to range)

@@ -8,7 +8,8 @@ use Rattle.abc_fields.specs.declared.property.Property.{Property}
 use Rattle.abc_fields.specs.declared.property.Property.TheVariants.{Clef, Octave, Transpose, Other}
 use Rattle.abc_fields.specs.declared.shift.Shift.{Shift}
 use Rattle.abc_fields.specs.Property.{property_of}
-use Rattle.abc_fields.specs.Spelling.Property.{HasMark, IsClef, IsProperty, IsSignedNumber}
+use Rattle.abc_fields.specs.Spelling.Clef.{HasMark, IsClef}
+use Rattle.abc_fields.specs.Spelling.Property.{IsProperty, IsSignedNumber}
 use Rattle.abc_fields.specs.Shift.{IsWithin, IsSmallShift, with_property, shift_after, no_shift, shift_of}
 use Rattle.abc_fields.specs.Spelling.Shift.{clef_in, octave_in, transpose_in, last_said, IsShift}
 use Rattle.abc_text.proofs.Numbers.{number_small}

@@ -1,6 +1,6 @@
 -- Laws of tempo fields: what a value spells, and the reading of it, are one.
-use Rattle.std.proofs.Common.{◌≡◌, ℕ, zero, suc, ◌*◌, ◌<◌, ◌≤◌, ◌↔◌, Bool, true, List, [], ◌∷◌, ◌++◌, length, Option, Some, None, option_map, Result, Ok, Err, refl, sym, ap, ◌∙◌, subst, ◌⊎◌, inl, inr, arith, length-append, append_assoc}
-use Rattle.std.specs.Prelude.{◌==◌, not, option_and_then, ok_or, IfOk}
+use Rattle.std.proofs.Common.{◌≡◌, ℕ, zero, suc, ◌*◌, ◌<◌, ◌≤◌, Bool, true, List, [], ◌∷◌, ◌++◌, length, Option, Some, None, option_map, Result, refl, sym, ap, ◌∙◌, subst, ◌⊎◌, inl, inr, arith, length-append, append_assoc}
+use Rattle.std.specs.Prelude.{◌==◌, not, option_and_then}
 use Rattle.std.specs.List.{prefix_len, suffix_len, AllPass}
 use Rattle.std.proofs.lemmas.Bool.{cond-false, ne_eqb}
 use Rattle.std.proofs.lemmas.Bool.Decides.{nat_tests}
@@ -25,7 +25,7 @@ use Rattle.abc_text.proofs.Cuts.{cut_at-found, cut_at-none, cut_at-cuts}
 use Rattle.abc_text.proofs.Blanks.{back_other, trim_start-gap, trim_start-parts, trim_end-gap, trim_end-parts}
 use Rattle.abc_fields.proofs.LowestTerms.{IsHalved, lowest_is, IsLowest-halved, lowest-one}
 use Rattle.abc_fields.proofs.Fractions.{number_bytes, sum_bytes, digit_visible, digit_other, sum_begins, sum_of-Some, sum_of-is, IsWithin, sum_within}
-use Rattle.abc_fields.proofs.Readings.{bound}
+use Rattle.abc_fields.proofs.Readings.{bound, Reads, reads}
 
 -- numbers from 1
 pub record IsPositive (text : List ℕ) (n : ℕ) : Type 0 where
@@ -197,7 +197,7 @@ value_found text m (Some parts) cut e =
     let second = cut_at-cuts 34 parts.1 more found.1 in
     around_found text parts.0 more.0 more.1 m (first.spelling ∙ ap (λ l. parts.0 ++ 34 ∷ l) second.spelling) second.first found.2
 
-pub tempo_in-Some : (text : List ℕ) (m : Tempo) → tempo_in text ≡ Some m → IsTempo text m
+tempo_in-Some : (text : List ℕ) (m : Tempo) → tempo_in text ≡ Some m → IsTempo text m
 unfolding tempo_in
 tempo_in-Some [] m e = empty refl (sym (same_Some Unset m e))
 tempo_in-Some (b ∷ bs) m e = value_found (b ∷ bs) m (cut_at 34 (b ∷ bs)) refl e
@@ -256,7 +256,7 @@ before_is text m is =
     around_is text before q.inside [] m spelling no_quote q.no_quote
     (around_before before some ∙ ap bare_tempo (trim_end-gap is.tempo is.gap is.gap_is plain.ends) ∙ bare_tempo-is is.tempo m is.tempo_is)
 
-pub tempo_in-is : (text : List ℕ) (m : Tempo) → IsTempo text m → tempo_in text ≡ Some m
+tempo_in-is : (text : List ℕ) (m : Tempo) → IsTempo text m → tempo_in text ≡ Some m
 tempo_in-is text m (empty e f) = ap tempo_in e ∙ tempo_in-nothing ∙ ap Some (sym f)
 tempo_in-is text m (text_alone q f) = around_is text [] q.inside [] m q.spelling (All-nil _) q.no_quote (around_nothing ∙ ap Some (sym f))
 tempo_in-is text m (without_text is) =
@@ -279,31 +279,14 @@ bare_range text Unset is = tt
 bare_range text (Units n) is = (is.1, number_small text n is.0)
 bare_range text (Beat beat n) is = (beat_range is.sum beat (sum_within 16 is.front is.sum is.front_is) (lowest_is is.sum) (lowest-one is.sum beat is.value is.lowest_is), is.number_least, number_small is.number n is.number_is)
 
-pub range : (text : List ℕ) (m : Tempo) → IsTempo text m → IsInRange m
+range : (text : List ℕ) (m : Tempo) → IsTempo text m → IsInRange m
 range text m (empty e f) = subst IsInRange (sym f) tt
 range text m (text_alone q f) = subst IsInRange (sym f) tt
 range text m (without_text is) = bare_range text m is
 range text m (behind_text is) = bare_range is.tempo m is.tempo_is
 range text m (before_text is) = bare_range is.tempo m is.tempo_is
 
--- what the reader answers
-pub record Judges (text : List ℕ) (r : Result Tempo FaultCode) : Type 0 where
-  pub ok : (m : Tempo) → (r ≡ Ok m) ↔ IsTempo text m
-  pub refused : (r ≡ Err BadTempo) ↔ ((m : Tempo) → ¬ IsTempo text m)
-  pub range : IfOk r IsInRange
-
-judged : (text : List ℕ) (o : Option Tempo) → tempo_in text ≡ o → Judges text (ok_or o BadTempo)
-judged text None e = record {
-  ok = λ m. (λ f. cc, λ is. let some = tempo_in-is text m is in cc);
-  refused = (λ f m is. let some = tempo_in-is text m is in cc, λ no. refl);
-  range = tt;
-}
-judged text (Some m) e = record {
-  ok = λ k. (λ f. let same : m ≡ k = cc in subst (IsTempo text) same (tempo_in-Some text m e), λ is. let some = tempo_in-is text k is in cc);
-  refused = (λ f. cc, λ no. absurd (no m (tempo_in-Some text m e)));
-  range = range text m (tempo_in-Some text m e);
-}
-
-pub judges : (text : List ℕ) (r : Result Tempo FaultCode) → r ≡ tempo_of text → Judges text r
+-- so the reader answers it
+pub tempo_read : (text : List ℕ) (r : Result Tempo FaultCode) → r ≡ tempo_of text → Reads (IsTempo text) IsInRange BadTempo r
 unfolding tempo_of
-judges text r e = subst (Judges text) (sym e) (judged text (tempo_in text) refl)
+tempo_read text = reads (IsTempo text) IsInRange BadTempo (tempo_in text) (tempo_in-Some text) (tempo_in-is text) (range text)

@@ -1,18 +1,18 @@
 -- Laws of the field V:.
-use Rattle.std.proofs.Common.{◌≡◌, ℕ, ◌+◌, List, length, drop, Option, Some, None, Result, Ok, Err, refl, sym, ap, ◌∙◌, subst}
-use Rattle.std.specs.Prelude.{◌↔◌}
+use Rattle.std.proofs.Common.{◌≡◌, ℕ, ◌+◌, List, length, drop, Option, Some, None, Result, refl, sym, ap, ◌∙◌, subst}
 use Rattle.std.specs.List.{slice_range}
-use Rattle.std.specs.Option.{ok_or, option_and_then, option_map}
+use Rattle.std.specs.Option.{option_and_then, option_map}
 use Rattle.abc_fields.specs.declared.fault.FaultCode.{FaultCode}
 use Rattle.abc_fields.specs.declared.fault.FaultCode.TheVariants.{BadVoice}
 use Rattle.abc_fields.specs.declared.shift.Shift.{Shift}
 use Rattle.abc_fields.specs.declared.voice.Voice.{Voice}
 use Rattle.abc_text.specs.Word.{first_word, words_of}
-use Rattle.abc_fields.specs.Shift.{shift_of}
+use Rattle.abc_fields.specs.Shift.{IsSmallShift, shift_of}
 use Rattle.abc_fields.specs.Voice.{voice_at, voice_in, voice_of}
 use Rattle.abc_fields.specs.Spelling.Voice.{IsVoice}
-use Rattle.abc_fields.proofs.Shifts.{shift_exact}
+use Rattle.abc_fields.proofs.Shifts.{shift_exact, shift_small}
 use Rattle.abc_text.proofs.Words.{first_at, first_known}
+use Rattle.abc_fields.proofs.Readings.{Reads, reads}
 
 with_shift : (text : List ℕ) (from to : ℕ) (shift : Option Shift) (voice : Voice) → Some (from, to) ≡ first_word text → shift_of (words_of (drop to text)) ≡ shift
     → option_map (λ (s : Shift). record { from = from; to = to; shift = s }) shift ≡ Some voice → IsVoice text voice
@@ -34,13 +34,13 @@ at_place : (text : List ℕ) (o : Option (ℕ × ℕ)) (voice : Voice) → o ≡
 at_place text None voice place e = cc
 at_place text (Some w) voice place e = with_shift text w.0 w.1 (shift_of (words_of (drop w.1 text))) voice place refl e
 
-voice_read : (text : List ℕ) (voice : Voice) → voice_in text ≡ Some voice → IsVoice text voice
+voice_from : (text : List ℕ) (voice : Voice) → voice_in text ≡ Some voice → IsVoice text voice
 unfolding voice_in
-voice_read text voice e = at_place text (first_word text) voice refl e
+voice_from text voice e = at_place text (first_word text) voice refl e
 
-voice_known : (text : List ℕ) (voice : Voice) → IsVoice text voice → voice_in text ≡ Some voice
+voice_to : (text : List ℕ) (voice : Voice) → IsVoice text voice → voice_in text ≡ Some voice
 unfolding voice_in
-voice_known text voice is =
+voice_to text voice is =
     let known = first_known text is.identifier is.behind is.first in
     let from = length is.first.blanks in
     let to = from + length is.identifier in
@@ -48,29 +48,10 @@ voice_known text voice is =
     let to_is : to ≡ voice.to = sym (is.to ∙ ap (λ n. n + length is.identifier) is.from) in
     sym (ap (option_and_then (voice_at text)) known.known) ∙ ap (option_map (λ (s : Shift). record { from = from; to = to; shift = s })) shift ∙ (λ i. Some (record { from = sym is.from i; to = to_is i; shift = voice.shift }))
 
--- the reading and the grammar
-ok_parts : (o : Option Voice) (voice : Voice) → ok_or o BadVoice ≡ Ok voice → o ≡ Some voice
-ok_parts None voice e = cc
-ok_parts (Some v) voice e = cc
+small_shift : (text : List ℕ) (voice : Voice) → IsVoice text voice → IsSmallShift voice.shift
+small_shift text voice is = shift_small (words_of is.behind) (Some voice.shift) (sym ((shift_exact (words_of is.behind) voice.shift).1 is.shift))
 
-err_parts : (o : Option Voice) → ok_or o BadVoice ≡ Err BadVoice → o ≡ None
-err_parts None e = refl
-err_parts (Some v) e = cc
-
-pub voice_ok : (text : List ℕ) (read : Result Voice FaultCode) → read ≡ voice_of text → (voice : Voice) → (read ≡ Ok voice) ↔ IsVoice text voice
+-- so the reader answers it
+pub voice_read : (text : List ℕ) (r : Result Voice FaultCode) → r ≡ voice_of text → Reads (IsVoice text) (λ voice. IsSmallShift voice.shift) BadVoice r
 unfolding voice_of
-voice_ok text read e voice = (
-  λ ok. voice_read text voice (ok_parts (voice_in text) voice (sym e ∙ ok)),
-  λ is. e ∙ ap (λ o. ok_or o BadVoice) (voice_known text voice is),
-)
-
-none_in : (text : List ℕ) (o : Option Voice) → voice_in text ≡ o → ((voice : Voice) → ¬ IsVoice text voice) → o ≡ None
-none_in text None e none = refl
-none_in text (Some voice) e none = absurd (none voice (voice_read text voice e))
-
-pub voice_refused : (text : List ℕ) (read : Result Voice FaultCode) → read ≡ voice_of text → (read ≡ Err BadVoice) ↔ ((voice : Voice) → ¬ IsVoice text voice)
-unfolding voice_of
-voice_refused text read e = (
-  λ err voice is. (let some : None ≡ Some voice = sym (err_parts (voice_in text) (sym e ∙ err)) ∙ voice_known text voice is in cc),
-  λ none. e ∙ ap (λ o. ok_or o BadVoice) (none_in text (voice_in text) refl none),
-)
+voice_read text = reads (IsVoice text) (λ voice. IsSmallShift voice.shift) BadVoice (voice_in text) (voice_from text) (voice_to text) (small_shift text)

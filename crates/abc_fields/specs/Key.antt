@@ -1,7 +1,7 @@
 -- Keys. ABC 2.1 section 3.1.14.
-use Rattle.std.specs.Prelude.{ℕ, ◌+◌, IfSome, ◌-◌, ◌==◌, ◌&&◌, ◌||◌, nat_le, nat_eq, Bool, false, ℤ, pos, negsuc, ◌+ℤ◌, int_lt, if◌then◌else◌, List, [], ◌∷◌, length, take, slice_index, codes, Option, Some, None, Result, Ok, Err}
-use Rattle.std.specs.List.{list_any, ends_with}
-use Rattle.std.specs.Option.{option_map, ok_or}
+use Rattle.std.specs.Prelude.{ℕ, IfSome, ◌==◌, ◌||◌, Bool, false, ℤ, pos, negsuc, ◌+ℤ◌, int_lt, if◌then◌else◌, List, [], ◌∷◌, length, codes, Option, Some, None, Result, Ok, Err}
+use Rattle.std.specs.List.{list_any}
+use Rattle.std.specs.Option.{is_some, option_map, ok_or}
 use Rattle.std.specs.Str.{bytes_eq}
 use Rattle.abc_fields.specs.declared.fault.FaultCode.{FaultCode}
 use Rattle.abc_fields.specs.declared.fault.FaultCode.TheVariants.{BadKey}
@@ -9,13 +9,14 @@ use Rattle.abc_fields.specs.declared.key.Key.{Key}
 use Rattle.abc_fields.specs.declared.shift.Shift.{Shift}
 use Rattle.abc_fields.specs.declared.tonic.Basis.{Basis}
 use Rattle.abc_fields.specs.declared.tonic.Basis.TheVariants.{Named, Explicit}
+use Rattle.abc_fields.specs.Clef.{is_clef_name, mark_of}
 use Rattle.abc_fields.specs.Listed.{with_accidentals}
 use Rattle.abc_fields.specs.Mode.{added_sharps, is_minor}
 use Rattle.abc_fields.specs.Shift.{IsSmallShift, no_shift, shift_of}
 use Rattle.abc_fields.specs.Signature.{IsSharps, IsSignature, natural, signature_of}
 use Rattle.abc_fields.specs.Tonic.{tonic_at, basis_at}
 use Rattle.abc_text.specs.Word.{words_of}
-use Rattle.abc_text.specs.Byte.{digit_zero, equals_sign, caret, underscore}
+use Rattle.abc_text.specs.Byte.{equals_sign, caret, underscore}
 
 -- An empty signature: it has no sharps and flats.
 abbrev pub empty_signature : Key
@@ -43,30 +44,10 @@ abbrev pub key_on : ℤ → Basis → Option Key
 key_on major Explicit = Some empty_signature
 key_on major (Named mode) = key_with (major +ℤ added_sharps mode) (is_minor mode)
 
--- A word ends in `+8` or `-8`.
-abbrev pub ends_in_octave : List ℕ → Bool
-ends_in_octave word = ends_with nat_eq word (codes "+8") || ends_with nat_eq word (codes "-8")
-
--- A text is the name of a clef. ABC 2.1 section 4.6.
-unfoldable pub names_clef : List ℕ → Bool
-names_clef name =
-    bytes_eq name (codes "treble") || bytes_eq name (codes "bass") || bytes_eq name (codes "alto")
-    || bytes_eq name (codes "tenor") || bytes_eq name (codes "perc")
-
--- A word without the line of a clef, one digit 1 to 5 at its end.
-unfoldable pub without_line : List ℕ → List ℕ
-without_line word =
-    let front = length word - 1 in
-    if nat_le (digit_zero + 1) (slice_index word front) && nat_le (slice_index word front) (digit_zero + 5) then take front word else word
-
--- A word is the name of a clef, perhaps with the line that it stands on.
-abbrev pub is_clef_name : List ℕ → Bool
-is_clef_name word = names_clef (without_line word)
-
--- A word sets properties, where it stands first: it has a `=`, or ends in `+8` or `-8`, or is the
+-- A word sets properties, where it stands first: it has a `=`, or the mark of an octave, or is the
 -- name of a clef.
 abbrev pub sets_properties : List ℕ → Bool
-sets_properties word = list_any (λ b. b == equals_sign) word || ends_in_octave word || is_clef_name word
+sets_properties word = list_any (λ b. b == equals_sign) word || is_some (mark_of word) || is_clef_name word
 
 -- A word begins with `^`, `_` or `=`.
 abbrev pub begins_accidental : List ℕ → Bool

@@ -1,4 +1,5 @@
 pub mod Accidental
+pub mod Clef
 pub mod Fault
 pub mod Key
 pub mod Letters

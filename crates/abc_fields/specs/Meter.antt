@@ -9,7 +9,7 @@ use Rattle.abc_fields.specs.declared.meter.Meter.{Meter}
 use Rattle.abc_fields.specs.declared.meter.Meter.TheVariants.{Free, Of}
 use Rattle.abc_text.specs.Cut.{cut_at}
 use Rattle.abc_text.specs.Number.{number_of}
-use Rattle.abc_text.specs.Power.{IsPowerUpTo, is_power_up_to}
+use Rattle.abc_text.specs.Power.{IsPowerUpTo, power_up_to}
 use Rattle.abc_text.specs.Byte.{open_parenthesis, close_parenthesis, plus_sign, slash}
 
 -- A bar has 1 to 255 parts, of which a whole note has a power of two, up to 64.
@@ -62,20 +62,15 @@ abbrev pub above_of : List ℕ → Option ℕ
 above_of [] = sum_of []
 above_of (b ∷ rest) = if (b == open_parenthesis) && closes_a_sum rest then sum_of (take (length rest - 1) rest) else sum_of (b ∷ rest)
 
--- A number that is a power of two up to 64.
-abbrev pub power_up_to_64 : Option ℕ → Option ℕ
-power_up_to_64 None = None
-power_up_to_64 (Some n) = if is_power_up_to 6 n then Some n else None
-
 -- The meter of what stands above and below.
 abbrev pub meter_by : Option ℕ → Option ℕ → Option Meter
 meter_by None den = None
 meter_by (Some num) None = None
 meter_by (Some num) (Some den) = if num == 0 then None else Some (Of num den)
 
--- The meter of a text that is cut at a stroke.
+-- The meter of a text that is cut at a stroke: below it stands a power of two up to 64.
 abbrev pub meter_of_parts : List ℕ × List ℕ → Option Meter
-meter_of_parts parts = meter_by (above_of parts.0) (power_up_to_64 (number_of parts.1))
+meter_of_parts parts = meter_by (above_of parts.0) (power_up_to 6 (number_of parts.1))
 
 -- The meter that a fraction says.
 unfoldable pub fraction_of : List ℕ → Option Meter

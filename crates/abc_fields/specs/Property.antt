@@ -1,11 +1,11 @@
 -- The properties of the fields K: and V:. ABC 2.1 sections 4.6 and 7.1.
-use Rattle.std.specs.Prelude.{ℕ, ℤ, pos, negsuc, neg_ℤ, ◌-◌, ◌==◌, ◌&&◌, nat_eq, nat_le, Bool, Option, Some, None, List, [], ◌∷◌, length, take, drop, codes, slice_index, slice_range, if◌then◌else◌}
-use Rattle.std.specs.List.{ends_with}
-use Rattle.std.specs.Option.{option_map, option_map_or, unwrap_or}
+use Rattle.std.specs.Prelude.{ℕ, ℤ, pos, neg_ℤ, ◌-◌, ◌==◌, ◌&&◌, nat_le, Bool, Option, Some, None, List, [], ◌∷◌, length, take, drop, codes, slice_index, slice_range, if◌then◌else◌}
+use Rattle.std.specs.Option.{option_map, option_map_or}
 use Rattle.std.specs.Str.{bytes_eq}
 use Rattle.abc_text.specs.Number.{number_of}
 use Rattle.abc_fields.specs.declared.property.Property.{Property}
 use Rattle.abc_fields.specs.declared.property.Property.TheVariants.{Clef, Octave, Transpose, Other}
+use Rattle.abc_fields.specs.Clef.{clef_of, mark_of}
 use Rattle.abc_text.specs.Byte.{quote, plus_sign, minus_sign}
 
 -- The name of the clef.
@@ -35,17 +35,6 @@ signed_number (b ∷ bs) =
     if b == minus_sign then option_map (λ n. neg_ℤ (pos n)) (number_of bs)
     else (if b == plus_sign then option_map pos (number_of bs)
     else option_map pos (number_of (b ∷ bs)))
-
--- The octave that the mark of a clef shifts by.
-unfoldable pub mark_of : List ℕ → Option ℤ
-mark_of text =
-    if ends_with nat_eq text (codes "+8") then Some (pos 12)
-    else (if ends_with nat_eq text (codes "-8") then Some (negsuc 11)
-    else None)
-
--- The same, but 0 for a clef without a mark.
-abbrev pub clef_of : List ℕ → ℤ
-clef_of text = unwrap_or (mark_of text) (pos 0)
 
 -- A word begins with a name.
 abbrev pub begins_with : List ℕ → List ℕ → Bool

@@ -1,14 +1,14 @@
 -- The tempo of a field Q:. ABC 2.1 section 3.1.8.
-use Rattle.std.specs.Prelude.{◌≤◌, ℕ, zero, suc, ◌+◌, ◌*◌, ◌/◌, ◌%◌, ◌==◌, ◌&&◌, not, nat_le, if◌then◌else◌, List, [], ◌∷◌, take, drop, Option, Some, None, option_map, option_and_then, Result, ok_or}
-use Rattle.std.specs.List.{prefix_len}
+use Rattle.std.specs.Prelude.{◌≤◌, ℕ, zero, suc, ◌+◌, ◌*◌, ◌/◌, ◌%◌, ◌==◌, ◌&&◌, nat_le, if◌then◌else◌, List, [], ◌∷◌, take, drop, Option, Some, None, option_map, option_and_then, Result, ok_or}
 use Rattle.abc_time.specs.declared.ratio.Ratio.{Ratio}
 use Rattle.abc_time.specs.Ratio.{IsRatio}
 use Rattle.abc_fields.specs.declared.fault.FaultCode.{FaultCode}
 use Rattle.abc_fields.specs.declared.fault.FaultCode.TheVariants.{BadTempo}
 use Rattle.abc_fields.specs.declared.tempo.Tempo.{Tempo}
 use Rattle.abc_fields.specs.declared.tempo.Tempo.TheVariants.{Unset, Units, Beat}
-use Rattle.abc_text.specs.Blank.{is_blank, trim_start, trim_end}
+use Rattle.abc_text.specs.Blank.{trim_start, trim_end}
 use Rattle.abc_text.specs.Number.{number_of}
+use Rattle.abc_text.specs.Word.{before_blank}
 use Rattle.abc_text.specs.Cut.{cut_at}
 use Rattle.abc_text.specs.Byte.{quote, slash, equals_sign}
 use Rattle.abc_text.specs.Power.{is_power_up_to}
@@ -34,17 +34,13 @@ fraction_of word =
     (λ parts. option_and_then (λ above. option_and_then (part_of above) (number_of parts.1)) (number_of parts.0))
     (cut_at slash word)
 
--- How many bytes the first word of a text has.
-abbrev pub word_size : List ℕ → ℕ
-word_size text = prefix_len (λ b. not (is_blank b)) text
-
 -- The first word of a text.
 unfoldable pub first_word : List ℕ → List ℕ
-first_word text = take (word_size text) text
+first_word text = take (before_blank text) text
 
 -- What stands behind it and the blanks after it.
 unfoldable pub behind_word : List ℕ → List ℕ
-behind_word text = trim_start (drop (word_size text) text)
+behind_word text = trim_start (drop (before_blank text) text)
 
 -- A fraction added to the sum of the rest.
 abbrev pub added : ℕ → Option ℕ → Option ℕ

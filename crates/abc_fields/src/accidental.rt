@@ -9,7 +9,7 @@ ghost use Rattle.abc_fields.specs.Spelling.Accidental.{AreChanges};
 use abc_text::{Accidental, Letter, accidental_of, letter_of};
 
 /// What an accidental in front of a letter changes in a signature.
-#[derive(Clone, Copy, PartialEq, Eq)]
+#[derive(Clone, Copy)]
 pub(crate) struct Change {
     pub(crate) accidental: Accidental,
     pub(crate) letter: Letter,

@@ -5,9 +5,10 @@ ghost use Rattle.abc_fields.specs.declared.key.Key.{Key};
 ghost use Rattle.abc_text.specs.Word.{words_of};
 ghost use Rattle.abc_fields.specs.Mode.{added_sharps};
 ghost use Rattle.abc_fields.specs.Tonic.{IsMajor};
-ghost use Rattle.abc_fields.specs.Key.{completed, key_with, key_on, without_line, names_clef, ends_in_octave, is_clef_name, begins_accidental, sets_properties, toneless_start, start_of, key_in, key_of, key_or_empty, IsInRange};
+ghost use Rattle.abc_fields.specs.Key.{completed, key_with, key_on, begins_accidental, sets_properties, toneless_start, start_of, key_in, key_of, key_or_empty, IsInRange};
 ghost use Rattle.abc_fields.specs.Spelling.Key.{IsKey};
 
+use crate::clef::{is_clef_name, mark_of};
 use crate::fault::FaultCode;
 use crate::listed::with_accidentals;
 use crate::mode::Mode;
@@ -81,48 +82,11 @@ fn key_on(major: i8, basis: Basis) -> Option<Key>
     }
 }
 
-/// Whether a word ends in `+8` or `-8`.
-fn ends_in_octave(word: &[u8]) -> bool
-    ensures { result ≡ ends_in_octave word.now }
-{
-    word.ends_with(b"+8") || word.ends_with(b"-8")
-}
-
-/// A word without the line of a clef, one digit 1 to 5 at its end.
-#[tactic(auto, unfolding(crate::specs::Key::without_line))]
-fn without_line(word: &[u8]) -> &[u8]
-    ensures { result.now ≡ without_line word.now }
-{
-    match word {
-        [name @ .., b'1'..=b'5'] => name,
-        _ => word,
-    }
-}
-
-/// Whether a text is the name of a clef.
-#[tactic(auto, unfolding(crate::specs::Key::names_clef))]
-fn names_clef(name: &[u8]) -> bool
-    ensures { result ≡ names_clef name.now }
-{
-    name == b"treble".as_slice()
-        || name == b"bass".as_slice()
-        || name == b"alto".as_slice()
-        || name == b"tenor".as_slice()
-        || name == b"perc".as_slice()
-}
-
-/// Whether a word is the name of a clef, perhaps with the line that it stands on.
-fn is_clef_name(word: &[u8]) -> bool
-    ensures { result ≡ is_clef_name word.now }
-{
-    names_clef(without_line(word))
-}
-
 /// Whether a word sets properties, where it stands first.
 fn sets_properties(word: &[u8]) -> bool
     ensures { result ≡ sets_properties word.now }
 {
-    word.contains(&b'=') || ends_in_octave(word) || is_clef_name(word)
+    word.contains(&b'=') || mark_of(word).is_some() || is_clef_name(word)
 }
 
 /// Whether a word begins with an accidental.

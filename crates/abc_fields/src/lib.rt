@@ -3,12 +3,14 @@
 #![tactic(auto)]
 
 mod accidental;
+mod clef;
 mod fault;
 mod key;
 mod listed;
 mod meter;
 mod mode;
 mod parts;
+mod power;
 mod property;
 mod shift;
 mod signature;

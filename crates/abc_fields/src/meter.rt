@@ -1,12 +1,14 @@
 //! The meter, M:.
 
 ghost use Rattle.std.specs.Prelude.{◌≡◌, ◌↔◌, IfOk};
-ghost use Rattle.abc_fields.specs.Meter.{plus, sum_of, above_of, power_up_to_64, fraction_of, symbol_or_fraction, meter_of, IsMeterInRange};
+ghost use Rattle.abc_fields.specs.Meter.{plus, sum_of, above_of, fraction_of, symbol_or_fraction, meter_of, IsMeterInRange};
 ghost use Rattle.abc_fields.specs.Spelling.Meter.{IsMeter};
+ghost use Rattle.abc_text.specs.Power.{power_up_to};
 ghost use Rattle.abc_text.specs.Number.{number_of};
 
 use crate::fault::FaultCode;
-use abc_text::{cut_at, is_power_up_to, number_of};
+use crate::power::power_up_to;
+use abc_text::{cut_at, number_of};
 
 /// The meter of a tune (ABC 2.1 section 3.1.6).
 #[derive(Clone, Copy, Debug, PartialEq, Eq)]
@@ -50,14 +52,9 @@ fn above_of(text: &[u8]) -> Option<u8>
 
 /// What stands below the stroke: a power of two up to 64.
 fn below_of(text: &[u8]) -> Option<u8>
-    ensures { result ≡ power_up_to_64 (number_of text.now) }
+    ensures { result ≡ power_up_to 6 (number_of text.now) }
 {
-    let number = number_of(text)?;
-    if is_power_up_to(MOST_HALVINGS, number) {
-        Some(number as u8)
-    } else {
-        None
-    }
+    Some(power_up_to(MOST_HALVINGS, text)? as u8)
 }
 
 /// Reads a meter that is written as a fraction.

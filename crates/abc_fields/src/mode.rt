@@ -4,7 +4,7 @@ ghost use Rattle.std.specs.Prelude.{◌≡◌};
 ghost use Rattle.abc_fields.specs.Mode.{mode_named, mode_of, added_sharps, is_minor};
 
 /// A mode (ABC 2.1 section 3.1.14): major is Ionian, and minor is Aeolian.
-#[derive(Clone, Copy, PartialEq, Eq)]
+#[derive(Clone, Copy)]
 pub(crate) enum Mode {
     Lydian,
     Ionian,

@@ -1,14 +1,13 @@
 //! Properties, as `clef=bass octave=-1`, and clefs with a mark, as `treble-8`.
 
-ghost use Rattle.std.specs.Prelude.{◌≡◌, ◌↔◌, ◌≤ℤ◌, ℤ, pos, negsuc, Some, None, length, IfSome};
-ghost use Rattle.abc_fields.specs.Property.{clef_of, mark_of, property_of, signed_number, unquoted};
-ghost use Rattle.abc_fields.specs.Spelling.Property.{IsProperty};
-ghost use Rattle.abc_fields.specs.declared.property.Property.{Property};
+ghost use Rattle.std.specs.Prelude.{◌≡◌};
+ghost use Rattle.abc_fields.specs.Property.{property_of, signed_number, unquoted};
 
+use crate::clef::{clef_of, mark_of};
 use abc_text::number_of;
 
 /// What a word of a field says.
-#[derive(Clone, Copy, PartialEq, Eq)]
+#[derive(Clone, Copy)]
 pub(crate) enum Property {
     /// An octave up or down in semitones, or 0.
     Clef(i64),
@@ -41,27 +40,6 @@ fn signed_number(text: &[u8]) -> Option<i64>
         [b'+', digits @ ..] => number_of(digits).map(i64::from),
         digits => number_of(digits).map(i64::from),
     }
-}
-
-/// The octave, in semitones, that the mark at the end of a clef shifts by (ABC 2.1 section 4.6).
-#[tactic(auto, unfolding(crate::specs::Property::mark_of))]
-fn mark_of(text: &[u8]) -> Option<i64>
-    ensures { result ≡ mark_of text.now }
-{
-    if text.ends_with(b"+8") {
-        Some(12)
-    } else if text.ends_with(b"-8") {
-        Some(-12)
-    } else {
-        None
-    }
-}
-
-/// The same, but 0 for a clef without a mark.
-fn clef_of(text: &[u8]) -> i64
-    ensures { result ≡ clef_of text.now }
-{
-    mark_of(text).unwrap_or(0)
 }
 
 /// What a word says, or none where its number is refused.

@@ -3,11 +3,11 @@
 ghost use Rattle.std.specs.Prelude.{◌≡◌, ◌≤◌, ◌↔◌, ◌*◌, ok_or, IfOk, IfSome, length};
 ghost use Rattle.abc_text.specs.declared.digit.TheConstants.{LARGEST_NUMBER};
 ghost use Rattle.abc_time.specs.Ratio.{IsRatio};
-ghost use Rattle.abc_fields.specs.Tempo.{positive_of, part_of, fraction_of, sum_of, lowest, word_size, first_word, behind_word, bare_tempo, tempo_around, tempo_in, tempo_of, IsInRange};
+ghost use Rattle.abc_fields.specs.Tempo.{positive_of, part_of, fraction_of, sum_of, lowest, first_word, behind_word, bare_tempo, tempo_around, tempo_in, tempo_of, IsInRange};
 ghost use Rattle.abc_fields.specs.Spelling.Tempo.{IsTempo};
 
 use crate::fault::FaultCode;
-use abc_text::{cut_at, is_blank, is_power_up_to, number_of, trim_end, trim_start};
+use abc_text::{before_blank, cut_at, is_power_up_to, number_of, trim_end, trim_start};
 use abc_time::Ratio;
 
 /// What a tempo field says (ABC 2.1 section 3.1.8).
@@ -62,21 +62,13 @@ fn fraction_of(word: &[u8]) -> Option<u32>
     part_of(number_of(above)?, number_of(below)?)
 }
 
-/// How many bytes the first word of a text has.
-fn word_size(text: &[u8]) -> usize
-    ensures value { result ≡ word_size text.now }
-    ensures inside { result ≤ length text.now }
-{
-    text.iter().take_while(|byte| !is_blank(**byte)).count()
-}
-
 /// The first word of a text, and what stands behind it and the blanks after it.
 #[tactic(auto, unfolding(crate::specs::Tempo::first_word, crate::specs::Tempo::behind_word))]
 fn split_word(text: &[u8]) -> (&[u8], &[u8])
     ensures word { result.0.now ≡ first_word text.now }
     ensures behind { result.1.now ≡ behind_word text.now }
 {
-    let size = word_size(text);
+    let size = before_blank(text);
     (&text[..size], trim_start(&text[size..]))
 }
 

@@ -10,7 +10,7 @@ use crate::signature::fifths;
 use abc_text::{Letter, leading_blanks, letter_of};
 
 /// What a signature is made from.
-#[derive(Clone, Copy, PartialEq, Eq)]
+#[derive(Clone, Copy)]
 pub(crate) enum Basis {
     /// The tonic and this mode.
     Named(Mode),

@@ -6,7 +6,7 @@ ghost use Rattle.abc_fields.specs.Unit.{part_of, unit_of};
 ghost use Rattle.abc_fields.specs.Spelling.Unit.{IsUnit};
 
 use crate::fault::FaultCode;
-use abc_text::{is_power_up_to, number_of};
+use crate::power::power_up_to;
 use abc_time::Ratio;
 
 /// How often a whole note may be halved: the finest unit is a 512th.
@@ -18,10 +18,7 @@ fn part_of(value: &[u8]) -> Option<u32>
 {
     match value {
         [b'1'] => Some(1),
-        [b'1', b'/', below @ ..] => number_of(below).filter(|number| is_power_up_to(
-            MOST_HALVINGS,
-            *number,
-        )),
+        [b'1', b'/', below @ ..] => power_up_to(MOST_HALVINGS, below),
         _ => None,
     }
 }

@@ -1,5 +1,5 @@
 -- How a key is written: the value of a field K:. ABC 2.1 section 3.1.14.
-use Rattle.std.specs.Prelude.{ℕ, ◌+◌, ◌≤◌, ◌⊎◌, ◌++◌, ◌≡◌, ℤ, ◌+ℤ◌, List, [], ◌∷◌, codes, Option, Some, None}
+use Rattle.std.specs.Prelude.{ℕ, ◌⊎◌, ◌≡◌, ℤ, ◌+ℤ◌, List, [], ◌∷◌, codes, Option, Some, None}
 use Rattle.std.specs.List.{Contains}
 use Rattle.abc_fields.specs.declared.key.Key.{Key}
 use Rattle.abc_fields.specs.declared.signature.Signature.{Signature}
@@ -7,14 +7,14 @@ use Rattle.abc_fields.specs.declared.tonic.Basis.{Basis}
 use Rattle.abc_fields.specs.declared.tonic.Basis.TheVariants.{Named, Explicit}
 use Rattle.abc_fields.specs.Spelling.Listed.{AreListed}
 use Rattle.abc_fields.specs.Mode.{added_sharps, is_minor}
-use Rattle.abc_fields.specs.Spelling.Property.{EndsIn}
+use Rattle.abc_fields.specs.Spelling.Clef.{HasMark, IsClefName}
 use Rattle.abc_fields.specs.Shift.{no_shift}
 use Rattle.abc_fields.specs.Spelling.Shift.{IsShift}
 use Rattle.abc_fields.specs.Signature.{IsSharps, signature_of}
 use Rattle.abc_fields.specs.Spelling.Tonic.{IsTonic, IsBasis}
 use Rattle.abc_text.specs.Word.{AreWords, IsFirstWord}
 use Rattle.abc_fields.specs.Key.{empty_signature, unchanged_signature}
-use Rattle.abc_text.specs.Byte.{digit_zero, equals_sign, caret, underscore}
+use Rattle.abc_text.specs.Byte.{equals_sign, caret, underscore}
 
 -- The key of a basis on the tonic whose major key has these sharps. That tonic and mode have at most
 -- seven sharps or flats together is our own.
@@ -32,30 +32,10 @@ HasNoTonic value = (sharps : ℤ) (rest : List ℕ) → ¬ IsTonic value sharps 
 abbrev pub BeginsAccidental : List ℕ → Type 0
 BeginsAccidental word = (b : ℕ) × (rest : List ℕ) × (word ≡ b ∷ rest) × ((b ≡ caret) ⊎ ((b ≡ underscore) ⊎ (b ≡ equals_sign)))
 
--- A word ends in `+8` or `-8`.
-abbrev pub EndsInOctave : List ℕ → Type 0
-EndsInOctave word = EndsIn word (codes "+8") ⊎ EndsIn word (codes "-8")
-
--- The names of clefs. ABC 2.1 section 4.6.
-abbrev pub clef_names : List (List ℕ)
-clef_names = codes "treble" ∷ codes "bass" ∷ codes "alto" ∷ codes "tenor" ∷ codes "perc" ∷ []
-
--- The line of a clef: nothing, or one digit 1 to 5.
-abbrev pub IsClefLine : List ℕ → Type 0
-IsClefLine line = (line ≡ []) ⊎ ((digit : ℕ) × (digit_zero + 1 ≤ digit) × (digit ≤ digit_zero + 5) × (line ≡ digit ∷ []))
-
--- A word is the name of a clef, perhaps with the line that it stands on.
-pub record IsClefName (word : List ℕ) : Type 0 where
-  pub name : List ℕ
-  pub line : List ℕ
-  pub spelling : word ≡ name ++ line
-  pub is_name : Contains clef_names name
-  pub is_line : IsClefLine line
-
--- A word sets properties, where it stands first: it has a `=`, or ends in `+8` or `-8`, or is the
+-- A word sets properties, where it stands first: it has a `=`, or the mark of an octave, or is the
 -- name of a clef. Our own.
 abbrev pub SetsProperties : List ℕ → Type 0
-SetsProperties word = Contains word equals_sign ⊎ (EndsInOctave word ⊎ IsClefName word)
+SetsProperties word = Contains word equals_sign ⊎ (((n : ℤ) × HasMark word n) ⊎ IsClefName word)
 
 -- What a value begins with, and the text whose words complete it: a tonic and what it is the basis of;
 -- without a tonic, an empty signature where accidentals are listed, and none where properties stand

@@ -1,9 +1,10 @@
 -- How properties are written in the fields K: and V:. ABC 2.1 sections 4.6 and 7.1.
-use Rattle.std.specs.Prelude.{◌≡◌, ◌≢◌, ℕ, ℤ, pos, negsuc, neg_ℤ, ◌⊎◌, List, [], ◌∷◌, ◌++◌, codes}
+use Rattle.std.specs.Prelude.{◌≡◌, ◌≢◌, ℕ, ℤ, pos, neg_ℤ, ◌⊎◌, List, [], ◌∷◌, ◌++◌}
 use Rattle.abc_text.specs.Number.{IsNumber}
 use Rattle.abc_fields.specs.declared.property.Property.{Property}
 use Rattle.abc_fields.specs.declared.property.Property.TheVariants.{Clef, Octave, Transpose, Other}
 use Rattle.abc_fields.specs.Property.{clef_name, octave_name, transpose_name}
+use Rattle.abc_fields.specs.Spelling.Clef.{HasMark, HasNoMark, IsClef}
 use Rattle.abc_text.specs.Byte.{quote, plus_sign, minus_sign}
 
 -- A text between two quotes is what stands between them, every other text is itself. Our own.
@@ -16,22 +17,6 @@ pub record IsSignedNumber (text : List ℕ) (n : ℤ) : Type 0 where
   pub size : ℕ
   pub number : IsNumber digits size
   pub sign : ((text ≡ digits) × (n ≡ pos size)) ⊎ (((text ≡ plus_sign ∷ digits) × (n ≡ pos size)) ⊎ ((text ≡ minus_sign ∷ digits) × (n ≡ neg_ℤ (pos size))))
-
--- A text ends in another.
-abbrev pub EndsIn : List ℕ → List ℕ → Type 0
-EndsIn text end = (front : List ℕ) × (text ≡ front ++ end)
-
--- The mark of a clef: `+8` raises what is written by an octave, `-8` lowers it. ABC 2.1 section 4.6.
-abbrev pub HasMark : List ℕ → ℤ → Type 0
-HasMark text n = (EndsIn text (codes "+8") × (n ≡ pos 12)) ⊎ (EndsIn text (codes "-8") × (n ≡ negsuc 11))
-
--- A text without such a mark.
-abbrev pub HasNoMark : List ℕ → Type 0
-HasNoMark text = (n : ℤ) → ¬ HasMark text n
-
--- The value of a clef: its mark, or 0 where it has none. ABC 2.1 section 4.6.
-abbrev pub IsClef : List ℕ → ℤ → Type 0
-IsClef text n = HasMark text n ⊎ (HasNoMark text × (n ≡ pos 0))
 
 -- A word gives a value to the property of this name.
 pub record Gives (name word value : List ℕ) : Type 0 where

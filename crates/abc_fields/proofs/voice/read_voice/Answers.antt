@@ -2,7 +2,7 @@ use Rattle.std.proofs.Common.{ap, ◌∙◌}
 use Rattle.std.specs.Option.{ok_or}
 use Rattle.abc_fields.specs.declared.fault.FaultCode.TheVariants.{BadVoice}
 use Rattle.abc_fields.specs.Voice.{voice_of}
-use Rattle.abc_fields.proofs.Voices.{voice_ok, voice_refused}
+use Rattle.abc_fields.proofs.Voices.{voice_read}
 use Rattle.abc_fields.proofs.voice.read_voice.Goals as goal
 
 pub returns-clause-value : goal.returns-clause-value
@@ -10,7 +10,7 @@ unfolding voice_of
 returns-clause-value c = c.ok_or.ensures.value ∙ ap (λ o. ok_or o BadVoice) c.voice_in.ensures.value
 
 pub returns-clause-ok : goal.returns-clause-ok
-returns-clause-ok c = voice_ok c.args.value.now c.ok_or.result (returns-clause-value c)
+returns-clause-ok c = (voice_read c.args.value.now c.ok_or.result (returns-clause-value c)).ok
 
 pub returns-clause-refused : goal.returns-clause-refused
-returns-clause-refused c = voice_refused c.args.value.now c.ok_or.result (returns-clause-value c)
+returns-clause-refused c = (voice_read c.args.value.now c.ok_or.result (returns-clause-value c)).refused
