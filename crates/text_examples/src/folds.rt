@@ -50,8 +50,8 @@ impl Fold for Adding {
     }
 }
 
-// Two steps of any fold, one behind the other: what its definition gives, and two steps counted. Where memory is
-// refused, no more than two.
+/// Two steps of any fold, one behind the other: what its definition gives, and two steps counted. Where memory is
+/// refused, no more than two.
 #[tactic(auto, using(abc_fold::proofs::Raised::raising))]
 pub fn two_steps<F: Fold>(
     fold: &F,
