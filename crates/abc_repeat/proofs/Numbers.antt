@@ -1,5 +1,5 @@
 -- Numbers that stay at a greatest value.
-use Rattle.std.proofs.Common.{◌≡◌, ℕ, zero, suc, ◌*◌, ◌≤◌, min, ap, ◌∙◌, ⊎_elim, arith}
+use Rattle.std.proofs.Common.{◌≡◌, ℕ, zero, suc, ◌+◌, ◌*◌, ◌≤◌, min, ap, ◌∙◌, ⊎_elim, arith}
 use Rattle.std.proofs.lemmas.Bool.{cases_lt}
 use Rattle.std.proofs.lemmas.Nat.{mul-le}
 
@@ -14,3 +14,7 @@ min-product p (suc k) top = ⊎_elim
     let n : top * suc k ≤ p * suc k = mul-le top (suc k) p (suc k) more (omega arith) in
     ap (λ q. min (q * suc k) top) e ∙ omega arith)
     (cases_lt p top)
+
+-- a sum of numbers that stay there
+pub sizes_join : (a b x y z top : ℕ) → a ≡ min x top → b ≡ min y top → z ≡ x + y → min (a + b) top ≡ min z top
+sizes_join a b x y z top e f g = omega arith

@@ -10,15 +10,12 @@ use Rattle.abc_fields.specs.Letters.{Played, count_or_once, letters_so_far, clos
 use Rattle.abc_fields.proofs.Fronts.{reads_letter, reads_open, reads_close, reads_digit, reads_silent}
 use Rattle.abc_repeat.specs.declared.order_size.Size.{Size}
 use Rattle.abc_repeat.specs.OrderSize.{size_of, sizes_of, IsSizeOf}
-use Rattle.abc_repeat.proofs.Numbers.{min-product}
+use Rattle.abc_repeat.proofs.Numbers.{min-product, sizes_join}
 use Rattle.abc_repeat.proofs.OrderLists.{filter_map-copies, length-copies, popped, popped_none}
 
 pub times_of : (count : Option ℕ) → unwrap_or count 1 ≡ count_or_once count
 times_of None = refl
 times_of (Some n) = refl
-
-sizes_join : (a b x y z top : ℕ) → a ≡ min x top → b ≡ min y top → z ≡ x + y → min (a + b) top ≡ min z top
-sizes_join a b x y z top e f g = omega arith
 
 -- what the innermost group plays
 pub so_far_size : (section : ℕ → Option ℕ) (before item : List ℕ) (n b i product top : ℕ) → b ≡ min (length (filter_map section before)) top → i ≡ min (length (filter_map section item)) top

@@ -6,7 +6,7 @@ use Rattle.abc_repeat.specs.Mark.{is_play}
 use Rattle.abc_repeat.specs.Strain.{strain_of, first_text, opens_behind, strains_from}
 use Rattle.abc_repeat.specs.Play.{first_ending, run_start, most_passes, endings_size, strain_play, plays_from}
 use Rattle.abc_repeat.proofs.Cuts.{text_back}
-use Rattle.abc_repeat.proofs.Numbers.{min-product}
+use Rattle.abc_repeat.proofs.Numbers.{min-product, sizes_join}
 use Rattle.abc_repeat.proofs.Passes.{length-strain_play, endings_size-late}
 use Rattle.abc_repeat.proofs.Places.{length-places}
 use Rattle.abc_repeat.proofs.Rests.{rest_of, rest_more}
@@ -53,9 +53,6 @@ strain_total text common p c product endings total top wide passes is counted mu
     multiplied ∙ ap (λ q. min (q * c) top) passes ∙ min-product (most_passes text) c top ∙ ap (λ k. min (most_passes text * k) top) count in
     let ends : endings ≡ min (endings_size (strain_of text) (most_passes text)) top = ended ∙ ap (λ k. min k top) last in
     added ∙ sizes_join product endings (most_passes text * count_by is_play (strain_of text).common) (endings_size (strain_of text) (most_passes text)) (length (strain_play 0 (strain_of text))) top times ends whole
-  where
-    sizes_join : (a b x y z top : ℕ) → a ≡ min x top → b ≡ min y top → z ≡ x + y → min (a + b) top ≡ min z top
-    sizes_join a b x y z top e f g = omega arith
 
 length-play_at : (at : ℕ) (text : List Mark) → length (strain_play at (strain_of text)) ≡ length (strain_play 0 (strain_of text))
 length-play_at at text = length-play at text ∙ sym (length-play 0 text)

@@ -16,6 +16,5 @@ mod strain;
 pub use fault::{OrderFault, RepeatFault};
 pub use mark::Mark;
 pub use order::{MOST_SECTIONS, Played, order_limits, play_order};
-pub use play::{MOST_PLACES, expand, play_limits};
-pub use size::play_size;
+pub use play::{MOST_PLACES, expand, expand_within, play_limits};
 pub use strain::one_reading;

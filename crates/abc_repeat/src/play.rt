@@ -1,6 +1,6 @@
 //! The play of a section.
 
-ghost use Rattle.std.specs.Prelude.{◌≡◌, ◌+◌, ◌^◌, ◌<◌, ◌↔◌, All, IfOk, OnOk, ◌++◌, length};
+ghost use Rattle.std.specs.Prelude.{◌≡◌, ◌+◌, ◌^◌, ◌<◌, ◌↔◌, min, All, IfOk, OnOk, ◌++◌, length};
 ghost use Rattle.abc_repeat.specs.Play.{places_from, ending_of, rounds_of, strain_play, play_of, IsPlayed};
 ghost use Rattle.abc_repeat.specs.Strain.{strain_of};
 
@@ -98,20 +98,29 @@ fn put_play(alloc: Global, play: &mut Vec<usize>, marks: &[Mark]) -> Result<(), 
     Ok(())
 }
 
-/// The places of what is played, in order of play (ABC 2.1 sections 4.8 to 4.10). Fields that are played
-/// with an ending are to stand behind its sign.
+/// The places of what is played, in order of play (ABC 2.1 sections 4.8 to 4.10), where there is room for so many.
+/// Fields that are played with an ending are to stand behind its sign.
 ///
 /// Takes time for the marks and for the places that are played, and for nothing else.
-pub fn expand(alloc: Global, marks: &[Mark]) -> Result<Vec<usize>, RepeatFault>
+pub fn expand_within(alloc: Global, marks: &[Mark], room: u64) -> Result<Vec<usize>, RepeatFault>
     ensures value { IfOk result (λ places. places.items ≡ play_of marks.now) }
     ensures played { IfOk result (λ places. All (IsPlayed marks.now) places.items) }
-    ensures too_long { (result ≡ Err RepeatFault.TooLong) ↔ (MOST_PLACES < length (play_of marks.now)) }
+    ensures too_long { (result ≡ Err RepeatFault.TooLong) ↔ (min room MOST_PLACES < length (play_of marks.now)) }
 {
     let size = play_size(marks);
-    if size > MOST_PLACES {
+    if size > room.min(MOST_PLACES) {
         return Err(RepeatFault::TooLong);
     }
     let mut play = Vec::with_capacity(alloc, size as usize)?;
     put_play(alloc, &mut play, marks)?;
     Ok(play)
+}
+
+/// The places of what is played, of `MOST_PLACES` at most.
+pub fn expand(alloc: Global, marks: &[Mark]) -> Result<Vec<usize>, RepeatFault>
+    ensures value { IfOk result (λ places. places.items ≡ play_of marks.now) }
+    ensures played { IfOk result (λ places. All (IsPlayed marks.now) places.items) }
+    ensures too_long { (result ≡ Err RepeatFault.TooLong) ↔ (MOST_PLACES < length (play_of marks.now)) }
+{
+    expand_within(alloc, marks, MOST_PLACES)
 }

@@ -32,7 +32,7 @@ fn strain_size(text: &[Mark]) -> u64
 }
 
 /// How many places the play of a section has, and 2^64 - 1 for more.
-pub fn play_size(marks: &[Mark]) -> u64
+pub(crate) fn play_size(marks: &[Mark]) -> u64
     ensures { result ≡ min (length (play_of marks.now)) (2 ^ 64 - 1) }
 {
     let mut size: u64 = 0;

@@ -1,13 +1,11 @@
 //! The score of stages that are played one after another.
 
-ghost use Rattle.std.specs.Prelude.{◌≡◌, ◌≢◌, ◌<◌, ◌≤◌, ◌-◌, pos, false, All, IfOk, None};
+ghost use Rattle.std.specs.Prelude.{◌≡◌, ◌≢◌, ◌<◌, ◌≤◌, ◌-◌, All, IfOk};
 ghost use Rattle.std.specs.List.{flat_map};
-ghost use Rattle.abc_fields.specs.declared.meter.Meter.TheVariants.{Free};
 ghost use Rattle.abc_time.specs.Grains.{grains_of_the_latest_end};
 ghost use Rattle.abc_voices.specs.declared.stage.StageFault.TheVariants.{TooMany, TooLate};
 ghost use Rattle.abc_voices.specs.Along.{IsStage, at_places, length_along, voices_along, changes_along, end_along, score_along};
-ghost use Rattle.abc_voices.specs.Arrange.{last_off, or_else, usual_tempo};
-ghost use Rattle.abc_voices.specs.Opening.{tempo_past, meter_past, key_past, past_all};
+ghost use Rattle.abc_voices.specs.Arrange.{last_off};
 
 use crate::change::{Keys, Meters};
 use crate::conduct::conductor;
@@ -26,36 +24,6 @@ use std::alloc::{AllocError, Global};
 /// The microseconds of a quarter note where no tempo is set: 120 quarters a minute.
 const USUAL_TEMPO: u32 = 500_000;
 
-/// The tempo at the start of a tune.
-fn tempo_at_start(tune: &[&Item]) -> u32
-    ensures { result ≡ or_else usual_tempo (past_all (λ step. step.now) tempo_past None tune.now) }
-{
-    match opening_tempo(tune) {
-        Some(micros) => micros,
-        None => USUAL_TEMPO,
-    }
-}
-
-/// The meter at the start of a tune.
-fn meter_at_start(tune: &[&Item]) -> Meter
-    ensures { result ≡ or_else Free (past_all (λ step. step.now) meter_past None tune.now) }
-{
-    match opening_meter(tune) {
-        Some(meter) => meter,
-        None => Meter::Free,
-    }
-}
-
-/// The key at the start of a tune.
-fn key_at_start(tune: &[&Item]) -> (i8, bool)
-    ensures { result ≡ or_else (pos 0, false) (past_all (λ step. step.now) key_past None tune.now) }
-{
-    match opening_key(tune) {
-        Some(key) => key,
-        None => (0, false),
-    }
-}
-
 /// The changes of stages, whose first track is the voice at a place.
 fn changes_along(
     alloc: Global,
@@ -68,9 +36,12 @@ fn changes_along(
     requires in_time { length_along (at_places table.now order.now) ≤ grains_of_the_latest_end }
     ensures { IfOk result (λ changes. changes.items ≡ changes_along tune.now first (at_places table.now order.now)) }
 {
-    let tempos = tempos_along(alloc, table, order, tempo_at_start(tune))?;
-    let meters = one_along::<Meters>(alloc, table, order, first, meter_at_start(tune))?;
-    let keys = one_along::<Keys>(alloc, table, order, first, key_at_start(tune))?;
+    let tempo = opening_tempo(tune).unwrap_or(USUAL_TEMPO);
+    let meter = opening_meter(tune).unwrap_or(Meter::Free);
+    let key = opening_key(tune).unwrap_or((0, false));
+    let tempos = tempos_along(alloc, table, order, tempo)?;
+    let meters = one_along::<Meters>(alloc, table, order, first, meter)?;
+    let keys = one_along::<Keys>(alloc, table, order, first, key)?;
     conductor(alloc, &tempos, &meters, &keys)
 }
 

@@ -28,7 +28,6 @@ mod voice;
 
 pub use abc_bars::MOST_VOICES;
 pub use arranged::{Arranged, BuildFault};
-pub use change::{put_keys, put_meters, put_tempos};
 pub use conduct::conductor;
 pub use layout::arrange;
 pub use limits::{LONGEST_TITLE, MOST_CHANGES, MOST_NOTES, is_within_limits, score_limits};

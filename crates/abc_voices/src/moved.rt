@@ -64,6 +64,10 @@ fn set_down<'a>(
         ≡ out.old.items ++ set_down (λ step. step.now) held.old.items item.entry) }
     ensures held { OnOk result (held.new.items ≡ []) }
 {
+    if held.is_empty() {
+        out.push(item)?;
+        return Ok(());
+    }
     if mark_of(item).is_ending() {
         out.push(item)?;
         out.extend_from_slice(held)?;

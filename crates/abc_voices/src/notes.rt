@@ -1,6 +1,6 @@
 //! The notes of what a voice plays.
 
-ghost use Rattle.std.specs.Prelude.{◌≡◌, ◌-◌, ◌≤◌, [], All, Some, OnOk};
+ghost use Rattle.std.specs.Prelude.{◌≡◌, ◌-◌, ◌≤◌, ◌++◌, [], All, Some, OnOk};
 ghost use Rattle.abc_bars.specs.Item.{IsItem, IsTone};
 ghost use Rattle.abc_time.specs.Grains.{grains_of_the_latest_end};
 ghost use Rattle.abc_voices.specs.Linked.{Notes, before, notes_from};
@@ -14,6 +14,16 @@ use abc_bars::{Item, Tone};
 use abc_time::Grains;
 use std::alloc::{AllocError, Global};
 use std::mem::swap;
+
+/// Puts notes behind others.
+fn put_all(others: &mut Vec<Sounding>, notes: &[Sounding]) -> Result<(), AllocError>
+    ensures { OnOk result (others.new.items ≡ others.old.items ++ notes.now) }
+{
+    for note in notes {
+        others.push(*note)?;
+    }
+    Ok(())
+}
 
 /// Puts a time token before the notes of what comes behind it: those that begin at its first time token,
 /// and the others. What is emptied serves for the next one's notes.
@@ -32,7 +42,7 @@ fn put_token(
         ≡ before at.0 (Some tones.now) (record { first = first.old.items; others = others.old.items })) }
 {
     begin_notes(emptied, first, at, tones)?;
-    others.extend_from_slice(first)?;
+    put_all(others, first)?;
     first.clear();
     swap(first, emptied);
     Ok(())

@@ -10,7 +10,7 @@ ghost use Rattle.abc_voices.specs.Play.{marks_of, places_of, played, duration};
 use crate::moved::moved;
 use crate::step::{length_of, mark_of};
 use abc_bars::Item;
-use abc_repeat::{Mark, RepeatFault, expand, play_size};
+use abc_repeat::{Mark, RepeatFault, expand_within};
 use abc_time::{Grains, LATEST_END};
 use std::alloc::{AllocError, Global};
 
@@ -54,10 +54,7 @@ pub fn played<'a>(alloc: Global, part: &[&'a Item], room: u64) -> Result<Vec<&'a
 {
     let steps = moved(alloc, part)?;
     let marks = marks_of(alloc, &steps)?;
-    if play_size(&marks) > room {
-        return Err(RepeatFault::TooLong);
-    }
-    let places = expand(alloc, &marks)?;
+    let places = expand_within(alloc, &marks, room)?;
     let items = chosen(alloc, &steps, &places)?;
     Ok(items)
 }

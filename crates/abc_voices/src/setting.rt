@@ -6,7 +6,7 @@ ghost use Rattle.abc_voices.specs.Along.{IsStage, IsPart, stage_at, at_places, l
 ghost use Rattle.abc_voices.specs.Change.{tempo_of, set_from};
 
 use crate::along::{length_at, stage_at};
-use crate::change::{Setting, put_set, put_tempos};
+use crate::change::{Setting, Tempos, put_set};
 use crate::stage::{Part, Stage};
 use abc_time::Grains;
 use std::alloc::{AllocError, Global};
@@ -22,7 +22,7 @@ fn put_stage_tempos(
     ensures { OnOk result (tempos.new.items ≡ tempos.old.items ++ set_beside tempo_of at.0 (Some stage.now)) }
 {
     for part in stage.parts.as_slice() {
-        put_tempos(tempos, at, part.steps.as_slice())?;
+        put_set::<Tempos>(tempos, at, part.steps.as_slice())?;
     }
     Ok(())
 }

@@ -1,7 +1,7 @@
 use Rattle.std.proofs.Common.{◌≡◌, ◌++◌, List, ℕ, All, sym, ap, ◌∙◌, subst}
 use Rattle.abc_repeat.specs.Play.{play_of, IsPlayed}
 use Rattle.abc_repeat.proofs.Lying.{play_played}
-use Rattle.abc_repeat.proofs.play.expand.Goals as goal
+use Rattle.abc_repeat.proofs.play.expand_within.Goals as goal
 
 pub returns-clause-played : goal.returns-clause-played
 returns-clause-played c =
