@@ -1,7 +1,7 @@
 //! A block of a text.
 
 /// What a block of a text is (ABC 2.1 section 2.2).
-#[derive(Clone, Copy, Debug, PartialEq, Eq)]
+#[derive(Clone, Copy)]
 pub enum BlockKind {
     /// Fields before the first tune, which set defaults for all tunes.
     FileHeader,
@@ -13,7 +13,7 @@ pub enum BlockKind {
 
 /// The lines of a block, from its first to its last line that is no comment: `from` and on, but not
 /// `to`, counted from 0.
-#[derive(Clone, Copy, Debug, PartialEq, Eq)]
+#[derive(Clone, Copy)]
 pub struct Block {
     pub kind: BlockKind,
     pub from: usize,

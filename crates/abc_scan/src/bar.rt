@@ -4,7 +4,7 @@ ghost use Rattle.std.specs.Prelude.{◌≡◌, ◌≤◌, ◌<◌, length, IfSom
 ghost use Rattle.abc_scan.specs.Bar.{colons, goes_on, middle_from, middle_size, is_double, colons_alone, bar_at};
 
 /// A bar line (ABC 2.1 section 4.8).
-#[derive(Clone, Copy, Debug, PartialEq, Eq)]
+#[derive(Clone, Copy, Debug)]
 pub struct BarLine {
     /// The colons before its strokes. Of `k` colons alone, `k - 1` close and as many open.
     pub closes: usize,

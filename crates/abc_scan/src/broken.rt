@@ -4,7 +4,7 @@ ghost use Rattle.std.specs.Prelude.{◌≡◌, ◌≤◌, ◌<◌, length, IfSom
 ghost use Rattle.abc_scan.specs.Broken.{direction_of, marks_at, broken_at};
 
 /// Which of the two notes beside a mark is the longer one.
-#[derive(Clone, Copy, Debug, PartialEq, Eq)]
+#[derive(Clone, Copy, PartialEq, Eq)]
 pub enum Direction {
     /// The one before it: `>`.
     Right,
@@ -13,7 +13,7 @@ pub enum Direction {
 }
 
 /// Marks between two notes (ABC 2.1 section 4.4).
-#[derive(Clone, Copy, Debug, PartialEq, Eq)]
+#[derive(Clone, Copy, PartialEq, Eq)]
 pub struct BrokenRhythm {
     pub direction: Direction,
     /// How many marks, 1 to 3.

@@ -7,7 +7,7 @@ ghost use Rattle.abc_text.specs.Ending.{without_return};
 use abc_text::{is_blank, without_return};
 
 /// What a line of an ABC text is, by its own bytes (ABC 2.1 section 2.2).
-#[derive(Clone, Copy, Debug, PartialEq, Eq)]
+#[derive(Clone, Copy)]
 pub enum LineClass {
     /// Nothing but blanks.
     Blank,

@@ -8,7 +8,7 @@ ghost use Rattle.abc_scan.specs.Length.{is_slash, number_or, written_length, len
 use abc_text::{LONGEST_NUMBER, decimal, digits};
 
 /// The value of a length text: what it multiplies the unit note length by (ABC 2.1 section 4.3).
-#[derive(Clone, Copy, Debug, PartialEq, Eq)]
+#[derive(Clone, Copy)]
 pub enum WrittenLength {
     /// `num / den`, each from 1 to 999,999,999.
     Factor { num: u32, den: u32 },

@@ -40,7 +40,7 @@ fn cut(alloc: Global, text: &[u8]) -> Result<Vec<Token>, AllocError>
 fn field_token(alloc: Global, text: &[u8]) -> Result<Vec<Token>, AllocError>
     ensures { IfOk result (λ tokens. tokens.items ≡ field_token text.now) }
 {
-    let mut tokens = Vec::new(alloc);
+    let mut tokens = Vec::with_capacity(alloc, 1)?;
     tokens.push(Spanned {
         kind: TokenKind::Field(field_of(alloc, text)?),
         from: 0,

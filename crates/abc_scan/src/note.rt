@@ -9,7 +9,7 @@ use crate::length::{WrittenLength, length_at};
 use abc_text::{Accidental, Letter, letter_of};
 
 /// A note as it is written (ABC 2.1 sections 4.1 to 4.3).
-#[derive(Clone, Copy, Debug, PartialEq, Eq)]
+#[derive(Clone, Copy)]
 pub struct Note {
     /// None where none is written.
     pub accidental: Option<Accidental>,

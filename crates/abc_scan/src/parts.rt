@@ -4,7 +4,7 @@ use crate::note::Note;
 use crate::spanned::Spanned;
 
 /// What a part of a chord is.
-#[derive(Clone, Copy, Debug, Eq, PartialEq)]
+#[derive(Clone, Copy)]
 pub enum ChordPartKind {
     Note(Note),
     Tie,

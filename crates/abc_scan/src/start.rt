@@ -6,7 +6,7 @@ ghost use Rattle.abc_scan.specs.Start.{has_no_effect, begins_note, mark_start, b
 use abc_text::is_blank;
 
 /// The kinds of token that begin with different bytes: what begins as one of them is of no other.
-#[derive(Clone, Copy, PartialEq, Eq)]
+#[derive(Clone, Copy)]
 pub(crate) enum Start {
     Note,
     Rest,

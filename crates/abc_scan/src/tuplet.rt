@@ -7,7 +7,7 @@ use crate::number::{number_at, optional_number_at};
 
 /// A tuplet mark as it is written (ABC 2.1 section 4.13): the next `r` notes in the time of `q` for each
 /// `p` of them. The numbers may be 0; whether they make a tuplet is judged by who reads the mark.
-#[derive(Clone, Copy, Debug, PartialEq, Eq)]
+#[derive(Clone, Copy)]
 pub struct Tuplet {
     pub p: u32,
     /// None where it is empty or not written.

@@ -74,8 +74,7 @@ impl Compiler for Abc {
     }
 
     fn cells(&self, alloc: Global, line: &[u8], work: &mut Work) -> Result<Vec<Cell>, AllocError> {
-        let tokens = scan(alloc, line, work)?;
-        cells(alloc, tokens.as_slice())
+        cells(alloc, scan(alloc, line, work)?)
     }
 
     fn header(&self, alloc: Global) -> Entry {
