@@ -2,13 +2,12 @@
 use Rattle.std.proofs.Common.{◌≡◌, ◌∙◌, ap, ℕ, List, ◌∷◌, drop}
 use Rattle.abc_scan.specs.declared.spanned.Spanned.{Spanned}
 use Rattle.abc_scan.specs.declared.token.TokenKind.{TokenKind}
-use Rattle.abc_bars.specs.declared.body.Body.{Body}
 use Rattle.abc_bars.specs.declared.cell.Given.{Given}
-use Rattle.abc_bars.specs.Cell.{given_from, cell_given, with_token}
+use Rattle.abc_bars.specs.Cell.{given_from, with_token}
 
 -- with what is left, this makes what the whole cell gives
-abbrev pub IsGivenSoFar : Body → List (Spanned TokenKind) → ℕ → Given → Type 0
-IsGivenSoFar body cell at given = given_from given (drop at cell) ≡ cell_given body cell
+abbrev pub IsGivenSoFar : Given → List (Spanned TokenKind) → ℕ → Given → Type 0
+IsGivenSoFar first cell at given = given_from given (drop at cell) ≡ given_from first cell
 
 -- one more token, with those behind it, leaves the whole as it is
 pub given-step : (given next : Given) (token : Spanned TokenKind) (ahead read : List (Spanned TokenKind)) → read ≡ ahead

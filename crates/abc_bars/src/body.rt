@@ -1,10 +1,9 @@
 //! What holds at a place of a tune's body.
 
-ghost use Rattle.std.specs.Prelude.{◌≡◌, false, if◌then◌else◌, None, Some, IfOk, OnOk};
+ghost use Rattle.std.specs.Prelude.{◌≡◌, [], ◌∷◌, false, if◌then◌else◌, None, Some, IfOk, OnOk};
 ghost use Rattle.std.specs.Borrow.{sem};
 ghost use Rattle.abc_bars.specs.Body.{IsUnnamed, here, joined_by, moved_to, mentioned, made_current, after_part, all_without_accidentals};
 ghost use Rattle.abc_bars.specs.declared.body.Current.TheVariants as Current;
-ghost use Rattle.abc_bars.specs.Voices.{place_of};
 ghost use Rattle.abc_bars.specs.BodyLent.{LendsHere, LendsUnnamed};
 
 use crate::settings::Settings;
@@ -52,6 +51,15 @@ impl Clone for Current {
     }
 }
 
+/// The voice without a name, of which this is known, and no other.
+fn nameless(alloc: Global, settings: Settings) -> Result<Voices<Settings>, AllocError>
+    ensures { IfOk result (λ voices. voices ≡ ([], settings) ∷ []) }
+{
+    let mut voices = Voices::new(alloc);
+    voices.push(VoiceName::new(alloc, b"")?, settings)?;
+    Ok(voices)
+}
+
 /// What holds at a place of a tune's body.
 #[derive(Drop, PartialEq, Eq)]
 pub struct Body {
@@ -95,9 +103,7 @@ impl Body {
             return Ok(());
         }
         if let Current::Unnamed(settings) = mem::replace(&mut self.current, Current::At(0)) {
-            let mut voices = Voices::new(alloc);
-            voices.push(VoiceName::new(alloc, b"")?, settings)?;
-            self.voices = voices;
+            self.voices = nameless(alloc, settings)?;
         }
         Ok(())
     }
@@ -138,7 +144,6 @@ impl Body {
 
     /// Mentions another voice, which becomes the current one, with these properties.
     fn join(&mut self, name: VoiceName, said: Shift) -> Result<(), AllocError>
-        requires { place_of name self.old.voices ≡ None }
         ensures { OnOk result (self.new ≡ joined_by self.old name said) }
     {
         let mut settings = self.another.clone()?;

@@ -284,6 +284,16 @@ impl Given {
         self.after_note = may_be_tied(&token.kind);
         Ok(())
     }
+
+    /// The tokens of the cell, or those that are left of it.
+    fn tokens(&mut self, alloc: Global, cell: &[Token]) -> Result<(), AllocError>
+        ensures { OnOk result (self.new ≡ given_from self.old cell.now) }
+    {
+        for (at, token) in cell.iter().enumerate() {
+            self.token(alloc, token, &cell[at + 1..])?;
+        }
+        Ok(())
+    }
 }
 
 /// What holds behind a cell that is entered in a body, and what it gives.
@@ -291,8 +301,6 @@ pub(crate) fn cell_given(alloc: Global, body: Body, cell: &[Token]) -> Result<Gi
     ensures { IfOk result (λ given. given ≡ cell_given body cell.now) }
 {
     let mut given = Given::nothing(alloc, body, cell.len())?;
-    for (at, token) in cell.iter().enumerate() {
-        given.token(alloc, token, &cell[at + 1..])?;
-    }
+    given.tokens(alloc, cell)?;
     Ok(given)
 }

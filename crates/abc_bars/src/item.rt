@@ -17,11 +17,11 @@ pub const HIGHEST_KEY: u8 = 127;
 pub const MOST_NOTES: usize = 16;
 
 /// One note of a note or chord that takes time.
-#[derive(Clone, Copy, Debug)]
+#[derive(Clone, Copy)]
 pub struct Tone {
+    pub length: Grains,
     /// The key of MIDI, 60 being the middle C; None where MIDI has none for it, and it is silent.
     pub key: Option<u8>,
-    pub length: Grains,
     /// Whether a tie follows it.
     pub tied: bool,
 }
@@ -39,7 +39,7 @@ impl Default for Tone {
 /// What a cell gives to the score. `opening` marks what holds when the tune begins: each field of a
 /// header gives the tempo and meter as if the header ended behind it, of which the last counts, and the
 /// field that ends a header gives the key.
-#[derive(Debug, Drop)]
+#[derive(Drop)]
 pub enum Item {
     /// The tune's reference number, 0 where X: has none.
     Number(u32),
@@ -89,7 +89,7 @@ pub enum Item {
 pub type LocalFault = (u32, FaultCode);
 
 /// What a cell gives: its items, and its faults in the order of their columns and codes.
-#[derive(Debug, Drop)]
+#[derive(Drop)]
 pub struct Items {
     items: Sequence<Item>,
     faults: Sequence<LocalFault>,

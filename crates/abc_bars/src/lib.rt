@@ -58,5 +58,4 @@ pub use numbers::{field_letters, key_numbers, music_limits};
 pub use tempo::TuneTempo;
 pub use unit::UnitLength;
 pub use voice_laws::voice_views;
-pub use voice_name::VoiceName;
-pub use voices::{MOST_VOICES, Voices};
+pub use voices::MOST_VOICES;

@@ -5,9 +5,9 @@ use abc_scan::Letter;
 /// A note of a voice's last note or chord that is tied, as it was written (ABC 2.1 section 4.11).
 #[derive(Clone, Copy, PartialEq, Eq)]
 pub struct TiedNote {
-    pub letter: Letter,
     /// Octaves above that of the capital letters.
     pub octave: i64,
+    pub letter: Letter,
     /// By how many semitones it was altered.
     pub alteration: i8,
 }

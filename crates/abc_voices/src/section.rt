@@ -7,7 +7,7 @@ use abc_bars::Item;
 use std::alloc::{AllocError, Global};
 
 /// A section of a tune.
-#[derive(Clone, Copy, Debug)]
+#[derive(Clone, Copy)]
 pub struct Section<'s, 't> {
     /// The current voice where it begins.
     pub voice: &'t [u8],
