@@ -85,6 +85,13 @@ change_length (Tempo micros) = omega (arith, meta_length 81 (big_bytes 3 micros)
 change_length (Meter num den) = omega (arith, meta_length 88 (num ∷ trailing_zeros w8 den ∷ 24 ∷ 8 ∷ []))
 change_length (Key sharps minor) = omega (arith, meta_length 89 (cast_unsigned w8 sharps ∷ cond minor 1 0 ∷ []))
 
+-- a change is no longer than a meter, which has seven bytes
+pub change_in_place : (what : ChangeKind) → length (change_bytes what) ≤ 7
+unfolding number_text
+change_in_place (Tempo micros) = omega arith
+change_in_place (Meter num den) = omega arith
+change_in_place (Key sharps minor) = omega arith
+
 changes_room : (changes : List Change) → room (map change_event changes) ≤ 14 * length changes
 changes_room [] = omega arith
 changes_room (change ∷ changes) = omega (arith, change_length change.what, changes_room changes)

@@ -1,9 +1,11 @@
 //! The bytes of an event, few of which need memory of their own.
-ghost use Rattle.std.specs.Prelude.{◌≡◌, ◌≤◌, length, Some, IsOk, IfOk, nat_eq, refl};
+ghost use Rattle.std.specs.Prelude.{◌≡◌, ◌≤◌, ℕ, length, Some, IsOk, IfOk, nat_eq, refl};
 ghost use Rattle.std.specs.Cmp.{partial_equiv_from_equiv};
 ghost use Rattle.std.specs.Cmp.Lexicographic.{pointwise, slice_cmp, nat_list_eq_equiv, nat_list_cmp_total, texts_po, texts_ties};
 ghost use Rattle.std.specs.Ordering.{nat_cmp};
+ghost use Rattle.abc_voices.specs.declared.score.ChangeKind.{ChangeKind};
 ghost use Rattle.smf_bytes.specs.declared.event_bytes.TheConstants.{ROOM_IN_PLACE};
+ghost use Rattle.smf_bytes.specs.Event.{change_bytes, note_off, note_on};
 
 use smallvec::SmallVec;
 use std::alloc::{AllocError, Global};
@@ -99,3 +101,10 @@ impl fmt::Debug for EventBytes {
         self.bytes.fmt(f)
     }
 }
+
+/// All events but titles have room in place.
+pub fn room_in_place()
+    ensures changes { (what : ChangeKind) → length (change_bytes what) ≤ ROOM_IN_PLACE }
+    ensures note_offs { (channel key tick : ℕ) → length (note_off channel key tick).bytes ≤ ROOM_IN_PLACE }
+    ensures note_ons { (channel key tick : ℕ) → length (note_on channel key tick).bytes ≤ ROOM_IN_PLACE }
+{}

@@ -17,7 +17,7 @@ pub use abc_voices::{
     is_within_limits, score_limits,
 };
 pub use event::Event;
-pub use event_bytes::{EventBytes, ROOM_IN_PLACE};
+pub use event_bytes::{EventBytes, ROOM_IN_PLACE, room_in_place};
 pub use file::file_of;
 pub use number::{NumberFault, number_texts, put_number, read_number};
 pub use order::{one_order, order_events};
