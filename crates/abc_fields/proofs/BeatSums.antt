@@ -2,18 +2,15 @@
 use Rattle.std.proofs.Common.{◌≡◌, ℕ, zero, suc, ◌+◌, ◌-◌, ◌<◌, ◌≤◌, true, false, List, [], ◌∷◌, length, Option, Some, None, refl, sym, ap, ◌∙◌, arith}
 use Rattle.std.specs.Prelude.{◌==◌, option_and_then}
 use Rattle.std.proofs.lemmas.Bool.{eqb-true}
+use Rattle.abc_fields.proofs.Fractions.{sum_of-suc}
 use Rattle.abc_fields.specs.Tempo.{fraction_of, first_word, behind_word, added, sum_with, sum_of}
 
 -- a step of the sum
 left_over : (i : ℕ) → i < 16 → 16 - i ≡ suc (16 - (i + 1))
 left_over i h = omega arith
 
-sum_of-suc : (most : ℕ) (text word : List ℕ) → word ≡ first_word text → sum_of (suc most) text ≡ option_and_then (sum_with (sum_of most) (behind_word text)) (fraction_of word)
-unfolding sum_of
-sum_of-suc most text word e = ap (λ w. option_and_then (sum_with (sum_of most) (behind_word text)) (fraction_of w)) (sym e)
-
 at_step : (i : ℕ) (text word : List ℕ) (o : Option ℕ) → i < 16 → word ≡ first_word text → o ≡ fraction_of word → sum_of (16 - i) text ≡ option_and_then (sum_with (sum_of (16 - (i + 1))) (behind_word text)) o
-at_step i text word o h e f = ap (λ n. sum_of n text) (left_over i h) ∙ sum_of-suc (16 - (i + 1)) text word e ∙ ap (option_and_then (sum_with (sum_of (16 - (i + 1))) (behind_word text))) (sym f)
+at_step i text word o h e f = ap (λ n. sum_of n text) (left_over i h) ∙ sum_of-suc (16 - (i + 1)) text ∙ ap (option_and_then (sum_with (sum_of (16 - (i + 1))) (behind_word text))) (ap fraction_of (sym e) ∙ sym f)
 
 pub sum_of-none : (i : ℕ) (text word : List ℕ) → i < 16 → word ≡ first_word text → None ≡ fraction_of word → sum_of (16 - i) text ≡ None
 sum_of-none i text word h e f = at_step i text word None h e f

@@ -3,15 +3,15 @@ use Rattle.std.proofs.Common.{◌≡◌, ◌≤◌, ◌-◌, ℕ, ℤ, true, fal
 use Rattle.std.specs.Prelude.{pos, negsuc, nat_le, nat_eq, All, slice_index}
 use Rattle.std.specs.List.{Contains, ends_with}
 use Rattle.std.specs.Option.{unwrap_or}
-use Rattle.std.specs.Str.{bytes_eq}
 use Rattle.std.proofs.Math.Seq.{get_or-append_seam, take-append_seam}
 use Rattle.std.proofs.lemmas.Bool.{cond-true, cond-false, cases_Bool, and_parts, and_from, or_cases, le-leb, leb-true, false_from_ne_true}
 use Rattle.std.proofs.lemmas.Bool.Decides.{Decides-eqb}
 use Rattle.std.proofs.lemmas.List.Elements.{All-nil, All-cons, All-contains}
 use Rattle.std.proofs.lemmas.List.Prefix.{end_rest}
-use Rattle.std.proofs.lemmas.Slice.Eq.{bytes_eq-Decides, ends_is}
+use Rattle.std.proofs.lemmas.Slice.Eq.{ends_is}
 use Rattle.abc_text.proofs.Fronts.{last_split}
 use Rattle.abc_fields.specs.Clef.{mark_of, clef_of, names_clef, without_line, is_clef_name}
+use Rattle.abc_fields.proofs.Readings.{named}
 use Rattle.abc_fields.specs.Spelling.Clef.{EndsIn, HasMark, HasNoMark, IsClef, clef_names, IsClefName}
 
 -- the mark of a clef
@@ -69,23 +69,20 @@ clef_known text n is = ⊎_elim
     is
 
 -- the name of a clef
-name_at : (name known : List ℕ) → bytes_eq name known ≡ true → known ≡ name
-name_at name known t = sym ((bytes_eq-Decides name known).0 t)
-
 names_from : (name : List ℕ) → names_clef name ≡ true → Contains clef_names name
 unfolding names_clef
 names_from name e = ⊎_elim
     (λ e. ⊎_elim
     (λ e. ⊎_elim
     (λ e. ⊎_elim
-    (λ t. (0, omega arith, name_at name (codes "treble") t))
-    (λ t. (1, omega arith, name_at name (codes "bass") t))
+    (λ t. (0, omega arith, named name (codes "treble") t))
+    (λ t. (1, omega arith, named name (codes "bass") t))
     (or_cases _ _ e))
-    (λ t. (2, omega arith, name_at name (codes "alto") t))
+    (λ t. (2, omega arith, named name (codes "alto") t))
     (or_cases _ _ e))
-    (λ t. (3, omega arith, name_at name (codes "tenor") t))
+    (λ t. (3, omega arith, named name (codes "tenor") t))
     (or_cases _ _ e))
-    (λ t. (4, omega arith, name_at name (codes "perc") t))
+    (λ t. (4, omega arith, named name (codes "perc") t))
     (or_cases _ _ e)
 
 abbrev NamesIt : List ℕ → Type 0

@@ -191,7 +191,7 @@ sum_begins (suc most) text sum (inl last) rest = begins_with text last.word last
 sum_begins (suc most) text sum (inr first) rest = begins_with text first.word (first.gap ++ first.rest) rest first.part first.spelling first.word_is
 
 -- what a text spells, and the reading of it, are one
-sum_of-suc : (most : ℕ) (text : List ℕ) → sum_of (suc most) text ≡ option_and_then (sum_with (sum_of most) (behind_word text)) (fraction_of (first_word text))
+pub sum_of-suc : (most : ℕ) (text : List ℕ) → sum_of (suc most) text ≡ option_and_then (sum_with (sum_of most) (behind_word text)) (fraction_of (first_word text))
 unfolding sum_of
 sum_of-suc most text = refl
 

@@ -3,7 +3,7 @@ use Rattle.std.proofs.Common.{◌≡◌, ◌==◌, ◌||◌, ℕ, ◌⊎◌, ℤ
 use Rattle.std.specs.Prelude.{int_lt, IfSome}
 use Rattle.std.specs.Option.{option_map}
 use Rattle.std.specs.Str.{bytes_eq}
-use Rattle.std.proofs.lemmas.Bool.{cond-true, cond-false, cases_Bool, eqb-true, or_cases, or_parts, or_from, false_from_ne_true, both_ways}
+use Rattle.std.proofs.lemmas.Bool.{cond-true, cond-false, cases_Bool, or_cases, or_parts, or_from, false_from_ne_true, both_ways}
 use Rattle.std.proofs.lemmas.Int.{ints}
 use Rattle.std.proofs.lemmas.Slice.Eq.{bytes_eq-Decides}
 use Rattle.abc_fields.specs.declared.fault.FaultCode.{FaultCode}
@@ -27,10 +27,9 @@ use Rattle.abc_fields.specs.Key.{empty_signature, unchanged_signature, IsInRange
 use Rattle.abc_fields.specs.Spelling.Key.{IsKeyOn, HasNoTonic, IsStart, IsCompleted, IsSpelled, IsKey}
 use Rattle.abc_fields.specs.Spelling.Key.IsStart.{tonal, listed, properties}
 use Rattle.abc_fields.specs.Spelling.Key.IsKey.{nothing, spelled}
-use Rattle.abc_text.proofs.Fronts.{empty_list}
 use Rattle.abc_text.proofs.Words.{words_exact}
 use Rattle.abc_fields.proofs.Shifts.{shift_exact, shift_small}
-use Rattle.abc_fields.proofs.Tonics.{tonic_from, tonic_to, basis_from, basis_to}
+use Rattle.abc_fields.proofs.Tonics.{no_length, tonic_from, tonic_to, basis_from, basis_to}
 use Rattle.abc_fields.proofs.Starts.{begins_from, begins_to, sets_from, sets_to}
 use Rattle.abc_fields.proofs.Signatures.{natural_range, signature_of_range}
 use Rattle.abc_fields.proofs.Listings.{listed_from, listed_to, listed_range}
@@ -185,9 +184,6 @@ completed_to start words key h =
     ∙ (λ i. Some (record { signature = signature i; sharps = sym h.sharps i; minor = sym h.minor i; shift = key.shift }))
 
 -- the value
-no_length : (value : List ℕ) → (length value == 0) ≡ true → value ≡ []
-no_length value t = empty_list value (eqb-true (length value) 0 t)
-
 nothing_from : (value : List ℕ) → ((length value == 0) || bytes_eq value (codes "none")) ≡ true → (value ≡ []) ⊎ (value ≡ codes "none")
 nothing_from value t = ⊎_elim
     (λ t. inl (no_length value t))

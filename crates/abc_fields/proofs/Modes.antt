@@ -10,6 +10,7 @@ use Rattle.std.proofs.lemmas.Bool.{and_right, or_cases, cond-true, cond-false, c
 use Rattle.abc_fields.specs.declared.mode.Mode.{Mode}
 use Rattle.abc_fields.specs.declared.mode.Mode.TheVariants.{Lydian, Ionian, Mixolydian, Dorian, Aeolian, Phrygian, Locrian}
 use Rattle.abc_fields.specs.Mode.{front_of, mode_named, mode_of}
+use Rattle.abc_fields.proofs.Readings.{named}
 use Rattle.abc_fields.specs.Spelling.Mode.{names_of, IsMode}
 
 -- fewer than three letters name nothing
@@ -47,16 +48,13 @@ chosen : (t : Bool) (a : Mode) (rest : Option Mode) (mode : Mode) (name : List �
 chosen true a rest mode name e here later = let same : a ≡ mode = cc in subst (λ m. Contains (names_of m) name) same (here refl)
 chosen false a rest mode name e here later = later e
 
-name_is : (name known : List ℕ) → bytes_eq name known ≡ true → known ≡ name
-name_is name known e = sym ((bytes_eq-Decides name known).0 e)
-
 only_name : (name known : List ℕ) → bytes_eq name known ≡ true → Contains (known ∷ []) name
-only_name name known e = (0, omega arith, name_is name known e)
+only_name name known e = (0, omega arith, named name known e)
 
 either_name : (name known other : List ℕ) → (bytes_eq name known || bytes_eq name other) ≡ true → Contains (known ∷ other ∷ []) name
 either_name name known other e = ⊎_elim
-    (λ t. (0, omega arith, name_is name known t))
-    (λ t. (1, omega arith, name_is name other t))
+    (λ t. (0, omega arith, named name known t))
+    (λ t. (1, omega arith, named name other t))
     (or_cases _ _ e)
 
 named_from : (name : List ℕ) (mode : Mode) → mode_named name ≡ Some mode → Contains (names_of mode) name

@@ -1,12 +1,18 @@
 -- What a reader goes on with, and what it refuses.
-use Rattle.std.proofs.Common.{◌≡◌, Option, Some, None, Result, Ok, Err, refl, sym, subst, IfOk}
+use Rattle.std.proofs.Common.{◌≡◌, ℕ, true, List, Option, Some, None, Result, Ok, Err, refl, sym, subst, IfOk}
 use Rattle.std.specs.Prelude.{◌↔◌, option_and_then, ok_or}
+use Rattle.std.specs.Str.{bytes_eq}
+use Rattle.std.proofs.lemmas.Slice.Eq.{bytes_eq-Decides}
 use Rattle.abc_fields.specs.declared.fault.FaultCode.{FaultCode}
 
 -- a step that goes on has a value
 pub bound : {A B : Type 0} (f : A → Option B) (o : Option A) (y : B) → option_and_then f o ≡ Some y → (x : A) × (o ≡ Some x) × (f x ≡ Some y)
 bound f None y e = cc
 bound f (Some x) y e = (x, refl, e)
+
+-- a text that equals a name is that name
+pub named : (text name : List ℕ) → bytes_eq text name ≡ true → name ≡ text
+named text name e = sym ((bytes_eq-Decides text name).0 e)
 
 -- a reader answers a value where the grammar gives it, and its fault where it gives none
 pub record Reads {V : Type 0} (Says : V → Type 0) (InRange : V → Type 0) (fault : FaultCode) (r : Result V FaultCode) : Type 0 where

@@ -14,6 +14,7 @@ use Rattle.abc_fields.specs.Shift.{IsWithin, IsSmallShift, with_property, shift_
 use Rattle.abc_fields.specs.Spelling.Shift.{clef_in, octave_in, transpose_in, last_said, IsShift}
 use Rattle.abc_text.proofs.Numbers.{number_small}
 use Rattle.abc_fields.proofs.Properties.{property_read, property_known}
+use Rattle.abc_fields.proofs.Readings.{bound}
 
 or_or : (a b c : Option ℤ) → option_or a (option_or b c) ≡ option_or (option_or a b) c
 or_or None b c = refl
@@ -70,14 +71,10 @@ more_said p ps before after said =
     }
 
 -- words are read as what they say
-and_then_parts : {A B : Type 0} (f : A → Option B) (o : Option A) (y : B) → option_and_then f o ≡ Some y → (x : A) × (o ≡ Some x) × (f x ≡ Some y)
-and_then_parts f None y e = cc
-and_then_parts f (Some x) y e = (x, refl, e)
-
 words_read : (words : List (List ℕ)) (before after : Shift) → shift_after words before ≡ Some after → (properties : List Property) × AllZip IsProperty words properties × Said properties before after
 words_read [] before after e = ([], tt, said_none before after cc)
 words_read (word ∷ words) before after e =
-    let one = and_then_parts (λ p. shift_after words (with_property before p)) (property_of word) after e in
+    let one = bound (λ p. shift_after words (with_property before p)) (property_of word) after e in
     let more = words_read words (with_property before one.0) after one.2 in
     (one.0 ∷ more.0, (property_read word one.0 one.1, more.1), said_more one.0 more.0 before after more.2)
 
@@ -141,7 +138,7 @@ small_more word shift Other is small = small
 small_after : (words : List (List ℕ)) (before after : Shift) → IsSmallShift before → shift_after words before ≡ Some after → IsSmallShift after
 small_after [] before after small e = let same : before ≡ after = cc in subst IsSmallShift same small
 small_after (word ∷ words) before after small e =
-    let one = and_then_parts (λ p. shift_after words (with_property before p)) (property_of word) after e in
+    let one = bound (λ p. shift_after words (with_property before p)) (property_of word) after e in
     small_after words (with_property before one.0) after (small_more word before one.0 (property_read word one.0 one.1) small) one.2
 
 pub shift_small : (words : List (List ℕ)) (shift : Option Shift) → shift ≡ shift_of words → IfSome shift IsSmallShift

@@ -139,7 +139,7 @@ exp_is_no_mode : mode_of (codes "exp") ≡ None
 unfolding mode_of mode_named
 exp_is_no_mode = refl
 
-no_length : (text : List ℕ) → (length text == 0) ≡ true → text ≡ []
+pub no_length : (text : List ℕ) → (length text == 0) ≡ true → text ≡ []
 no_length text t = empty_list text (eqb-true (length text) 0 t)
 
 some_length : (text : List ℕ) → 0 < length text → (length text == 0) ≡ false
