@@ -1,11 +1,11 @@
 -- The cells of a line are its tokens, cut behind each bar line and nowhere else.
-use Rattle.std.proofs.Common.{◌≡◌, ℕ, suc, ◌+◌, ◌-◌, ◌<◌, ◌≤◌, true, false, List, [], ◌∷◌, ◌++◌, length, take, refl, sym, ap, ◌∙◌, subst, ⊎_elim, arith, append_assoc}
-use Rattle.std.specs.Prelude.{All, ◌==◌}
-use Rattle.std.proofs.lemmas.Bool.{cond-true, cond-false, cases_Bool, eqb-true}
+use Rattle.std.proofs.Common.{◌≡◌, suc, ◌-◌, true, false, List, [], ◌∷◌, ◌++◌, length, take, refl, sym, ap, ◌∙◌, subst, ⊎_elim, arith, append_assoc}
+use Rattle.std.specs.Prelude.{All, not, ◌==◌}
+use Rattle.std.proofs.lemmas.Bool.{cond-true, cond-false, cases_Bool, eqb-true, ne_eqb, and_parts, not-true}
 use Rattle.std.proofs.lemmas.List.Elements.{All-nil, All-cons, All-head, All-tail}
 use Rattle.abc_scan.specs.declared.spanned.Spanned.{Spanned}
 use Rattle.abc_scan.specs.declared.token.TokenKind.{TokenKind}
-use Rattle.abc_scan.specs.Cell.{ends_cell, IsCell, EndsWithBar, but_last, AreCells, put_first, cells_of}
+use Rattle.abc_scan.specs.Cell.{ends_cell, has_no_bar, IsCell, EndsWithBar, but_last, AreCells, put_first, cells_of}
 
 abbrev pub Tokens : Type 0
 Tokens = List (Spanned TokenKind)
@@ -122,3 +122,19 @@ end-some (t ∷ ts) e = begun-last t ts
 pub end-none : (begun : Tokens) → (length begun == 0) ≡ true → with_begun begun [] ≡ []
 end-none [] e = begun-none []
 end-none (t ∷ ts) e = let none = eqb-true (length (t ∷ ts)) 0 e in absurd (omega (arith, none))
+
+-- a line in which no token but the last is a bar line
+last_alone : (t : Spanned TokenKind) → cells_of (t ∷ []) ≡ (t ∷ []) ∷ []
+last_alone t = ⊎_elim
+    (λ bar. cond-true (ends_cell t) ((t ∷ []) ∷ []) ((t ∷ []) ∷ []) bar)
+    (λ plain. cond-false (ends_cell t) ((t ∷ []) ∷ []) ((t ∷ []) ∷ []) plain)
+    (cases_Bool (ends_cell t))
+
+pub one_cell : (tokens : Tokens) → (length tokens == 0) ≡ false → has_no_bar (take (length tokens - 1) tokens) ≡ true → cells_of tokens ≡ tokens ∷ []
+one_cell [] some none = cc
+one_cell (t ∷ []) some none = last_alone t
+one_cell (t ∷ u ∷ us) some none =
+    let n : length (t ∷ u ∷ us) - 1 ≡ suc (length (u ∷ us) - 1) = omega arith in
+    let parts = and_parts (not (ends_cell t)) _ (subst (λ k. has_no_bar (take k (t ∷ u ∷ us)) ≡ true) n none) in
+    cond-false (ends_cell t) ((t ∷ []) ∷ cells_of (u ∷ us)) (put_first t (cells_of (u ∷ us))) (not-true _ parts.0)
+    ∙ ap (put_first t) (one_cell (u ∷ us) (ne_eqb (length (u ∷ us)) 0 (λ e. omega (arith, e))) parts.1)

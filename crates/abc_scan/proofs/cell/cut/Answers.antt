@@ -1,9 +1,9 @@
 use Rattle.std.proofs.Common.{◌≡◌, List, [], ◌∷◌, ◌++◌, length, refl, sym, ap, subst, append-nil, ◌∙◌, arith}
 use Rattle.std.specs.Vec.Iter.{into_iter_items}
-use Rattle.abc_scan.specs.Cell.{AreCells, cells_of}
-use Rattle.abc_scan.proofs.CellLaws.{with_begun, begun-none, turn-bar, turn-plain, end-some, end-none, are_cells}
-use Rattle.abc_scan.proofs.cell.cells.Goals.{then-not-is_empty+in_ok-push-3, else-not-is_empty}
-use Rattle.abc_scan.proofs.cell.cells.Goals as goal
+use Rattle.abc_scan.specs.Cell.{cells_of}
+use Rattle.abc_scan.proofs.CellLaws.{with_begun, begun-none, turn-bar, turn-plain, end-some, end-none}
+use Rattle.abc_scan.proofs.cell.cut.Goals.{then-not-is_empty+in_ok-push-3, else-not-is_empty}
+use Rattle.abc_scan.proofs.cell.cut.Goals as goal
 
 nothing_left : {X : Type 0} (l : List X) → length l ≡ 0 → l ≡ []
 nothing_left [] h = refl
@@ -53,8 +53,8 @@ loop-token-preserved c =
           omega arith,
     )
 
-pub returns-clause-value : goal.returns-clause-value
-returns-clause-value c =
+pub returns : goal.returns
+returns c =
     let at = c.loop-token in
     let done = at.cells.items in
     let begun = at.cell in
@@ -67,6 +67,3 @@ returns-clause-value c =
       | else-not-is_empty w ↦
           ap (λ v. v.items) w.cells-is ∙ sym (append-nil done) ∙ ap (λ l. done ++ l) (sym (end-none begun (sym c.is_empty.ensures ∙ w.if-not-is_empty.false))) ∙ whole
     ]
-
-pub returns-clause-cells : goal.returns-clause-cells
-returns-clause-cells c = subst (AreCells c.args.tokens.items) (sym (returns-clause-value c)) (are_cells c.args.tokens.items)
