@@ -8,7 +8,7 @@ use Rattle.std.specs.Io.KnownBytes.{Appends, Keeps, Consumes, IsAtEnd}
 use Rattle.std.proofs.KnownBytes.{Appends-nil, Appends-trans, Appends-kept, Consumes-nil, Consumes-trans, Consumes-kept}
 use Rattle.std.proofs.lemmas.List.Elements.{All-append}
 use Rattle.abc_fold.specs.Work.{raised}
-use Rattle.abc_publish.specs.Publishing.{Directory}
+use Rattle.abc_publish.specs.Publisher.{Directory}
 use Rattle.abc2midi_live.specs.Cut.{IsCut}
 use Rattle.abc2midi_live.specs.Machine.{Future, telling, IsClean, Answers, ahead}
 use Rattle.abc2midi_live.specs.Outcome.{Ends, Outlets, outlets, Serves, Tells, BrokenOff, Unserved, Ended, Turn, Leaves, read_counts, Reads, Failed, read_faults}

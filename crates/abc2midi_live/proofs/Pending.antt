@@ -6,7 +6,7 @@ use Rattle.std.specs.Result.{result_unwrap_or}
 use Rattle.std.proofs.lemmas.Bool.{cases_eq, false≢true, true≢false}
 use Rattle.std.proofs.lemmas.Bool.Decides.{nat_tests}
 use Rattle.abc_lines.specs.Text.{Text}
-use Rattle.abc_publish.specs.Publishing.{Directory, Jobs, Publishing, Slots, maps_of, begun, differs, ended, is_pending, is_wanted, stored_as, with_entry, HasNone, IsNext}
+use Rattle.abc_publish.specs.Publisher.{Directory, Jobs, Publishing, Slots, maps_of, begun, differs, ended, is_pending, is_wanted, stored_as, with_entry, HasNone, IsNext}
 use Rattle.abc_publish.specs.declared.slot.Stored.{Stored}
 use Rattle.abc_publish.specs.declared.slot.Stored.TheVariants.{Unknown}
 use Rattle.abc_tunebook.specs.Files.{Files, file_at}

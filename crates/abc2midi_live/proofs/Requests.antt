@@ -13,7 +13,7 @@ use Rattle.abc2midi_live.specs.Book.{files_of, faults_of, titles_of}
 use Rattle.abc_tunebook.specs.Files.{file_at, written, removed}
 use Rattle.abc2midi_live.specs.Answer.{report_line, refusal}
 use Rattle.abc2midi_live.specs.Command.{line_count, command_of}
-use Rattle.abc_publish.specs.Publishing.{Directory}
+use Rattle.abc_publish.specs.Publisher.{Directory}
 use Rattle.abc2midi_live.specs.Building.{Builds}
 use Rattle.abc2midi_live.specs.Storing.{StoreAnswer}
 use Rattle.abc2midi_live.specs.Told.{Answered, Holding, Told, answered_by, behind, holding, nothing_more, told}

@@ -6,7 +6,7 @@ use Rattle.std.specs.Result.{result_unwrap_or}
 use Rattle.std.proofs.KnownBytes.{Appends-nil, Appends-trans, Appends-kept, Consumes-nil, Keeps-refl}
 use Rattle.abc_lines.specs.Text.{Text}
 use Rattle.abc_lines.specs.Edits.{edited, insertion}
-use Rattle.abc_publish.specs.Publishing.{Directory}
+use Rattle.abc_publish.specs.Publisher.{Directory}
 use Rattle.abc2midi_live.specs.Transcript.{book_lines, input_lines, requests, answered, answers, edit_answer, no_directory, transcript, transcript_so_far}
 use Rattle.abc2midi_live.specs.Dialogue.{Begun, awaited, Opens}
 use Rattle.abc2midi_live.specs.Outcome.{Ends, Outlets, outlets, Completes, Ended, Leaves, LeavesRun, Unserved}

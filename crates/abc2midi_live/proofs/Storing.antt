@@ -13,7 +13,7 @@ use Rattle.std.proofs.lemmas.Cmp.{nat_list_cmp_total}
 use Rattle.std.proofs.lemmas.Bool.Decides.{nat_tests}
 use Rattle.std.proofs.lemmas.Bool.{cases_Bool, cases_eq}
 use Rattle.abc_fold.specs.Work.{raised}
-use Rattle.abc_publish.specs.Publishing.{Directory, stored_as, with_entry}
+use Rattle.abc_publish.specs.Publisher.{Directory, stored_as, with_entry}
 use Rattle.abc_publish.specs.declared.slot.Stored.{Stored}
 use Rattle.abc_publish.specs.declared.slot.Stored.TheVariants.{Unknown}
 use Rattle.abc2midi_live.specs.Streams.{Contents, Puts, TakesOut, KeepsOthers}

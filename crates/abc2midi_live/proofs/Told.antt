@@ -1,6 +1,6 @@
 -- Laws of what a run tells.
 use Rattle.std.proofs.Common.{◌≡◌, ℕ, Bool, true, false, List, [], ◌++◌, Option, Some, None, refl, sym, ap, ◌∙◌, append_assoc, append-nil, if◌then◌else◌}
-use Rattle.abc_publish.specs.Publishing.{Directory}
+use Rattle.abc_publish.specs.Publisher.{Directory}
 use Rattle.abc2midi_live.specs.Machine.{Future, telling, Answers}
 use Rattle.abc2midi_live.specs.Storing.{StoreAnswer}
 use Rattle.abc2midi_live.specs.Told.{Told, told, behind, nothing_more}

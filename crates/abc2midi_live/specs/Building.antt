@@ -1,7 +1,7 @@
 -- Bringing the directory up to date with the text. Our own.
 use Rattle.std.specs.Prelude.{◌≡◌, ℕ, zero, suc, ◌+◌, ◌-◌, ◌^◌, Bool, true, false, List, [], ◌∷◌, ◌++◌, filter, Option, Some, None}
 use Rattle.abc_lines.specs.Text.{Text}
-use Rattle.abc_publish.specs.Publishing.{Directory, Publishing, is_pending, stored_as, with_entry}
+use Rattle.abc_publish.specs.Publisher.{Directory, Publishing, is_pending, stored_as, with_entry}
 use Rattle.abc_publish.specs.declared.slot.Stored.{Stored}
 use Rattle.abc_publish.specs.declared.slot.Stored.TheVariants.{Unknown}
 use Rattle.abc_tunebook.specs.Files.{Files, file_at}

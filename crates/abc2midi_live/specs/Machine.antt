@@ -1,6 +1,6 @@
 -- What a machine that takes lines answers. Our own.
 use Rattle.std.specs.Prelude.{◌≡◌, ℕ, Bool, true, false, if◌then◌else◌, List, [], ◌∷◌, ◌++◌, ◌==◌, All, Option}
-use Rattle.abc_publish.specs.Publishing.{Directory}
+use Rattle.abc_publish.specs.Publisher.{Directory}
 use Rattle.abc_text.specs.Byte.{line_feed}
 use Rattle.abc2midi_live.specs.Storing.{StoreAnswer}
 use Rattle.abc2midi_live.specs.Told.{Told, behind, nothing_more}

@@ -1,7 +1,7 @@
 -- How a run ends, and what it leaves. Our own.
 use Rattle.std.specs.Prelude.{◌≡◌, ℕ, ◌<◌, ◌≤◌, Bool, true, false, List, ◌++◌, length, Option, Some, Result, Ok, Err, ⊤, ◌⊎◌, IfSome, IsSome}
 use Rattle.std.specs.Io.KnownBytes.{Appends, Consumes, Keeps}
-use Rattle.abc_publish.specs.Publishing.{Directory}
+use Rattle.abc_publish.specs.Publisher.{Directory}
 use Rattle.abc2midi_live.specs.Machine.{Answers, Future, Telling}
 use Rattle.abc2midi_live.specs.Storing.{Follows, HasNoFiles, MirrorsWhereTold, StoreAnswer, StoreSeen, faults_among}
 use Rattle.abc2midi_live.specs.Told.{Told}

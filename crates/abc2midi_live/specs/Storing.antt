@@ -2,7 +2,7 @@
 use Rattle.std.specs.Prelude.{◌≡◌, ◌≢◌, ℕ, ◌+◌, ◌<◌, ◌^◌, List, [], ◌∷◌, ◌++◌, codes, decimal, Option, Some, None, ⊤}
 use Rattle.std.specs.FinMap.{get}
 use Rattle.abc_fold.specs.Work.{raised}
-use Rattle.abc_publish.specs.Publishing.{Directory}
+use Rattle.abc_publish.specs.Publisher.{Directory}
 use Rattle.abc_publish.specs.declared.slot.Stored.{Stored}
 use Rattle.abc_publish.specs.declared.slot.Stored.TheVariants.{Known, Unknown}
 use Rattle.abc2midi_live.specs.Streams.{Contents}

@@ -1,7 +1,7 @@
 -- What a run tells. Our own.
 use Rattle.std.specs.Prelude.{ℕ, List, [], ◌∷◌, ◌++◌, Option, Some, None, option_map}
 use Rattle.abc_lines.specs.Text.{Text}
-use Rattle.abc_publish.specs.Publishing.{Directory}
+use Rattle.abc_publish.specs.Publisher.{Directory}
 use Rattle.abc2midi_live.specs.Storing.{StoreAnswer}
 
 -- What holds between two commands: the text, and what the directory is known to hold.

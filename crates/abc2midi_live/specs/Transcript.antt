@@ -7,7 +7,7 @@ use Rattle.abc_lines.specs.declared.limits.TheConstants.{LONGEST_LINE}
 use Rattle.abc_text.specs.Byte.{line_feed}
 use Rattle.abc_lines.specs.Text.{Text, Splice}
 use Rattle.abc_lines.specs.Edits.{insertion, replacement, deletion, edited}
-use Rattle.abc_publish.specs.Publishing.{Directory}
+use Rattle.abc_publish.specs.Publisher.{Directory}
 use Rattle.abc_tunebook.specs.Files.{file_at}
 use Rattle.abc2midi_live.specs.Book.{files_of, faults_of, titles_of}
 use Rattle.abc2midi_live.specs.Command.{command_of, line_count}

@@ -1,7 +1,7 @@
 //! Bringing the files of a store up to date with a session.
 
 ghost use Rattle.std.specs.Prelude.{◌≡◌, string_bytes, ℕ, ◌<◌, ◌^◌, ◌++◌, ◌∷◌, [], List, None, Some, IfOk, IfSome, is_ok, option_copied};
-ghost use Rattle.abc_publish.specs.Publishing.{ended, maps_of, with_entry, Directory};
+ghost use Rattle.abc_publish.specs.Publisher.{ended, maps_of, with_entry, Directory};
 ghost use Rattle.abc2midi_live.specs.Building.{answer_line, answer_of, entry_behind, Builds, IsIdle, Stores};
 ghost use Rattle.abc2midi_live.specs.Storing.{file_name, store_seen, Follows, StoreAnswer};
 

@@ -6,7 +6,7 @@ ghost use Rattle.abc2midi_live.specs.Command.{line_count};
 ghost use Rattle.abc_lines.specs.Text.{text_of};
 ghost use Rattle.abc_lines.specs.Edits.{edited, insertion};
 ghost use Rattle.abc_live.specs.Edit.{splice_of};
-ghost use Rattle.abc_publish.specs.Publishing.{maps_of};
+ghost use Rattle.abc_publish.specs.Publisher.{maps_of};
 ghost use Rattle.abc2midi_live.specs.Building.{IsIdle};
 ghost use Rattle.abc2midi_live.specs.Storing.{store_seen, Follows, StoreAnswer};
 ghost use Rattle.abc2midi_live.specs.Told.{holding};

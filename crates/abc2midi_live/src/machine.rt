@@ -1,7 +1,7 @@
 //! What takes the lines of an input one after another, and answers some of them.
 
 ghost use Rattle.std.specs.Prelude.{◌≡◌, Bool, true, false, Some, List, ℕ, [], IfOk, OnOk};
-ghost use Rattle.abc_publish.specs.Publishing.{Directory};
+ghost use Rattle.abc_publish.specs.Publisher.{Directory};
 ghost use Rattle.abc2midi_live.specs.Machine.{Future, Replies, telling};
 ghost use Rattle.abc2midi_live.specs.Storing.{Follows, StoreAnswer, store_seen};
 ghost use Rattle.abc2midi_live.specs.Told.{told};

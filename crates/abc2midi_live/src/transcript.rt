@@ -4,7 +4,7 @@ ghost use Rattle.std.specs.Prelude.{◌≡◌, ◌≤◌, ℕ, List, IfOk, Match
 ghost use Rattle.std.specs.Io.KnownBytes.{Appends};
 ghost use Rattle.abc2midi_live.specs.Outcome.{write_faults, ends, read_counts, Completes, LeavesRun, Reads, Unserved};
 ghost use Rattle.abc_fold.specs.Work.{raised};
-ghost use Rattle.abc_publish.specs.Publishing.{maps_of};
+ghost use Rattle.abc_publish.specs.Publisher.{maps_of};
 ghost use Rattle.abc2midi_live.specs.Dialogue.{Opens};
 ghost use Rattle.abc2midi_live.specs.Gathering.{begun_of};
 ghost use Rattle.abc2midi_live.specs.Storing.{store_seen};

@@ -1,15 +1,29 @@
--- The file of a number in the book of a text, and the order of its faults.
-use Rattle.std.proofs.Common.{◌≡◌, ℕ, ◌++◌}
+-- The file of a number in the book of a text, the numbers that have one, and the order of its faults.
+use Rattle.std.proofs.Common.{◌≡◌, ℕ, ◌++◌, ◌==◌, ◌↔◌, true, Contains, IsSome, arith}
+use Rattle.std.specs.Cmp.{IsEquivalence}
 use Rattle.std.specs.List.{flat_map}
 use Rattle.std.specs.List.Sorted.{IsStrictlySortedBy}
+use Rattle.std.specs.Map.{keys_of}
+use Rattle.std.proofs.lemmas.Bool.Decides.{nat_tests}
+use Rattle.std.proofs.lemmas.Map.Views.{Contains-keys_from_lookup, IsSome-lookup_from_Contains}
 use Rattle.abc_lines.specs.Text.{Text}
 use Rattle.abc_tunebook.specs.Book.{blocks_in, book_of, given_by}
 use Rattle.abc_tunebook.specs.Fault.{fault_cmp}
-use Rattle.abc_tunebook.specs.Files.{file_at, first_file}
+use Rattle.abc_tunebook.specs.Files.{Files, file_at, first_file}
 use Rattle.abc_tunebook.specs.Rules.{Rules}
 use Rattle.abc_tunebook.specs.declared.tune.Tune.{Tune}
 use Rattle.abc_tunebook.proofs.Order.{faults_rise}
 use Rattle.abc_tunebook.proofs.Owners.{first_owner}
+
+same_number : IsEquivalence (λ (n k : ℕ). k == n)
+same_number = record { refl = λ n. grind (arith, nat_tests); symm = λ n k. grind (arith, nat_tests); congr = λ n k m same. grind (arith, nat_tests) }
+
+told_apart : (n k : ℕ) → (k == n) ≡ true → n ≡ k
+told_apart n k same = grind (arith, nat_tests)
+
+-- the numbers of files are those that have a file
+pub numbers_have_files : (files : Files) (n : ℕ) → Contains (keys_of files) n ↔ IsSome (file_at files n)
+numbers_have_files files n = (IsSome-lookup_from_Contains same_number n files, Contains-keys_from_lookup told_apart n files)
 
 module _ {State Cell Items Defaults : Type 0} (next : State → Cell → State) (gives : State → Cell → Items) (rules : Rules State Cell Items Defaults) (text : Text) where
   -- it is that of the first tune of the number that has one

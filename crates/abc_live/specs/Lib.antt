@@ -1,4 +1,4 @@
 pub mod Block
 pub mod Edit
 pub mod Kept
-pub mod Live
+pub mod Session

@@ -37,6 +37,20 @@ pub(crate) struct KeptBook {
     pub tunes: Vec<KeptTune>,
 }
 
+/// A text, and what is kept of it.
+#[derive(Drop)]
+pub(crate) struct KeptText {
+    pub lines: LineBuffer,
+    pub kept: KeptBook,
+}
+
+/// Tunes kept of a text.
+#[derive(Clone, Copy)]
+pub(crate) struct KeptTunes<'a> {
+    pub text: &'a LineBuffer,
+    pub tunes: &'a [KeptTune],
+}
+
 impl KeptTune {
     /// The tune of a block, of what its lines give as if they began the text.
     pub fn new(alloc: Global, block: Block, tune: Tune) -> Result<KeptTune, AllocError>
@@ -120,17 +134,12 @@ pub(crate) fn same_header(
 }
 
 /// The tune at a place among those kept of a text, if it has these lines.
-fn found_at<'a>(
-    text: &LineBuffer,
-    kept: &'a [KeptTune],
-    place: usize,
-    lines: &[&[u8]],
-) -> Option<&'a KeptTune>
-    requires { All (λ one. LiesWithin (length text.now.text) one.block) kept.now }
-    ensures { IfSome result (λ one. IsFound text.now.text kept.now (seen_lines lines.now) one.now) }
+fn found_at<'a>(kept: KeptTunes<'a>, place: usize, lines: &[&[u8]]) -> Option<&'a KeptTune>
+    requires { All (λ one. LiesWithin (length kept.text.now.text) one.block) kept.tunes.now }
+    ensures { IfSome result (λ one. IsFound kept.entry.text.now.text kept.entry.tunes.now (seen_lines lines.now) one.now) }
 {
-    let one = kept.get(place)?;
-    if has_lines(text, one.block, lines) {
+    let one = kept.tunes.get(place)?;
+    if has_lines(kept.text, one.block, lines) {
         Some(one)
     } else {
         None
@@ -140,18 +149,17 @@ fn found_at<'a>(
 /// A tune with these lines among those kept of a text: the one with so many before it, else the one with so many
 /// from it to the last.
 pub(crate) fn found<'a>(
-    text: &LineBuffer,
-    kept: &'a [KeptTune],
+    kept: KeptTunes<'a>,
     before: usize,
     on: usize,
     lines: &[&[u8]],
 ) -> Option<&'a KeptTune>
-    requires { All (λ one. LiesWithin (length text.now.text) one.block) kept.now }
-    ensures { IfSome result (λ one. IsFound text.now.text kept.now (seen_lines lines.now) one.now) }
+    requires { All (λ one. LiesWithin (length kept.text.now.text) one.block) kept.tunes.now }
+    ensures { IfSome result (λ one. IsFound kept.entry.text.now.text kept.entry.tunes.now (seen_lines lines.now) one.now) }
 {
-    if let Some(one) = found_at(text, kept, before, lines) {
+    if let Some(one) = found_at(kept, before, lines) {
         return Some(one);
     }
-    let place = kept.len().checked_sub(on)?;
-    found_at(text, kept, place, lines)
+    let place = kept.tunes.len().checked_sub(on)?;
+    found_at(kept, place, lines)
 }

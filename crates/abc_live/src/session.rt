@@ -1,6 +1,6 @@
 //! A tune book that is edited, for any compiler of its tunes.
 
-ghost use Rattle.std.specs.Prelude.{◌≡◌, ◌≢◌, ◌≤◌, [], IfOk, IfErr, MatchResult, Ok, option_copied, length};
+ghost use Rattle.std.specs.Prelude.{◌≡◌, ◌≢◌, ◌↔◌, ℕ, ◌≤◌, [], Contains, IfOk, IfErr, IsSome, MatchResult, Ok, option_copied, length};
 ghost use Rattle.std.specs.List.Sorted.{IsStrictlyIncreasing, IsStrictlySortedBy};
 ghost use Rattle.std.specs.Map.{keys_of};
 ghost use Rattle.abc_lines.specs.Text.{IsText, lines_of};
@@ -8,7 +8,7 @@ ghost use Rattle.abc_lines.specs.Edits.{edited, replacement, Refuses};
 ghost use Rattle.abc_lines.specs.declared.limits.TheConstants.{MOST_LINES};
 ghost use Rattle.abc_live.specs.Edit.{line_at, splice_of};
 ghost use Rattle.abc_live.specs.Kept.{AreOf};
-ghost use Rattle.abc_live.specs.Live.{book_in, live, tunes_given};
+ghost use Rattle.abc_live.specs.Session.{book_in, live, tunes_given};
 ghost use Rattle.abc_tunebook.specs.Book.{book_of};
 ghost use Rattle.abc_tunebook.specs.Fault.{fault_cmp};
 ghost use Rattle.abc_tunebook.specs.Files.{file_at, first_file};
@@ -16,7 +16,7 @@ ghost use Rattle.abc_tunebook.specs.Report.{Reports};
 
 use crate::compile::compile;
 use crate::edit::Edit;
-use crate::kept::KeptBook;
+use crate::kept::{KeptBook, KeptText};
 use abc_lines::{EditError, LineBuffer, LinePatch};
 use abc_tune::Compiler;
 use abc_tunebook::{Book, Fault, Report, Title};
@@ -28,22 +28,21 @@ use std::marker::Model;
 #[derive(Drop)]
 pub struct LiveSession<C: Compiler> {
     compiler: C,
-    lines: LineBuffer,
-    kept: KeptBook,
+    text: KeptText,
     book: Book,
 }
 
 impl<C: Compiler> Model for LiveSession<C> {
     ghost use Rattle.std.specs.Prelude.{◌≡◌};
     ghost use Rattle.abc_live.specs.Kept.{AreOf};
-    ghost use Rattle.abc_live.specs.Live.{Live, live};
+    ghost use Rattle.abc_live.specs.Session.{Live, live};
     ghost use Rattle.abc_tunebook.specs.Book.{book_of};
 
     ghost Value = { Live C };
 
-    ghost view = { λ s. live s.compiler s.lines.text };
+    ghost view = { λ s. live s.compiler s.text.lines.text };
 
-    ghost invariant = { λ s. AreOf (C.next s.compiler) (C.gives s.compiler) (C.rules s.compiler) s.lines.text s.kept.header s.kept.tunes.items × (s.book ≡ book_of (C.next s.compiler) (C.gives s.compiler) (C.rules s.compiler) s.lines.text) };
+    ghost invariant = { λ s. AreOf (C.next s.compiler) (C.gives s.compiler) (C.rules s.compiler) s.text.lines.text s.text.kept.header s.text.kept.tunes.items × (s.book ≡ book_of (C.next s.compiler) (C.gives s.compiler) (C.rules s.compiler) s.text.lines.text) };
 }
 
 impl<C: Compiler> LiveSession<C> {
@@ -59,8 +58,7 @@ impl<C: Compiler> LiveSession<C> {
         let book = Book::of(alloc, Vec::new(alloc), Vec::new(alloc))?;
         Ok(LiveSession {
             compiler,
-            lines,
-            kept,
+            text: KeptText { lines, kept },
             book,
         })
     }
@@ -73,18 +71,11 @@ impl<C: Compiler> LiveSession<C> {
         ensures uncounted { IfErr result (λ e. e ≢ EditError.OutOfMemory → work.new ≡ work.old) }
         ensures report { IfOk result (Reports (book_in C.next C.gives C.rules self.old).files (book_in C.next C.gives C.rules self.new).files) }
     {
-        let patch = prepare(&self.lines, edit)?;
-        match compiled(
-            &self.compiler,
-            &self.lines,
-            &self.kept,
-            &self.book,
-            &patch,
-            work,
-        ) {
+        let patch = prepare(&self.text.lines, edit)?;
+        match compiled(&self.compiler, &self.text, &self.book, &patch, work) {
             Ok((kept, book, report)) => {
-                self.lines.commit(patch);
-                self.kept = kept;
+                self.text.lines.commit(patch);
+                self.text.kept = kept;
                 self.book = book;
                 Ok(report)
             }
@@ -105,8 +96,10 @@ impl<C: Compiler> LiveSession<C> {
     }
 
     /// The reference numbers that have a file, rising.
+    #[tactic(auto, using(crate::proofs::Books::numbers_have_files))]
     pub fn numbers(&self) -> &[u32]
         ensures value { result.now ≡ keys_of (book_in C.next C.gives C.rules self.now).files }
+        ensures exact { (n : ℕ) → Contains result.now n ↔ IsSome (file_at (book_in C.next C.gives C.rules self.now).files n) }
         ensures rise { IsStrictlyIncreasing result.now }
     {
         self.book.numbers()
@@ -135,7 +128,7 @@ impl<C: Compiler> LiveSession<C> {
         if n == 0 {
             return None;
         }
-        self.lines.line(n as usize - 1)
+        self.text.lines.line(n as usize - 1)
     }
 
     /// How many lines there are.
@@ -143,7 +136,7 @@ impl<C: Compiler> LiveSession<C> {
         ensures count { result ≡ length self.now.text }
         ensures limit { result ≤ MOST_LINES }
     {
-        self.lines.len() as u32
+        self.text.lines.len() as u32
     }
 }
 
@@ -188,22 +181,21 @@ fn prepare_range(
 /// What is kept of a prepared text, its book, and how its files differ from those of the one at hand.
 fn compiled<C: Compiler>(
     compiler: &C,
-    text: &LineBuffer,
-    kept: &KeptBook,
+    text: &KeptText,
     book: &Book,
     patch: &LinePatch,
     work: &mut C::Work,
 ) -> Result<(KeptBook, Book, Report), AllocError>
-    requires on { patch.now.on ≡ text.now }
+    requires on { patch.now.on ≡ text.now.lines }
     requires limits { IsText patch.now.after }
-    requires kept { AreOf (C.next compiler.now) (C.gives compiler.now) (C.rules compiler.now) text.now.text kept.now.header kept.now.tunes.items }
+    requires kept { AreOf (C.next compiler.now) (C.gives compiler.now) (C.rules compiler.now) text.now.lines.text text.now.kept.header text.now.kept.tunes.items }
     ensures kept { IfOk result (λ made. AreOf (C.next compiler.now) (C.gives compiler.now) (C.rules compiler.now) patch.now.after made.0.header made.0.tunes.items) }
     ensures book { IfOk result (λ made. made.1 ≡ book_of (C.next compiler.now) (C.gives compiler.now) (C.rules compiler.now) patch.now.after) }
     ensures report { IfOk result (λ made. Reports book.now.files made.1.files made.2) }
 {
-    let alloc = text.allocator();
-    let lines = patch.after(text)?;
-    let (kept, after) = compile(compiler, alloc, &lines, text, kept, work)?;
+    let alloc = text.lines.allocator();
+    let lines = patch.after(&text.lines)?;
+    let (kept, after) = compile(compiler, alloc, &lines, text, work)?;
     let report = book.changes(alloc, &after)?;
     Ok((kept, after, report))
 }

@@ -7,10 +7,9 @@ ghost use Rattle.abc_live.specs.Block.{LiesWithin};
 ghost use Rattle.abc_live.specs.Kept.{IsOf, kept_at, kept_of, tune_alone};
 
 use crate::block::lines_in;
-use crate::kept::{KeptTune, found};
+use crate::kept::{KeptTune, KeptTunes, found};
 use crate::tune::tune_of_lines;
 use abc_book::Block;
-use abc_lines::LineBuffer;
 use abc_tune::Compiler;
 use std::alloc::{AllocError, Global};
 
@@ -45,19 +44,18 @@ pub(crate) fn tunes_of<C: Compiler>(
     after: Option<&C::State>,
     lines: &[&[u8]],
     blocks: &[Block],
-    text: &LineBuffer,
-    kept: &[KeptTune],
+    begun: KeptTunes,
     work: &mut C::Work,
 ) -> Result<Vec<KeptTune>, AllocError>
     requires few { length lines.now ≤ MOST_LINES }
     requires within { All (LiesWithin (length lines.now)) blocks.now }
-    requires kept { All (IsOf (C.next compiler.now) (C.gives compiler.now) (C.rules compiler.now) ((C.rules compiler.now).tune (option_copied after)) text.now.text) kept.now }
+    requires begun { All (IsOf (C.next compiler.now) (C.gives compiler.now) (C.rules compiler.now) ((C.rules compiler.now).tune (option_copied after)) begun.text.now.text) begun.tunes.now }
     ensures { IfOk result (λ tunes. tunes.items ≡ map (kept_of (C.next compiler.now) (C.gives compiler.now) (C.rules compiler.now) ((C.rules compiler.now).tune (option_copied after.entry)) (seen_lines lines.now)) blocks.now) }
 {
     let mut tunes = Vec::with_capacity(alloc, blocks.len())?;
     for (place, block) in blocks.iter().enumerate() {
         let own = lines_in(lines, *block);
-        let found = found(text, kept, place, blocks.len() - place, own);
+        let found = found(begun, place, blocks.len() - place, own);
         tunes.push(tune_at(compiler, alloc, after, own, *block, found, work)?)?;
     }
     Ok(tunes)

@@ -6,7 +6,7 @@ use Rattle.std.specs.BTreeMap.{is_at}
 use Rattle.std.specs.Ordering.{nat_cmp}
 use Rattle.std.proofs.lemmas.Bool.{false≢true}
 use Rattle.std.proofs.lemmas.Bool.Decides.{nat_tests}
-use Rattle.abc_publish.specs.Publishing.{Stored, Kept, Slots, slot_at, stored_of, carried_of, maps_of, publishing, with_entry, begun, ended}
+use Rattle.abc_publish.specs.Publisher.{Stored, Kept, Slots, slot_at, stored_of, carried_of, maps_of, publishing, with_entry, begun, ended}
 
 -- the slots new are old, but w at k
 abbrev pub Puts : Slots → Slots → ℕ → Option Kept → Type 0

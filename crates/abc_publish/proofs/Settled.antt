@@ -9,7 +9,7 @@ use Rattle.std.proofs.lemmas.List.Elements.{All-head, All-tail}
 use Rattle.std.proofs.lemmas.Bool.{and_parts, false≢true}
 use Rattle.std.proofs.lemmas.Bool.Decides.{nat_tests}
 use Rattle.std.proofs.lemmas.Slice.Eq.{bytes_eq-Decides}
-use Rattle.abc_publish.specs.Publishing.{Stored, Known, Unknown, Kept, Slots, Publishing, differs, stored_as, slot_at, carried_of, is_pending, is_wanted, HasNone, IsSettled}
+use Rattle.abc_publish.specs.Publisher.{Stored, Known, Unknown, Kept, Slots, Publishing, differs, stored_as, slot_at, carried_of, is_pending, is_wanted, HasNone, IsSettled}
 use Rattle.abc_publish.specs.Laws.{SettledIsCurrent, CurrentIsSettled, JobOnce}
 use Rattle.abc_tunebook.specs.Files.{Files, file_at}
 

@@ -1,6 +1,6 @@
 -- What the words on a publisher say together. Our own.
 use Rattle.std.specs.Prelude.{◌≡◌, ℕ, ◌<◌, ◌^◌, false, List, Option, None}
-use Rattle.abc_publish.specs.Publishing.{Publishing, begun, is_pending, is_wanted, IsSettled}
+use Rattle.abc_publish.specs.Publisher.{Publishing, begun, is_pending, is_wanted, IsSettled}
 use Rattle.abc_tunebook.specs.Files.{Files}
 
 -- Once all is settled no number is pending.

@@ -3,10 +3,9 @@
 ghost use Rattle.std.specs.Prelude.{◌≡◌, ◌↔◌, ℕ, ◌==◌, ◌≤◌, ◌<◌, ◌^◌, ⊤, true, false, None, Some, IfSome, All, is_some, option_copied, IfOk, IsTrue, MatchOption, OnErr, OnOk};
 ghost use Rattle.std.specs.List.Sorted.{IsStrictlyIncreasing};
 ghost use Rattle.std.specs.Map.{keys_of};
-ghost use Rattle.abc_live.specs.Live.{book_in};
-ghost use Rattle.abc_publish.specs.Publishing.{begun, ended, is_pending, is_wanted, maps_of, publishing, slot_at, stored_as, HasNone, IsNext, IsSettled};
+ghost use Rattle.abc_live.specs.Session.{book_in};
+ghost use Rattle.abc_publish.specs.Publisher.{begun, ended, is_pending, is_wanted, maps_of, publishing, slot_at, stored_as, HasBegun, HasNone, IsNext, IsNextJob, IsSettled};
 ghost use Rattle.abc_publish.specs.declared.slot.Stored.TheVariants.{Unknown};
-ghost use Rattle.abc_tunebook.specs.Files.{file_at};
 
 use crate::job::Job;
 use crate::slot::{Slot, Stored};
@@ -26,7 +25,7 @@ pub struct Publisher {
 }
 
 impl Model for Publisher {
-    ghost use Rattle.abc_publish.specs.Publishing.{Slots};
+    ghost use Rattle.abc_publish.specs.Publisher.{Slots};
 
     ghost Value = { Slots };
 
@@ -47,8 +46,8 @@ impl Publisher {
     /// A job for the least pending number that has none under way. After an error nothing is changed. What `done` and
     /// `failed` need is allocated here.
     pub fn take<C: Compiler>(&mut self, session: &LiveSession<C>) -> Result<Option<Job>, AllocError>
-        ensures job { let files = (book_in C.next C.gives C.rules session.now).files in IfOk result (λ job. MatchOption job (HasNone (maps_of self.old) files 0) (λ j. IsNext (maps_of self.old) files 0 j.number × (j.bytes ≡ file_at files j.number))) }
-        ensures after { IfOk result (λ job. MatchOption job (self.new ≡ self.old) (λ j. maps_of self.new ≡ begun (maps_of self.old) j.number j.bytes)) }
+        ensures job { IfOk result (IsNextJob (maps_of self.old) (book_in C.next C.gives C.rules session.now).files 0) }
+        ensures after { IfOk result (HasBegun self.old self.new) }
         ensures refused { OnErr result (self.new ≡ self.old) }
     {
         self.take_from(session, 0)
@@ -60,8 +59,8 @@ impl Publisher {
         session: &LiveSession<C>,
         from: u32,
     ) -> Result<Option<Job>, AllocError>
-        ensures job { let files = (book_in C.next C.gives C.rules session.now).files in IfOk result (λ job. MatchOption job (HasNone (maps_of self.old) files from) (λ j. IsNext (maps_of self.old) files from j.number × (j.bytes ≡ file_at files j.number))) }
-        ensures after { IfOk result (λ job. MatchOption job (self.new ≡ self.old) (λ j. maps_of self.new ≡ begun (maps_of self.old) j.number j.bytes)) }
+        ensures job { IfOk result (IsNextJob (maps_of self.old) (book_in C.next C.gives C.rules session.now).files from) }
+        ensures after { IfOk result (HasBegun self.old self.new) }
         ensures refused { OnErr result (self.new ≡ self.old) }
     {
         match self.next_wanted(session, from) {

@@ -1,7 +1,7 @@
 //! What is known of the file of one reference number, and the job for it that is under way.
 
 ghost use Rattle.std.specs.Prelude.{◌≡◌, None, Some, is_some, option_copied};
-ghost use Rattle.abc_publish.specs.Publishing.{differs, kept};
+ghost use Rattle.abc_publish.specs.Publisher.{differs, kept};
 
 use abc_text::{Seen, Sequence};
 use std::marker::Model;
@@ -22,7 +22,7 @@ pub struct Slot {
 
 impl Model for Slot {
     ghost use Rattle.std.specs.Prelude.{option_map};
-    ghost use Rattle.abc_publish.specs.Publishing.{Kept, kept};
+    ghost use Rattle.abc_publish.specs.Publisher.{Kept, kept};
 
     ghost Value = { Kept };
 

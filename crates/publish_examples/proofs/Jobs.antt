@@ -3,7 +3,7 @@ use Rattle.std.proofs.Common.{◌≡◌, ◌≢◌, ℕ, ◌==◌, cond, true, f
 use Rattle.std.specs.Prelude.{IfOk, MatchOption}
 use Rattle.std.proofs.lemmas.Bool.{and_parts, false≢true}
 use Rattle.std.proofs.lemmas.Bool.Decides.{nat_tests}
-use Rattle.abc_publish.specs.Publishing.{Publishing, begun, ended, is_pending, IsNext}
+use Rattle.abc_publish.specs.Publisher.{Publishing, begun, ended, is_pending, IsNext}
 use Rattle.abc_publish.specs.declared.slot.Stored.{Stored}
 use Rattle.abc_tunebook.specs.Files.{Files}
 

@@ -1,7 +1,7 @@
 //! Up to two jobs that are under way.
 
 ghost use Rattle.std.specs.Prelude.{◌≡◌, ◌≢◌, ℕ, Some};
-ghost use Rattle.abc_publish.specs.Publishing.{maps_of};
+ghost use Rattle.abc_publish.specs.Publisher.{maps_of};
 ghost use Rattle.publish_examples.specs.Held.{IsUnderWay};
 
 use abc_publish::{Job, Publisher};

@@ -1,7 +1,7 @@
 //! All orders of up to eight events on two tunes, against a plain account of what is to be seen.
 
 ghost use Rattle.std.specs.Prelude.{◌<◌};
-ghost use Rattle.abc_publish.specs.Publishing.{maps_of};
+ghost use Rattle.abc_publish.specs.Publisher.{maps_of};
 ghost use Rattle.publish_examples.specs.Held.{IsUnderWay};
 
 use crate::held::{Held, end_newer, end_older, finish};

@@ -1,6 +1,6 @@
 //! Jobs that are taken.
 
-ghost use Rattle.abc_publish.specs.Publishing.{maps_of};
+ghost use Rattle.abc_publish.specs.Publisher.{maps_of};
 ghost use Rattle.publish_examples.specs.Held.{IsUnderWay};
 
 use crate::held::Held;

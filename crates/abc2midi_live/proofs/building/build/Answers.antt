@@ -1,5 +1,5 @@
 use Rattle.std.proofs.Common.{ℕ, List, Some, sym, subst, arith}
-use Rattle.abc_publish.specs.Publishing.{maps_of}
+use Rattle.abc_publish.specs.Publisher.{maps_of}
 use Rattle.abc2midi_live.specs.Answer.{end_line}
 use Rattle.abc2midi_live.specs.Storing.{store_seen}
 use Rattle.abc2midi_live.proofs.Pending.{StoresSoFar, so_far_none, so_far_more, so_far_all, left_fewer, left_small}

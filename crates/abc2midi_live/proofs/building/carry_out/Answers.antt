@@ -1,5 +1,5 @@
 use Rattle.std.proofs.Common.{sym, ◌∙◌}
-use Rattle.abc_publish.specs.Publishing.{maps_of}
+use Rattle.abc_publish.specs.Publisher.{maps_of}
 use Rattle.abc2midi_live.proofs.Pending.{ends_done, ends_failed, follows_ended}
 use Rattle.abc2midi_live.proofs.building.carry_out.Goals as goal
 

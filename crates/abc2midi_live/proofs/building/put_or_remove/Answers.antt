@@ -1,7 +1,7 @@
 use Rattle.std.proofs.Common.{Option, List, ℕ, sym, subst, ◌∷◌, []}
 use Rattle.std.specs.Prelude.{is_ok, option_copied}
 use Rattle.std.specs.Borrow.{Bor}
-use Rattle.abc_publish.specs.Publishing.{with_entry}
+use Rattle.abc_publish.specs.Publisher.{with_entry}
 use Rattle.abc2midi_live.specs.Building.{answer_of, entry_behind}
 use Rattle.abc2midi_live.specs.Storing.{store_seen, Follows}
 use Rattle.abc2midi_live.proofs.Pending.{follows_stored, follows_taken}

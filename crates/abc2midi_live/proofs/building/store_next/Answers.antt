@@ -1,5 +1,5 @@
 use Rattle.std.proofs.Common.{◌≡◌, ℕ, ◌<◌, ◌^◌, sym, subst}
-use Rattle.abc_publish.specs.Publishing.{IsNext, HasNone, Slots, begun, maps_of}
+use Rattle.abc_publish.specs.Publisher.{IsNext, HasNone, Slots, begun, maps_of}
 use Rattle.abc_tunebook.specs.Files.{file_at}
 use Rattle.abc2midi_live.specs.Book.{files_of}
 use Rattle.abc2midi_live.specs.Building.{IsIdle}

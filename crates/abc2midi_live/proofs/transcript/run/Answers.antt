@@ -1,7 +1,7 @@
 use Rattle.std.proofs.Common.{sym, ap, ◌∙◌, arith}
 use Rattle.std.specs.Prelude.{option_copied}
 use Rattle.abc_fold.specs.Work.{raised}
-use Rattle.abc_publish.specs.Publishing.{maps_of}
+use Rattle.abc_publish.specs.Publisher.{maps_of}
 use Rattle.abc2midi_live.specs.Gathering.{begun_of}
 use Rattle.abc2midi_live.specs.Outcome.{ends, outlets, LeavesRun, write_faults}
 use Rattle.abc2midi_live.specs.Storing.{store_seen}

@@ -1,5 +1,5 @@
 use Rattle.std.proofs.Common.{◌≡◌}
-use Rattle.abc_publish.specs.Publishing.{maps_of}
+use Rattle.abc_publish.specs.Publisher.{maps_of}
 use Rattle.publish_examples.specs.Held.{IsUnderWay}
 use Rattle.publish_examples.proofs.orders.tried.Given as goal
 

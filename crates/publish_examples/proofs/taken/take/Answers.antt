@@ -1,5 +1,5 @@
 use Rattle.std.proofs.Common.{subst}
-use Rattle.abc_publish.specs.Publishing.{maps_of}
+use Rattle.abc_publish.specs.Publisher.{maps_of}
 use Rattle.publish_examples.specs.Held.{IsUnderWay}
 use Rattle.publish_examples.proofs.Jobs.{given, new, own, stays}
 use Rattle.publish_examples.proofs.taken.take.Goals as goal

@@ -1,5 +1,5 @@
 use Rattle.std.proofs.Common.{ap}
-use Rattle.abc_publish.specs.Publishing.{Publishing}
+use Rattle.abc_publish.specs.Publisher.{Publishing}
 use Rattle.abc2midi_live.proofs.dialogue.Dialogue.new.Goals as goal
 
 pub invariant_of-result : goal.invariant_of-result

@@ -2,7 +2,7 @@ use Rattle.std.proofs.Common.{◌≡◌, length, [], refl, sym, ◌∙◌, subst
 use Rattle.std.proofs.lemmas.Result.{IfOk-weaker}
 use Rattle.std.proofs.lemmas.List.{length-map}
 use Rattle.abc_lines.specs.Text.{text_of}
-use Rattle.abc_publish.specs.Publishing.{maps_of}
+use Rattle.abc_publish.specs.Publisher.{maps_of}
 use Rattle.abc2midi_live.specs.Command.{line_count}
 use Rattle.abc2midi_live.specs.Dialogue.{Proceeds}
 use Rattle.abc2midi_live.specs.Gathering.{begun_of}

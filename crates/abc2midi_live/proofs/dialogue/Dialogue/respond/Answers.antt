@@ -2,7 +2,7 @@ use Rattle.std.proofs.Common.{◌≡◌, length, [], ◌∙◌}
 use Rattle.std.proofs.lemmas.List.{length-map}
 use Rattle.abc_lines.specs.Text.{text_of}
 use Rattle.abc_lines.specs.Edits.{insertion, replacement, deletion}
-use Rattle.abc_publish.specs.Publishing.{maps_of}
+use Rattle.abc_publish.specs.Publisher.{maps_of}
 use Rattle.abc2midi_live.specs.Book.{faults_of, files_of, titles_of}
 use Rattle.abc2midi_live.specs.Command.{line_count}
 use Rattle.abc2midi_live.specs.Answer.{unknown_line}

@@ -1,5 +1,5 @@
 use Rattle.std.proofs.Common.{true, [], ◌∙◌, ap}
-use Rattle.abc_publish.specs.Publishing.{maps_of}
+use Rattle.abc_publish.specs.Publisher.{maps_of}
 use Rattle.abc2midi_live.specs.Answer.{truncated_line}
 use Rattle.abc2midi_live.specs.Dialogue.{awaited}
 use Rattle.abc2midi_live.specs.Gathering.{begun_of, request_of-gathering}

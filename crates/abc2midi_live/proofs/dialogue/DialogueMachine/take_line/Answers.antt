@@ -2,7 +2,7 @@ use Rattle.std.specs.Prelude.{OnOk}
 use Rattle.std.proofs.Common.{◌≡◌, false, map, [], ◌∷◌, ◌++◌, Some, None, ap, ◌∙◌, subst}
 use Rattle.std.proofs.lemmas.Result.{IfOk-weaker}
 use Rattle.abc_lines.specs.Text.{text_of}
-use Rattle.abc_publish.specs.Publishing.{maps_of}
+use Rattle.abc_publish.specs.Publisher.{maps_of}
 use Rattle.abc2midi_live.specs.Command.{command_of}
 use Rattle.abc2midi_live.specs.Machine.{Replies, telling}
 use Rattle.abc2midi_live.specs.Told.{holding}

@@ -1,6 +1,6 @@
 use Rattle.std.proofs.Common.{◌≡◌, ℕ, ◌≤◌, ◌<◌, ◌^◌, ◌-◌, false}
-use Rattle.abc_live.specs.Live.{book_in}
-use Rattle.abc_publish.specs.Publishing.{is_wanted, maps_of}
+use Rattle.abc_live.specs.Session.{book_in}
+use Rattle.abc_publish.specs.Publisher.{is_wanted, maps_of}
 use Rattle.abc_publish.proofs.publisher.Publisher.next_wanted.Given as goal
 
 abbrev pub invariant-loop-number : goal.invariant-loop-number

@@ -1,5 +1,5 @@
 use Rattle.std.proofs.Common.{IsSome, refl, ap, subst, ◌∙◌}
-use Rattle.abc_publish.specs.Publishing.{Kept, Slots, slot_at, stored_of}
+use Rattle.abc_publish.specs.Publisher.{Kept, Slots, slot_at, stored_of}
 use Rattle.abc_publish.proofs.Maps.{begins}
 use Rattle.abc_publish.proofs.publisher.Publisher.note.Goals as goal
 

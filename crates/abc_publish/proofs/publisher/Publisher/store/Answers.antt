@@ -1,5 +1,5 @@
 use Rattle.std.proofs.Common.{◌≡◌, Some, true, is_some, ap, subst, sym}
-use Rattle.abc_publish.specs.Publishing.{Kept, Slots, slot_at}
+use Rattle.abc_publish.specs.Publisher.{Kept, Slots, slot_at}
 use Rattle.abc_publish.proofs.Maps.{ends, succeeds}
 use Rattle.abc_publish.proofs.publisher.Publisher.store.Goals as goal
 

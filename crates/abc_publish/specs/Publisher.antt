@@ -1,9 +1,10 @@
 -- What a directory of files is known to hold, the jobs that are under way, and how both differ from a book. Our own.
-use Rattle.std.specs.Prelude.{◌≡◌, ℕ, ◌<◌, ◌≤◌, ◌^◌, ◌==◌, ◌&&◌, Bool, true, false, not, if◌then◌else◌, List, Option, Some, None, is_none}
+use Rattle.std.specs.Prelude.{◌≡◌, ℕ, ◌<◌, ◌≤◌, ◌^◌, ◌==◌, ◌&&◌, Bool, true, false, not, if◌then◌else◌, List, Option, Some, None, MatchOption, is_none}
 use Rattle.std.specs.Str.{bytes_eq}
 use Rattle.std.specs.BTreeMap.{is_at}
 use Rattle.std.specs.Map.{lookup}
 use Rattle.std.specs.Ordering.{nat_cmp}
+use Rattle.abc_publish.specs.declared.job.Job.{Job}
 use Rattle.abc_tunebook.specs.Files.{Files, file_at}
 pub use Rattle.abc_publish.specs.declared.slot.Stored.{Stored}
 pub use Rattle.abc_publish.specs.declared.slot.Stored.TheVariants.{Known, Unknown}
@@ -90,9 +91,17 @@ pub record IsNext (p : Publishing) (files : Files) (from number : ℕ) : Type 0 
 abbrev pub HasNone : Publishing → Files → ℕ → Type 0
 HasNone p files from = (n : ℕ) → from ≤ n → n < 2 ^ 32 → is_wanted p files n ≡ false
 
+-- A job for the least such number, which carries the number's file; none exactly where there is no such number.
+abbrev pub IsNextJob : Publishing → Files → ℕ → Option Job → Type 0
+IsNextJob p files from job = MatchOption job (HasNone p files from) (λ j. IsNext p files from j.number × (j.bytes ≡ file_at files j.number))
+
 -- A job for a number has begun, and nothing else changed.
 abbrev pub begun : Publishing → ℕ → Option (List ℕ) → Publishing
 begun p number bytes = publishing p.directory (with_entry p.jobs number (Some bytes))
+
+-- The job that was taken has begun, and nothing else changed; where there was none, nothing did.
+abbrev pub HasBegun : Slots → Slots → Option Job → Type 0
+HasBegun old new job = MatchOption job (new ≡ old) (λ j. maps_of new ≡ begun (maps_of old) j.number j.bytes)
 
 -- The job of a number has ended, and the directory holds this for it.
 abbrev pub ended : Publishing → ℕ → Option Stored → Publishing
