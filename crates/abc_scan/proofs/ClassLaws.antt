@@ -6,7 +6,7 @@ use Rattle.std.proofs.lemmas.List.Elements.{All-nil, All-cons, All-head, All-tai
 use Rattle.abc_scan.specs.declared.class.LineClass.{LineClass}
 use Rattle.abc_scan.specs.declared.class.LineClass.TheVariants.{Blank, Comment, Field, Music}
 use Rattle.abc_text.specs.Blank.{is_blank}
-use Rattle.abc_scan.specs.LineClass.{first_visible, names_field, is_music_letter, begins_bar, field_letter, field_or_music, class_by, class_of_text, IsBlankLine, IsCommentLine, IsFieldLine}
+use Rattle.abc_scan.specs.Class.{first_visible, names_field, is_music_letter, begins_bar, field_letter, field_or_music, class_by, class_of_text, IsBlankLine, IsCommentLine, IsFieldLine}
 
 -- the first visible byte behind a blank, and in front
 visible_later : (b : ℕ) (bs : List ℕ) → is_blank b ≡ true → first_visible (b ∷ bs) ≡ first_visible bs

@@ -15,7 +15,7 @@ use Rattle.abc_scan.specs.declared.parts.ChordPartKind.TheVariants as parts
 use Rattle.abc_scan.specs.declared.spanned.Spanned.{Spanned}
 use Rattle.abc_scan.specs.declared.token.TokenKind.{TokenKind}
 use Rattle.abc_scan.specs.declared.token.TokenKind.TheVariants as kinds
-use Rattle.abc_scan.specs.LineClass.{class_of, IsFieldLine}
+use Rattle.abc_scan.specs.Class.{class_of, IsFieldLine}
 use Rattle.abc_scan.specs.Length.{number_or, factor, written_length, IsLength, HasFactor}
 use Rattle.abc_scan.specs.Text.{before_comment, without_comment, content}
 use Rattle.abc_scan.specs.Chord.{SpellsPart, part_kinds, inside_of, IsChord}

@@ -1,6 +1,6 @@
 pub mod Byte
 pub mod Text
-pub mod LineClass
+pub mod Class
 pub mod Length
 pub mod Number
 pub mod Note

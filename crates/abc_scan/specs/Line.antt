@@ -10,7 +10,7 @@ use Rattle.abc_scan.specs.declared.token.TokenKind.TheVariants as kinds
 use Rattle.abc_scan.specs.Cutting.{IsCuttingFrom, cutting_from}
 use Rattle.abc_scan.specs.Field.{field_of}
 use Rattle.abc_scan.specs.Length.{HasFactor}
-use Rattle.abc_scan.specs.LineClass.{class_of}
+use Rattle.abc_scan.specs.Class.{class_of}
 use Rattle.abc_scan.specs.Text.{content}
 use Rattle.abc_scan.specs.Token.{Spells, line_kinds, reading_at}
 

@@ -3,7 +3,7 @@
 ghost use Rattle.std.specs.Prelude.{◌≡◌, ◌+◌, IfOk, IsOk, All, length, false};
 ghost use Rattle.abc_fold.specs.Work.{raised};
 ghost use Rattle.abc_scan.specs.Cutting.{IsSpan, JoinFromTo};
-ghost use Rattle.abc_scan.specs.LineClass.{class_of};
+ghost use Rattle.abc_scan.specs.Class.{class_of};
 ghost use Rattle.abc_scan.specs.Line.{cutting_of, field_token, has_tokens, tokens_in, tokens_of, covered_of, HasLength, CutsEachText, CutsOnce};
 
 use crate::class::{LineClass, class_of};

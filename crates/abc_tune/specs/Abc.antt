@@ -13,7 +13,7 @@ use Rattle.abc_scan.specs.declared.spanned.Spanned.{Spanned}
 use Rattle.abc_scan.specs.declared.token.TokenKind.{TokenKind}
 use Rattle.abc_scan.specs.Cell.{cells_of}
 use Rattle.abc_scan.specs.Line.{tokens_of}
-use Rattle.abc_scan.specs.LineClass.{class_of}
+use Rattle.abc_scan.specs.Class.{class_of}
 use Rattle.abc_tune.specs.Built.{bytes_of, build_faults_of}
 use Rattle.abc_tunebook.specs.Rules.{Rules}
 

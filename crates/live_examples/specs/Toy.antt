@@ -6,7 +6,7 @@ use Rattle.std.specs.List.{flat_map}
 use Rattle.abc_fields.specs.declared.fault.FaultCode.{FaultCode}
 use Rattle.abc_fields.specs.declared.fault.FaultCode.TheVariants.{BadByte, TuneTooLong}
 use Rattle.abc_lines.specs.Text.{Text}
-use Rattle.abc_scan.specs.LineClass.{class_of}
+use Rattle.abc_scan.specs.Class.{class_of}
 use Rattle.abc_scan.specs.declared.class.LineClass.{LineClass}
 use Rattle.abc_scan.specs.declared.class.LineClass.TheVariants.{Blank, Comment, Field, Music}
 use Rattle.abc_tunebook.specs.Book.{Book, book_of}

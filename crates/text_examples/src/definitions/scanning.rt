@@ -9,7 +9,7 @@ ghost use Rattle.abc_text.specs.declared.letter.Letter.TheVariants.{C};
 ghost use Rattle.abc_scan.specs.declared.token.TokenKind.TheVariants as kinds;
 ghost use Rattle.abc_scan.specs.Line.{tokens_of};
 ghost use Rattle.abc_scan.specs.Length.{length_at};
-ghost use Rattle.abc_scan.specs.LineClass.{class_of};
+ghost use Rattle.abc_scan.specs.Class.{class_of};
 ghost use Rattle.abc_scan.specs.Note.{octave};
 ghost use Rattle.abc_scan.specs.Text.{content};
 ghost use Rattle.text_examples.specs.Values.{note, plain, token};

@@ -1,5 +1,5 @@
 use Rattle.std.proofs.Common.{ap, ◌∙◌}
-use Rattle.abc_scan.specs.LineClass.{class_of_text, IsBlankLine, IsCommentLine, IsFieldLine}
+use Rattle.abc_scan.specs.Class.{class_of_text, IsBlankLine, IsCommentLine, IsFieldLine}
 use Rattle.abc_text.specs.Ending.{without_return}
 use Rattle.abc_scan.proofs.ClassLaws.{Laws, laws}
 use Rattle.abc_scan.proofs.class.class_of.Goals as goal

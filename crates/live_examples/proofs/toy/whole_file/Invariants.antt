@@ -1,6 +1,6 @@
 use Rattle.std.proofs.Common.{◌≡◌, ◌++◌, drop}
 use Rattle.std.specs.List.{flat_map}
-use Rattle.abc_scan.specs.LineClass.{class_of}
+use Rattle.abc_scan.specs.Class.{class_of}
 use Rattle.live_examples.specs.declared.toy.Played.{Played}
 use Rattle.live_examples.specs.Toy.{bytes_of_class}
 use Rattle.live_examples.proofs.toy.whole_file.Given as goal
