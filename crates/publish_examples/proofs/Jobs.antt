@@ -1,5 +1,5 @@
 -- The jobs under way behind one that begins, and behind one that ends.
-use Rattle.std.proofs.Common.{◌≡◌, ◌≢◌, ℕ, ◌==◌, cond, true, false, Bool, List, Option, Some, None, is_none, refl, sym, ap, subst, Result, Ok, ◌∙◌, arith}
+use Rattle.std.proofs.Common.{◌≡◌, ◌≢◌, ℕ, ◌==◌, cond, true, false, List, Option, Some, None, is_none, sym, ap, subst, Result, Ok, ◌∙◌, arith}
 use Rattle.std.specs.Prelude.{IfOk, MatchOption}
 use Rattle.std.proofs.lemmas.Bool.{and_parts, false≢true}
 use Rattle.std.proofs.lemmas.Bool.Decides.{nat_tests}

@@ -1,7 +1,6 @@
 -- Jobs that are held, and that they are under way. Our own.
 use Rattle.std.specs.Prelude.{◌≡◌, ◌≢◌, ⊤, Some}
 use Rattle.abc_publish.specs.Publisher.{Publishing}
-use Rattle.abc_publish.specs.declared.job.Job.{Job}
 use Rattle.publish_examples.specs.declared.held.Held.{Held}
 use Rattle.publish_examples.specs.declared.held.Held.TheVariants.{Nothing, One, Two}
 

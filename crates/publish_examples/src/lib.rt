@@ -1,7 +1,9 @@
-//! Tests of a publisher on the session over a text: a tune that is edited while its file is written, two tunes whose
-//! jobs end in the other order, a tune that is taken out, and all orders of up to eight events on two tunes.
+//! Tests of a publisher on the session over a text: a tune that is edited while its file is written and then taken out,
+//! and all orders of up to eight events on two tunes.
 #![tactic(auto)]
 
+#[cfg(test)]
+mod account;
 pub mod held;
 #[cfg(test)]
 mod orders;

@@ -1,11 +1,12 @@
-//! All orders of up to eight events on two tunes, against a plain account of what is to be seen.
+//! All orders of up to eight events on two tunes, against the account.
 
 ghost use Rattle.std.specs.Prelude.{◌<◌};
 ghost use Rattle.abc_publish.specs.Publisher.{maps_of};
 ghost use Rattle.publish_examples.specs.Held.{IsUnderWay};
 
+use crate::account::{Account, OPENING, Version};
 use crate::held::{Held, end_newer, end_older, finish};
-use crate::taken::take;
+use crate::taken::{FILE_OF_C, FILE_OF_D, check_newest, take};
 use crate::texts::insert;
 use abc_fold::Work;
 use abc_live::Session;
@@ -20,7 +21,6 @@ const EVENTS: usize = 8;
 /// What happens.
 #[derive(Clone, Copy)]
 enum Event {
-    /// The tune of a number goes from none to `C` to `D` to none.
     Edited(u32),
     Taken,
     OlderEnds(bool),
@@ -43,119 +43,23 @@ impl Event {
             Event::NewerEnds(false) => None,
         }
     }
-}
 
-/// What stands for a tune: none, with `C`, with `D`; and of a file that nobody knows.
-#[derive(Clone, Copy, PartialEq, Debug)]
-enum Version {
-    Absent,
-    WithC,
-    WithD,
-    Unknown,
-}
-
-/// The account of one number: what the book has, what the directory holds, and what a job carries.
-#[derive(Clone, Copy)]
-struct Side {
-    book: Version,
-    stored: Version,
-    carried: Option<Version>,
-}
-
-impl Side {
-    fn is_pending(self) -> bool {
-        self.stored != self.book
-    }
-
-    fn is_wanted(self) -> bool {
-        self.is_pending() && self.carried.is_none()
-    }
-
-    fn edited(self) -> Side {
-        let book = match self.book {
-            Version::Absent => Version::WithC,
-            Version::WithC => Version::WithD,
-            _ => Version::Absent,
-        };
-        Side { book, ..self }
-    }
-
-    fn taken(self) -> Side {
-        Side {
-            carried: Some(self.book),
-            ..self
-        }
-    }
-
-    fn ended(self, done: bool) -> Side {
-        let stored = match self.carried {
-            Some(carried) if done => carried,
-            _ => Version::Unknown,
-        };
-        Side {
-            stored,
-            carried: None,
-            ..self
+    /// Whether it can happen while so many jobs are under way: a job that is not there does not end.
+    fn can_happen(self, under_way: usize) -> bool {
+        match self {
+            Event::Edited(_) | Event::Taken => true,
+            Event::OlderEnds(_) => under_way >= 1,
+            Event::NewerEnds(_) => under_way >= 2,
         }
     }
 }
 
-/// The account of both numbers.
-#[derive(Clone, Copy)]
-struct Account {
-    first: Side,
-    second: Side,
-}
-
-impl Account {
-    fn edited(self, number: u32) -> Account {
-        if number == 1 {
-            let first = self.first.edited();
-            Account { first, ..self }
-        } else {
-            let second = self.second.edited();
-            Account { second, ..self }
-        }
-    }
-
-    fn ended(self, number: u32, done: bool) -> Account {
-        if number == 1 {
-            let first = self.first.ended(done);
-            Account { first, ..self }
-        } else {
-            let second = self.second.ended(done);
-            Account { second, ..self }
-        }
-    }
-
-    /// The number of the next job, and the account behind it.
-    fn taken(self) -> (Option<u32>, Account) {
-        if self.first.is_wanted() {
-            let first = self.first.taken();
-            return (Some(1), Account { first, ..self });
-        }
-        if self.second.is_wanted() {
-            let second = self.second.taken();
-            return (Some(2), Account { second, ..self });
-        }
-        (None, self)
-    }
-
-    fn is_settled(self) -> bool {
-        let idle = self.first.carried.is_none() && self.second.carried.is_none();
-        idle && !self.first.is_pending() && !self.second.is_pending()
-    }
-}
-
-/// The session of each version of both tunes, as the place of `session_at` says.
+/// The session of each version of both tunes, as the place of `session_of` says.
 fn sessions(rt: &impl Abort, alloc: Global, work: &mut Work) -> Result<Vec<Session>, AllocError> {
     let mut sessions = Vec::new(alloc);
     for first in NOTES {
         for second in NOTES {
-            let mut session = Session::new(alloc)?;
-            insert_tune(rt, alloc, &mut session, b"X:2", second, work);
-            insert_tune(rt, alloc, &mut session, b"X:1", first, work);
-            sessions.push(session)?;
+            sessions.push(session_with(rt, alloc, first, second, work)?)?;
         }
     }
     Ok(sessions)
@@ -164,23 +68,34 @@ fn sessions(rt: &impl Abort, alloc: Global, work: &mut Work) -> Result<Vec<Sessi
 /// The note of each version, where there is a tune.
 const NOTES: [Option<&[u8]>; 3] = [None, Some(b"C"), Some(b"D")];
 
-fn insert_tune(
+/// A session over tunes with these notes.
+fn session_with(
     rt: &impl Abort,
     alloc: Global,
-    session: &mut Session,
-    number: &[u8],
-    note: Option<&[u8]>,
+    first: Option<&[u8]>,
+    second: Option<&[u8]>,
     work: &mut Work,
-) {
-    if let Some(note) = note {
+) -> Result<Session, AllocError> {
+    let mut session = Session::new(alloc)?;
+    if let Some(note) = second {
         insert(
             rt,
             alloc,
-            session,
-            &[number, b"T:A", b"K:C", note, b""],
+            &mut session,
+            &[b"X:2", b"T:A", b"K:C", note, b""],
             work,
         );
     }
+    if let Some(note) = first {
+        insert(
+            rt,
+            alloc,
+            &mut session,
+            &[b"X:1", b"T:A", b"K:C", note, b""],
+            work,
+        );
+    }
+    Ok(session)
 }
 
 /// The place of the session of the book.
@@ -202,20 +117,24 @@ fn session_of<'a>(rt: &impl Abort, sessions: &'a [Session], account: Account) ->
         .expect(rt, "there is a session of each book")
 }
 
-/// Checks what the publisher shows.
-fn check(rt: &impl Abort, publisher: &Publisher, session: &Session, account: Account) {
-    assert_eq!(rt;
-        publisher.is_pending(1, session),
-        account.first.is_pending()
-    );
-    assert_eq!(rt;
-        publisher.is_pending(2, session),
-        account.second.is_pending()
-    );
-    assert_eq!(rt; publisher.settled(session), account.is_settled());
+/// The file of a tune.
+fn file_of(version: Version) -> Option<&'static [u8]> {
+    match version {
+        Version::WithC => Some(FILE_OF_C),
+        Version::WithD => Some(FILE_OF_D),
+        _ => None,
+    }
 }
 
-/// Takes a job, and checks its number and its bytes.
+/// Checks what the publisher shows.
+fn check(rt: &impl Abort, publisher: &Publisher, session: &Session, account: Account) {
+    let first = publisher.is_pending(1, session) == account.first.is_pending();
+    let second = publisher.is_pending(2, session) == account.second.is_pending();
+    let settled = publisher.settled(session) == account.is_settled();
+    assert!(rt; first && second && settled);
+}
+
+/// Takes a job, and checks its number and its bytes, or that there is none.
 fn check_taken(
     rt: &impl Abort,
     publisher: &mut Publisher,
@@ -226,21 +145,45 @@ fn check_taken(
     requires { IsUnderWay (maps_of publisher.old) held }
     ensures { IsUnderWay (maps_of publisher.new) result.0 }
 {
-    let (number, account) = account.taken();
+    let (expected, account) = account.taken();
     let before = held.count();
     let held = take(rt, publisher, held, session);
-    match number {
-        Some(number) => {
-            assert_eq!(rt; held.newest().map(Job::number), Some(number));
-            assert_eq!(rt; held.newest().and_then(Job::bytes), session.output(number));
-        }
-        None => assert_eq!(rt; held.count(), before),
+    match expected {
+        Some((number, version)) => check_newest(rt, &held, number, file_of(version)),
+        None => assert!(rt; held.count() == before),
     }
     (held, account)
 }
 
-/// Tries events one after another, and checks what is seen behind each from a place on. How many could happen: a job
-/// that is not there does not end.
+/// What is held and the account behind an event.
+fn behind(
+    rt: &impl Abort,
+    publisher: &mut Publisher,
+    held: Held,
+    session: &Session,
+    account: Account,
+    event: Event,
+) -> (Held, Account)
+    requires { IsUnderWay (maps_of publisher.old) held }
+    ensures { IsUnderWay (maps_of publisher.new) result.0 }
+{
+    match event {
+        Event::Edited(number) => (held, account.edited(number)),
+        Event::Taken => check_taken(rt, publisher, held, session, account),
+        Event::OlderEnds(done) => {
+            let number = held.oldest().map_or(0, Job::number);
+            let held = end_older(publisher, held, done);
+            (held, account.ended(number, done))
+        }
+        Event::NewerEnds(done) => {
+            let number = held.newest().map_or(0, Job::number);
+            let held = end_newer(publisher, held, done);
+            (held, account.ended(number, done))
+        }
+    }
+}
+
+/// Tries events one after another, and checks what is seen behind each from a place on. How many could happen.
 fn tried(
     rt: &impl Abort,
     alloc: Global,
@@ -253,30 +196,11 @@ fn tried(
     let mut account = OPENING;
     let mut count = 0;
     for event in events {
-        match *event {
-            Event::Edited(number) => account = account.edited(number),
-            Event::Taken => {
-                let session = session_of(rt, sessions, account);
-                (held, account) = check_taken(rt, &mut publisher, held, session, account);
-            }
-            Event::OlderEnds(done) => {
-                let Some(number) = held.oldest().map(Job::number) else {
-                    break;
-                };
-                held = end_older(&mut publisher, held, done);
-                account = account.ended(number, done);
-            }
-            Event::NewerEnds(done) => {
-                if held.count() < 2 {
-                    break;
-                }
-                let Some(number) = held.newest().map(Job::number) else {
-                    break;
-                };
-                held = end_newer(&mut publisher, held, done);
-                account = account.ended(number, done);
-            }
+        if !event.can_happen(held.count()) {
+            break;
         }
+        let session = session_of(rt, sessions, account);
+        (held, account) = behind(rt, &mut publisher, held, session, account, *event);
         if count >= new {
             check(rt, &publisher, session_of(rt, sessions, account), account);
         }
@@ -285,20 +209,6 @@ fn tried(
     finish(&mut publisher, held);
     count
 }
-
-/// Both tunes are there, and nothing is written.
-const OPENING: Account = Account {
-    first: Side {
-        book: Version::WithC,
-        stored: Version::Absent,
-        carried: None,
-    },
-    second: Side {
-        book: Version::WithC,
-        stored: Version::Absent,
-        carried: None,
-    },
-};
 
 /// Goes on to the next list of events: one up to a place moves on, those behind it start again. The place that moved
 /// on; None behind the last list.

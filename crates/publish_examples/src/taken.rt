@@ -1,4 +1,4 @@
-//! Jobs that are taken.
+//! Jobs that are taken, and what they carry.
 
 ghost use Rattle.abc_publish.specs.Publisher.{maps_of};
 ghost use Rattle.publish_examples.specs.Held.{IsUnderWay};
@@ -20,4 +20,21 @@ pub fn take(rt: &impl Abort, publisher: &mut Publisher, held: Held, session: &Se
         (Held::One(older), Some(newer)) => Held::Two(older, newer),
         (Held::Two(_older, _newer), Some(_job)) => panic!(rt; "there are two numbers"),
     }
+}
+
+/// The file of a tune `T:A`, `K:C` whose note is `C`.
+pub const FILE_OF_C: &[u8] =
+    b"MThd\0\0\0\x06\0\x01\0\x02\x01\xE0MTrk\0\0\0\x17\0\xFF\x03\x01A\0\xFFQ\x03\x07\xA1\x20\0\xFFY\x02\0\0\x81p\xFF\x2F\0MTrk\0\0\0\x0D\0\x90\x3CP\x81p\x80\x3C\x40\0\xFF\x2F\0";
+
+/// The same with `D`, two semitones higher.
+pub const FILE_OF_D: &[u8] =
+    b"MThd\0\0\0\x06\0\x01\0\x02\x01\xE0MTrk\0\0\0\x17\0\xFF\x03\x01A\0\xFFQ\x03\x07\xA1\x20\0\xFFY\x02\0\0\x81p\xFF\x2F\0MTrk\0\0\0\x0D\0\x90\x3EP\x81p\x80\x3E\x40\0\xFF\x2F\0";
+
+/// Checks the number of the job that was taken last, and what it carries.
+pub fn check_newest(rt: &impl Abort, held: &Held, number: u32, file: Option<&[u8]>) {
+    let is_it = match held.newest() {
+        Some(job) => job.number() == number && job.bytes() == file,
+        None => false,
+    };
+    assert!(rt; is_it);
 }

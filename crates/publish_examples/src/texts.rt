@@ -2,16 +2,17 @@
 
 use abc_fold::Work;
 use abc_live::{Edit, Session};
-use std::alloc::{AllocError, Global};
+use std::alloc::Global;
 use std::process::Abort;
 
 /// Each text as a line.
-fn lines_of(alloc: Global, texts: &[&[u8]]) -> Result<Vec<Vec<u8>>, AllocError> {
+pub fn lines_of(rt: &impl Abort, alloc: Global, texts: &[&[u8]]) -> Vec<Vec<u8>> {
     let mut lines = Vec::new(alloc);
     for text in texts {
-        lines.push(Vec::from_slice(alloc, text)?)?;
+        let line = Vec::from_slice(alloc, text).expect(rt, "there is memory");
+        lines.push(line).expect(rt, "there is memory");
     }
-    Ok(lines)
+    lines
 }
 
 /// Edits the text.
@@ -27,24 +28,6 @@ pub fn insert(
     texts: &[&[u8]],
     work: &mut Work,
 ) {
-    let lines = lines_of(alloc, texts).expect(rt, "there is memory");
+    let lines = lines_of(rt, alloc, texts);
     apply(rt, session, Edit::Insert { at: 1, lines }, work);
-}
-
-/// Puts one line in the place of another.
-pub fn replace(
-    rt: &impl Abort,
-    alloc: Global,
-    session: &mut Session,
-    at: u32,
-    text: &[u8],
-    work: &mut Work,
-) {
-    let lines = lines_of(alloc, &[text]).expect(rt, "there is memory");
-    let edit = Edit::Replace {
-        from: at,
-        to: at,
-        lines,
-    };
-    apply(rt, session, edit, work);
 }
