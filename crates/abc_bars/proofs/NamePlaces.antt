@@ -1,8 +1,9 @@
--- Places of names in lists.
-use Rattle.std.proofs.Common.{◌≡◌, ℕ, zero, suc, ◌+◌, ◌<◌, nat_lt, Bool, true, false, not, ◌||◌, cond, List, [], ◌∷◌, ◌++◌, length, map, take, Some, None, refl, ap, ◌∙◌, add-one, arith}
+-- Places of names in lists that have no name twice.
+use Rattle.std.proofs.Common.{◌≡◌, ℕ, zero, suc, ◌+◌, ◌<◌, nat_lt, Bool, true, false, not, ◌||◌, cond, List, [], ◌∷◌, ◌++◌, length, map, take, Some, None, refl, ap, subst, ◌∙◌, add-one, arith}
 use Rattle.std.proofs.lemmas.Bool.Decides.{nat_tests}
-use Rattle.std.proofs.lemmas.List.{length-map}
-use Rattle.std.specs.List.{AllByRecursion, list_any, position, prefix_len, slice_get}
+use Rattle.std.proofs.lemmas.Map.Keys.{IsDistinct-head, IsDistinct-tail}
+use Rattle.std.specs.Cmp.{IsEquivalence}
+use Rattle.std.specs.List.{AllByRecursion, IsDistinct, list_any, position, prefix_len, slice_get}
 use Rattle.std.specs.Map.{keys_of}
 use Rattle.std.specs.Option.{option_map}
 
@@ -34,14 +35,26 @@ pub no_place : {K : Type 0} (p : K → Bool) (xs : List K) → AllByRecursion (�
 no_place p [] none = refl
 no_place p (x ∷ xs) none = place_behind p x xs none.0 ∙ ap (option_map (λ k. k + 1)) (no_place p xs none.1)
 
--- As many names in front pass as voices by their names.
-names_in_front : {K V : Type 0} (p : K → Bool) (vs : List (K × V)) → prefix_len p (keys_of vs) ≡ prefix_len (λ v. p v.0) vs
-names_in_front p [] = refl
-names_in_front p (v ∷ vs) = ap (λ n. cond (p v.0) (1 + n) 0) (names_in_front p vs)
+-- What holds of each name holds of the one at a place.
+name_at : {K V : Type 0} (P : K → Type 0) (vs : List (K × V)) (i : ℕ) (v : K × V) → AllByRecursion P (keys_of vs) → slice_get vs i ≡ Some v → P v.0
+name_at P [] i v each at = absurd (cc)
+name_at P (w ∷ vs) zero v each at = let same : w ≡ v = cc in subst (λ u. P u.0) same each.0
+name_at P (w ∷ vs) (suc i) v each at = name_at P vs i v each.1 at
 
--- The place of a name is that of the first voice with it.
-pub place_of_voice : {K V : Type 0} (p : K → Bool) (vs : List (K × V)) → position (λ v. p v.0) vs ≡ position p (keys_of vs)
-place_of_voice p vs = rw (names_in_front (λ k. not (p k)) vs) (rw (length-map vs (λ v. v.0)) refl)
+-- The names before a place are not the one there.
+others_before : {K V W : Type 0} {eq : K → K → Bool} → IsEquivalence eq → (g : K × V → W) (vs : List (K × V)) (i : ℕ) (v : K × V) →
+    IsDistinct eq (keys_of vs) → slice_get vs i ≡ Some v → AllByRecursion (λ k. eq v.0 k ≡ false) (keys_of (map (λ u. (u.0, g u)) (take i vs)))
+others_before laws g [] i v distinct at = absurd (cc)
+others_before laws g (w ∷ vs) zero v distinct at = tt
+others_before {eq} laws g (w ∷ vs) (suc i) v distinct at = (
+  laws.symm v.0 w.0 ∙ name_at (λ k. eq w.0 k ≡ false) vs i v (IsDistinct-head eq w.0 (keys_of vs) distinct) at,
+  others_before laws g vs i v (IsDistinct-tail eq w.0 (keys_of vs) distinct) at,
+)
+
+-- Among what is made of the voices before a place, that voice's name has no place.
+pub new_before : {K V W : Type 0} {eq : K → K → Bool} → IsEquivalence eq → (g : K × V → W) (vs : List (K × V)) (i : ℕ) (v : K × V) →
+    IsDistinct eq (keys_of vs) → slice_get vs i ≡ Some v → position (eq v.0) (keys_of (map (λ u. (u.0, g u)) (take i vs))) ≡ None
+new_before {eq} laws g vs i v distinct at = no_place (eq v.0) _ (others_before laws g vs i v distinct at)
 
 -- What is made of the elements up to a place, and of the one there.
 made_on : {X Y : Type 0} (f : X → Y) (xs : List X) (i : ℕ) (x : X) → slice_get xs i ≡ Some x → map f (take (suc i) xs) ≡ map f (take i xs) ++ f x ∷ []

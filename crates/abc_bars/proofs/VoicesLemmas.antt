@@ -1,7 +1,18 @@
 -- Voices by their names.
 use Rattle.std.specs.List.{AllZip}
-use Rattle.std.proofs.Common.{[], ◌∷◌, ◌≡◌, ◌<◌, ℕ, zero, suc, ◌+◌, add-one, arith, slice_index_or, slice_set, length, map, List, Some, refl, sym, ap, ◌∙◌}
-use Rattle.abc_bars.specs.Voices.{voice_at, with_voice_at}
+use Rattle.std.proofs.Common.{[], ◌∷◌, ◌≡◌, ℕ, zero, suc, ◌+◌, add-one, length, map, false, List, Option, None, Some, is_some, bytes_eq, refl, sym, ap, ◌∙◌}
+use Rattle.std.specs.Map.{lookup}
+use Rattle.indexmap.proofs.MapLemmas.{some_index}
+use Rattle.abc_bars.specs.Voices.{place_of, voice_at, with_voice_at}
+
+-- Of what is not there nothing is known.
+none_by : {S : Type 0} (known : Option S) → is_some known ≡ false → known ≡ None
+none_by None absent = refl
+none_by (Some known) absent = cc
+
+-- A name without a place finds nothing.
+pub lookup-none : {S : Type 0} (name : List ℕ) (voices : List (List ℕ × S)) → place_of name voices ≡ None → lookup (bytes_eq name) voices ≡ None
+lookup-none name voices none = none_by _ (sym (some_index (bytes_eq name) voices) ∙ ap is_some none)
 
 -- Copies of voices, each of which is its source, are the voices.
 pub copies_same : {S : Type 0} (voices copies : List (List ℕ × S)) → AllZip (λ p q. (q.0 ≡ p.0) × (q.1 ≡ p.1)) voices copies → copies ≡ voices
@@ -9,20 +20,6 @@ copies_same [] [] same = refl
 copies_same [] (copy ∷ copies) same = absurd same
 copies_same (voice ∷ voices) [] same = absurd same
 copies_same (voice ∷ voices) (copy ∷ copies) same = λ i. (same.0.0 i, same.0.1 i) ∷ copies_same voices copies same.1 i
-
--- To put a pair of the same name at a place is to know other things of the voice there.
-pub set_is_with : {S : Type 0} (voices : List (List ℕ × S)) (at : ℕ) (voice : List ℕ × S) → voice ≡ slice_index_or voices at voice
-    → (known : S) → slice_set voices at (voice.0, known) ≡ with_voice_at voices at known
-set_is_with [] at voice is known = refl
-set_is_with (v ∷ voices) zero voice is known = ap (λ u. (u.0, known) ∷ voices) is
-set_is_with (v ∷ voices) (suc at) voice is known = ap (λ rest. v ∷ rest) (set_is_with voices at voice is known)
-
--- What the pair at a place says is known of the voice there.
-pub voice_there : {S : Type 0} (voices : List (List ℕ × S)) (at : ℕ) (voice : List ℕ × S) → voice ≡ slice_index_or voices at voice
-    → at < length voices → voice_at voices at ≡ Some voice.1
-voice_there [] at voice is inside = absurd (omega arith)
-voice_there (v ∷ voices) zero voice is inside = ap (λ u. Some u.1) (sym is)
-voice_there (v ∷ voices) (suc at) voice is inside = voice_there voices at voice is (omega arith)
 
 module _ {S : Type 0} (f : S → S) where
   -- What is known of the first so many voices is changed.

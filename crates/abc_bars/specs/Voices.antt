@@ -1,6 +1,7 @@
 -- Voices in the order in which they were mentioned, each by its name and with what is known of it.
-use Rattle.std.specs.Prelude.{ℕ, zero, suc, List, [], ◌∷◌, Option, position, slice_get, bytes_eq}
+use Rattle.std.specs.Prelude.{ℕ, List, Option, position, slice_get, bytes_eq}
 use Rattle.std.specs.Map.{keys_of, values_of}
+use Rattle.indexmap.specs.Layout.{set_value_at}
 
 -- The place of the voice with this name.
 abbrev pub place_of : {S : Type 0} → List ℕ → List (List ℕ × S) → Option ℕ
@@ -12,6 +13,4 @@ voice_at voices at = slice_get (values_of voices) at
 
 -- Other things are known of the voice at a place; where there is none, nothing changes.
 abbrev pub with_voice_at : {S : Type 0} → List (List ℕ × S) → ℕ → S → List (List ℕ × S)
-with_voice_at [] at known = []
-with_voice_at (voice ∷ voices) zero known = (voice.0, known) ∷ voices
-with_voice_at (voice ∷ voices) (suc at) known = voice ∷ with_voice_at voices at known
+with_voice_at voices at known = set_value_at voices at known

@@ -4,6 +4,7 @@ ghost use Rattle.std.specs.Prelude.{◌≡◌, [], ◌∷◌, false, if◌then�
 ghost use Rattle.std.specs.Borrow.{sem};
 ghost use Rattle.abc_bars.specs.Body.{IsUnnamed, here, joined_by, moved_to, mentioned, made_current, after_part, all_without_accidentals};
 ghost use Rattle.abc_bars.specs.declared.body.Current.TheVariants as Current;
+ghost use Rattle.abc_bars.specs.Voices.{place_of};
 ghost use Rattle.abc_bars.specs.BodyLent.{LendsHere, LendsUnnamed};
 
 use crate::settings::Settings;
@@ -144,6 +145,7 @@ impl Body {
 
     /// Mentions another voice, which becomes the current one, with these properties.
     fn join(&mut self, name: VoiceName, said: Shift) -> Result<(), AllocError>
+        requires { place_of name self.old.voices ≡ None }
         ensures { OnOk result (self.new ≡ joined_by self.old name said) }
     {
         let mut settings = self.another.clone()?;

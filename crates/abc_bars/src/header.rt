@@ -81,8 +81,7 @@ fn shift_said(here: Shift, before: Shift) -> Shift
 fn say_at(voices: &mut Voices<Shift>, at: usize, shift: Shift)
     ensures { voices.new ≡ said_at voices.old at shift }
 {
-    if at < voices.len() {
-        let known = voices.known_mut(at);
+    if let Some(known) = voices.get_mut(at) {
         *known = shift_said(shift, *known);
     }
 }

@@ -58,4 +58,5 @@ pub use numbers::{field_letters, key_numbers, music_limits};
 pub use tempo::TuneTempo;
 pub use unit::UnitLength;
 pub use voice_laws::voice_views;
-pub use voices::MOST_VOICES;
+pub use voice_name::VoiceName;
+pub use voices::{MOST_VOICES, Voices};

@@ -3,15 +3,19 @@
 ghost use Rattle.std.specs.Prelude.{◌≡◌, IfOk, bytes_eq};
 ghost use Rattle.std.specs.Cmp.{on_equiv, on_per, partial_equiv_from_equiv};
 ghost use Rattle.std.specs.Cmp.Lexicographic.{nat_list_eq_equiv};
+ghost use Rattle.std.specs.Cmp.Rules.{hashing};
+ghost use Rattle.std.specs.Hash as fed;
+ghost use Rattle.std.proofs.Common.{rules};
 
 use abc_text::Sequence;
 use std::alloc::{AllocError, Global};
+use std::hash::{Hash, Hasher};
 use std::marker::Model;
 
 /// The name of a voice, as a field V: writes it (ABC 2.1 section 7.1); that of the voice without one
 /// is empty. Contracts see its bytes.
 #[derive(Drop)]
-pub(crate) struct VoiceName {
+pub struct VoiceName {
     bytes: Sequence<u8>,
 }
 
@@ -28,7 +32,7 @@ impl Model for VoiceName {
 
 impl VoiceName {
     /// The name that these bytes spell.
-    pub(crate) fn new(alloc: Global, bytes: &[u8]) -> Result<VoiceName, AllocError>
+    pub fn new(alloc: Global, bytes: &[u8]) -> Result<VoiceName, AllocError>
         ensures { IfOk result (λ name. name ≡ bytes.now) }
     {
         let bytes = Sequence::from_slice(alloc, bytes)?;
@@ -57,4 +61,14 @@ impl PartialEq for VoiceName {
 
 impl Eq for VoiceName {
     ghost laws = { on_equiv (λ name. name) nat_list_eq_equiv };
+}
+
+impl Hash for VoiceName {
+    ghost hash_input = { λ name. fed.slice fed.u8 name };
+
+    ghost respects_eq = { Prim.search (hashing, rules) };
+
+    fn hash<H: Hasher>(&self, state: &mut H) {
+        self.bytes.as_slice().hash(state);
+    }
 }

@@ -1,16 +1,18 @@
 //! The voices of a tune.
 
-ghost use Rattle.std.specs.Prelude.{◌≡◌, ◌==◌, ◌<◌, ◌&&◌, [], ◌∷◌, ◌++◌, bytes_eq, length, position, slice_get, Some, IfSome, OnOk};
+ghost use Rattle.std.specs.Prelude.{◌≡◌, ◌==◌, ◌<◌, ◌&&◌, [], ◌∷◌, ◌++◌, bytes_eq, length, slice_get, None, Some, IfSome, OnOk};
 ghost use Rattle.std.specs.Borrow.{sem};
 ghost use Rattle.std.specs.Cmp.{and_equiv, and_per, on_equiv, on_per, partial_equiv_from_equiv};
 ghost use Rattle.std.specs.Cmp.Lexicographic.{lists_equiv, lists_per, nat_list_eq_equiv, pointwise};
-ghost use Rattle.std.specs.List.{AllZip};
+ghost use Rattle.std.specs.List.{AllZip, IsDistinct};
+ghost use Rattle.std.specs.Map.{keys_of};
 ghost use Rattle.std.specs.Map.Iter.{deref_pair};
-ghost use Rattle.std.specs.Option.{option_copied, option_map};
+ghost use Rattle.std.specs.Option.{option_copied, option_copied_mut, option_map};
 ghost use Rattle.abc_bars.specs.Voices.{place_of, voice_at};
-ghost use Rattle.abc_bars.specs.VoicesLent.{lends_known};
+ghost use Rattle.abc_bars.specs.VoicesLent.{lends_known, lends_voice};
 
 use crate::voice_name::VoiceName;
+use indexmap::IndexMap;
 use std::alloc::{AllocError, Global};
 use std::marker::Model;
 
@@ -18,10 +20,10 @@ use std::marker::Model;
 pub const MOST_VOICES: usize = 15;
 
 /// Voices in the order in which they were mentioned, each with what is known of it (ABC 2.1 section
-/// 7.1). They are few, so that a name is looked for one by one. Contracts see pairs of a name and what is known.
+/// 7.1). No two have the same name. Contracts see pairs of a name and what is known.
 #[derive(Drop)]
-pub(crate) struct Voices<S> {
-    list: Vec<(VoiceName, S)>,
+pub struct Voices<S> {
+    map: IndexMap<VoiceName, S>,
 }
 
 impl<S> Model for Voices<S> {
@@ -32,82 +34,83 @@ impl<S> Model for Voices<S> {
 
     ghost coded = { coded_list (coded× (coded_list coded_ℕ) S.code) };
 
-    ghost view = { λ voices. voices.list.items };
-}
-
-/// The place of the first voice with this name.
-fn first_named<S>(voices: &[(VoiceName, S)], name: &VoiceName) -> Option<usize>
-    ensures value { result ≡ position (λ voice. bytes_eq name.now voice.0) voices.now }
-    ensures inside { IfSome result (λ at. at < length voices.now) }
-{
-    voices.iter().position(|voice| *name == voice.0)
+    ghost view = { λ voices. voices.map.entries };
 }
 
 impl<S> Voices<S> {
     /// No voices yet.
-    pub(crate) fn new(alloc: Global) -> Self
+    pub fn new(alloc: Global) -> Self
         ensures { result ≡ [] }
     {
         Voices {
-            list: Vec::new(alloc),
+            map: IndexMap::new(alloc),
         }
     }
 
     /// How many voices there are.
-    pub(crate) fn len(&self) -> usize
+    pub fn len(&self) -> usize
         ensures { result ≡ length self.now }
     {
-        self.list.len()
+        self.map.len()
     }
 
     /// Whether there are none.
-    pub(crate) fn is_empty(&self) -> bool
+    pub fn is_empty(&self) -> bool
         ensures { result ≡ (length self.now == 0) }
     {
-        self.list.is_empty()
+        self.map.is_empty()
     }
 
     /// The place of the voice with this name.
-    pub(crate) fn place_of(&self, name: &VoiceName) -> Option<usize>
+    pub fn place_of(&self, name: &VoiceName) -> Option<usize>
         ensures value { result ≡ place_of name.now self.now }
         ensures inside { IfSome result (λ at. at < length self.now) }
     {
-        first_named(self.list.as_slice(), name)
+        self.map.get_index_of(name)
     }
 
-    /// The name of the voice at a place, and what is known of it.
-    pub(crate) fn entry(&self, at: usize) -> Option<(&VoiceName, &S)>
-        ensures { option_map deref_pair result ≡ slice_get self.now at }
+    /// The name of the voice at a place, and what is known of it. No two voices have the same name.
+    pub fn entry(&self, at: usize) -> Option<(&VoiceName, &S)>
+        ensures value { option_map deref_pair result ≡ slice_get self.now at }
+        ensures distinct { IsDistinct bytes_eq (keys_of self.now) }
     {
-        let (name, known) = self.list.get(at)?;
-        Some((name, known))
+        let _count = self.map.len();
+        self.map.get_index(at)
     }
 
     /// What is known of the voice at a place.
-    pub(crate) fn get(&self, at: usize) -> Option<&S>
+    pub fn get(&self, at: usize) -> Option<&S>
         ensures { option_copied result ≡ voice_at self.now at }
     {
-        let (_, known) = self.list.get(at)?;
+        let (_, known) = self.map.get_index(at)?;
         Some(known)
     }
 
+    /// What is known of the voice at a place, to be changed.
+    pub fn get_mut(&mut self, at: usize) -> Option<&mut S>
+        ensures* writes_back { sem 𝓛 (lends_voice S.row self.entry at result) }
+        ensures value { option_copied_mut result ≡ voice_at self.old at }
+    {
+        self.map.get_index_mut(at)
+    }
+
     /// What is known of the voice at a place that there is, to be changed.
-    pub(crate) fn known_mut(&mut self, at: usize) -> &mut S
+    pub fn known_mut(&mut self, at: usize) -> &mut S
         requires { at < length self.old }
         ensures* writes_back { sem 𝓛 (lends_known S.row self.entry at result) }
         ensures value { voice_at self.old at ≡ Some result.now }
     {
-        let voice = &mut self.list[at];
-        &mut voice.1
+        &mut self.map[at]
     }
 
     /// Puts one more voice at the end.
-    pub(crate) fn push(&mut self, name: VoiceName, known: S) -> Result<(), AllocError>
+    pub fn push(&mut self, name: VoiceName, known: S) -> Result<(), AllocError>
     where
         S: Drop,
+        requires { place_of name self.old ≡ None }
         ensures { OnOk result (self.new ≡ self.old ++ (name, known) ∷ []) }
     {
-        self.list.push((name, known))?;
+        self.map.insert(name, known)?;
         Ok(())
     }
 }
@@ -116,8 +119,8 @@ impl<S: Clone> Clone for Voices<S> {
     ghost is_clone = { λ voices copies. AllZip (λ p q. (q.0 ≡ p.0) × S.is_clone p.1 q.1) voices copies };
 
     fn clone(&self) -> Result<Self, AllocError> {
-        let list = self.list.clone()?;
-        Ok(Voices { list })
+        let map = self.map.clone()?;
+        Ok(Voices { map })
     }
 }
 
@@ -127,7 +130,7 @@ impl<S: PartialEq> PartialEq for Voices<S> {
     ghost laws = { lists_per (and_per (on_per (λ p. p.0) (partial_equiv_from_equiv nat_list_eq_equiv)) (on_per (λ p. p.1) S.laws)) };
 
     fn eq(&self, other: &Self) -> bool {
-        self.list == other.list
+        self.map.as_slice() == other.map.as_slice()
     }
 }
 
