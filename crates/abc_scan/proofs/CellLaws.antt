@@ -1,11 +1,13 @@
 -- The cells of a line are its tokens, cut behind each bar line and nowhere else.
-use Rattle.std.proofs.Common.{◌≡◌, suc, ◌-◌, true, false, List, [], ◌∷◌, ◌++◌, length, take, refl, sym, ap, ◌∙◌, subst, ⊎_elim, arith, append_assoc}
-use Rattle.std.specs.Prelude.{All, not, ◌==◌}
-use Rattle.std.proofs.lemmas.Bool.{cond-true, cond-false, cases_Bool, eqb-true, ne_eqb, and_parts, not-true}
+use Rattle.std.proofs.Common.{◌≡◌, ℕ, suc, ◌+◌, ◌-◌, ◌<◌, ◌≤◌, true, false, List, [], ◌∷◌, ◌++◌, length, take, drop, get_or, refl, sym, ap, ◌∙◌, subst, ⊎_elim, arith, append_assoc}
+use Rattle.std.specs.Prelude.{All, ◌==◌}
+use Rattle.std.proofs.Math.Seq.{drop-cons}
+use Rattle.std.proofs.lemmas.Bool.{cond-true, cond-false, cases_Bool, eqb-true}
+use Rattle.std.proofs.lemmas.List.{drop_all}
 use Rattle.std.proofs.lemmas.List.Elements.{All-nil, All-cons, All-head, All-tail}
 use Rattle.abc_scan.specs.declared.spanned.Spanned.{Spanned}
 use Rattle.abc_scan.specs.declared.token.TokenKind.{TokenKind}
-use Rattle.abc_scan.specs.Cell.{ends_cell, has_no_bar, IsCell, EndsWithBar, but_last, AreCells, put_first, cells_of}
+use Rattle.abc_scan.specs.Cell.{ends_cell, IsCell, EndsWithBar, but_last, AreCells, put_first, cells_of}
 
 abbrev pub Tokens : Type 0
 Tokens = List (Spanned TokenKind)
@@ -105,14 +107,25 @@ begun-bar begun t ts bar =
     ap (with_begun begun) (cond-true (ends_cell t) ((t ∷ []) ∷ cells_of ts) (put_first t (cells_of ts)) bar) ∙ begun-first begun (t ∷ []) (cells_of ts) ∙ ap (λ l. (begun ++ t ∷ []) ∷ l) (sym (begun-none (cells_of ts)))
 
 -- one turn over the tokens
-pub turn-bar : (done all : List Tokens) (begun : Tokens) (t : Spanned TokenKind) (rest : Tokens) → ends_cell t ≡ true → done ++ with_begun begun (cells_of (t ∷ rest)) ≡ all → (done ++ (begun ++ t ∷ []) ∷ []) ++ with_begun [] (cells_of rest) ≡ all
-turn-bar done all begun t rest bar before =
+next_token_is : (tokens : Tokens) (i : ℕ) (t : Spanned TokenKind) → i < length tokens → t ≡ get_or tokens i t → drop i tokens ≡ t ∷ drop (i + 1) tokens
+next_token_is tokens i t inside is =
+    let n : suc i ≡ i + 1 = omega arith in
+    drop-cons tokens i t inside ∙ (λ k. sym is k ∷ drop (n k) tokens)
+
+pub turn-bar : (tokens : Tokens) (done all : List Tokens) (begun : Tokens) (i : ℕ) (t : Spanned TokenKind) → i < length tokens → t ≡ get_or tokens i t → ends_cell t ≡ true → done ++ with_begun begun (cells_of (drop i tokens)) ≡ all → (done ++ (begun ++ t ∷ []) ∷ []) ++ with_begun [] (cells_of (drop (i + 1) tokens)) ≡ all
+turn-bar tokens done all begun i t inside is bar before =
+    let rest = drop (i + 1) tokens in
     append_assoc done ((begun ++ t ∷ []) ∷ []) (with_begun [] (cells_of rest))
     ∙ ap (λ l. done ++ l) (sym (begun-bar begun t rest bar))
+    ∙ ap (λ l. done ++ with_begun begun (cells_of l)) (sym (next_token_is tokens i t inside is))
     ∙ before
 
-pub turn-plain : (done all : List Tokens) (begun : Tokens) (t : Spanned TokenKind) (rest : Tokens) → ends_cell t ≡ false → done ++ with_begun begun (cells_of (t ∷ rest)) ≡ all → done ++ with_begun (begun ++ t ∷ []) (cells_of rest) ≡ all
-turn-plain done all begun t rest plain before = ap (λ l. done ++ l) (sym (begun-token begun t rest plain)) ∙ before
+pub turn-plain : (tokens : Tokens) (done all : List Tokens) (begun : Tokens) (i : ℕ) (t : Spanned TokenKind) → i < length tokens → t ≡ get_or tokens i t → ends_cell t ≡ false → done ++ with_begun begun (cells_of (drop i tokens)) ≡ all → done ++ with_begun (begun ++ t ∷ []) (cells_of (drop (i + 1) tokens)) ≡ all
+turn-plain tokens done all begun i t inside is plain before =
+    let rest = drop (i + 1) tokens in
+    ap (λ l. done ++ l) (sym (begun-token begun t rest plain))
+    ∙ ap (λ l. done ++ with_begun begun (cells_of l)) (sym (next_token_is tokens i t inside is))
+    ∙ before
 
 -- the end of the tokens
 pub end-some : (begun : Tokens) → (length begun == 0) ≡ false → with_begun begun [] ≡ begun ∷ []
@@ -123,18 +136,5 @@ pub end-none : (begun : Tokens) → (length begun == 0) ≡ true → with_begun 
 end-none [] e = begun-none []
 end-none (t ∷ ts) e = let none = eqb-true (length (t ∷ ts)) 0 e in absurd (omega (arith, none))
 
--- a line in which no token but the last is a bar line
-last_alone : (t : Spanned TokenKind) → cells_of (t ∷ []) ≡ (t ∷ []) ∷ []
-last_alone t = ⊎_elim
-    (λ bar. cond-true (ends_cell t) ((t ∷ []) ∷ []) ((t ∷ []) ∷ []) bar)
-    (λ plain. cond-false (ends_cell t) ((t ∷ []) ∷ []) ((t ∷ []) ∷ []) plain)
-    (cases_Bool (ends_cell t))
-
-pub one_cell : (tokens : Tokens) → (length tokens == 0) ≡ false → has_no_bar (take (length tokens - 1) tokens) ≡ true → cells_of tokens ≡ tokens ∷ []
-one_cell [] some none = cc
-one_cell (t ∷ []) some none = last_alone t
-one_cell (t ∷ u ∷ us) some none =
-    let n : length (t ∷ u ∷ us) - 1 ≡ suc (length (u ∷ us) - 1) = omega arith in
-    let parts = and_parts (not (ends_cell t)) _ (subst (λ k. has_no_bar (take k (t ∷ u ∷ us)) ≡ true) n none) in
-    cond-false (ends_cell t) ((t ∷ []) ∷ cells_of (u ∷ us)) (put_first t (cells_of (u ∷ us))) (not-true _ parts.0)
-    ∙ ap (put_first t) (one_cell (u ∷ us) (ne_eqb (length (u ∷ us)) 0 (λ e. omega (arith, e))) parts.1)
+pub at-end : (tokens : Tokens) (done all : List Tokens) (begun : Tokens) (i : ℕ) → length tokens ≤ i → done ++ with_begun begun (cells_of (drop i tokens)) ≡ all → done ++ with_begun begun [] ≡ all
+at-end tokens done all begun i past before = ap (λ l. done ++ with_begun begun (cells_of l)) (sym (drop_all i tokens past)) ∙ before

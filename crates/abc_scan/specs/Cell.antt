@@ -1,6 +1,5 @@
 -- The cells of a line. Our own.
-use Rattle.std.specs.Prelude.{◌≡◌, ◌-◌, Bool, false, true, not, List, [], ◌∷◌, ◌++◌, length, take, flat_map, if◌then◌else◌, All}
-use Rattle.std.specs.List.{list_all}
+use Rattle.std.specs.Prelude.{◌≡◌, ◌-◌, Bool, false, true, List, [], ◌∷◌, ◌++◌, length, take, flat_map, if◌then◌else◌, All}
 use Rattle.abc_scan.specs.declared.spanned.Spanned.{Spanned}
 use Rattle.abc_scan.specs.declared.token.TokenKind.{TokenKind}
 use Rattle.abc_scan.specs.Token.{is_bar}
@@ -8,10 +7,6 @@ use Rattle.abc_scan.specs.Token.{is_bar}
 -- Whether a token is a bar line.
 abbrev pub ends_cell : Spanned TokenKind → Bool
 ends_cell token = is_bar token.kind
-
--- None of the tokens is a bar line.
-abbrev pub has_no_bar : List (Spanned TokenKind) → Bool
-has_no_bar tokens = list_all (λ t. not (ends_cell t)) tokens
 
 -- A cell has a last token, and no bar line before that.
 pub record IsCell (cell : List (Spanned TokenKind)) : Type 0 where

@@ -1,7 +1,7 @@
 //! The cells of a line.
 
-ghost use Rattle.std.specs.Prelude.{◌≡◌, true, [], ◌∷◌, IfOk};
-ghost use Rattle.abc_scan.specs.Cell.{AreCells, has_no_bar, cells_of};
+ghost use Rattle.std.specs.Prelude.{◌≡◌, ◌≤◌, [], IfOk, length};
+ghost use Rattle.abc_scan.specs.Cell.{AreCells, cells_of};
 
 use crate::token::{Token, is_bar};
 use abc_text::Sequence;
@@ -12,57 +12,49 @@ use std::mem;
 /// carries all that is known of its tokens: nobody has to look at the line again.
 pub type Cell = Sequence<Token>;
 
-/// Whether none of these tokens is a bar line.
-fn has_no_bar(tokens: &[Token]) -> bool
-    ensures { result ≡ has_no_bar tokens.now }
+/// A copy of a token.
+fn copy_of(token: &Token) -> Result<Token, AllocError>
+    ensures { IfOk result (λ copy. copy ≡ token.now) }
 {
-    tokens.iter().all(|token| !is_bar(&token.kind))
+    token.clone()
 }
 
-/// Whether a line with these tokens is one cell.
-fn is_one_cell(tokens: &[Token]) -> bool
-    ensures { result ≡ true → cells_of tokens.now ≡ tokens.now ∷ [] }
+/// How many of these tokens stand in the first cell.
+fn first_size(tokens: &[Token]) -> usize
+    ensures { result ≤ length tokens.now }
 {
-    !tokens.is_empty() && has_no_bar(&tokens[..tokens.len() - 1])
+    for (at, token) in tokens.iter().enumerate() {
+        if is_bar(&token.kind) {
+            return at + 1;
+        }
+    }
+    tokens.len()
 }
 
-/// All tokens in one cell: none of them is moved.
-fn whole(alloc: Global, mut tokens: Vec<Token>) -> Result<Vec<Cell>, AllocError>
-    ensures { IfOk result (λ cells. cells.items ≡ tokens.items ∷ []) }
+/// No token yet, with room for the first cell of these.
+fn room_for(alloc: Global, tokens: &[Token]) -> Result<Cell, AllocError>
+    ensures { IfOk result (λ cell. cell ≡ []) }
 {
-    let mut cells = Vec::with_capacity(alloc, 1)?;
-    tokens.shrink_to_fit();
-    cells.push(Sequence::from(tokens))?;
-    Ok(cells)
+    let cell = Vec::with_capacity(alloc, first_size(tokens))?;
+    Ok(Sequence::from(cell))
 }
 
-/// The tokens cut behind each bar line.
-fn cut(alloc: Global, tokens: Vec<Token>) -> Result<Vec<Cell>, AllocError>
-    ensures { IfOk result (λ cells. cells.items ≡ cells_of tokens.items) }
+/// The cells of a line, by its tokens: a line without tokens has none.
+pub fn cells(alloc: Global, tokens: &[Token]) -> Result<Vec<Cell>, AllocError>
+    ensures value { IfOk result (λ cells. cells.items ≡ cells_of tokens.now) }
+    ensures cells { IfOk result (λ cells. AreCells tokens.now cells.items) }
 {
     let mut cells = Vec::new(alloc);
-    let mut cell = Sequence::new(alloc);
-    for token in tokens {
-        let ends = is_bar(&token.kind);
-        cell.push(token)?;
-        if ends {
-            cells.push(mem::replace(&mut cell, Sequence::new(alloc)))?;
+    let mut cell = room_for(alloc, tokens)?;
+    for (at, token) in tokens.iter().enumerate() {
+        cell.push(copy_of(token)?)?;
+        if is_bar(&token.kind) {
+            let next = room_for(alloc, &tokens[at + 1..])?;
+            cells.push(mem::replace(&mut cell, next))?;
         }
     }
     if !cell.is_empty() {
         cells.push(cell)?;
     }
     Ok(cells)
-}
-
-/// The cells of a line, by its tokens: a line without tokens has none.
-#[tactic(auto, using(crate::proofs::CellLaws::are_cells))]
-pub fn cells(alloc: Global, tokens: Vec<Token>) -> Result<Vec<Cell>, AllocError>
-    ensures value { IfOk result (λ cells. cells.items ≡ cells_of tokens.items) }
-    ensures cells { IfOk result (λ cells. AreCells tokens.items cells.items) }
-{
-    if is_one_cell(tokens.as_slice()) {
-        return whole(alloc, tokens);
-    }
-    cut(alloc, tokens)
 }

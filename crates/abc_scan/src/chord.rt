@@ -19,7 +19,7 @@ use abc_text::Sequence;
 use std::alloc::{AllocError, Global};
 
 /// The notes between `[` and `]`, which sound together (ABC 2.1 section 4.17).
-#[derive(Drop)]
+#[derive(Clone, Drop)]
 pub struct Chord {
     /// What stands between the brackets, in order.
     pub parts: Sequence<ChordPart>,

@@ -7,7 +7,7 @@ use abc_text::{Sequence, trimmed};
 use std::alloc::{AllocError, Global};
 
 /// An information field (ABC 2.1 section 3).
-#[derive(Drop)]
+#[derive(Clone, Drop)]
 pub struct Field {
     /// The letter before the colon, or `+`.
     pub letter: u8,

@@ -25,7 +25,7 @@ use std::alloc::{AllocError, Global};
 pub type Token = Spanned<TokenKind>;
 
 /// What a token is.
-#[derive(Drop)]
+#[derive(Clone, Drop)]
 pub enum TokenKind {
     Note(Note),
     /// A rest, with its length.

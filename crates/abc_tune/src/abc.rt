@@ -74,7 +74,8 @@ impl Compiler for Abc {
     }
 
     fn cells(&self, alloc: Global, line: &[u8], work: &mut Work) -> Result<Vec<Cell>, AllocError> {
-        cells(alloc, scan(alloc, line, work)?)
+        let tokens = scan(alloc, line, work)?;
+        cells(alloc, tokens.as_slice())
     }
 
     fn header(&self, alloc: Global) -> Entry {
