@@ -4,6 +4,7 @@ pub mod Cuts
 pub mod Feeding
 pub mod InputLines
 pub mod Pending
+pub mod Refusals
 pub mod Requests
 pub mod Runs
 pub mod Storing

@@ -66,9 +66,15 @@ unfolding answered
 edited_answer old new d splice text t n =
     (λ ended later. ap (λ x. Some (answered_by x (holding (result_unwrap_or (edited old splice) old) d) later)) (sym t) ∙ ap (λ x. Some (answered_by text (holding x d) later)) (sym n), refl)
 
-pub responds_edit : (old new : Text) (d : Directory) (request : Request) (splice : Option Splice) (text : List ℕ) → request ≡ Edits splice → text ≡ edit_answer old (edited old splice)
+responds_edit : (old new : Text) (d : Directory) (request : Request) (splice : Option Splice) (text : List ℕ) → request ≡ Edits splice → text ≡ edit_answer old (edited old splice)
     → new ≡ result_unwrap_or (edited old splice) old → Carried (holding old d) (holding new d) request [] text
 responds_edit old new d request splice text is t n = subst (λ r. Carried (holding old d) (holding new d) r [] text) (sym is) (edited_answer old new d splice text t n)
+
+-- the same where the directory behind it is known to be the one before it
+pub responds_change : (old new : Text) (d after : Directory) (request : Request) (splice : Option Splice) (text : List ℕ) → request ≡ Edits splice → text ≡ edit_answer old (edited old splice)
+    → new ≡ result_unwrap_or (edited old splice) old → after ≡ d → Carried (holding old d) (holding new after) request [] text
+responds_change old new d after request splice text is t n same =
+    subst (λ e. Carried (holding old d) (holding new e) request [] text) (sym same) (responds_edit old new d request splice text is t n)
 
 not_ok : (r : Result Text EditError) → is_ok r ≡ false → IsErr r
 not_ok (Ok text) e = absurd (true≢false e)

@@ -120,6 +120,9 @@ follows_fault old new d n name small e p counted = record {
 pub follows_none : (s : StoreSeen) (d : Directory) → Follows s s [] d d
 follows_none s d = record { failures = sym (raised_none s.failures); contents = λ first m. m }
 
+pub follows_same : (s : StoreSeen) (d after : Directory) → after ≡ d → Follows s s [] d after
+follows_same s d after same = subst (λ e. Follows s s [] d e) (sym same) (follows_none s d)
+
 faults_among-append : (a b : List StoreAnswer) → faults_among (a ++ b) ≡ faults_among a + faults_among b
 faults_among-append [] b = omega arith
 faults_among-append (Done ∷ a) b = faults_among-append a b

@@ -8,6 +8,7 @@ pub mod Gathering
 pub mod Machine
 pub mod Outcome
 pub mod Piped
+pub mod Refusal
 pub mod Storing
 pub mod Streams
 pub mod Told

@@ -12,7 +12,7 @@ const BYTE_ORDER_MARK: &[u8] = &[0xEF, 0xBB, 0xBF];
 
 /// The bytes without one mark at their start.
 #[tactic(auto, unfolding(crate::specs::Transcript::without_mark))]
-fn without_mark(bytes: &[u8]) -> &[u8]
+pub fn without_mark(bytes: &[u8]) -> &[u8]
     ensures { result.now ≡ without_mark bytes.now }
 {
     match bytes.strip_prefix(BYTE_ORDER_MARK) {

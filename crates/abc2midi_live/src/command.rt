@@ -10,7 +10,7 @@ use abc_text::{number_of, without_return};
 use std::str;
 
 /// A command. `Insert` and `Replace` take the `count` lines after them.
-#[derive(Clone, Copy, Debug, PartialEq, Eq)]
+#[derive(Clone, Copy)]
 pub enum Command {
     /// Puts lines before line `at`.
     Insert { at: u32, count: u32 },
@@ -36,7 +36,7 @@ pub enum Command {
 const MOST_NUMBERS: usize = 3;
 
 /// The numbers of a command: the first `count` values.
-#[derive(Clone, Copy)]
+#[derive(Drop)]
 struct Numbers {
     values: [u32; MOST_NUMBERS],
     count: usize,

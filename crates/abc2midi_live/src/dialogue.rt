@@ -24,23 +24,6 @@ use abc_live::{Edit, Session};
 use abc_publish::Publisher;
 use std::alloc::{AllocError, Global};
 
-// Edits the text, and gives the answer to that.
-fn edit(
-    alloc: Global,
-    session: &mut Session,
-    edit: &Edit,
-    work: &mut Work,
-) -> Result<Vec<u8>, AllocError>
-    ensures answer { IfOk result (λ text. text.items ≡ edit_answer session.old.text (edited session.old.text (splice_of edit.now))) }
-    ensures text { IfOk result (λ _. session.new.text ≡ result_unwrap_or (edited session.old.text (splice_of edit.now)) session.old.text) }
-    ensures uncounted { OnOk result (IsErr (edited session.old.text (splice_of edit.now)) → work.new ≡ work.old) }
-{
-    match session.apply(edit, work) {
-        Ok(report) => report_line(alloc, &report),
-        Err(error) => refusal(alloc, error),
-    }
-}
-
 /// A command whose lines have not all come.
 #[derive(Drop)]
 pub struct Gathering {
@@ -76,6 +59,20 @@ impl Dialogue {
         })
     }
 
+    // Edits the text, and gives the answer to that.
+    fn change(&mut self, edit: &Edit, work: &mut Work) -> Result<Vec<u8>, AllocError>
+        ensures answer { let before = self.old.session.text in IfOk result (λ text. text.items ≡ edit_answer before (edited before (splice_of edit.now))) }
+        ensures text { let before = self.old.session.text in IfOk result (λ _. self.new.session.text ≡ result_unwrap_or (edited before (splice_of edit.now)) before) }
+        ensures publisher { self.new.publisher ≡ self.old.publisher }
+        ensures gathering { self.new.gathering ≡ self.old.gathering }
+        ensures uncounted { OnOk result (IsErr (edited self.old.session.text (splice_of edit.now)) → work.new ≡ work.old) }
+    {
+        match self.session.apply(edit, work) {
+            Ok(report) => report_line(self.alloc, &report),
+            Err(error) => refusal(self.alloc, error),
+        }
+    }
+
     /// Puts the lines of a tune book before line 1, and gives the answer to that.
     pub fn take_book(&mut self, book: &[u8], work: &mut Work) -> Result<Vec<u8>, AllocError>
         ensures answer { IfOk result (λ text. text.items ≡ edit_answer self.old.session.text (edited self.old.session.text (insertion 1 (book_lines book.now)))) }
@@ -84,12 +81,7 @@ impl Dialogue {
         ensures gathering { self.new.gathering ≡ self.old.gathering }
     {
         let lines = book_lines(self.alloc, book)?;
-        edit(
-            self.alloc,
-            &mut self.session,
-            &Edit::Insert { at: 1, lines },
-            work,
-        )
+        self.change(&Edit::Insert { at: 1, lines }, work)
     }
 
     // Carries out a command with its lines, and answers it.
@@ -109,18 +101,15 @@ impl Dialogue {
     {
         match command {
             Command::Insert { at, .. } => {
-                let change = Edit::Insert { at, lines };
-                let text = edit(self.alloc, &mut self.session, &change, work)?;
+                let text = self.change(&Edit::Insert { at, lines }, work)?;
                 Ok(Reply::Answer(text))
             }
             Command::Replace { from, to, .. } => {
-                let change = Edit::Replace { from, to, lines };
-                let text = edit(self.alloc, &mut self.session, &change, work)?;
+                let text = self.change(&Edit::Replace { from, to, lines }, work)?;
                 Ok(Reply::Answer(text))
             }
             Command::Delete { from, to } => {
-                let change = Edit::Delete { from, to };
-                let text = edit(self.alloc, &mut self.session, &change, work)?;
+                let text = self.change(&Edit::Delete { from, to }, work)?;
                 Ok(Reply::Answer(text))
             }
             Command::Faults => {

@@ -2,6 +2,7 @@
 #![tactic(auto)]
 
 mod answer;
+mod book_fault;
 mod book_lines;
 mod building;
 mod command;
@@ -14,6 +15,7 @@ mod reading;
 mod streams;
 mod transcript;
 
+pub use book_fault::fault_of_book;
 pub use fault::RunFault;
 pub use reading::{MOST_READS, run_limits};
 pub use streams::{Piped, Sink, Source, Store, StoreFault, StreamFault};

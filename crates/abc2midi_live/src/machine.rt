@@ -11,7 +11,7 @@ use abc_fold::Work;
 use std::alloc::AllocError;
 
 /// What a machine says to a line.
-#[derive(Debug, Drop)]
+#[derive(Drop)]
 pub enum Reply {
     /// It waits for more lines.
     Nothing,

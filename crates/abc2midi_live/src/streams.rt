@@ -11,11 +11,11 @@ ghost use Rattle.abc2midi_live.specs.Streams.{faults, Contents, Puts, TakesOut, 
 use std::io::{Error, ErrorKind, Read, Write};
 
 /// A stream failed.
-#[derive(Clone, Copy, Debug, PartialEq, Eq)]
+#[derive(Clone, Copy, Debug)]
 pub struct StreamFault;
 
 /// A store failed.
-#[derive(Clone, Copy, Debug, PartialEq, Eq)]
+#[derive(Clone, Copy, Debug)]
 pub struct StoreFault;
 
 /// What commands are read from.

@@ -5,7 +5,7 @@ mod arguments;
 mod directory;
 
 use abc_fold::Work;
-use abc2midi_live::{Piped, RunFault, run};
+use abc2midi_live::{Piped, RunFault, fault_of_book, run};
 use arguments::command;
 use clap::error::ErrorKind;
 use directory::{Directory, Place};
@@ -97,7 +97,14 @@ fn warn<R: Runtime + AllocGlobal>(rt: &R, dir: &str, place: Place) {
     };
 }
 
-/// The bytes of the tune book, if there is one. Where it cannot be read, that is said on standard error.
+/// Says on standard error where the tune book is refused, and why. The run goes on with the empty text.
+fn warn_of_book<R: Runtime + AllocGlobal>(rt: &R, path: &str, book: &[u8]) {
+    if let Some(fault) = fault_of_book(book) {
+        let _ = eprintln!(rt; "warning: the tune book '{path}' is refused: {fault}");
+    }
+}
+
+/// The bytes of the tune book, if there is one. Where it cannot be read, or is refused, that is said on standard error.
 fn book_of<R: Runtime + Files + AllocGlobal>(
     rt: &R,
     path: Option<&str>,
@@ -106,7 +113,10 @@ fn book_of<R: Runtime + Files + AllocGlobal>(
         return Ok(None);
     };
     match fs::read(rt, path) {
-        Ok(bytes) => Ok(Some(bytes)),
+        Ok(bytes) => {
+            warn_of_book(rt, path, &bytes);
+            Ok(Some(bytes))
+        }
         Err(error) if error.kind() == io::ErrorKind::OutOfMemory => {
             Err(Failure::Run(RunFault::Memory))
         }

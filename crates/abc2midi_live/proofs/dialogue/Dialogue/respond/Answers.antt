@@ -1,4 +1,4 @@
-use Rattle.std.proofs.Common.{◌≡◌, length, [], ◌∙◌}
+use Rattle.std.proofs.Common.{◌≡◌, length, [], ap, ◌∙◌}
 use Rattle.std.proofs.lemmas.List.{length-map}
 use Rattle.abc_lines.specs.Text.{text_of}
 use Rattle.abc_lines.specs.Edits.{insertion, replacement, deletion}
@@ -8,8 +8,8 @@ use Rattle.abc2midi_live.specs.Command.{line_count}
 use Rattle.abc2midi_live.specs.Answer.{unknown_line}
 use Rattle.abc2midi_live.specs.Told.{holding}
 use Rattle.abc2midi_live.specs.Transcript.{request_of}
-use Rattle.abc2midi_live.proofs.Requests.{untaken, responds_edit, request_of-insert, request_of-replace, request_of-delete, responds_faults, responds_titles, responds_hex, responds_build, responds_unknown, responds_quit}
-use Rattle.abc2midi_live.proofs.Storing.{follows_none}
+use Rattle.abc2midi_live.proofs.Requests.{untaken, responds_change, request_of-insert, request_of-replace, request_of-delete, responds_faults, responds_titles, responds_hex, responds_build, responds_unknown, responds_quit}
+use Rattle.abc2midi_live.proofs.Storing.{follows_none, follows_same}
 use Rattle.abc2midi_live.proofs.dialogue.Dialogue.respond.Goals as goal
 
 pub returns-in_ok-text-in-Insert-clause-reply : goal.returns-in_ok-text-in-Insert-clause-reply
@@ -17,11 +17,13 @@ returns-in_ok-text-in-Insert-clause-reply g c =
     let lines = text_of c.args.lines in
     let whole : length lines ≡ line_count c.args.command = length-map c.args.lines.items (λ line. line.items) ∙ c.requires in
     let done = c.in_ok-text-in-Insert in
-    let directory = (maps_of c.args.self.now.publisher).directory in (
+    let directory = (maps_of c.args.self.now.publisher).directory in
+    let after = (maps_of c.change.new.self.publisher).directory in
+    let same : after ≡ directory = ap (λ p. (maps_of p).directory) c.change.ensures.publisher in (
       [],
-      responds_edit c.args.self.now.session.text c.edit.new.session.text directory (request_of c.args.command lines) (insertion c.in-Insert.at lines) done.text.items
-          (request_of-insert c.args.command c.in-Insert.at c.in-Insert.count lines whole c.in-Insert.is) done.ensures.answer done.ensures.text,
-      follows_none _ directory,
+      responds_change c.args.self.now.session.text c.change.new.self.session.text directory after (request_of c.args.command lines) (insertion c.in-Insert.at lines) done.text.items
+          (request_of-insert c.args.command c.in-Insert.at c.in-Insert.count lines whole c.in-Insert.is) done.ensures.answer done.ensures.text same,
+      follows_same _ directory after same,
     )
 
 pub returns-in_ok-text-in-Replace-clause-reply : goal.returns-in_ok-text-in-Replace-clause-reply
@@ -29,22 +31,26 @@ returns-in_ok-text-in-Replace-clause-reply g c =
     let lines = text_of c.args.lines in
     let whole : length lines ≡ line_count c.args.command = length-map c.args.lines.items (λ line. line.items) ∙ c.requires in
     let done = c.in_ok-text-in-Replace in
-    let directory = (maps_of c.args.self.now.publisher).directory in (
+    let directory = (maps_of c.args.self.now.publisher).directory in
+    let after = (maps_of c.change-in-Replace.new.self.publisher).directory in
+    let same : after ≡ directory = ap (λ p. (maps_of p).directory) c.change-in-Replace.ensures.publisher in (
       [],
-      responds_edit c.args.self.now.session.text c.edit-in-Replace.new.session.text directory (request_of c.args.command lines) (replacement c.in-Replace.from c.in-Replace.to lines) done.text.items
-          (request_of-replace c.args.command c.in-Replace.from c.in-Replace.to c.in-Replace.count lines whole c.in-Replace.is) done.ensures.answer done.ensures.text,
-      follows_none _ directory,
+      responds_change c.args.self.now.session.text c.change-in-Replace.new.self.session.text directory after (request_of c.args.command lines) (replacement c.in-Replace.from c.in-Replace.to lines) done.text.items
+          (request_of-replace c.args.command c.in-Replace.from c.in-Replace.to c.in-Replace.count lines whole c.in-Replace.is) done.ensures.answer done.ensures.text same,
+      follows_same _ directory after same,
     )
 
 pub returns-in_ok-text-in-Delete-clause-reply : goal.returns-in_ok-text-in-Delete-clause-reply
 returns-in_ok-text-in-Delete-clause-reply g c =
     let lines = text_of c.args.lines in
     let done = c.in_ok-text-in-Delete in
-    let directory = (maps_of c.args.self.now.publisher).directory in (
+    let directory = (maps_of c.args.self.now.publisher).directory in
+    let after = (maps_of c.change-in-Delete.new.self.publisher).directory in
+    let same : after ≡ directory = ap (λ p. (maps_of p).directory) c.change-in-Delete.ensures.publisher in (
       [],
-      responds_edit c.args.self.now.session.text c.edit-in-Delete.new.session.text directory (request_of c.args.command lines) (deletion c.in-Delete.from c.in-Delete.to) done.text.items
-          (request_of-delete c.args.command c.in-Delete.from c.in-Delete.to lines c.in-Delete.is) done.ensures.answer done.ensures.text,
-      follows_none _ directory,
+      responds_change c.args.self.now.session.text c.change-in-Delete.new.self.session.text directory after (request_of c.args.command lines) (deletion c.in-Delete.from c.in-Delete.to) done.text.items
+          (request_of-delete c.args.command c.in-Delete.from c.in-Delete.to lines c.in-Delete.is) done.ensures.answer done.ensures.text same,
+      follows_same _ directory after same,
     )
 
 pub returns-in_ok-text-in-Faults-clause-reply : goal.returns-in_ok-text-in-Faults-clause-reply
