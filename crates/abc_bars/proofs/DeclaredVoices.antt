@@ -16,7 +16,7 @@ use Rattle.abc_scan.specs.declared.field.Field.{Field}
 use Rattle.abc_bars.specs.Header.{declared, declared_by, said_at, said_of, shift_said}
 use Rattle.abc_bars.specs.LookBack.Header.{declared_names, last_part, part_by, shift_at, voice_on, voices_at, with_name, with_named}
 use Rattle.abc_bars.specs.Voices.{place_of, voice_at}
-use Rattle.abc_bars.specs.declared.voices.TheConstants.{MOST_VOICES}
+use Rattle.abc_music.specs.declared.item.TheConstants.{MOST_VOICES}
 use Rattle.abc_bars.proofs.NamePlaces.{place_here, place_behind}
 
 -- A test passes or does not.

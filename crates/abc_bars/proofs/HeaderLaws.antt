@@ -18,7 +18,7 @@ use Rattle.abc_bars.specs.LookBack.Header as back
 use Rattle.abc_bars.specs.LookBack.Header.{declared_names, header_at, header_view, named_in, part_by, shift_at, voices_at, with_named}
 use Rattle.abc_bars.specs.Reference.{reference_of}
 use Rattle.abc_bars.specs.Voices.{place_of}
-use Rattle.abc_bars.specs.declared.voices.TheConstants.{MOST_VOICES}
+use Rattle.abc_music.specs.declared.item.TheConstants.{MOST_VOICES}
 use Rattle.abc_bars.specs.declared.defaults.Defaults.{Defaults}
 use Rattle.abc_bars.specs.declared.entry.Entry.TheVariants as entries
 use Rattle.abc_bars.specs.declared.field_kind.FieldKind.{FieldKind}

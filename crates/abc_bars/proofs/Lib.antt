@@ -1,17 +1,9 @@
-pub mod Acting
-pub mod AddedNotes
-pub mod BarCounts
 pub mod BodyOpenings
 pub mod CellLoop
-pub mod ChordTones
 pub mod DeclaredVoices
 pub mod EntryLaws
-pub mod Factors
 pub mod HeaderLaws
 pub mod HeaderViews
-pub mod InsideLoop
 pub mod LookBack
 pub mod NamePlaces
-pub mod Pitches
 pub mod VoicesLemmas
-pub mod WholeParts

@@ -4,10 +4,10 @@ use Rattle.abc_fields.specs.declared.shift.Shift.{Shift}
 use Rattle.abc_bars.specs.declared.body.Body.{Body}
 use Rattle.abc_bars.specs.declared.body.Current.{Current}
 use Rattle.abc_bars.specs.declared.body.Current.TheVariants.{Unnamed, At}
-use Rattle.abc_bars.specs.declared.voices.TheConstants.{MOST_VOICES}
-use Rattle.abc_bars.specs.declared.settings.Settings.{Settings}
-use Rattle.abc_bars.specs.Settings.{without_accidentals}
-use Rattle.abc_bars.specs.VoiceShift.{with_properties}
+use Rattle.abc_music.specs.declared.item.TheConstants.{MOST_VOICES}
+use Rattle.abc_music.specs.declared.settings.Settings.{Settings}
+use Rattle.abc_music.specs.Settings.{without_accidentals}
+use Rattle.abc_music.specs.VoiceShift.{with_properties}
 use Rattle.abc_bars.specs.Voices.{place_of, voice_at, with_voice_at}
 
 -- The current voice is the one without a name, and not mentioned.

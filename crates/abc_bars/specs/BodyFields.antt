@@ -18,15 +18,15 @@ use Rattle.abc_bars.specs.declared.body.Body.{Body}
 use Rattle.abc_bars.specs.declared.body_fields.FieldItem.{FieldItem}
 use Rattle.abc_bars.specs.declared.field_kind.FieldKind.{FieldKind}
 use Rattle.abc_bars.specs.declared.field_kind.FieldKind.TheVariants as kinds
-use Rattle.abc_bars.specs.declared.item.Item.{Item}
-use Rattle.abc_bars.specs.declared.item.Item.TheVariants as items
-use Rattle.abc_bars.specs.declared.settings.Settings.{Settings}
+use Rattle.abc_music.specs.declared.item.Item.{Item}
+use Rattle.abc_music.specs.declared.item.Item.TheVariants as items
+use Rattle.abc_music.specs.declared.settings.Settings.{Settings}
 use Rattle.abc_bars.specs.Body.{here, with_here, made_current, after_part}
-use Rattle.abc_bars.specs.Column.{column_of}
+use Rattle.abc_music.specs.Column.{column_of}
 use Rattle.abc_bars.specs.FieldKind.{kind_of}
-use Rattle.abc_bars.specs.Settings.{without_accidentals}
-use Rattle.abc_bars.specs.TempoItem.{is_out, tempo_item}
-use Rattle.abc_bars.specs.VoiceShift.{with_properties}
+use Rattle.abc_music.specs.Settings.{without_accidentals}
+use Rattle.abc_music.specs.TempoItem.{is_out, tempo_item}
+use Rattle.abc_music.specs.VoiceShift.{with_properties}
 
 -- What holds behind a field, and the items and the faults that it gives: at most one of each.
 pub record FieldGiven : Type 0 where

@@ -1,13 +1,13 @@
 -- What a body ends as, where what holds for its current voice was lent to be changed.
 use Rattle.std.specs.Borrow.{Fml, Lends, MutBor}
 use Rattle.abc_bars.specs.contracts.body.Body.{the_row}
-use Rattle.abc_bars.specs.contracts.settings.Settings.{the_row as settings_row}
+use Rattle.abc_music.specs.contracts.settings.Settings.{the_row as settings_row}
 use Rattle.abc_bars.specs.Body.{with_here}
 use Rattle.abc_bars.specs.contracts.body.Current.{the_row as current_row}
 use Rattle.abc_bars.specs.declared.body.Current.{Current}
 use Rattle.abc_bars.specs.declared.body.Current.TheVariants.{Unnamed}
 use Rattle.abc_bars.specs.declared.body.Body.{Body}
-use Rattle.abc_bars.specs.declared.settings.Settings.{Settings}
+use Rattle.abc_music.specs.declared.settings.Settings.{Settings}
 
 -- Once the borrow ends, what was last written holds for the current voice.
 abbrev pub LendsHere : MutBor Body → MutBor Settings → Fml

@@ -5,15 +5,15 @@ use Rattle.abc_fields.specs.declared.shift.Shift.{Shift}
 use Rattle.abc_fields.specs.Shift.{no_shift}
 use Rattle.abc_fields.specs.Signature.{natural}
 use Rattle.abc_bars.specs.Defaults.{meter_in, unit_in}
-use Rattle.abc_bars.specs.Settings.{no_accidentals}
-use Rattle.abc_bars.specs.VoiceShift.{with_properties}
+use Rattle.abc_music.specs.Settings.{no_accidentals}
+use Rattle.abc_music.specs.VoiceShift.{with_properties}
 use Rattle.abc_bars.specs.declared.body.Body.{Body}
 use Rattle.abc_bars.specs.declared.body.Current.{Current}
 use Rattle.abc_bars.specs.declared.body.Current.TheVariants.{Unnamed, At}
 use Rattle.abc_bars.specs.declared.defaults.Defaults.{Defaults}
 use Rattle.abc_bars.specs.declared.header.Header.{Header}
-use Rattle.abc_bars.specs.declared.settings.Settings.{Settings}
-use Rattle.abc_bars.specs.declared.voice_shift.VoiceShift.{VoiceShift}
+use Rattle.abc_music.specs.declared.settings.Settings.{Settings}
+use Rattle.abc_music.specs.declared.voice_shift.VoiceShift.{VoiceShift}
 
 -- The shift of a voice of which no field says any part.
 abbrev pub unshifted : VoiceShift

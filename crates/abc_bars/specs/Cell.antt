@@ -12,18 +12,18 @@ use Rattle.abc_scan.specs.declared.token.TokenKind.{TokenKind}
 use Rattle.abc_scan.specs.declared.token.TokenKind.TheVariants as kinds
 use Rattle.abc_scan.specs.declared.tuplet.Tuplet.{Tuplet}
 use Rattle.abc_bars.specs.declared.body.Body.{Body}
-use Rattle.abc_bars.specs.declared.broken.Behind.TheVariants.{Nothing}
+use Rattle.abc_music.specs.declared.broken.Behind.TheVariants.{Nothing}
 use Rattle.abc_bars.specs.declared.cell.Given.{Given}
-use Rattle.abc_bars.specs.declared.item.Item.{Item}
-use Rattle.abc_bars.specs.declared.item.Item.TheVariants as items
-use Rattle.abc_bars.specs.BarRest.{bar_rest_of}
+use Rattle.abc_music.specs.declared.item.Item.{Item}
+use Rattle.abc_music.specs.declared.item.Item.TheVariants as items
+use Rattle.abc_music.specs.BarRest.{bar_rest_of}
 use Rattle.abc_bars.specs.Body.{here, with_here, mentioned}
 use Rattle.abc_bars.specs.BodyFields.{FieldGiven, field_given}
-use Rattle.abc_bars.specs.Broken.{behind_after, factors_of, has_note, is_bad_mark}
-use Rattle.abc_bars.specs.Column.{column_of}
-use Rattle.abc_bars.specs.Settings.{without_accidentals}
-use Rattle.abc_bars.specs.TimeTokens.{Played, note_played, chord_played, rest_played, with_played}
-use Rattle.abc_bars.specs.Tuplet.{tuplet_opened}
+use Rattle.abc_music.specs.Broken.{behind_after, factors_of, has_note, is_bad_mark}
+use Rattle.abc_music.specs.Column.{column_of}
+use Rattle.abc_music.specs.Settings.{without_accidentals}
+use Rattle.abc_music.specs.TimeTokens.{Played, note_played, chord_played, rest_played, with_played}
+use Rattle.abc_music.specs.Tuplet.{tuplet_opened}
 
 -- Whether a token is a tie.
 abbrev pub is_tie_token : TokenKind → Bool

@@ -9,7 +9,7 @@ use Rattle.abc_fields.specs.Meter.{meter_of}
 use Rattle.abc_fields.specs.Tempo.{tempo_of}
 use Rattle.abc_fields.specs.Unit.{unit_of}
 use Rattle.abc_time.specs.declared.ratio.Ratio.{Ratio}
-use Rattle.abc_bars.specs.Unit.{unit_by}
+use Rattle.abc_music.specs.Unit.{unit_by}
 use Rattle.abc_bars.specs.declared.defaults.Defaults.{Defaults}
 use Rattle.abc_bars.specs.declared.defaults.SettingGiven.{SettingGiven}
 use Rattle.abc_bars.specs.declared.field_kind.FieldKind.{FieldKind}

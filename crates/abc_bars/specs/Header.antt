@@ -23,9 +23,9 @@ use Rattle.abc_bars.specs.declared.field_kind.FieldKind.TheVariants as kinds
 use Rattle.abc_bars.specs.declared.header.Header.{Header}
 use Rattle.abc_bars.specs.declared.header.HeaderGiven.{HeaderGiven}
 use Rattle.abc_bars.specs.declared.header.OwnGiven.{OwnGiven}
-use Rattle.abc_bars.specs.declared.voices.TheConstants.{MOST_VOICES}
-use Rattle.abc_bars.specs.declared.item.Item.{Item}
-use Rattle.abc_bars.specs.declared.item.Item.TheVariants as items
+use Rattle.abc_music.specs.declared.item.TheConstants.{MOST_VOICES}
+use Rattle.abc_music.specs.declared.item.Item.{Item}
+use Rattle.abc_music.specs.declared.item.Item.TheVariants as items
 
 -- The header of a tune before its first field.
 abbrev pub opening_header : Defaults → Header

@@ -3,10 +3,10 @@ use Rattle.std.specs.Prelude.{true, false, Option, Some, None}
 use Rattle.abc_fields.specs.declared.tempo.Tempo.{Tempo}
 use Rattle.abc_time.specs.declared.ratio.Ratio.{Ratio}
 use Rattle.abc_bars.specs.Defaults.{meter_in, unit_in}
-use Rattle.abc_bars.specs.TempoItem.{tempo_item}
+use Rattle.abc_music.specs.TempoItem.{tempo_item}
 use Rattle.abc_bars.specs.declared.defaults.Defaults.{Defaults}
-use Rattle.abc_bars.specs.declared.item.Item.{Item}
-use Rattle.abc_bars.specs.declared.item.Item.TheVariants as items
+use Rattle.abc_music.specs.declared.item.Item.{Item}
+use Rattle.abc_music.specs.declared.item.Item.TheVariants as items
 
 -- The tempo of a tune by the tempo of its header, where it sets one.
 abbrev pub opening_tempo_by : Ratio → Option Tempo → Item

@@ -14,7 +14,7 @@ use Rattle.abc_bars.specs.declared.field_kind.FieldKind.{FieldKind}
 use Rattle.abc_bars.specs.declared.field_kind.FieldKind.TheVariants as fields
 use Rattle.abc_bars.specs.declared.header.Header.{Header}
 use Rattle.abc_bars.specs.declared.header.HeaderGiven.{HeaderGiven}
-use Rattle.abc_bars.specs.Item.{Items}
+use Rattle.abc_music.specs.Item.{Items}
 use Rattle.abc_bars.specs.BodyOpening.{body_from}
 use Rattle.abc_bars.specs.Cell.{cell_given}
 use Rattle.abc_bars.specs.FieldKind.{kind_of}

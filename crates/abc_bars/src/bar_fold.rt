@@ -3,7 +3,7 @@
 ghost use Rattle.std.specs.Prelude.{◌≡◌, All, IfOk};
 ghost use Rattle.std.specs.Option.{option_copied};
 ghost use Rattle.abc_bars.specs.Cell.{cell_given};
-ghost use Rattle.abc_bars.specs.Item.{IsItem};
+ghost use Rattle.abc_music.specs.Item.{IsItem};
 ghost use Rattle.abc_bars.specs.Step.{field_line, field_in, body_stepped, behind_field, header_stepped, file_header_stepped, stepped};
 
 use crate::body::Body;
@@ -14,9 +14,9 @@ use crate::entry::Entry;
 use crate::field_kind::{FieldKind, kind_of};
 use crate::file_header::file_header_given;
 use crate::header::{Header, HeaderGiven, header_given};
-use crate::item::Items;
 use abc_fields::{EMPTY_SIGNATURE, key_set_by};
 use abc_fold::{Fold, Work};
+use abc_music::Items;
 use abc_scan::{Cell, Field, Token, TokenKind};
 use abc_text::Sequence;
 use std::alloc::{AllocError, Global};

@@ -7,10 +7,10 @@ ghost use Rattle.abc_bars.specs.declared.body.Current.TheVariants as Current;
 ghost use Rattle.abc_bars.specs.Voices.{place_of};
 ghost use Rattle.abc_bars.specs.BodyLent.{LendsHere, LendsUnnamed};
 
-use crate::settings::Settings;
 use crate::voice_name::VoiceName;
-use crate::voices::{MOST_VOICES, Voices};
+use crate::voices::Voices;
 use abc_fields::Shift;
+use abc_music::{MOST_VOICES, Settings};
 use std::alloc::{AllocError, Global};
 use std::mem;
 

@@ -8,19 +8,16 @@ ghost use Rattle.abc_fields.specs.Unit.{unit_of};
 ghost use Rattle.abc_fields.specs.Voice.{voice_of};
 ghost use Rattle.abc_bars.specs.declared.body.Body.{Body};
 ghost use Rattle.abc_bars.specs.Body.{here, with_here};
-ghost use Rattle.abc_bars.specs.Column.{column_of};
+ghost use Rattle.abc_music.specs.Column.{column_of};
 ghost use Rattle.abc_bars.specs.BodyFields.{given_as, part_of, part_by, meter_by, unit_by, tempo_at, tempo_by, in_key, key_item, key_by, voice_by, kind_given, field_given};
-ghost use Rattle.abc_bars.specs.Item.{IsCapitalLetter, IsItem};
+ghost use Rattle.abc_music.specs.Item.{IsCapitalLetter, IsItem};
 
 use crate::body::Body;
-use crate::column::column_of;
 use crate::field_kind::{FieldKind, kind_of};
-use crate::item::{Item, LocalFault};
-use crate::meter::TuneMeter;
-use crate::tempo::TuneTempo;
-use crate::tempo_item::{is_out, tempo_item};
-use crate::unit::UnitLength;
 use abc_fields::{EMPTY_SIGNATURE, FaultCode, Key, read_key, read_voice};
+use abc_music::{
+    Item, LocalFault, TuneMeter, TuneTempo, UnitLength, column_of, is_out, tempo_item,
+};
 use abc_scan::Field;
 use abc_text::Sequence;
 use std::alloc::{AllocError, Global};

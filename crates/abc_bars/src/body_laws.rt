@@ -5,7 +5,7 @@ ghost use Rattle.std.specs.List.{IsDistinct};
 ghost use Rattle.abc_fields.specs.declared.key.Key.{Key};
 ghost use Rattle.abc_scan.specs.declared.field.Field.{Field};
 ghost use Rattle.abc_bars.specs.declared.defaults.Defaults.{Defaults};
-ghost use Rattle.abc_bars.specs.declared.voices.TheConstants.{MOST_VOICES};
+ghost use Rattle.abc_music.specs.declared.item.TheConstants.{MOST_VOICES};
 ghost use Rattle.abc_bars.specs.LookBack.Element.{Element};
 ghost use Rattle.abc_bars.specs.LookBack.Heard.{IsPlaced, held_at, roll_of};
 ghost use Rattle.abc_bars.specs.LookBack.Place.{opening_at};

@@ -3,14 +3,12 @@
 ghost use Rattle.std.specs.Prelude.{◌≡◌, IfOk};
 ghost use Rattle.abc_bars.specs.BodyOpening.{opening_settings, opening_voices, current_in, body_from};
 
-use crate::accidentals::NO_ACCIDENTALS;
 use crate::body::{Body, Current};
 use crate::defaults::{Defaults, meter_in, unit_in};
 use crate::header::Header;
-use crate::settings::Settings;
-use crate::voice_shift::VoiceShift;
 use crate::voices::Voices;
 use abc_fields::{Key, NATURAL, Shift};
+use abc_music::{NO_ACCIDENTALS, Settings, VoiceShift};
 use abc_text::ShortSequence;
 use std::alloc::{AllocError, Global};
 

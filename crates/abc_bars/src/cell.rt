@@ -2,18 +2,15 @@
 
 ghost use Rattle.std.specs.Prelude.{◌≡◌, option_to_list, IfOk, IfSome, OnOk};
 ghost use Rattle.abc_bars.specs.Cell.{is_tie_token, tie_ahead, may_be_tied, nothing_given, with_item, with_items, with_faults, with_fault, with_fault_if, with_some_fault, with_note, with_rest, with_chord, with_bar_rest, with_field, with_bar, with_ending, with_tuplet, with_tie, with_kind, with_token, given_from, cell_given};
-ghost use Rattle.abc_bars.specs.Item.{IsItem};
+ghost use Rattle.abc_music.specs.Item.{IsItem};
 
-use crate::accidentals::NO_ACCIDENTALS;
-use crate::bar_rest::bar_rest_of;
 use crate::body::Body;
 use crate::body_fields::{FieldItem, field_given};
-use crate::broken::{Behind, BrokenFactors, behind_after, has_note, is_bad_mark};
-use crate::column::column_of;
-use crate::item::{Item, Items, LocalFault};
-use crate::time_tokens::{chord_played, note_played, rest_played};
-use crate::tuplet::tuplet_opened;
 use abc_fields::FaultCode;
+use abc_music::{
+    Behind, BrokenFactors, Item, Items, LocalFault, bar_rest_of, behind_after, chord_played,
+    column_of, has_note, is_bad_mark, note_played, rest_played, tuplet_opened,
+};
 use abc_scan::{BarLine, Chord, Field, Note, Token, TokenKind, Tuplet, WrittenLength};
 use std::alloc::{AllocError, Global};
 
@@ -207,7 +204,7 @@ impl Given {
     fn bar(&mut self, bar: BarLine) -> Result<(), AllocError>
         ensures { OnOk result (self.new ≡ with_bar self.old bar) }
     {
-        self.body.here_mut().accidentals = NO_ACCIDENTALS;
+        self.body.here_mut().clear_accidentals();
         self.item(Item::Bar(bar))?;
         Ok(())
     }

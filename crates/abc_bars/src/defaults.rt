@@ -4,10 +4,8 @@ ghost use Rattle.std.specs.Prelude.{◌≡◌};
 ghost use Rattle.abc_bars.specs.Defaults.{meter_set, unit_set, tempo_or, tempo_set, setting_given, meter_in, unit_in};
 
 use crate::field_kind::FieldKind;
-use crate::meter::TuneMeter;
-use crate::tempo::TuneTempo;
-use crate::unit::UnitLength;
 use abc_fields::{FaultCode, Tempo};
+use abc_music::{TuneMeter, TuneTempo, UnitLength};
 
 /// The last accepted values of M:, L: and Q: (ABC 2.1 section 3.1). A Q: that sets no tempo counts as
 /// none.

@@ -3,13 +3,10 @@
 ghost use Rattle.std.specs.Prelude.{◌≡◌, IfOk};
 ghost use Rattle.abc_bars.specs.FieldFault.{faults_of};
 
-use crate::item::LocalFault;
 use abc_fields::FaultCode;
+use abc_music::{FIRST_COLUMN, LocalFault};
 use abc_text::Sequence;
 use std::alloc::{AllocError, Global};
-
-/// The column in which a field line begins, counted from 1.
-const FIRST_COLUMN: u32 = 1;
 
 /// The faults of a field line, by the fault of its field.
 pub(crate) fn faults_of(

@@ -1,7 +1,8 @@
 //! The letters of the fields that have an effect.
 
-ghost use Rattle.std.specs.Prelude.{◌≡◌};
+ghost use Rattle.std.specs.Prelude.{◌≡◌, [], ◌∷◌, codes};
 ghost use Rattle.abc_bars.specs.FieldKind.{kind_of};
+ghost use Rattle.abc_bars.specs.declared.field_kind.TheConstants.{REFERENCE, TITLE, METER, UNIT_LENGTH, TEMPO, PARTS, VOICE, KEY};
 
 /// What a field is about (ABC 2.1 section 3).
 #[derive(Clone, Copy, PartialEq, Eq)]
@@ -58,3 +59,9 @@ pub(crate) fn kind_of(letter: u8) -> FieldKind
         _ => FieldKind::Other,
     }
 }
+
+/// The letters of the fields that have an effect (ABC 2.1 section 3): those of the reference number, the title,
+/// the meter, the unit note length, the tempo, the parts, the voice and the key.
+pub fn field_letters()
+    ensures { REFERENCE ∷ TITLE ∷ METER ∷ UNIT_LENGTH ∷ TEMPO ∷ PARTS ∷ VOICE ∷ KEY ∷ [] ≡ codes "XTMLQPVK" }
+{}

@@ -6,7 +6,7 @@ ghost use Rattle.abc_bars.specs.FileHeader.{file_header_given};
 use crate::defaults::{Defaults, setting_given};
 use crate::field_fault::faults_of;
 use crate::field_kind::kind_of;
-use crate::item::LocalFault;
+use abc_music::LocalFault;
 use abc_scan::Field;
 use abc_text::Sequence;
 use std::alloc::{AllocError, Global};

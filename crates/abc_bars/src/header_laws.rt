@@ -9,7 +9,7 @@ ghost use Rattle.abc_bars.specs.declared.defaults.Defaults.{Defaults};
 ghost use Rattle.abc_bars.specs.declared.entry.Entry.{Entry};
 ghost use Rattle.abc_bars.specs.declared.entry.Entry.TheVariants as entries;
 ghost use Rattle.abc_bars.specs.declared.header.Header.{Header};
-ghost use Rattle.abc_bars.specs.declared.voices.TheConstants.{MOST_VOICES};
+ghost use Rattle.abc_music.specs.declared.item.TheConstants.{MOST_VOICES};
 ghost use Rattle.abc_bars.specs.BodyOpening.{body_from};
 ghost use Rattle.abc_bars.specs.Defaults.{no_defaults};
 ghost use Rattle.abc_bars.specs.Entry.{AreApart, header_in};

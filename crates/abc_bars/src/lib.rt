@@ -2,19 +2,13 @@
 //! and its faults.
 #![tactic(auto)]
 
-mod accidentals;
-mod alteration;
 mod bar_fold;
-mod bar_rest;
 mod body;
 mod body_fields;
 mod body_laws;
 mod body_opening;
-mod broken;
 mod cell;
 mod cell_laws;
-mod chords;
-mod column;
 mod defaults;
 mod entry;
 mod field_fault;
@@ -23,40 +17,25 @@ mod file_header;
 mod header;
 mod header_laws;
 mod heard_laws;
-mod item;
-mod lengths;
-mod meter;
-mod numbers;
 mod opening;
-mod pitch;
 mod reference;
-mod settings;
-mod sound;
-mod tempo;
-mod tempo_item;
-mod tied;
-mod time_tokens;
-mod tuplet;
-mod unit;
 mod voice_laws;
 mod voice_name;
-mod voice_shift;
 mod voices;
 
+pub use abc_music::{
+    HIGHEST_KEY, Item, Items, LocalFault, MOST_NOTES, MOST_VOICES, Tone, TuneMeter, TuneTempo,
+    UnitLength,
+};
 pub use bar_fold::BarFold;
 pub use body::Body;
 pub use body_laws::mentioned_voices;
-pub use broken::acting_marks;
 pub use cell_laws::{cell_views, left_by_tokens};
 pub use defaults::Defaults;
 pub use entry::Entry;
+pub use field_kind::field_letters;
 pub use header_laws::{declared_voices, entries_apart, entry_views, header_views};
 pub use heard_laws::held_views;
-pub use item::{HIGHEST_KEY, Item, Items, LocalFault, MOST_NOTES, Tone};
-pub use meter::TuneMeter;
-pub use numbers::{field_letters, key_numbers, music_limits};
-pub use tempo::TuneTempo;
-pub use unit::UnitLength;
 pub use voice_laws::voice_views;
 pub use voice_name::VoiceName;
-pub use voices::{MOST_VOICES, Voices};
+pub use voices::Voices;

@@ -1,12 +1,11 @@
 //! What holds when a tune begins.
 
 ghost use Rattle.std.specs.Prelude.{◌≡◌};
-ghost use Rattle.abc_bars.specs.Item.{IsItem};
+ghost use Rattle.abc_music.specs.Item.{IsItem};
 ghost use Rattle.abc_bars.specs.Opening.{opening_tempo, opening_meter};
 
 use crate::defaults::{Defaults, meter_in, unit_in};
-use crate::item::Item;
-use crate::tempo_item::tempo_item;
+use abc_music::{Item, tempo_item};
 
 /// The tempo with which a tune begins whose header ends with these values.
 pub(crate) fn opening_tempo(defaults: &Defaults) -> Item

@@ -16,9 +16,6 @@ use indexmap::IndexMap;
 use std::alloc::{AllocError, Global};
 use std::marker::Model;
 
-/// The most voices of a tune. Our own.
-pub const MOST_VOICES: usize = 15;
-
 /// Voices in the order in which they were mentioned, each with what is known of it (ABC 2.1 section
 /// 7.1). No two have the same name. Contracts see pairs of a name and what is known.
 #[derive(Drop)]

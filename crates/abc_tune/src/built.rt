@@ -10,9 +10,9 @@ ghost use Rattle.abc_voices.specs.Limits.{IsWithinLimits};
 ghost use Rattle.smf_bytes.specs.File.{file_bytes};
 
 use crate::whole_faults::faults_with;
-use abc_bars::Items;
 use abc_fields::FaultCode;
 use abc_fold::Work;
+use abc_music::Items;
 use abc_text::Sequence;
 use abc_voices::{Arranged, BuildFault, arrange};
 use smf_bytes::file_of;

@@ -1,7 +1,7 @@
 -- Tunes laid out by the definitions.
 use Rattle.std.specs.Prelude.{◌≡◌, ℕ, Bool, true, false, List, [], ◌∷◌, Some, refl}
-use Rattle.abc_bars.specs.declared.item.Item.{Item}
-use Rattle.abc_bars.specs.declared.item.Item.TheVariants as items
+use Rattle.abc_music.specs.declared.item.Item.{Item}
+use Rattle.abc_music.specs.declared.item.Item.TheVariants as items
 use Rattle.abc_repeat.specs.Mark.{names, greatest, greatest_to}
 use Rattle.abc_repeat.specs.Play.{play_of, strain_play}
 use Rattle.abc_repeat.specs.Order.{sections_of}

@@ -9,11 +9,11 @@ use Rattle.std.proofs.lemmas.Option.{slice_get-map, slice_get-get_or, slice_get_
 use Rattle.std.specs.Borrow.{Bor}
 use Rattle.std.specs.Prelude.{◌||◌, not, nat_lt, pos, bytes_eq, All, slice_get, filter_map, sum_by, option_map}
 use Rattle.std.specs.List.{list_any, flat_map}
-use Rattle.abc_bars.specs.declared.item.Item.{Item}
-use Rattle.abc_bars.specs.declared.item.Item.TheVariants as items
+use Rattle.abc_music.specs.declared.item.Item.{Item}
+use Rattle.abc_music.specs.declared.item.Item.TheVariants as items
 use Rattle.abc_fields.specs.declared.meter.Meter.TheVariants as meters
 use Rattle.abc_time.specs.Grains.{grains_of_the_latest_end}
-use Rattle.abc_bars.specs.Item.{IsItem}
+use Rattle.abc_music.specs.Item.{IsItem}
 use Rattle.abc_repeat.specs.declared.order.TheConstants.{MOST_SECTIONS}
 use Rattle.abc_repeat.specs.declared.play.TheConstants.{MOST_PLACES}
 use Rattle.abc_repeat.specs.Order.{sections_of, has_unknown}

@@ -7,7 +7,7 @@ use Rattle.std.specs.Prelude.{◌==◌, ◌&&◌, ◌||◌, ℤ, pos, nat_lt}
 use Rattle.std.specs.List.{list_any, flat_map, filter_map, cons_option, slice_get, sum_by, fold}
 use Rattle.std.specs.Option.{option_map}
 use Rattle.std.specs.Str.{bytes_eq}
-use Rattle.abc_bars.specs.declared.item.Item.{Item}
+use Rattle.abc_music.specs.declared.item.Item.{Item}
 use Rattle.abc_fields.specs.declared.meter.Meter.{Meter}
 use Rattle.abc_fields.specs.declared.meter.Meter.TheVariants as meters
 use Rattle.abc_repeat.specs.declared.order.TheConstants.{MOST_SECTIONS}

@@ -4,8 +4,8 @@ use Rattle.std.specs.Borrow.{Bor}
 use Rattle.std.specs.List.{flat_map}
 use Rattle.std.specs.Prelude.{All}
 use Rattle.std.proofs.lemmas.List.Elements.{All-nil, All-cons, All-head, All-tail}
-use Rattle.abc_bars.specs.declared.item.Item.{Item}
-use Rattle.abc_bars.specs.Item.{IsItem}
+use Rattle.abc_music.specs.declared.item.Item.{Item}
+use Rattle.abc_music.specs.Item.{IsItem}
 use Rattle.abc_time.specs.declared.grains.Grains.{Grains}
 use Rattle.abc_voices.specs.Along.{IsPart, IsStage}
 use Rattle.abc_voices.specs.Arrange.{length_in, longest, total, voices_notes, end_of}

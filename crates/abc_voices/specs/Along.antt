@@ -2,8 +2,8 @@
 use Rattle.std.specs.Borrow.{Bor}
 use Rattle.std.specs.Prelude.{◌≡◌, ◌≤◌, ℕ, pos, ◌+◌, ◌-◌, Bool, false, not, if◌then◌else◌, ◌&&◌, ◌==◌, zero, suc, List, [], ◌∷◌, ◌++◌, sum_by, filter_map, All, Option, Some, None, slice_get, slice_index_or}
 use Rattle.std.specs.List.{list_any, flat_map}
-use Rattle.abc_bars.specs.declared.item.Item.{Item}
-use Rattle.abc_bars.specs.Item.{IsItem}
+use Rattle.abc_music.specs.declared.item.Item.{Item}
+use Rattle.abc_music.specs.Item.{IsItem}
 use Rattle.abc_fields.specs.declared.meter.Meter.TheVariants as meters
 use Rattle.abc_time.specs.declared.grains.Grains.{Grains}
 use Rattle.abc_voices.specs.declared.score.Change.{Change}

@@ -4,7 +4,7 @@ use Rattle.std.specs.List.{list_all}
 use Rattle.abc_text.specs.Power.{IsPowerUpTo, is_power_up_to}
 use Rattle.abc_time.specs.declared.grains.Grains.{Grains}
 use Rattle.abc_time.specs.Grains.{grains_of_the_latest_end}
-use Rattle.abc_bars.specs.declared.voices.TheConstants.{MOST_VOICES}
+use Rattle.abc_music.specs.declared.item.TheConstants.{MOST_VOICES}
 use Rattle.abc_voices.specs.declared.limits.TheConstants.{LONGEST_TITLE, MOST_CHANGES, MOST_NOTES}
 use Rattle.abc_voices.specs.declared.score.Score.{Score}
 use Rattle.abc_voices.specs.declared.score.Change.{Change}

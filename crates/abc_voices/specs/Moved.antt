@@ -1,6 +1,6 @@
 -- Fields between a bar that ended an ending and the next ending's sign are played with that ending. Our own.
 use Rattle.std.specs.Prelude.{Bool, false, ◌||◌, if◌then◌else◌, List, [], ◌∷◌, ◌++◌}
-use Rattle.abc_bars.specs.declared.item.Item.{Item}
+use Rattle.abc_music.specs.declared.item.Item.{Item}
 use Rattle.abc_repeat.specs.declared.mark.Mark.{Mark}
 use Rattle.abc_repeat.specs.Mark.{is_ending, is_single, opens_next, closes_ending}
 use Rattle.abc_voices.specs.declared.moved.Region.{Region}

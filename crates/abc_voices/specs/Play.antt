@@ -1,6 +1,6 @@
 -- What a voice plays of a section, and how long that takes. ABC 2.1 sections 4.8 to 4.10.
 use Rattle.std.specs.Prelude.{ℕ, List, map, sum_by, filter_map, slice_get}
-use Rattle.abc_bars.specs.declared.item.Item.{Item}
+use Rattle.abc_music.specs.declared.item.Item.{Item}
 use Rattle.abc_repeat.specs.declared.mark.Mark.{Mark}
 use Rattle.abc_repeat.specs.Play.{play_of}
 use Rattle.abc_voices.specs.Moved.{moved}

@@ -1,7 +1,7 @@
 -- The sections of a tune, and which voice what stands there belongs to. ABC 2.1 sections 3.1.9 and 7.
 use Rattle.std.specs.Prelude.{ℕ, Bool, true, false, not, ◌&&◌, if◌then◌else◌, bytes_eq, List, [], ◌∷◌, ◌++◌, Option, Some, None, filter_map}
-use Rattle.abc_bars.specs.declared.item.Item.{Item}
-use Rattle.abc_bars.specs.declared.item.Item.TheVariants as items
+use Rattle.abc_music.specs.declared.item.Item.{Item}
+use Rattle.abc_music.specs.declared.item.Item.TheVariants as items
 
 -- What is played of a voice, and the marks that say how; what holds when the tune begins is not played.
 abbrev pub is_step : Item → Bool

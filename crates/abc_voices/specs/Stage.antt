@@ -1,7 +1,7 @@
 -- What the voices of a tune play of a section. Our own.
 use Rattle.std.specs.Borrow.{Bor}
 use Rattle.std.specs.Prelude.{ℕ, List, length, map, sum_by}
-use Rattle.abc_bars.specs.declared.item.Item.{Item}
+use Rattle.abc_music.specs.declared.item.Item.{Item}
 use Rattle.abc_repeat.specs.declared.fault.RepeatFault.{RepeatFault}
 use Rattle.abc_repeat.specs.declared.fault.RepeatFault.TheVariants as whys
 use Rattle.abc_voices.specs.declared.section.Section.{Section}

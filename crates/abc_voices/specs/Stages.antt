@@ -1,7 +1,7 @@
 -- The stages of a tune in a table: at a section's place what the voices play of it, or none. Our own.
 use Rattle.std.specs.Borrow.{Bor}
 use Rattle.std.specs.Prelude.{◌≡◌, ℕ, ◌+◌, ◌≤◌, List, Option, Some, None, All, length, map, sum_by, filter_map, slice_get, slice_set, option_map}
-use Rattle.abc_bars.specs.declared.item.Item.{Item}
+use Rattle.abc_music.specs.declared.item.Item.{Item}
 use Rattle.abc_repeat.specs.declared.play.TheConstants.{MOST_PLACES}
 use Rattle.abc_voices.specs.declared.section.Section.{Section}
 use Rattle.abc_voices.specs.declared.stage.Stage.{Stage}

@@ -1,8 +1,8 @@
 -- What an item is to the play of its voice.
 use Rattle.std.specs.Prelude.{ℕ, Bool, true, false, List, [], Option, Some, None}
-use Rattle.abc_bars.specs.declared.item.Item.{Item}
-use Rattle.abc_bars.specs.declared.item.Item.TheVariants as items
-use Rattle.abc_bars.specs.declared.item.Tone.{Tone}
+use Rattle.abc_music.specs.declared.item.Item.{Item}
+use Rattle.abc_music.specs.declared.item.Item.TheVariants as items
+use Rattle.abc_music.specs.declared.item.Tone.{Tone}
 use Rattle.abc_repeat.specs.declared.mark.Mark.{Mark}
 use Rattle.abc_repeat.specs.declared.mark.Mark.TheVariants as marks
 

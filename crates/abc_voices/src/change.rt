@@ -1,14 +1,14 @@
 //! Changes of tempo, meter and key, at their moments.
 
 ghost use Rattle.std.specs.Prelude.{◌≡◌, ◌+◌, ◌++◌, ◌≤◌, Option, OnOk};
-ghost use Rattle.abc_bars.specs.declared.item.Item.{Item};
+ghost use Rattle.abc_music.specs.declared.item.Item.{Item};
 ghost use Rattle.abc_time.specs.Grains.{grains_of_the_latest_end};
 ghost use Rattle.abc_voices.specs.Change.{tempo_of, meter_of, key_of, set_from};
 ghost use Rattle.abc_voices.specs.Play.{duration};
 
 use crate::step::length_of;
-use abc_bars::Item;
 use abc_fields::Meter;
+use abc_music::Item;
 use abc_time::Grains;
 use std::alloc::AllocError;
 

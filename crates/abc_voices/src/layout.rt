@@ -2,7 +2,7 @@
 
 ghost use Rattle.std.specs.Prelude.{◌≡◌, ◌≢◌, ◌<◌, ◌≤◌, ◌++◌, Bool, true, false, length, map, All, None, IfOk, OnOk};
 ghost use Rattle.std.specs.List.{list_any};
-ghost use Rattle.abc_bars.specs.Item.{IsItem};
+ghost use Rattle.abc_music.specs.Item.{IsItem};
 ghost use Rattle.abc_repeat.specs.Order.{sections_of, has_unknown};
 ghost use Rattle.abc_time.specs.Grains.{grains_of_the_latest_end};
 ghost use Rattle.abc_voices.specs.declared.stage.StageFault.TheVariants.{TooMany, TooLate};
@@ -26,7 +26,7 @@ use crate::section::{letters, sections};
 use crate::stage::{Stage, StageFault};
 use crate::stages::stages;
 use crate::track::{everyone, nameless_plays};
-use abc_bars::{Item, Items};
+use abc_music::{Item, Items};
 use abc_repeat::{OrderFault, Played, play_order};
 use std::alloc::{AllocError, Global};
 

@@ -26,7 +26,7 @@ mod timing;
 mod track;
 mod voice;
 
-pub use abc_bars::MOST_VOICES;
+pub use abc_music::MOST_VOICES;
 pub use arranged::{Arranged, BuildFault};
 pub use conduct::conductor;
 pub use layout::arrange;

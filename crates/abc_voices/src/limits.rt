@@ -1,13 +1,12 @@
 //! The limits within which a file can hold a score.
 ghost use Rattle.std.specs.Prelude.{◌≡◌, ◌≤◌, ◌↔◌, ◌-◌, ◌^◌, nat_le, All, IsTrue};
-ghost use Rattle.abc_bars.specs.declared.item.TheConstants.{HIGHEST_KEY, MOST_NOTES as MOST_TONES};
-ghost use Rattle.abc_bars.specs.declared.voices.TheConstants.{MOST_VOICES};
+ghost use Rattle.abc_music.specs.declared.item.TheConstants.{HIGHEST_KEY, MOST_NOTES as MOST_TONES, MOST_VOICES};
 ghost use Rattle.abc_time.specs.Grains.{grains_of_the_latest_end};
 ghost use Rattle.std.specs.List.{list_all};
 ghost use Rattle.abc_voices.specs.Limits.{IsWritable, IsChangeWithin, IsSoundingWithin, IsVoiceWithin, AreCountsWithin, IsWithinLimits, is_writable, is_change_within, is_note_within, is_voice_within, are_counts_within, is_within_limits};
 
 use crate::score::{Change, ChangeKind, Score, Sounding};
-use abc_bars::MOST_VOICES;
+use abc_music::MOST_VOICES;
 use abc_text::{Sequence, is_power_up_to};
 use abc_time::{Grains, LATEST_END};
 

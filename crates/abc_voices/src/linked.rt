@@ -1,12 +1,12 @@
 //! Notes of time tokens, tied ones joined, from the last token to the first.
 
 ghost use Rattle.std.specs.Prelude.{◌≡◌, ◌==◌, ◌≤◌, ◌<◌, length, position, All, IfSome, OnOk};
-ghost use Rattle.abc_bars.specs.Item.{IsTone};
+ghost use Rattle.abc_music.specs.Item.{IsTone};
 ghost use Rattle.abc_time.specs.Grains.{grains_of_the_latest_end};
 ghost use Rattle.abc_voices.specs.Linked.{Linked, next_place, with_key, with_tones};
 
 use crate::score::Sounding;
-use abc_bars::Tone;
+use abc_music::Tone;
 use abc_time::Grains;
 use std::alloc::AllocError;
 

@@ -4,7 +4,7 @@ ghost use Rattle.std.specs.Prelude.{◌≡◌, ◌++◌, [], IfOk, OnOk};
 ghost use Rattle.abc_voices.specs.Moved.{waits, past_bar, past, region_past, set_down, moved};
 
 use crate::step::{is_field, mark_of};
-use abc_bars::Item;
+use abc_music::Item;
 use abc_repeat::Mark;
 use std::alloc::{AllocError, Global};
 

@@ -1,7 +1,7 @@
 //! The notes of what a voice plays.
 
 ghost use Rattle.std.specs.Prelude.{◌≡◌, ◌-◌, ◌≤◌, ◌++◌, [], All, Some, OnOk};
-ghost use Rattle.abc_bars.specs.Item.{IsItem, IsTone};
+ghost use Rattle.abc_music.specs.Item.{IsItem, IsTone};
 ghost use Rattle.abc_time.specs.Grains.{grains_of_the_latest_end};
 ghost use Rattle.abc_voices.specs.Linked.{Notes, before, notes_from};
 ghost use Rattle.abc_voices.specs.Play.{duration};
@@ -10,7 +10,7 @@ ghost use Rattle.abc_voices.specs.Step.{tones_of};
 use crate::linked::begin_notes;
 use crate::score::Sounding;
 use crate::step::length_of;
-use abc_bars::{Item, Tone};
+use abc_music::{Item, Tone};
 use abc_time::Grains;
 use std::alloc::{AllocError, Global};
 use std::mem::swap;

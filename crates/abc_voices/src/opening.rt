@@ -3,8 +3,8 @@
 ghost use Rattle.std.specs.Prelude.{◌≡◌, None, option_copied};
 ghost use Rattle.abc_voices.specs.Opening.{tempo_past, meter_past, key_past, order_past, past_all, title_of};
 
-use abc_bars::Item;
 use abc_fields::Meter;
+use abc_music::Item;
 
 /// The microseconds of a quarter note with which a tune opens, where its header sets a tempo.
 pub fn opening_tempo(tune: &[&Item]) -> Option<u32>

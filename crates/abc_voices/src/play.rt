@@ -9,7 +9,7 @@ ghost use Rattle.abc_voices.specs.Play.{marks_of, places_of, played, duration};
 
 use crate::moved::moved;
 use crate::step::{length_of, mark_of};
-use abc_bars::Item;
+use abc_music::Item;
 use abc_repeat::{Mark, RepeatFault, expand_within};
 use abc_time::{Grains, LATEST_END};
 use std::alloc::{AllocError, Global};

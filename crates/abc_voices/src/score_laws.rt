@@ -1,9 +1,9 @@
 //! Laws of the scores of tunes.
 
 ghost use Rattle.std.specs.Prelude.{◌≡◌, ◌≤◌, List, length, All, true};
-ghost use Rattle.abc_bars.specs.Item.{IsItem};
-ghost use Rattle.abc_bars.specs.declared.item.Item.{Item};
-ghost use Rattle.abc_bars.specs.declared.voices.TheConstants.{MOST_VOICES};
+ghost use Rattle.abc_music.specs.Item.{IsItem};
+ghost use Rattle.abc_music.specs.declared.item.Item.{Item};
+ghost use Rattle.abc_music.specs.declared.item.TheConstants.{MOST_VOICES};
 ghost use Rattle.abc_repeat.specs.declared.play.TheConstants.{MOST_PLACES};
 ghost use Rattle.abc_time.specs.Grains.{grains_of_the_latest_end};
 ghost use Rattle.abc_voices.specs.Arrange.{end_of, places_played, score_of};

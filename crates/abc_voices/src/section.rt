@@ -3,7 +3,7 @@
 ghost use Rattle.std.specs.Prelude.{◌≡◌, IfOk, map};
 ghost use Rattle.abc_voices.specs.Section.{is_step, is_section, letters, voice_past, opening_voice, sections, part_from};
 
-use abc_bars::Item;
+use abc_music::Item;
 use std::alloc::{AllocError, Global};
 
 /// A section of a tune.

@@ -8,7 +8,7 @@ ghost use Rattle.abc_voices.specs.Stage.{content, part_of, stage_of, part_size, 
 
 use crate::play::{duration, played};
 use crate::section::{Section, part};
-use abc_bars::Item;
+use abc_music::Item;
 use abc_repeat::RepeatFault;
 use abc_text::Sequence;
 use abc_time::Grains;

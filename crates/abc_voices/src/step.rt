@@ -3,7 +3,7 @@
 ghost use Rattle.std.specs.Prelude.{◌≡◌};
 ghost use Rattle.abc_voices.specs.Step.{is_field, mark_of, length_of};
 
-use abc_bars::Item;
+use abc_music::Item;
 use abc_repeat::Mark;
 use abc_time::Grains;
 

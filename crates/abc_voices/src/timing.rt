@@ -5,7 +5,7 @@ ghost use Rattle.std.specs.List.{list_any};
 ghost use Rattle.abc_voices.specs.Arrange.{takes_time, last_off};
 
 use crate::score::Sounding;
-use abc_bars::Item;
+use abc_music::Item;
 use abc_time::Grains;
 
 /// When a moment and the last of some notes are over.

@@ -5,7 +5,7 @@ ghost use Rattle.std.specs.List.{list_any};
 ghost use Rattle.abc_voices.specs.Track.{with_name, everyone, plays_first, nameless_plays};
 
 use crate::section::opening_voice;
-use abc_bars::Item;
+use abc_music::Item;
 use std::alloc::{AllocError, Global};
 
 /// Whether a name is one of some others.

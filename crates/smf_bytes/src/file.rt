@@ -1,7 +1,7 @@
 //! The file of a score.
 ghost use Rattle.std.specs.Prelude.{◌≡◌, ◌≤◌, ◌<◌, ◌^◌, ◌+◌, ◌++◌, length, IfOk, OnOk};
 ghost use Rattle.abc_time.specs.Grains.{grains_of_the_latest_end, tick_at};
-ghost use Rattle.abc_bars.specs.declared.voices.TheConstants.{MOST_VOICES};
+ghost use Rattle.abc_music.specs.declared.item.TheConstants.{MOST_VOICES};
 ghost use Rattle.smf_bytes.specs.File.{header, voice_tracks, file_bytes};
 ghost use Rattle.abc_voices.specs.Limits.{IsWithinLimits, IsVoiceWithin};
 ghost use Rattle.smf_bytes.specs.Track.{track, voice_events, channel_of};

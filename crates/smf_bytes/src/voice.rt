@@ -1,7 +1,7 @@
 //! The events of a voice: its notes on and off.
 ghost use Rattle.std.specs.Prelude.{◌≡◌, ◌≤◌, ◌<◌, ◌++◌, [], ◌∷◌, IfOk, IsPermutation, OnOk};
 ghost use Rattle.abc_time.specs.Grains.{grains_of_the_latest_end};
-ghost use Rattle.abc_bars.specs.declared.voices.TheConstants.{MOST_VOICES};
+ghost use Rattle.abc_music.specs.declared.item.TheConstants.{MOST_VOICES};
 ghost use Rattle.smf_bytes.specs.Event.{note_off, note_on, note_events};
 ghost use Rattle.abc_voices.specs.Limits.{IsSoundingWithin, IsVoiceWithin};
 ghost use Rattle.smf_bytes.specs.Track.{voice_events, channel_of};

@@ -7,9 +7,9 @@ use Rattle.abc_scan.specs.declared.token.TokenKind.TheVariants as kinds
 use Rattle.abc_text.specs.declared.letter.Letter.{Letter}
 use Rattle.abc_text.specs.declared.letter.Letter.TheVariants.{C, D, E, F, G, A, B}
 use Rattle.abc_text.specs.Letter.{semitones}
-use Rattle.abc_bars.specs.declared.accidentals.Accidentals.{Accidentals}
-use Rattle.abc_bars.specs.Accidentals.{written_on}
-use Rattle.abc_bars.specs.Alteration.{own_alteration, with_own, with_written}
+use Rattle.abc_music.specs.declared.accidentals.Accidentals.{Accidentals}
+use Rattle.abc_music.specs.Accidentals.{written_on}
+use Rattle.abc_music.specs.Alteration.{own_alteration, with_own, with_written}
 use Rattle.abc_bars.specs.LookBack.Element.{Element}
 use Rattle.abc_bars.specs.LookBack.Voice.{accidental_at, accidentals_at, counted_notes, last_written, written_by}
 

@@ -19,11 +19,11 @@ use Rattle.abc_bars.specs.declared.defaults.Defaults.{Defaults}
 use Rattle.abc_bars.specs.declared.field_kind.FieldKind.{FieldKind}
 use Rattle.abc_bars.specs.declared.field_kind.FieldKind.TheVariants as fields
 use Rattle.abc_bars.specs.declared.header.Header.{Header}
-use Rattle.abc_bars.specs.declared.settings.Settings.{Settings}
-use Rattle.abc_bars.specs.declared.voices.TheConstants.{MOST_VOICES}
+use Rattle.abc_music.specs.declared.settings.Settings.{Settings}
+use Rattle.abc_music.specs.declared.item.TheConstants.{MOST_VOICES}
 use Rattle.abc_bars.specs.BodyFields.{part_of}
 use Rattle.abc_bars.specs.BodyOpening.{body_from, current_in, opening_another, opening_settings, opening_voice}
-use Rattle.abc_bars.specs.Broken.{has_note}
+use Rattle.abc_music.specs.Broken.{has_note}
 use Rattle.abc_bars.specs.FieldKind.{kind_of}
 use Rattle.abc_bars.specs.Voices.{voice_at}
 use Rattle.abc_bars.specs.LookBack.Heard.{Former, Hearing, Here, IsPlaced, New, Nobody, Each, First, Roll, held_at, current_by, each_if, field_hearing, first_or, here_if, hearing_of, roll_of, place_of_current, roll_at, roll_behind, voice_named_by, voice_said, voices_by}

@@ -5,10 +5,10 @@ use Rattle.abc_scan.specs.declared.token.TokenKind.{TokenKind}
 use Rattle.abc_scan.specs.declared.token.TokenKind.TheVariants as kinds
 use Rattle.abc_bars.specs.declared.body.Body.{Body}
 use Rattle.abc_bars.specs.declared.header.Header.{Header}
-use Rattle.abc_bars.specs.declared.settings.Settings.{Settings}
+use Rattle.abc_music.specs.declared.settings.Settings.{Settings}
 use Rattle.abc_bars.specs.Body.{here, mentioned, with_here}
 use Rattle.abc_bars.specs.BodyOpening.{body_from}
-use Rattle.abc_bars.specs.Broken.{has_note}
+use Rattle.abc_music.specs.Broken.{has_note}
 use Rattle.abc_bars.specs.FieldKind.{kind_of}
 use Rattle.abc_bars.specs.LookBack.Heard.{Here, IsPlaced, Music, Nobody, Roll, held_at, first_or, hearing_of, roll_of, roll_at, settings_in, voices_by, with_heard}
 use Rattle.abc_bars.specs.LookBack.Element.{Element}

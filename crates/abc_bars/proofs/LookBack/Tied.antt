@@ -11,18 +11,18 @@ use Rattle.abc_scan.specs.declared.parts.ChordPartKind.TheVariants as parts
 use Rattle.abc_scan.specs.declared.spanned.Spanned.{Spanned}
 use Rattle.abc_text.specs.declared.letter.Letter.{Letter}
 use Rattle.abc_time.specs.declared.ratio.Ratio.{Ratio}
-use Rattle.abc_bars.specs.declared.accidentals.Accidentals.{Accidentals}
-use Rattle.abc_bars.specs.declared.chords.Outside.{Outside}
-use Rattle.abc_bars.specs.declared.item.Tone.{Tone}
-use Rattle.abc_bars.specs.declared.item.TheConstants.{MOST_NOTES}
-use Rattle.abc_bars.specs.declared.settings.Settings.{Settings}
-use Rattle.abc_bars.specs.declared.sound.Inside.{Inside}
-use Rattle.abc_bars.specs.declared.tied.TiedNote.{TiedNote}
-use Rattle.abc_bars.specs.Accidentals.{written_on}
-use Rattle.abc_bars.specs.Alteration.{alteration_of, own_alteration, tied_alteration, with_own}
-use Rattle.abc_bars.specs.Chords.{inside_from, inside_of, tie_follows, with_fault, with_dropped}
-use Rattle.abc_bars.specs.Column.{column_of}
-use Rattle.abc_bars.specs.Sound.{no_notes, with_note}
+use Rattle.abc_music.specs.declared.accidentals.Accidentals.{Accidentals}
+use Rattle.abc_music.specs.declared.chords.Outside.{Outside}
+use Rattle.abc_music.specs.declared.item.Tone.{Tone}
+use Rattle.abc_music.specs.declared.item.TheConstants.{MOST_NOTES}
+use Rattle.abc_music.specs.declared.settings.Settings.{Settings}
+use Rattle.abc_music.specs.declared.sound.Inside.{Inside}
+use Rattle.abc_music.specs.declared.tied.TiedNote.{TiedNote}
+use Rattle.abc_music.specs.Accidentals.{written_on}
+use Rattle.abc_music.specs.Alteration.{alteration_of, own_alteration, tied_alteration, with_own}
+use Rattle.abc_music.specs.Chords.{inside_from, inside_of, tie_follows, with_fault, with_dropped}
+use Rattle.abc_music.specs.Column.{column_of}
+use Rattle.abc_music.specs.Sound.{no_notes, with_note}
 use Rattle.abc_bars.specs.LookBack.Element.{Element}
 use Rattle.abc_bars.specs.LookBack.Voice.{accidental_at, accidentals_at, alteration_at, as_tied, counted_notes, newest_written, notes_among, settings_at, signature_at, tied_among, tied_at, written_by}
 use Rattle.abc_bars.proofs.LookBack.Accidentals.{or_or, with_each, written_on-at, written_on-with_own}

@@ -11,7 +11,7 @@ use Rattle.abc_bars.specs.declared.field_kind.FieldKind.{FieldKind}
 use Rattle.abc_bars.specs.declared.field_kind.FieldKind.TheVariants as fields
 use Rattle.abc_bars.specs.BodyFields.{part_of}
 use Rattle.abc_bars.specs.FieldKind.{kind_of}
-use Rattle.abc_bars.specs.VoiceShift.{with_properties}
+use Rattle.abc_music.specs.VoiceShift.{with_properties}
 use Rattle.abc_bars.specs.LookBack.After.{after, after_field, after_kind, in_meter, in_part, in_unit, in_voice}
 use Rattle.abc_bars.specs.LookBack.Defaults.{meter_by, unit_by}
 use Rattle.abc_scan.specs.declared.chord.Chord.{Chord}
@@ -24,15 +24,15 @@ use Rattle.abc_scan.specs.declared.tuplet.Tuplet.{Tuplet}
 use Rattle.abc_scan.specs.declared.token.TokenKind.{TokenKind}
 use Rattle.abc_scan.specs.declared.token.TokenKind.TheVariants as kinds
 use Rattle.abc_time.specs.declared.ratio.Ratio.{Ratio}
-use Rattle.abc_bars.specs.declared.settings.Settings.{Settings}
-use Rattle.abc_bars.specs.Alteration.{alteration_of}
-use Rattle.abc_bars.specs.Broken.{has_note, is_note_part}
-use Rattle.abc_bars.specs.declared.chords.Outside.{Outside}
-use Rattle.abc_bars.specs.declared.sound.Inside.{Inside}
-use Rattle.abc_bars.specs.declared.item.TheConstants.{MOST_NOTES}
-use Rattle.abc_bars.specs.Tuplet.{counted_down, tuplet_opened}
-use Rattle.abc_bars.specs.Chords.{inside_of, tie_follows}
-use Rattle.abc_bars.specs.TimeTokens.{chord_by, chord_played, note_played, rest_played}
+use Rattle.abc_music.specs.declared.settings.Settings.{Settings}
+use Rattle.abc_music.specs.Alteration.{alteration_of}
+use Rattle.abc_music.specs.Broken.{has_note, is_note_part}
+use Rattle.abc_music.specs.declared.chords.Outside.{Outside}
+use Rattle.abc_music.specs.declared.sound.Inside.{Inside}
+use Rattle.abc_music.specs.declared.item.TheConstants.{MOST_NOTES}
+use Rattle.abc_music.specs.Tuplet.{counted_down, tuplet_opened}
+use Rattle.abc_music.specs.Chords.{inside_of, tie_follows}
+use Rattle.abc_music.specs.TimeTokens.{chord_by, chord_played, note_played, rest_played}
 use Rattle.abc_bars.specs.LookBack.Element.{Element}
 use Rattle.abc_bars.specs.LookBack.Voice.{accidental_at, accidentals_at, as_tied, counted_notes, ends_accidentals, meter_at, none_where, note_before, notes_among, passing, tied_among, tuplet_from, settings_at, shift_at, shift_in_voice, shift_said, signature_at, signature_said, tied_at, tied_said, tuplet_at, unit_at}
 use Rattle.abc_bars.proofs.LookBack.Accidentals.{at-chord, at-note, with_each}

@@ -8,8 +8,8 @@ use Rattle.abc_fields.specs.declared.key.Key.{Key}
 use Rattle.abc_scan.specs.declared.field.Field.{Field}
 use Rattle.abc_bars.specs.declared.body.Body.{Body}
 use Rattle.abc_bars.specs.declared.defaults.Defaults.{Defaults}
-use Rattle.abc_bars.specs.declared.settings.Settings.{Settings}
-use Rattle.abc_bars.specs.declared.voices.TheConstants.{MOST_VOICES}
+use Rattle.abc_music.specs.declared.settings.Settings.{Settings}
+use Rattle.abc_music.specs.declared.item.TheConstants.{MOST_VOICES}
 use Rattle.abc_bars.specs.LookBack.Element.{Element}
 use Rattle.abc_bars.specs.LookBack.Header.{header_at}
 use Rattle.abc_bars.specs.LookBack.Heard.{Each, Former, First, Hearing, Here, IsPlaced, New, Nobody, Roll, current_by, hearing_of, held_at, music_at, place_of_current, roll_at, roll_behind, roll_of, settings_in, unnamed_music}

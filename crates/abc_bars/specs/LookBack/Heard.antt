@@ -13,12 +13,12 @@ use Rattle.abc_scan.specs.declared.token.TokenKind.TheVariants as kinds
 use Rattle.abc_bars.specs.declared.body.Body.{Body}
 use Rattle.abc_bars.specs.declared.body.Current.{Current}
 use Rattle.abc_bars.specs.declared.body.Current.TheVariants.{Unnamed, At}
-use Rattle.abc_bars.specs.declared.voices.TheConstants.{MOST_VOICES}
+use Rattle.abc_music.specs.declared.item.TheConstants.{MOST_VOICES}
 use Rattle.abc_bars.specs.declared.field_kind.FieldKind.{FieldKind}
 use Rattle.abc_bars.specs.declared.field_kind.FieldKind.TheVariants as fields
-use Rattle.abc_bars.specs.declared.settings.Settings.{Settings}
+use Rattle.abc_music.specs.declared.settings.Settings.{Settings}
 use Rattle.abc_bars.specs.BodyFields.{part_of}
-use Rattle.abc_bars.specs.Broken.{has_note}
+use Rattle.abc_music.specs.Broken.{has_note}
 use Rattle.abc_bars.specs.FieldKind.{kind_of}
 use Rattle.abc_bars.specs.Voices.{voice_at}
 use Rattle.abc_bars.specs.LookBack.Element.{Element}

@@ -12,7 +12,7 @@ use Rattle.abc_bars.specs.declared.entry.Entry.{Entry}
 use Rattle.abc_bars.specs.declared.entry.Entry.TheVariants as entries
 use Rattle.abc_bars.specs.declared.field_kind.FieldKind.{FieldKind}
 use Rattle.abc_bars.specs.declared.field_kind.FieldKind.TheVariants as fields
-use Rattle.abc_bars.specs.Item.{Items}
+use Rattle.abc_music.specs.Item.{Items}
 use Rattle.abc_bars.specs.BodyOpening.{body_from}
 use Rattle.abc_bars.specs.Cell.{nothing_given}
 use Rattle.abc_bars.specs.Defaults.{no_defaults}

@@ -22,19 +22,19 @@ use Rattle.abc_text.specs.declared.letter.Letter.{Letter}
 use Rattle.abc_text.specs.declared.letter.Letter.TheVariants as letters
 use Rattle.abc_text.specs.Letter.{semitones}
 use Rattle.abc_time.specs.declared.ratio.Ratio.{Ratio}
-use Rattle.abc_bars.specs.declared.accidentals.Accidentals.{Accidentals}
+use Rattle.abc_music.specs.declared.accidentals.Accidentals.{Accidentals}
 use Rattle.abc_bars.specs.declared.field_kind.FieldKind.{FieldKind}
 use Rattle.abc_bars.specs.declared.field_kind.FieldKind.TheVariants as fields
-use Rattle.abc_bars.specs.declared.item.TheConstants.{MOST_NOTES}
-use Rattle.abc_bars.specs.declared.settings.Settings.{Settings}
-use Rattle.abc_bars.specs.declared.tied.TiedNote.{TiedNote}
-use Rattle.abc_bars.specs.declared.voice_shift.VoiceShift.{VoiceShift}
-use Rattle.abc_bars.specs.Alteration.{own_alteration, tied_alteration}
+use Rattle.abc_music.specs.declared.item.TheConstants.{MOST_NOTES}
+use Rattle.abc_music.specs.declared.settings.Settings.{Settings}
+use Rattle.abc_music.specs.declared.tied.TiedNote.{TiedNote}
+use Rattle.abc_music.specs.declared.voice_shift.VoiceShift.{VoiceShift}
+use Rattle.abc_music.specs.Alteration.{own_alteration, tied_alteration}
 use Rattle.abc_bars.specs.BodyFields.{part_of}
-use Rattle.abc_bars.specs.Broken.{has_note, is_time_token}
-use Rattle.abc_bars.specs.Chords.{tie_follows}
+use Rattle.abc_music.specs.Broken.{has_note, is_time_token}
+use Rattle.abc_music.specs.Chords.{tie_follows}
 use Rattle.abc_bars.specs.FieldKind.{kind_of}
-use Rattle.abc_bars.specs.Tuplet.{tuplet_by}
+use Rattle.abc_music.specs.Tuplet.{tuplet_by}
 use Rattle.abc_bars.specs.LookBack.Defaults.{meter_by, unit_by}
 use Rattle.abc_bars.specs.LookBack.Element.{Element}
 

@@ -3,10 +3,10 @@ use Rattle.std.proofs.Common.{ℕ, ◌+◌, ◌*◌, ◌≤◌, true, false, Lis
 use Rattle.std.specs.Prelude.{All, IfSome, remove, filter_map, slice_get}
 use Rattle.std.specs.List.{cons_option}
 use Rattle.std.proofs.lemmas.List.Elements.{All-head, All-tail}
-use Rattle.abc_bars.specs.Item.{IsItem}
-use Rattle.abc_bars.specs.declared.item.Item.{Item}
-use Rattle.abc_bars.specs.declared.item.Item.TheVariants as items
-use Rattle.abc_bars.specs.declared.item.Tone.{Tone}
+use Rattle.abc_music.specs.Item.{IsItem}
+use Rattle.abc_music.specs.declared.item.Item.{Item}
+use Rattle.abc_music.specs.declared.item.Item.TheVariants as items
+use Rattle.abc_music.specs.declared.item.Tone.{Tone}
 use Rattle.abc_voices.specs.declared.score.Sounding.{Sounding}
 use Rattle.abc_voices.specs.Linked.{Linked, Notes, own_note, lengthened, with_note, next_place, with_key, with_tones, before, notes_from}
 use Rattle.abc_voices.specs.Step.{length_of, tones_of}

@@ -3,7 +3,7 @@ use Rattle.std.proofs.Common.{ℕ, Bool, true, false, zero, suc, cond, List, [],
 use Rattle.std.specs.Prelude.{All, IfSome, slice_get, filter_map, bytes_eq, ◌&&◌}
 use Rattle.std.specs.List.{cons_option}
 use Rattle.std.proofs.lemmas.List.Elements.{All-nil, All-cons, All-head, All-tail, All-append, All-push}
-use Rattle.abc_bars.specs.declared.item.Item.{Item}
+use Rattle.abc_music.specs.declared.item.Item.{Item}
 use Rattle.abc_repeat.specs.Mark.{is_ending}
 use Rattle.abc_voices.specs.declared.moved.Region.{Region}
 use Rattle.abc_voices.specs.declared.moved.Region.TheVariants.{Common}

@@ -2,10 +2,10 @@
 use Rattle.std.proofs.Common.{◌≡◌, ℕ, ◌+◌, ◌≤◌, true, false, List, [], ◌∷◌, length, Option, Some, None, arith, refl, subst, zero, suc, take, drop}
 use Rattle.std.specs.Prelude.{All, IfSome, slice_index_or, remove}
 use Rattle.std.proofs.lemmas.List.Elements.{All-nil, All-head, All-tail, All-append, All-push, All-take, All-drop, All-weaker}
-use Rattle.abc_bars.specs.Item.{IsItem, IsTone}
-use Rattle.abc_bars.specs.declared.item.Item.{Item}
-use Rattle.abc_bars.specs.declared.item.Item.TheVariants as items
-use Rattle.abc_bars.specs.declared.item.Tone.{Tone}
+use Rattle.abc_music.specs.Item.{IsItem, IsTone}
+use Rattle.abc_music.specs.declared.item.Item.{Item}
+use Rattle.abc_music.specs.declared.item.Item.TheVariants as items
+use Rattle.abc_music.specs.declared.item.Tone.{Tone}
 use Rattle.abc_voices.specs.declared.score.Sounding.{Sounding}
 use Rattle.abc_voices.specs.Linked.{Linked, Notes, own_note, lengthened, with_note, next_place, with_key, with_tones, before, notes_from}
 use Rattle.abc_voices.specs.Step.{length_of, tones_of}

@@ -4,8 +4,8 @@ use Rattle.std.specs.Prelude.{All, sum_by}
 use Rattle.std.specs.List.{flat_map}
 use Rattle.std.proofs.lemmas.List.Elements.{All-nil, All-cons, All-head, All-tail, All-drop, All-weaker}
 use Rattle.std.proofs.lemmas.List.Sums.{sum_by-cons}
-use Rattle.abc_bars.specs.Item.{IsItem}
-use Rattle.abc_bars.specs.declared.item.Item.{Item}
+use Rattle.abc_music.specs.Item.{IsItem}
+use Rattle.abc_music.specs.declared.item.Item.{Item}
 use Rattle.abc_voices.specs.declared.score.Sounding.{Sounding}
 use Rattle.abc_voices.specs.Arrange.{play_in, size_in, length_in, longest, voice_notes, last_off}
 use Rattle.abc_voices.specs.Linked.{Notes}

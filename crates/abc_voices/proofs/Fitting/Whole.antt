@@ -6,9 +6,9 @@ use Rattle.std.proofs.lemmas.Bool.{le-leb, lt-ltb}
 use Rattle.std.proofs.lemmas.List.{length-map}
 use Rattle.std.proofs.lemmas.List.Elements.{All-nil, All-cons, All-head, All-tail, All-append, All-map, All-weaker}
 use Rattle.std.proofs.lemmas.List.Sums.{list_all-from_AllPass}
-use Rattle.abc_bars.specs.Item.{IsItem}
-use Rattle.abc_bars.specs.declared.item.Item.{Item}
-use Rattle.abc_bars.specs.declared.item.Item.TheVariants as items
+use Rattle.abc_music.specs.Item.{IsItem}
+use Rattle.abc_music.specs.declared.item.Item.{Item}
+use Rattle.abc_music.specs.declared.item.Item.TheVariants as items
 use Rattle.abc_fields.specs.Meter.{IsMeterInRange}
 use Rattle.abc_fields.specs.Signature.{IsSharps}
 use Rattle.abc_fields.specs.declared.meter.Meter.{Meter}
@@ -19,7 +19,7 @@ use Rattle.abc_text.specs.Power.{is_power_up_to}
 use Rattle.abc_time.specs.declared.grains.Grains.{Grains}
 use Rattle.abc_time.specs.Grains.{grains_of_the_latest_end}
 use Rattle.abc_time.specs.Tempo.{FitsInTempoEvent}
-use Rattle.abc_bars.specs.declared.voices.TheConstants.{MOST_VOICES}
+use Rattle.abc_music.specs.declared.item.TheConstants.{MOST_VOICES}
 use Rattle.abc_voices.specs.declared.limits.TheConstants.{LONGEST_TITLE, MOST_CHANGES, MOST_NOTES}
 use Rattle.abc_voices.specs.declared.score.Change.{Change}
 use Rattle.abc_voices.specs.declared.score.Sounding.{Sounding}

@@ -1,8 +1,8 @@
 use Rattle.std.proofs.Common.{◌≡◌, Bool, false, map, sym, ap, subst, ◌∙◌}
 use Rattle.std.specs.Prelude.{All, IfOk}
 use Rattle.std.specs.Borrow.{Bor}
-use Rattle.abc_bars.specs.declared.item.Item.{Item}
-use Rattle.abc_bars.specs.Item.{IsItem}
+use Rattle.abc_music.specs.declared.item.Item.{Item}
+use Rattle.abc_music.specs.Item.{IsItem}
 use Rattle.abc_voices.specs.declared.arranged.Arranged.{Arranged}
 use Rattle.abc_voices.specs.Arrange.{arranged_of, is_too_long}
 use Rattle.abc_voices.proofs.Mapped.{arranged_mapped, is_too_long_mapped}

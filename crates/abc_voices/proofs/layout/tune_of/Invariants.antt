@@ -1,6 +1,6 @@
 use Rattle.std.proofs.Common.{◌≡◌, ◌++◌, drop, map}
 use Rattle.std.specs.Prelude.{All}
-use Rattle.abc_bars.specs.Item.{IsItem}
+use Rattle.abc_music.specs.Item.{IsItem}
 use Rattle.abc_voices.specs.Arrange.{items_in}
 use Rattle.abc_voices.proofs.layout.tune_of.Given as goal
 

@@ -1,6 +1,6 @@
 use Rattle.std.proofs.Common.{◌∙◌, ℕ, List, Bor, sym, map, arith}
 use Rattle.std.proofs.lemmas.Grind.{common_steps}
-use Rattle.abc_bars.specs.declared.item.Item.{Item}
+use Rattle.abc_music.specs.declared.item.Item.{Item}
 use Rattle.abc_voices.specs.Section.{sections}
 use Rattle.abc_voices.proofs.Cuts.{ends_more, goes_more}
 use Rattle.abc_voices.proofs.section.sections.Goals as goal

@@ -1,5 +1,5 @@
 use Rattle.std.proofs.Common.{◌≡◌, ap, arith, length, ◌∙◌}
-use Rattle.abc_bars.specs.Settings.{without_accidentals}
+use Rattle.abc_music.specs.Settings.{without_accidentals}
 use Rattle.abc_bars.proofs.VoicesLemmas.{changed_more, changed_to, changed_to-length, length-changed_to}
 use Rattle.abc_bars.proofs.body.Voices+Settings.clear_accidentals.Goals as goal
 

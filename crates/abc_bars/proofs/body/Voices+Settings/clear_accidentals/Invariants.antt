@@ -1,5 +1,5 @@
 use Rattle.std.proofs.Common.{◌≡◌, length}
-use Rattle.abc_bars.specs.Settings.{without_accidentals}
+use Rattle.abc_music.specs.Settings.{without_accidentals}
 use Rattle.abc_bars.proofs.VoicesLemmas.{changed_to}
 use Rattle.abc_bars.proofs.body.Voices+Settings.clear_accidentals.Given as goal
 

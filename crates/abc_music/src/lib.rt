@@ -1,0 +1,41 @@
+//! The music of one voice: what its notes, chords and rests sound and how long, and what holds for it.
+#![tactic(auto)]
+
+mod accidentals;
+mod alteration;
+mod bar_rest;
+mod broken;
+mod chords;
+mod column;
+mod item;
+mod lengths;
+mod meter;
+mod numbers;
+mod pitch;
+mod settings;
+mod sound;
+mod tempo;
+mod tempo_change;
+mod tied;
+mod time_tokens;
+mod tuplet;
+mod unit;
+mod voice_shift;
+
+pub use accidentals::{Accidentals, NO_ACCIDENTALS};
+pub use bar_rest::bar_rest_of;
+pub use broken::{Behind, BrokenFactors, acting_marks, behind_after, has_note, is_bad_mark};
+pub use chords::Outside;
+pub use column::{FIRST_COLUMN, column_of};
+pub use item::{HIGHEST_KEY, Item, Items, LocalFault, MOST_NOTES, MOST_VOICES, Tone};
+pub use meter::TuneMeter;
+pub use numbers::{key_numbers, music_limits};
+pub use settings::Settings;
+pub use sound::Inside;
+pub use tempo::TuneTempo;
+pub use tempo_change::{is_out, tempo_item};
+pub use tied::TiedNote;
+pub use time_tokens::{chord_played, note_played, rest_played};
+pub use tuplet::{OpenTuplet, tuplet_opened};
+pub use unit::UnitLength;
+pub use voice_shift::VoiceShift;

@@ -1,0 +1,26 @@
+//! What the numbers are that clauses cite by their names.
+
+ghost use Rattle.std.specs.Prelude.{◌≡◌, pos};
+ghost use Rattle.abc_music.specs.declared.broken.TheConstants.{MOST_MARKS};
+ghost use Rattle.abc_music.specs.declared.column.TheConstants.{FIRST_COLUMN};
+ghost use Rattle.abc_music.specs.declared.item.TheConstants.{HIGHEST_KEY, MOST_NOTES, MOST_VOICES};
+ghost use Rattle.abc_music.specs.declared.pitch.TheConstants.{MIDDLE_C, OCTAVE};
+ghost use Rattle.abc_music.specs.declared.tuplet.TheConstants.{LARGEST_TUPLET_NUMBER};
+
+/// The keys of MIDI end at 127, the middle C is 60, and an octave has twelve semitones (SMF 1.0, ABC 2.1
+/// section 4.1).
+pub fn key_numbers()
+    ensures highest { HIGHEST_KEY ≡ 127 }
+    ensures middle_c { MIDDLE_C ≡ 60 }
+    ensures octave { OCTAVE ≡ pos 12 }
+{}
+
+/// A tune has at most fifteen voices, a chord sixteen notes that count, a tuplet numbers up to 64, and broken
+/// rhythm three marks together. The first column of a line is 1.
+pub fn music_limits()
+    ensures voices { MOST_VOICES ≡ 15 }
+    ensures notes { MOST_NOTES ≡ 16 }
+    ensures tuplets { LARGEST_TUPLET_NUMBER ≡ 64 }
+    ensures marks { MOST_MARKS ≡ 3 }
+    ensures columns { FIRST_COLUMN ≡ 1 }
+{}

@@ -1,0 +1,147 @@
+//! Notes as they sound.
+
+ghost use Rattle.std.specs.Prelude.{◌≡◌, if◌then◌else◌, [], ◌∷◌, ◌++◌, All, OnOk};
+ghost use Rattle.abc_music.specs.Item.{IsTone, IsWithinLongest};
+ghost use Rattle.abc_music.specs.Sound.{fault_if, length_in, no_notes, with_note};
+
+use crate::accidentals::Accidentals;
+use crate::alteration::{alteration_of, write_own};
+use crate::broken::BrokenFactors;
+use crate::item::{LocalFault, Tone};
+use crate::lengths::length_or_unit;
+use crate::pitch::key_of;
+use crate::settings::Settings;
+use crate::tied::TiedNote;
+use abc_fields::FaultCode;
+use abc_scan::{Note, WrittenLength};
+use abc_text::{Sequence, ShortSequence};
+use abc_time::Grains;
+use std::alloc::{AllocError, Global};
+
+/// What the notes and other parts of a chord, or a note alone, have given so far.
+#[derive(Drop)]
+pub struct Inside {
+    /// The accidentals that hold behind them.
+    pub(crate) accidentals: Accidentals,
+    pub(crate) tones: ShortSequence<Tone>,
+    /// Those of the notes that are tied.
+    pub(crate) tied: ShortSequence<TiedNote>,
+    pub(crate) faults: Sequence<LocalFault>,
+    /// Whether a note came last.
+    pub(crate) after_note: bool,
+    /// Whether there were more notes than count.
+    pub(crate) big: bool,
+}
+
+impl Inside {
+    /// No note yet.
+    pub(crate) fn new(alloc: Global, settings: &Settings) -> Inside
+        ensures { result ≡ no_notes settings.now }
+    {
+        Inside {
+            accidentals: settings.accidentals,
+            tones: ShortSequence::new(alloc),
+            tied: ShortSequence::new(alloc),
+            faults: Sequence::new(alloc),
+            after_note: false,
+            big: false,
+        }
+    }
+}
+
+/// The length of what is written so, and perhaps behind its chord, and whether it is refused.
+pub(crate) fn length_in(
+    settings: &Settings,
+    broken: &BrokenFactors,
+    own: WrittenLength,
+    outer: Option<WrittenLength>,
+) -> (Grains, bool)
+    ensures value { result ≡ length_in settings.now broken.now own outer }
+    ensures range { IsWithinLongest result.0 }
+{
+    length_or_unit(settings.unit, own, outer, settings.tuplet, broken)
+}
+
+/// Puts a fault at the end, if there is one.
+fn push_fault_if(
+    faults: &mut Sequence<LocalFault>,
+    is_fault: bool,
+    column: u32,
+    code: FaultCode,
+) -> Result<(), AllocError>
+    ensures { OnOk result (faults.new ≡ faults.old ++ fault_if is_fault column code) }
+{
+    if is_fault {
+        faults.push((column, code))?;
+    }
+    Ok(())
+}
+
+/// Puts the faults of a note at the end: that its length is refused, and that MIDI has no key for it.
+fn push_note_faults(
+    faults: &mut Sequence<LocalFault>,
+    refused: bool,
+    silent: bool,
+    column: u32,
+) -> Result<(), AllocError>
+    ensures { OnOk result (faults.new ≡ faults.old ++ (fault_if refused column FaultCode.BadLength ++ fault_if silent column FaultCode.KeyRange)) }
+{
+    push_fault_if(faults, refused, column, FaultCode::BadLength)?;
+    push_fault_if(faults, silent, column, FaultCode::KeyRange)?;
+    Ok(())
+}
+
+/// Puts a tone at the end.
+fn push_tone(tones: &mut ShortSequence<Tone>, tone: Tone) -> Result<(), AllocError>
+    requires tone { IsTone tone }
+    requires tones { All IsTone tones.old }
+    ensures value { OnOk result (tones.new ≡ tones.old ++ tone ∷ []) }
+    ensures range { OnOk result (All IsTone tones.new) }
+{
+    tones.push(tone)?;
+    Ok(())
+}
+
+/// Puts a note at the end of those that are tied, if it is.
+fn push_tied_if(
+    notes: &mut ShortSequence<TiedNote>,
+    tied: bool,
+    note: TiedNote,
+) -> Result<(), AllocError>
+    ensures { OnOk result (notes.new ≡ (if tied then notes.old ++ note ∷ [] else notes.old)) }
+{
+    if tied {
+        notes.push(note)?;
+    }
+    Ok(())
+}
+
+/// Puts one more note to those that sound together (ABC 2.1 sections 4.1 to 4.3), which is tied or not.
+/// Behind a chord stands another length.
+pub(crate) fn add_note(
+    settings: &Settings,
+    broken: &BrokenFactors,
+    outer: Option<WrittenLength>,
+    column: u32,
+    note: Note,
+    tied: bool,
+    inside: &mut Inside,
+) -> Result<(), AllocError>
+    requires { All IsTone inside.old.tones }
+    ensures value { OnOk result (inside.new ≡ with_note settings.now broken.now outer column note tied inside.old) }
+    ensures range { OnOk result (All IsTone inside.new.tones) }
+{
+    let alteration = alteration_of(settings, &inside.accidentals, note);
+    let key = key_of(settings.shift, note, alteration);
+    let (length, refused) = length_in(settings, broken, note.length, outer);
+    let tied_note = TiedNote {
+        letter: note.letter,
+        octave: note.octave,
+        alteration,
+    };
+    push_note_faults(&mut inside.faults, refused, key.is_none(), column)?;
+    push_tone(&mut inside.tones, Tone { key, length, tied })?;
+    push_tied_if(&mut inside.tied, tied, tied_note)?;
+    write_own(&mut inside.accidentals, note);
+    Ok(())
+}

@@ -1,0 +1,149 @@
+//! Notes, chords and rests: what each gives and what it leaves for its voice.
+
+ghost use Rattle.std.specs.Prelude.{◌≡◌, ◌∷◌, All, OnOk};
+ghost use Rattle.abc_fields.specs.declared.fault.FaultCode.TheVariants.{EmptyChord};
+ghost use Rattle.abc_music.specs.Column.{column_of};
+ghost use Rattle.abc_music.specs.Item.{AreTones, IsTone, IsWithinLongest, and_faults};
+ghost use Rattle.abc_music.specs.TimeTokens.{first_length, sounded, note_played, chord_played, rest_played, with_played};
+
+use crate::broken::{BrokenFactors, has_note};
+use crate::chords::{Outside, inside_of};
+use crate::column::column_of;
+use crate::item::{Item, Items, LocalFault, Tone};
+use crate::settings::Settings;
+use crate::sound::{Inside, add_note, length_in};
+use crate::tuplet::counted_down;
+use abc_fields::FaultCode;
+use abc_scan::{Chord, Note, WrittenLength};
+use abc_text::{Sequence, ShortSequence};
+use abc_time::Grains;
+use std::alloc::{AllocError, Global};
+
+/// The length of the first tone.
+fn first_length(tones: &[Tone]) -> Grains
+    ensures value { result ≡ first_length tones.now }
+    ensures range { All IsTone tones.now → IsWithinLongest result }
+{
+    match tones {
+        [tone, ..] => tone.length,
+        [] => Grains(0),
+    }
+}
+
+/// Gives notes that sound together (ABC 2.1 sections 4.1 and 4.17).
+fn sound(settings: &mut Settings, items: &mut Items, inside: Inside) -> Result<(), AllocError>
+    requires { AreTones inside.tones }
+    ensures settings { OnOk result (settings.new ≡ (sounded settings.old inside).settings) }
+    ensures items { OnOk result (items.new ≡ with_played items.old (sounded settings.old inside)) }
+{
+    let Inside {
+        accidentals,
+        tones,
+        tied,
+        faults,
+        after_note: _,
+        big: _,
+    } = inside;
+    let length = first_length(tones.as_slice());
+    settings.accidentals = accidentals;
+    settings.tuplet = counted_down(settings.tuplet);
+    settings.tied = tied;
+    items.push_faults(faults.as_slice())?;
+    items.push_item(Item::Tone { tones, length })?;
+    Ok(())
+}
+
+/// Gives a note at a place of its line, which is tied or not.
+pub fn note_played(
+    alloc: Global,
+    settings: &mut Settings,
+    items: &mut Items,
+    note: Note,
+    broken: &BrokenFactors,
+    tied: bool,
+    from: usize,
+) -> Result<(), AllocError>
+    ensures settings { OnOk result (settings.new ≡ (note_played settings.old broken.now tied from note).settings) }
+    ensures items { OnOk result (items.new ≡ with_played items.old (note_played settings.old broken.now tied from note)) }
+{
+    let mut inside = Inside::new(alloc, settings);
+    add_note(
+        settings,
+        broken,
+        None,
+        column_of(from),
+        note,
+        tied,
+        &mut inside,
+    )?;
+    sound(settings, items, inside)?;
+    Ok(())
+}
+
+/// The faults of a chord, of which nothing else is given.
+fn only_faults(inside: Inside) -> Sequence<LocalFault>
+    ensures { result ≡ inside.faults }
+{
+    let Inside { faults, .. } = inside;
+    faults
+}
+
+/// Gives the faults of a chord without a note, which takes no time.
+fn take_no_time(items: &mut Items, inside: Inside, from: usize) -> Result<(), AllocError>
+    ensures { OnOk result (items.new ≡ and_faults items.old ((column_of from, EmptyChord) ∷ inside.faults)) }
+{
+    let faults = only_faults(inside);
+    items.push_fault((column_of(from), FaultCode::EmptyChord))?;
+    items.push_faults(faults.as_slice())?;
+    Ok(())
+}
+
+/// Gives a chord at a place of its line, which is tied or not: one that has no note takes no time.
+pub fn chord_played(
+    alloc: Global,
+    settings: &mut Settings,
+    items: &mut Items,
+    chord: &Chord,
+    broken: &BrokenFactors,
+    tied: bool,
+    from: usize,
+) -> Result<(), AllocError>
+    ensures settings { OnOk result (settings.new ≡ (chord_played settings.old broken.now tied from chord.now).settings) }
+    ensures items { OnOk result (items.new ≡ with_played items.old (chord_played settings.old broken.now tied from chord.now)) }
+{
+    let outside = Outside {
+        length: chord.length,
+        tied,
+        from,
+    };
+    let parts = chord.parts.as_slice();
+    let inside = inside_of(alloc, settings, broken, outside, parts)?;
+    if has_note(parts) {
+        sound(settings, items, inside)?;
+    } else {
+        take_no_time(items, inside, from)?;
+    }
+    Ok(())
+}
+
+/// Gives a rest at a place of its line (ABC 2.1 section 4.5).
+pub fn rest_played(
+    alloc: Global,
+    settings: &mut Settings,
+    items: &mut Items,
+    written: WrittenLength,
+    broken: &BrokenFactors,
+    from: usize,
+) -> Result<(), AllocError>
+    ensures settings { OnOk result (settings.new ≡ (rest_played settings.old broken.now from written).settings) }
+    ensures items { OnOk result (items.new ≡ with_played items.old (rest_played settings.old broken.now from written)) }
+{
+    let (length, refused) = length_in(settings, broken, written, None);
+    if refused {
+        items.push_fault((column_of(from), FaultCode::BadLength))?;
+    }
+    items.push_item(Item::Rest { length, bar: false })?;
+    settings.tuplet = counted_down(settings.tuplet);
+    settings.tied = ShortSequence::new(alloc);
+    Ok(())
+}
