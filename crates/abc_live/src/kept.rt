@@ -1,6 +1,6 @@
 //! What a session keeps of the tunes of its text, for the texts that follow.
 
-ghost use Rattle.std.specs.Prelude.{◌≡◌, ◌+◌, ◌≤◌, All, IfOk, IfSome, Some, length, map, option_map, slice_get, true};
+ghost use Rattle.std.specs.Prelude.{◌≡◌, ◌↔◌, ◌+◌, ◌≤◌, All, IfOk, IfSome, IsTrue, Some, length, map, option_map, slice_get};
 ghost use Rattle.abc_lines.specs.Text.{seen_lines};
 ghost use Rattle.abc_live.specs.Block.{LiesWithin};
 ghost use Rattle.abc_live.specs.Kept.{HasRoom, IsFound, in_place, kept_at};
@@ -91,7 +91,7 @@ pub(crate) fn all_in_place(alloc: Global, kept: &[KeptTune]) -> Result<Vec<Tune>
 
 /// Whether a text has this line behind so many others.
 fn has_line(text: &LineBuffer, before: usize, line: &[u8]) -> bool
-    ensures { result ≡ true → slice_get text.now.text before ≡ Some line.now }
+    ensures { IsTrue result ↔ slice_get text.now.text before ≡ Some line.now }
 {
     match text.line(before) {
         Some(own) => own == line,
@@ -102,7 +102,7 @@ fn has_line(text: &LineBuffer, before: usize, line: &[u8]) -> bool
 /// Whether a block of a text has these lines, byte by byte.
 fn has_lines(text: &LineBuffer, block: Block, lines: &[&[u8]]) -> bool
     requires { LiesWithin (length text.now.text) block }
-    ensures { result ≡ true → lines_in text.now.text block ≡ seen_lines lines.now }
+    ensures { IsTrue result ↔ lines_in text.now.text block ≡ seen_lines lines.now }
 {
     if lines.len() != block.to - block.from {
         return false;
@@ -124,7 +124,7 @@ pub(crate) fn same_header(
 ) -> bool
     requires within { IfSome header (LiesWithin (length text.now.text)) }
     requires new { IfSome new_header (LiesWithin (length lines.now)) }
-    ensures { result ≡ true → option_map (lines_in text.now.text) header ≡ option_map (lines_in (seen_lines lines.now)) new_header }
+    ensures { IsTrue result ↔ option_map (lines_in text.now.text) header ≡ option_map (lines_in (seen_lines lines.now)) new_header }
 {
     match (header, new_header) {
         (None, None) => true,

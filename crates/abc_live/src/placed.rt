@@ -29,19 +29,12 @@ pub(crate) fn put_line<T: Drop>(
 ) -> Result<(), AllocError>
     ensures { OnOk result (placed.new.items ≡ placed.old.items ++ map (placed_at line) all.items) }
 {
-    for here in all {
-        placed.push(InLine { line, here })?;
-    }
-    Ok(())
+    placed.extend(all.into_iter().map(|here| InLine { line, here }))
 }
 
 /// What stands there, without the numbers of the lines.
 pub(crate) fn things<T: Drop>(alloc: Global, placed: Vec<InLine<T>>) -> Result<Vec<T>, AllocError>
     ensures { IfOk result (λ all. all.items ≡ things placed.items) }
 {
-    let mut all = Vec::with_capacity(alloc, placed.len())?;
-    for one in placed {
-        all.push(one.here)?;
-    }
-    Ok(all)
+    placed.into_iter().map(|one| one.here).collect(alloc)
 }
