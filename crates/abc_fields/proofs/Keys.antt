@@ -248,7 +248,7 @@ no_sharps = (omega (arith, ints), omega (arith, ints))
 no_shift_small : IsSmallShift no_shift
 no_shift_small = record { clef = tt; octave = tt; transpose = tt }
 
-no_key_range : IsInRange empty_signature
+pub no_key_range : IsInRange empty_signature
 no_key_range = record { sharps = no_sharps; signature = natural_range; shift = no_shift_small }
 
 key_on_range : (major : ℤ) (basis : Basis) (key : Key) → IsKeyOn major basis key → IsInRange key

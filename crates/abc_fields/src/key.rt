@@ -4,8 +4,8 @@ ghost use Rattle.std.specs.Prelude.{◌≡◌, ◌↔◌, ◌+ℤ◌, Some, None
 ghost use Rattle.abc_fields.specs.declared.key.Key.{Key};
 ghost use Rattle.abc_text.specs.Word.{words_of};
 ghost use Rattle.abc_fields.specs.Mode.{added_sharps};
-ghost use Rattle.abc_fields.specs.Tonic.{IsMajor};
-ghost use Rattle.abc_fields.specs.Key.{completed, key_with, key_on, begins_accidental, sets_properties, toneless_start, start_of, key_in, key_of, key_or_empty, IsInRange};
+ghost use Rattle.abc_fields.specs.Tonic.{IsMajor, basis_at};
+ghost use Rattle.abc_fields.specs.Key.{completed, key_with, key_on, begins_accidental, sets_properties, toneless_start, tonal_start, start_of, key_in, key_of, key_or_empty, IsInRange};
 ghost use Rattle.abc_fields.specs.Spelling.Key.{IsKey};
 
 use crate::clef::{is_clef_name, mark_of};
@@ -18,7 +18,7 @@ use crate::tonic::{Basis, basis_at, tonic_at};
 use abc_text::next_word;
 
 /// A key, with what its value says beside it (ABC 2.1 section 3.1.14).
-#[derive(Clone, Copy, Debug, PartialEq, Eq)]
+#[derive(Clone, Copy)]
 pub struct Key {
     /// None where the value sets properties alone, which leave the signature as it is.
     pub signature: Option<Signature>,
@@ -110,6 +110,17 @@ fn toneless_start(first: &[u8]) -> Option<Key>
     }
 }
 
+/// What a key on a tonic begins with, by the text behind the tonic, and the text whose words complete
+/// it.
+fn tonal_start(major: i8, behind: &[u8]) -> Option<(Key, &[u8])>
+    requires { IsMajor major }
+    ensures { MatchOption result (tonal_start major (basis_at behind.now) ≡ None)
+        (λ p. tonal_start major (basis_at behind.now) ≡ Some (p.0, p.1.now)) }
+{
+    let (basis, text) = basis_at(behind)?;
+    Some((key_on(major, basis)?, text))
+}
+
 /// The key at the front of a value, and the text whose words complete it.
 #[tactic(auto, unfolding(crate::specs::Key::start_of))]
 fn start_of(value: &[u8]) -> Option<(Key, &[u8])>
@@ -117,10 +128,7 @@ fn start_of(value: &[u8]) -> Option<(Key, &[u8])>
         (λ p. start_of value.now ≡ Some (p.0, p.1.now)) }
 {
     match tonic_at(value) {
-        Some((major, behind)) => {
-            let (basis, text) = basis_at(behind)?;
-            Some((key_on(major, basis)?, text))
-        }
+        Some((major, behind)) => tonal_start(major, behind),
         None => {
             let (first, _) = next_word(value)?;
             Some((toneless_start(first)?, value))
@@ -164,9 +172,13 @@ pub fn read_key(value: &[u8]) -> Result<Key, FaultCode>
 }
 
 /// The key that a field K: sets: what its value says, or an empty signature where it is refused.
+#[tactic(auto, using(crate::proofs::Keys::no_key_range))]
 pub fn key_set_by(value: &[u8]) -> Key
     ensures value { result ≡ key_or_empty (key_of value.now) }
     ensures range { IsInRange result }
 {
-    read_key(value).unwrap_or(EMPTY_SIGNATURE)
+    match read_key(value) {
+        Ok(key) => key,
+        Err(_) => EMPTY_SIGNATURE,
+    }
 }

@@ -11,7 +11,7 @@ use crate::power::power_up_to;
 use abc_text::{cut_at, number_of};
 
 /// The meter of a tune (ABC 2.1 section 3.1.6).
-#[derive(Clone, Copy, Debug, PartialEq, Eq)]
+#[derive(Clone, Copy, PartialEq, Eq)]
 pub enum Meter {
     /// No meter.
     Free,

@@ -136,7 +136,10 @@ fn place_behind(text: &[u8]) -> Option<Place>
 fn is_order(text: &[u8]) -> bool
     ensures { result ≡ is_order text.now }
 {
-    place_behind(text).is_some_and(|place| place.is_whole())
+    match place_behind(text) {
+        Some(place) => place.is_whole(),
+        None => false,
+    }
 }
 
 /// Reads the order of parts in a header (ABC 2.1 section 3.1.9): items one after another, each a letter

@@ -36,9 +36,9 @@ fn signed_number(text: &[u8]) -> Option<i64>
     ensures { result ≡ signed_number text.now }
 {
     match text {
-        [b'-', digits @ ..] => number_of(digits).map(|n| -i64::from(n)),
-        [b'+', digits @ ..] => number_of(digits).map(i64::from),
-        digits => number_of(digits).map(i64::from),
+        [b'-', digits @ ..] => Some(-i64::from(number_of(digits)?)),
+        [b'+', digits @ ..] => Some(i64::from(number_of(digits)?)),
+        digits => Some(i64::from(number_of(digits)?)),
     }
 }
 
@@ -50,10 +50,12 @@ pub(crate) fn property_of(word: &[u8]) -> Option<Property>
     if let Some(clef) = word.strip_prefix(b"clef=") {
         Some(Property::Clef(clef_of(unquoted(clef))))
     } else if let Some(octave) = word.strip_prefix(b"octave=") {
-        signed_number(unquoted(octave)).map(Property::Octave)
+        Some(Property::Octave(signed_number(unquoted(octave))?))
     } else if let Some(transpose) = word.strip_prefix(b"transpose=") {
-        signed_number(unquoted(transpose)).map(Property::Transpose)
+        Some(Property::Transpose(signed_number(unquoted(transpose))?))
+    } else if let Some(mark) = mark_of(word) {
+        Some(Property::Clef(mark))
     } else {
-        Some(mark_of(word).map_or(Property::Other, Property::Clef))
+        Some(Property::Other)
     }
 }

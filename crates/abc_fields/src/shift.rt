@@ -11,7 +11,7 @@ use abc_text::next_word;
 
 /// What the properties of a field K: or V: say of the pitch of notes, each part where it is given
 /// (ABC 2.1 sections 4.6 and 7.1).
-#[derive(Clone, Copy, Debug, PartialEq, Eq)]
+#[derive(Clone, Copy, PartialEq, Eq)]
 pub struct Shift {
     /// In semitones: 12 or -12 for a clef that is marked `+8` or `-8`, 0 for another.
     pub clef: Option<i64>,

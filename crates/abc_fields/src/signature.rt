@@ -6,7 +6,7 @@ ghost use Rattle.abc_fields.specs.Signature.{alteration, altered, by_fifths, fif
 use abc_text::Letter;
 
 /// A key signature: how many semitones it raises or lowers each letter by (ABC 2.1 section 3.1.14).
-#[derive(Clone, Copy, Debug, PartialEq, Eq)]
+#[derive(Clone, Copy, PartialEq, Eq)]
 pub struct Signature {
     pub a: i8,
     pub b: i8,

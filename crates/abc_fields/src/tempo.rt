@@ -11,7 +11,7 @@ use abc_text::{before_blank, cut_at, is_power_up_to, number_of, trim_end, trim_s
 use abc_time::Ratio;
 
 /// What a tempo field says (ABC 2.1 section 3.1.8).
-#[derive(Clone, Copy, Debug, PartialEq, Eq)]
+#[derive(Clone, Copy, PartialEq, Eq)]
 pub enum Tempo {
     /// Nothing: it is empty, or only a text.
     Unset,

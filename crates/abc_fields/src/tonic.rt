@@ -57,10 +57,14 @@ pub(crate) fn tonic_at(text: &[u8]) -> Option<(i8, &[u8])>
         (λ p. tonic_at text.now ≡ Some (p.0, p.1.now)) }
     ensures range { IfSome result (λ p. IsMajor p.0) }
 {
-    let (byte, behind) = text.split_first()?;
-    let letter = tonic_letter(*byte)?;
-    let (added, rest) = sign_at(behind);
-    Some((major_sharps(letter) + added, rest))
+    match text {
+        [] => None,
+        [byte, behind @ ..] => {
+            let letter = tonic_letter(*byte)?;
+            let (added, rest) = sign_at(behind);
+            Some((major_sharps(letter) + added, rest))
+        }
+    }
 }
 
 /// How many letters a text begins with.

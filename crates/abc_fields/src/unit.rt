@@ -2,7 +2,7 @@
 
 ghost use Rattle.std.specs.Prelude.{◌≡◌, ◌↔◌, IfOk};
 ghost use Rattle.abc_time.specs.Ratio.{IsRatio};
-ghost use Rattle.abc_fields.specs.Unit.{part_of, unit_of};
+ghost use Rattle.abc_fields.specs.Unit.{part_of, unit_in, unit_of};
 ghost use Rattle.abc_fields.specs.Spelling.Unit.{IsUnit};
 
 use crate::fault::FaultCode;
@@ -23,6 +23,14 @@ fn part_of(value: &[u8]) -> Option<u32>
     }
 }
 
+/// The unit that a value says, if it is accepted.
+fn unit_in(value: &[u8]) -> Option<Ratio>
+    ensures { result ≡ unit_in value.now }
+{
+    let den = part_of(value)?;
+    Some(Ratio { num: 1, den })
+}
+
 /// Reads the value of L:, `1` or `1/8` and the like (ABC 2.1 section 3.1.7).
 pub fn read_unit(value: &[u8]) -> Result<Ratio, FaultCode>
     ensures value { result ≡ unit_of value.now }
@@ -30,7 +38,5 @@ pub fn read_unit(value: &[u8]) -> Result<Ratio, FaultCode>
     ensures refused { (result ≡ Err FaultCode.BadUnit) ↔ ((unit : Ratio) → ¬ IsUnit value.now unit) }
     ensures range { IfOk result IsRatio }
 {
-    part_of(value)
-        .map(|den| Ratio { num: 1, den })
-        .ok_or(FaultCode::BadUnit)
+    unit_in(value).ok_or(FaultCode::BadUnit)
 }

@@ -14,7 +14,7 @@ use abc_text::first_word;
 
 /// A voice as the value of a field V: names it. Its identifier is the part of the value from `from`
 /// up to, but without, `to`.
-#[derive(Clone, Copy, Debug, PartialEq, Eq)]
+#[derive(Clone, Copy)]
 pub struct Voice {
     pub from: usize,
     pub to: usize,

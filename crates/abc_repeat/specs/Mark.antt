@@ -1,6 +1,7 @@
 -- The marks of a voice in a section. ABC 2.1 sections 4.8 and 4.9.
 use Rattle.std.specs.Prelude.{ℕ, zero, suc, ◌+◌, ◌-◌, ◌==◌, Bool, true, false, not, ◌&&◌, ◌||◌, nat_lt, nat_le, if◌then◌else◌}
 use Rattle.std.specs.Int.{bit_at}
+use Rattle.abc_text.specs.declared.passes.TheConstants.{LAST_PASS}
 use Rattle.abc_repeat.specs.declared.mark.Mark.{Mark}
 use Rattle.abc_repeat.specs.declared.mark.Mark.TheVariants as marks
 
@@ -51,7 +52,7 @@ closes_ending m = is_repeat m || is_double m
 -- Whether an ending with these numbers is for a pass: bit i - 1 is pass i. ABC 2.1 section 4.10; that
 -- there are 32 is our own.
 unfoldable pub names : ℕ → ℕ → Bool
-names numbers pass = nat_le pass 32 && (bit_at numbers (pass - 1) == 1)
+names numbers pass = nat_le pass LAST_PASS && (bit_at numbers (pass - 1) == 1)
 
 -- The greatest of the numbers up to one that an ending has, 0 where it has none.
 unfoldable pub greatest_to : ℕ → ℕ → ℕ
@@ -60,7 +61,7 @@ greatest_to numbers (suc n) = if names numbers (suc n) then suc n else greatest_
 
 -- The greatest number of an ending.
 unfoldable pub greatest : ℕ → ℕ
-greatest numbers = greatest_to numbers 32
+greatest numbers = greatest_to numbers LAST_PASS
 
 -- How many passes a mark asks for: a repeat bar one more than it has colons before it, an ending its
 -- greatest number. Our own.

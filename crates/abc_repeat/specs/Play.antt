@@ -1,6 +1,7 @@
 -- The play of a section. ABC 2.1 sections 4.8 to 4.10.
 use Rattle.std.specs.Prelude.{◌≡◌, ℕ, zero, suc, ◌+◌, ◌<◌, min, max, ◌==◌, if◌then◌else◌, List, [], ◌∷◌, ◌++◌, length, Some, slice_get}
 use Rattle.std.specs.List.{flat_map, range_with_len}
+use Rattle.abc_text.specs.declared.passes.TheConstants.{LAST_PASS}
 use Rattle.abc_repeat.specs.declared.mark.Mark.{Mark}
 use Rattle.abc_repeat.specs.declared.mark.Mark.TheVariants as marks
 use Rattle.abc_repeat.specs.Mark.{is_play, is_for, names, passes_of}
@@ -45,7 +46,7 @@ endings_size strain (suc passes) =
 -- How many of its passes a strain is played through, whose common part plays so many places: where it
 -- plays none, passes beyond the 32nd play nothing.
 abbrev pub rounds_of : ℕ → ℕ → ℕ
-rounds_of common passes = if common == 0 then min passes 32 else passes
+rounds_of common passes = if common == 0 then min passes LAST_PASS else passes
 
 -- The play of a strain that begins at this place: its passes, counted from 1.
 unfoldable pub strain_play : ℕ → Strain → List ℕ

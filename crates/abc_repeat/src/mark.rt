@@ -3,8 +3,7 @@
 ghost use Rattle.std.specs.Prelude.{◌≡◌, ◌-◌, ◌^◌, ◌<◌, ◌≤◌, min};
 ghost use Rattle.abc_repeat.specs.Mark.{is_play, is_ending, is_single, opens_next, closes_common, closes_ending, names, greatest, passes_of, is_for};
 
-/// The greatest number of an ending.
-pub(crate) const GREATEST_ENDING: u64 = 32;
+use abc_text::LAST_PASS;
 
 /// A mark of one voice in one section, which says how it is played (ABC 2.1 sections 4.8 to 4.10).
 #[derive(Clone, Copy, Debug, PartialEq, Eq)]
@@ -27,7 +26,7 @@ fn names(numbers: u32, pass: u64) -> bool
     requires { 0 < pass }
     ensures { result ≡ names numbers pass }
 {
-    pass <= GREATEST_ENDING && (numbers >> (pass - 1)) & 1 == 1
+    pass <= LAST_PASS as u64 && (numbers >> (pass - 1)) & 1 == 1
 }
 
 /// The greatest of an ending's numbers, 0 where it has none.

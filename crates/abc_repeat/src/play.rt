@@ -5,10 +5,11 @@ ghost use Rattle.abc_repeat.specs.Play.{places_from, ending_of, rounds_of, strai
 ghost use Rattle.abc_repeat.specs.Strain.{strain_of};
 
 use crate::fault::RepeatFault;
-use crate::mark::{GREATEST_ENDING, Mark};
+use crate::mark::Mark;
 use crate::pass::{most_passes, run_start};
 use crate::size::play_size;
 use crate::strain::{first_strain, opens_behind, up_to_ending};
+use abc_text::LAST_PASS;
 use std::alloc::{AllocError, Global};
 
 /// How many places are played at most.
@@ -43,7 +44,7 @@ fn put_ending(
     requires placed { from + length text.now < 2 ^ 64 }
     ensures { OnOk result (play.new.items ≡ play.old.items ++ ending_of from (strain_of text.now) pass) }
 {
-    if pass > GREATEST_ENDING {
+    if pass > LAST_PASS as u64 {
         return Ok(());
     }
     let start = run_start(text, pass);
@@ -55,7 +56,7 @@ fn rounds(common: &[usize], passes: u64) -> u64
     ensures { result ≡ rounds_of (length common.now) passes }
 {
     if common.is_empty() {
-        passes.min(GREATEST_ENDING)
+        passes.min(LAST_PASS as u64)
     } else {
         passes
     }

@@ -1,19 +1,21 @@
 //! How many places a play has, counted without memory.
 
 ghost use Rattle.std.specs.Prelude.{◌≡◌, ◌-◌, ◌^◌, length, min};
+ghost use Rattle.abc_text.specs.declared.passes.TheConstants.{LAST_PASS};
 ghost use Rattle.abc_repeat.specs.Play.{endings_size, strain_play, play_of};
 ghost use Rattle.abc_repeat.specs.Strain.{strain_of};
 
-use crate::mark::{GREATEST_ENDING, Mark};
+use crate::mark::Mark;
 use crate::pass::{count_played, most_passes, run_start};
 use crate::strain::{first_strain, opens_behind, up_to_ending};
+use abc_text::LAST_PASS;
 
 /// How many places the endings of a strain play in this many passes, and 2^64 - 1 for more.
 fn endings_size(text: &[Mark], passes: u64) -> u64
-    ensures { result ≡ min (endings_size (strain_of text.now) (min passes 32)) (2 ^ 64 - 1) }
+    ensures { result ≡ min (endings_size (strain_of text.now) (min passes LAST_PASS)) (2 ^ 64 - 1) }
 {
     let mut size: u64 = 0;
-    for earlier in 0..passes.min(GREATEST_ENDING) {
+    for earlier in 0..passes.min(LAST_PASS as u64) {
         let start = run_start(text, earlier + 1);
         size = size.saturating_add(count_played(up_to_ending(&text[start..])));
     }

@@ -1,5 +1,5 @@
 -- The cells of a line are its tokens, cut behind each bar line and nowhere else.
-use Rattle.std.proofs.Common.{◌≡◌, ℕ, suc, ◌+◌, ◌-◌, ◌<◌, ◌≤◌, true, false, List, [], ◌∷◌, ◌++◌, length, take, drop, get_or, refl, sym, ap, ◌∙◌, subst, ⊎_elim, arith, append_assoc}
+use Rattle.std.proofs.Common.{◌≡◌, ℕ, suc, ◌+◌, ◌-◌, ◌<◌, ◌≤◌, true, false, List, [], ◌∷◌, ◌++◌, length, take, drop, get_or, refl, sym, ap, ◌∙◌, subst, ⊎_elim, arith, append_assoc, append-nil}
 use Rattle.std.specs.Prelude.{All, ◌==◌}
 use Rattle.std.proofs.Math.Seq.{drop-cons}
 use Rattle.std.proofs.lemmas.Bool.{cond-true, cond-false, cases_Bool, eqb-true}
@@ -7,7 +7,7 @@ use Rattle.std.proofs.lemmas.List.{drop_all}
 use Rattle.std.proofs.lemmas.List.Elements.{All-nil, All-cons, All-head, All-tail}
 use Rattle.abc_scan.specs.declared.spanned.Spanned.{Spanned}
 use Rattle.abc_scan.specs.declared.token.TokenKind.{TokenKind}
-use Rattle.abc_scan.specs.Cell.{ends_cell, IsCell, EndsWithBar, but_last, AreCells, put_first, cells_of}
+use Rattle.abc_scan.specs.Cell.{ends_cell, IsCell, EndsWithBar, but_last, AreCells, put_first, cells_of, first_size}
 
 abbrev pub Tokens : Type 0
 Tokens = List (Spanned TokenKind)
@@ -74,67 +74,64 @@ are_cells (t ∷ ts) = ⊎_elim
     (λ plain. subst (AreCells (t ∷ ts)) (sym (cond-false (ends_cell t) ((t ∷ []) ∷ cells_of ts) (put_first t (cells_of ts)) plain)) (put_cells t ts (cells_of ts) plain (are_cells ts)))
     (cases_Bool (ends_cell t))
 
--- the tokens of a cell that is not finished, before the cells of what follows
-pub with_begun : Tokens → List Tokens → List Tokens
-with_begun [] cells = cells
-with_begun (t ∷ ts) cells = put_first t (with_begun ts cells)
+-- the first cell, and those of what follows it
+first-bar : (t : Spanned TokenKind) (ts : Tokens) → ends_cell t ≡ true → first_size (t ∷ ts) ≡ 1
+first-bar t ts bar = cond-true (ends_cell t) 1 (suc (first_size ts)) bar
 
-pub begun-more : (begun : Tokens) (t : Spanned TokenKind) (cells : List Tokens) → with_begun (begun ++ t ∷ []) cells ≡ with_begun begun (put_first t cells)
-unfolding with_begun
-begun-more [] t cells = refl
-begun-more (b ∷ bs) t cells = ap (put_first b) (begun-more bs t cells)
+first-plain : (t : Spanned TokenKind) (ts : Tokens) → ends_cell t ≡ false → first_size (t ∷ ts) ≡ suc (first_size ts)
+first-plain t ts plain = cond-false (ends_cell t) 1 (suc (first_size ts)) plain
 
-pub begun-first : (begun cell : Tokens) (cells : List Tokens) → with_begun begun (cell ∷ cells) ≡ (begun ++ cell) ∷ cells
-unfolding with_begun
-begun-first [] cell cells = refl
-begun-first (b ∷ bs) cell cells = ap (put_first b) (begun-first bs cell cells)
+put_front : (t : Spanned TokenKind) (ts : Tokens) → cells_of ts ≡ take (first_size ts) ts ∷ cells_of (drop (first_size ts) ts) → put_first t (cells_of ts) ≡ take (suc (first_size ts)) (t ∷ ts) ∷ cells_of (drop (suc (first_size ts)) (t ∷ ts))
+put_front t ts e = ap (put_first t) e
 
-pub begun-none : (cells : List Tokens) → with_begun [] cells ≡ cells
-unfolding with_begun
-begun-none cells = refl
+either_cell : (t : Spanned TokenKind) (ts : Tokens) → put_first t (cells_of ts) ≡ take (suc (first_size ts)) (t ∷ ts) ∷ cells_of (drop (suc (first_size ts)) (t ∷ ts)) → cells_of (t ∷ ts) ≡ take (first_size (t ∷ ts)) (t ∷ ts) ∷ cells_of (drop (first_size (t ∷ ts)) (t ∷ ts))
+either_cell t ts more = ⊎_elim
+    (λ bar.
+    cond-true (ends_cell t) ((t ∷ []) ∷ cells_of ts) (put_first t (cells_of ts)) bar
+    ∙ (λ i. take (sym (first-bar t ts bar) i) (t ∷ ts) ∷ cells_of (drop (sym (first-bar t ts bar) i) (t ∷ ts))))
+    (λ plain.
+    cond-false (ends_cell t) ((t ∷ []) ∷ cells_of ts) (put_first t (cells_of ts)) plain
+    ∙ more
+    ∙ (λ i. take (sym (first-plain t ts plain) i) (t ∷ ts) ∷ cells_of (drop (sym (first-plain t ts plain) i) (t ∷ ts))))
+    (cases_Bool (ends_cell t))
 
-pub begun-last : (t : Spanned TokenKind) (ts : Tokens) → with_begun (t ∷ ts) [] ≡ (t ∷ ts) ∷ []
-unfolding with_begun
-begun-last t [] = refl
-begun-last t (u ∷ us) = ap (put_first t) (begun-last u us)
+first_cell : (t : Spanned TokenKind) (ts : Tokens) → cells_of (t ∷ ts) ≡ take (first_size (t ∷ ts)) (t ∷ ts) ∷ cells_of (drop (first_size (t ∷ ts)) (t ∷ ts))
+first_cell t [] = either_cell t [] refl
+first_cell t (u ∷ us) = either_cell t (u ∷ us) (put_front t (u ∷ us) (first_cell u us))
 
--- one more token, whatever it is
-pub begun-token : (begun : Tokens) (t : Spanned TokenKind) (ts : Tokens) → ends_cell t ≡ false → with_begun begun (cells_of (t ∷ ts)) ≡ with_begun (begun ++ t ∷ []) (cells_of ts)
-begun-token begun t ts plain = ap (with_begun begun) (cond-false (ends_cell t) ((t ∷ []) ∷ cells_of ts) (put_first t (cells_of ts)) plain) ∙ sym (begun-more begun t (cells_of ts))
+pub first-some : (ts : Tokens) → 0 < length ts → 0 < first_size ts
+first-some [] h = absurd (omega arith)
+first-some (t ∷ ts) h = ⊎_elim
+    (λ bar. omega (arith, first-bar t ts bar))
+    (λ plain. omega (arith, first-plain t ts plain))
+    (cases_Bool (ends_cell t))
 
-pub begun-bar : (begun : Tokens) (t : Spanned TokenKind) (ts : Tokens) → ends_cell t ≡ true → with_begun begun (cells_of (t ∷ ts)) ≡ (begun ++ t ∷ []) ∷ with_begun [] (cells_of ts)
-begun-bar begun t ts bar =
-    ap (with_begun begun) (cond-true (ends_cell t) ((t ∷ []) ∷ cells_of ts) (put_first t (cells_of ts)) bar) ∙ begun-first begun (t ∷ []) (cells_of ts) ∙ ap (λ l. (begun ++ t ∷ []) ∷ l) (sym (begun-none (cells_of ts)))
+pub is_some : (ts : Tokens) → (length ts == 0) ≡ false → 0 < length ts
+is_some [] e = cc
+is_some (t ∷ ts) e = omega arith
 
--- one turn over the tokens
-next_token_is : (tokens : Tokens) (i : ℕ) (t : Spanned TokenKind) → i < length tokens → t ≡ get_or tokens i t → drop i tokens ≡ t ∷ drop (i + 1) tokens
-next_token_is tokens i t inside is =
+-- one cell more
+pub next_cell : (done all : List Tokens) (rest : Tokens) → 0 < length rest → done ++ cells_of rest ≡ all → (done ++ take (first_size rest) rest ∷ []) ++ cells_of (drop (first_size rest) rest) ≡ all
+next_cell done all [] h e = absurd (omega arith)
+next_cell done all (t ∷ ts) h e =
+    let rest = t ∷ ts in
+    append_assoc done (take (first_size rest) rest ∷ []) (cells_of (drop (first_size rest) rest)) ∙ ap (λ l. done ++ l) (sym (first_cell t ts)) ∙ e
+
+pub no_more : (done all : List Tokens) (rest : Tokens) → (length rest == 0) ≡ true → done ++ cells_of rest ≡ all → done ≡ all
+no_more done all [] none e = sym (append-nil done) ∙ e
+no_more done all (t ∷ ts) none e = let n = eqb-true (length (t ∷ ts)) 0 none in absurd (omega (arith, n))
+
+-- one token more of the first cell
+token_is : (tokens : Tokens) (i : ℕ) (t : Spanned TokenKind) → i < length tokens → t ≡ get_or tokens i t → drop i tokens ≡ t ∷ drop (i + 1) tokens
+token_is tokens i t inside is =
     let n : suc i ≡ i + 1 = omega arith in
     drop-cons tokens i t inside ∙ (λ k. sym is k ∷ drop (n k) tokens)
 
-pub turn-bar : (tokens : Tokens) (done all : List Tokens) (begun : Tokens) (i : ℕ) (t : Spanned TokenKind) → i < length tokens → t ≡ get_or tokens i t → ends_cell t ≡ true → done ++ with_begun begun (cells_of (drop i tokens)) ≡ all → (done ++ (begun ++ t ∷ []) ∷ []) ++ with_begun [] (cells_of (drop (i + 1) tokens)) ≡ all
-turn-bar tokens done all begun i t inside is bar before =
-    let rest = drop (i + 1) tokens in
-    append_assoc done ((begun ++ t ∷ []) ∷ []) (with_begun [] (cells_of rest))
-    ∙ ap (λ l. done ++ l) (sym (begun-bar begun t rest bar))
-    ∙ ap (λ l. done ++ with_begun begun (cells_of l)) (sym (next_token_is tokens i t inside is))
-    ∙ before
+pub at-bar : (tokens : Tokens) (i : ℕ) (t : Spanned TokenKind) → i < length tokens → t ≡ get_or tokens i t → ends_cell t ≡ true → first_size (drop i tokens) ≡ 1
+at-bar tokens i t inside is bar = ap first_size (token_is tokens i t inside is) ∙ first-bar t (drop (i + 1) tokens) bar
 
-pub turn-plain : (tokens : Tokens) (done all : List Tokens) (begun : Tokens) (i : ℕ) (t : Spanned TokenKind) → i < length tokens → t ≡ get_or tokens i t → ends_cell t ≡ false → done ++ with_begun begun (cells_of (drop i tokens)) ≡ all → done ++ with_begun (begun ++ t ∷ []) (cells_of (drop (i + 1) tokens)) ≡ all
-turn-plain tokens done all begun i t inside is plain before =
-    let rest = drop (i + 1) tokens in
-    ap (λ l. done ++ l) (sym (begun-token begun t rest plain))
-    ∙ ap (λ l. done ++ with_begun begun (cells_of l)) (sym (next_token_is tokens i t inside is))
-    ∙ before
+pub at-plain : (tokens : Tokens) (i : ℕ) (t : Spanned TokenKind) → i < length tokens → t ≡ get_or tokens i t → ends_cell t ≡ false → first_size (drop i tokens) ≡ suc (first_size (drop (i + 1) tokens))
+at-plain tokens i t inside is plain = ap first_size (token_is tokens i t inside is) ∙ first-plain t (drop (i + 1) tokens) plain
 
--- the end of the tokens
-pub end-some : (begun : Tokens) → (length begun == 0) ≡ false → with_begun begun [] ≡ begun ∷ []
-end-some [] e = cc
-end-some (t ∷ ts) e = begun-last t ts
-
-pub end-none : (begun : Tokens) → (length begun == 0) ≡ true → with_begun begun [] ≡ []
-end-none [] e = begun-none []
-end-none (t ∷ ts) e = let none = eqb-true (length (t ∷ ts)) 0 e in absurd (omega (arith, none))
-
-pub at-end : (tokens : Tokens) (done all : List Tokens) (begun : Tokens) (i : ℕ) → length tokens ≤ i → done ++ with_begun begun (cells_of (drop i tokens)) ≡ all → done ++ with_begun begun [] ≡ all
-at-end tokens done all begun i past before = ap (λ l. done ++ with_begun begun (cells_of l)) (sym (drop_all i tokens past)) ∙ before
+pub at-end : (tokens : Tokens) (i : ℕ) → length tokens ≤ i → first_size (drop i tokens) ≡ 0
+at-end tokens i past = ap first_size (drop_all i tokens past)

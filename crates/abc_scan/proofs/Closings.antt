@@ -1,5 +1,5 @@
 -- The first closing byte of a text, and what is known of a text without one.
-use Rattle.std.proofs.Common.{◌≡◌, ℕ, suc, ◌+◌, ◌<◌, ◌≤◌, true, false, Option, Some, None, is_some, List, [], ◌∷◌, ◌++◌, length, take, drop, refl, sym, ap, ◌∙◌, subst, ⊎_elim, arith, append-nil, length-append, ◌-◌}
+use Rattle.std.proofs.Common.{◌≡◌, ℕ, suc, ◌+◌, ◌<◌, ◌≤◌, true, false, Option, Some, None, is_some, List, [], ◌∷◌, ◌++◌, length, take, drop, refl, sym, ap, ◌∙◌, subst, ⊎_elim, arith, append-nil, length-append, length-drop, ◌-◌}
 use Rattle.std.specs.List.{prefix_len}
 use Rattle.std.proofs.lemmas.Bool.{cond-true, cond-false, cases_Bool, cases_lt, lt-ltb, le-ltb, eq-eqb, eqb-true, not-false, not_from_true, false≢true}
 use Rattle.std.proofs.lemmas.List.{take_all}
@@ -82,3 +82,14 @@ missing-behind missing text at size some is =
     let cut : drop (size - 1) (drop 1 (drop at text)) ≡ drop (at + size) text =
     ap (drop (size - 1)) (drop-drop 1 at text) ∙ drop-drop (size - 1) (at + 1) text ∙ ap (λ n. drop n text) (let e : at + 1 + (size - 1) ≡ at + size = omega (arith, some) in e) in
     subst (IsMissing missing) cut (missing-drop (size - 1) missing (drop 1 (drop at text)) is)
+
+-- the rest of a text behind its first byte
+pub rest_is : (text : List ℕ) → take (length text - 1) (drop 1 text) ≡ drop 1 text
+rest_is text = take_all (length text - 1) (drop 1 text) (omega (arith, length-drop 1 text))
+
+-- what is not in the rest, where the byte that closes was looked for
+pub lacks-rest : (closing : ℕ) (text : List ℕ) → Lacks closing (drop 1 text) → Lacks closing (take (length text - 1) (drop 1 text))
+lacks-rest closing text = subst (Lacks closing) (sym (rest_is text))
+
+pub rest-lacks : (closing : ℕ) (text : List ℕ) → Lacks closing (take (length text - 1) (drop 1 text)) → Lacks closing (drop 1 text)
+rest-lacks closing text = subst (Lacks closing) (rest_is text)

@@ -1,5 +1,5 @@
 -- The cells of a line. Our own.
-use Rattle.std.specs.Prelude.{◌≡◌, ◌-◌, Bool, false, true, List, [], ◌∷◌, ◌++◌, length, take, flat_map, if◌then◌else◌, All}
+use Rattle.std.specs.Prelude.{◌≡◌, ℕ, suc, ◌-◌, Bool, false, true, List, [], ◌∷◌, ◌++◌, length, take, flat_map, if◌then◌else◌, All}
 use Rattle.abc_scan.specs.declared.spanned.Spanned.{Spanned}
 use Rattle.abc_scan.specs.declared.token.TokenKind.{TokenKind}
 use Rattle.abc_scan.specs.Token.{is_bar}
@@ -45,3 +45,8 @@ put_first token (cell ∷ cells) = (token ∷ cell) ∷ cells
 abbrev pub cells_of : List (Spanned TokenKind) → List (List (Spanned TokenKind))
 cells_of [] = []
 cells_of (t ∷ ts) = if ends_cell t then (t ∷ []) ∷ cells_of ts else put_first t (cells_of ts)
+
+-- How many tokens stand in the first cell of a line.
+abbrev pub first_size : List (Spanned TokenKind) → ℕ
+first_size [] = 0
+first_size (t ∷ ts) = if ends_cell t then 1 else suc (first_size ts)

@@ -9,7 +9,7 @@ use Rattle.abc_scan.specs.declared.length.WrittenLength.TheVariants.{Factor, Ref
 
 -- A slash.
 abbrev pub is_slash : ℕ → Bool
-is_slash b = b == slash
+is_slash = λ b. b == slash
 
 -- The number that digits write, or another where there are none. It is refused where it has more than
 -- nine digits or is 0. Our own.

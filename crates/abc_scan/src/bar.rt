@@ -1,10 +1,12 @@
 //! Bar lines.
 
 ghost use Rattle.std.specs.Prelude.{◌≡◌, ◌≤◌, ◌<◌, length, IfSome};
-ghost use Rattle.abc_scan.specs.Bar.{colons, goes_on, middle_from, middle_size, is_double, colons_alone, bar_at};
+ghost use Rattle.abc_scan.specs.Bar.{goes_on, middle_from, middle_size, is_double, colons_alone, bar_at};
+
+use crate::run::run_of;
 
 /// A bar line (ABC 2.1 section 4.8).
-#[derive(Clone, Copy, Debug)]
+#[derive(Clone, Copy)]
 pub struct BarLine {
     /// The colons before its strokes. Of `k` colons alone, `k - 1` close and as many open.
     pub closes: usize,
@@ -12,14 +14,6 @@ pub struct BarLine {
     pub opens: usize,
     /// Whether its strokes and brackets are more than a single `|`, or none.
     pub double: bool,
-}
-
-/// How many colons a text begins with.
-fn colons(text: &[u8]) -> usize
-    ensures value { result ≡ colons text.now }
-    ensures inside { result ≤ length text.now }
-{
-    text.iter().take_while(|byte| **byte == b':').count()
 }
 
 /// Whether a byte between its neighbours belongs to the middle of a bar line.
@@ -78,13 +72,13 @@ pub(crate) fn bar_at(text: &[u8]) -> Option<(BarLine, usize)>
     ensures some { IfSome result (λ r. 0 < r.1) }
     ensures inside { IfSome result (λ r. r.1 ≤ length text.now) }
 {
-    let closes = colons(text);
+    let closes = run_of(b':', text);
     let behind = &text[closes..];
     let middle = middle_size(behind);
     if middle == 0 {
         return colons_alone(closes);
     }
-    let opens = colons(&behind[middle..]);
+    let opens = run_of(b':', &behind[middle..]);
     let bar = BarLine {
         closes,
         opens,

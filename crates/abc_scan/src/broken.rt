@@ -3,6 +3,8 @@
 ghost use Rattle.std.specs.Prelude.{◌≡◌, ◌≤◌, ◌<◌, length, IfSome};
 ghost use Rattle.abc_scan.specs.Broken.{direction_of, marks_at, broken_at};
 
+use crate::run::run_of;
+
 /// Which of the two notes beside a mark is the longer one.
 #[derive(Clone, Copy, PartialEq, Eq)]
 pub enum Direction {
@@ -37,10 +39,7 @@ fn marks_at(mark: u8, text: &[u8]) -> usize
     ensures few { result ≤ 3 }
     ensures inside { result ≤ length text.now }
 {
-    text.iter()
-        .take(3)
-        .take_while(|byte| **byte == mark)
-        .count()
+    run_of(mark, &text[..text.len().min(3)])
 }
 
 /// The marks at the front of a text, and how many bytes they take.

@@ -1,27 +1,20 @@
 //! The cells of a line.
 
-ghost use Rattle.std.specs.Prelude.{◌≡◌, ◌≤◌, [], IfOk, length};
-ghost use Rattle.abc_scan.specs.Cell.{AreCells, cells_of};
+ghost use Rattle.std.specs.Prelude.{◌≡◌, ◌≤◌, IfOk, length};
+ghost use Rattle.abc_scan.specs.Cell.{AreCells, cells_of, first_size};
 
 use crate::token::{Token, is_bar};
 use abc_text::Sequence;
 use std::alloc::{AllocError, Global};
-use std::mem;
 
 /// A field line, or the tokens of a music line up to and with a bar line or the line's end. It
 /// carries all that is known of its tokens: nobody has to look at the line again.
 pub type Cell = Sequence<Token>;
 
-/// A copy of a token.
-fn copy_of(token: &Token) -> Result<Token, AllocError>
-    ensures { IfOk result (λ copy. copy ≡ token.now) }
-{
-    token.clone()
-}
-
 /// How many of these tokens stand in the first cell.
 fn first_size(tokens: &[Token]) -> usize
-    ensures { result ≤ length tokens.now }
+    ensures value { result ≡ first_size tokens.now }
+    ensures inside { result ≤ length tokens.now }
 {
     for (at, token) in tokens.iter().enumerate() {
         if is_bar(&token.kind) {
@@ -31,12 +24,22 @@ fn first_size(tokens: &[Token]) -> usize
     tokens.len()
 }
 
-/// No token yet, with room for the first cell of these.
-fn room_for(alloc: Global, tokens: &[Token]) -> Result<Cell, AllocError>
-    ensures { IfOk result (λ cell. cell ≡ []) }
+/// A copy of a token.
+fn copy_of(token: &Token) -> Result<Token, AllocError>
+    ensures { IfOk result (λ copy. copy ≡ token.now) }
 {
-    let cell = Vec::with_capacity(alloc, first_size(tokens))?;
-    Ok(Sequence::from(cell))
+    token.clone()
+}
+
+/// The cell of these tokens.
+fn cell_of(alloc: Global, tokens: &[Token]) -> Result<Cell, AllocError>
+    ensures { IfOk result (λ cell. cell ≡ tokens.now) }
+{
+    let mut cell = Sequence::from(Vec::with_capacity(alloc, tokens.len())?);
+    for token in tokens {
+        cell.push(copy_of(token)?)?;
+    }
+    Ok(cell)
 }
 
 /// The cells of a line, by its tokens: a line without tokens has none.
@@ -45,16 +48,11 @@ pub fn cells(alloc: Global, tokens: &[Token]) -> Result<Vec<Cell>, AllocError>
     ensures cells { IfOk result (λ cells. AreCells tokens.now cells.items) }
 {
     let mut cells = Vec::new(alloc);
-    let mut cell = room_for(alloc, tokens)?;
-    for (at, token) in tokens.iter().enumerate() {
-        cell.push(copy_of(token)?)?;
-        if is_bar(&token.kind) {
-            let next = room_for(alloc, &tokens[at + 1..])?;
-            cells.push(mem::replace(&mut cell, next))?;
-        }
-    }
-    if !cell.is_empty() {
-        cells.push(cell)?;
+    let mut rest = tokens;
+    while !rest.is_empty() {
+        let (first, behind) = rest.split_at(first_size(rest));
+        cells.push(cell_of(alloc, first)?)?;
+        rest = behind;
     }
     Ok(cells)
 }

@@ -20,11 +20,10 @@ pub(crate) fn delimited_at(text: &[u8], missing: &mut Missing) -> Option<usize>
     ensures kept { IsMissing missing.new (drop 1 text.now) }
     ensures remembered { result ≡ None → begins_with opening_brace text.now ≡ true → missing.new.brace ≡ true }
 {
-    let place = match text {
-        [b'"', rest @ ..] => place_of(b'"', rest)?,
-        [b'!', rest @ ..] => place_of(b'!', rest)?,
-        [b'{', rest @ ..] => find(&mut missing.brace, b'}', rest)?,
-        _ => return None,
-    };
-    Some(place + 2)
+    match text {
+        [b'"', rest @ ..] => Some(place_of(b'"', rest)? + 2),
+        [b'!', rest @ ..] => Some(place_of(b'!', rest)? + 2),
+        [b'{', rest @ ..] => Some(find(&mut missing.brace, b'}', rest)? + 2),
+        _ => None,
+    }
 }

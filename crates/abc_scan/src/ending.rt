@@ -4,6 +4,7 @@ ghost use Rattle.std.specs.Prelude.{◌≡◌, ◌≤◌, ◌<◌, ◌+◌, IsTr
 ghost use Rattle.abc_scan.specs.Ending.{is_accepted, range_bits, with_range, last_at, range_at, next_range, passes_at, ending_at};
 
 use crate::number::number_at;
+use abc_text::LAST_PASS;
 
 /// Passes from the first to the last, as they are written.
 #[derive(Clone, Copy)]
@@ -11,14 +12,6 @@ struct PassRange {
     first: u32,
     last: u32,
 }
-
-/// The pass with the greatest number that an ending can have.
-const LAST_PASS: u32 = 32;
-
-/// An ending has passes 1 to 32, a bit for each.
-pub fn ending_limits()
-    ensures { LAST_PASS ≡ 32 }
-{}
 
 /// Whether a range names passes in order, of those that there can be.
 fn is_accepted(range: PassRange) -> bool

@@ -5,6 +5,7 @@ ghost use Rattle.std.specs.List.{prefix_len, AllPass};
 ghost use Rattle.abc_text.specs.Digit.{is_digit};
 ghost use Rattle.abc_scan.specs.Length.{is_slash, number_or, written_length, length_at, length_size};
 
+use crate::run::run_of;
 use abc_text::{LONGEST_NUMBER, decimal, digits};
 
 /// The value of a length text: what it multiplies the unit note length by (ABC 2.1 section 4.3).
@@ -21,7 +22,7 @@ fn slashes(text: &[u8]) -> usize
     ensures value { result ≡ prefix_len is_slash text.now }
     ensures inside { result ≤ length text.now }
 {
-    text.iter().take_while(|byte| **byte == b'/').count()
+    run_of(b'/', text)
 }
 
 /// How many digits stand behind the slashes: only one slash can have some.

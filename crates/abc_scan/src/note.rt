@@ -39,7 +39,8 @@ fn accidental_at(text: &[u8]) -> (Option<Accidental>, usize)
 
 /// How many octave marks a text begins with.
 fn octave_marks(text: &[u8]) -> usize
-    ensures { result ≡ prefix_len is_octave_mark text.now }
+    ensures value { result ≡ prefix_len is_octave_mark text.now }
+    ensures inside { result ≤ length text.now }
 {
     text.iter()
         .take_while(|byte| **byte == b'\'' || **byte == b',')

@@ -5,7 +5,7 @@ ghost use Rattle.abc_text.specs.declared.accidental.Accidental.{Accidental};
 ghost use Rattle.abc_text.specs.Accidental.{spelling, alteration, accidental_of};
 
 /// A sign in front of a note (ABC 2.1 section 4.2).
-#[derive(Clone, Copy, Debug, PartialEq, Eq)]
+#[derive(Clone, Copy, PartialEq, Eq)]
 pub enum Accidental {
     DoubleFlat,
     Flat,

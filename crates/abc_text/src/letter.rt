@@ -5,7 +5,7 @@ ghost use Rattle.abc_text.specs.declared.letter.Letter.{Letter};
 ghost use Rattle.abc_text.specs.Letter.{IsLetter, letter_of, capital, small, semitones};
 
 /// The letter of a note, without its octave (ABC 2.1 section 4.1).
-#[derive(Clone, Copy, Debug, PartialEq, Eq)]
+#[derive(Clone, Copy, PartialEq, Eq)]
 pub enum Letter {
     C,
     D,

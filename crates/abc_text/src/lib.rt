@@ -10,6 +10,7 @@ mod digit;
 mod ending;
 mod letter;
 mod number;
+mod passes;
 mod power;
 mod seen;
 mod sequence;
@@ -23,6 +24,7 @@ pub use digit::{LARGEST_NUMBER, LONGEST_NUMBER, decimal, digits, is_digit, numbe
 pub use ending::without_return;
 pub use letter::{Letter, letter_of};
 pub use number::number_of;
+pub use passes::{LAST_PASS, ending_limits};
 pub use power::is_power_up_to;
 pub use seen::Seen;
 pub use sequence::Sequence;

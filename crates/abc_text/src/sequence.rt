@@ -1,11 +1,10 @@
 //! A list that contracts see as nothing but its elements.
 ghost use Rattle.std.specs.Prelude.{◌≡◌, ◌==◌, [], ◌∷◌, ◌++◌, length, IfOk, OnOk, OnErr};
 ghost use Rattle.std.specs.List.{AllZip};
-ghost use Rattle.std.specs.Cmp.{on_per, on_equiv, on_po, on_total};
-ghost use Rattle.std.specs.Cmp.Lexicographic.{pointwise, slice_cmp, slice_partial_cmp, lists_per, lists_equiv, lists_po, lists_total, lists_agrees, lists_ties};
+ghost use Rattle.std.specs.Cmp.{on_per, on_equiv};
+ghost use Rattle.std.specs.Cmp.Lexicographic.{pointwise, lists_per, lists_equiv};
 
 use std::alloc::{AllocError, Global};
-use std::cmp::Ordering;
 use std::fmt;
 use std::marker::Model;
 
@@ -116,30 +115,6 @@ impl<T: PartialEq> PartialEq for Sequence<T> {
 
 impl<T: Eq> Eq for Sequence<T> {
     ghost laws = { on_equiv (λ v. v) (lists_equiv T.Eq.laws) };
-}
-
-impl<T: PartialOrd> PartialOrd for Sequence<T> {
-    ghost partial_cmp = { λ v w. slice_partial_cmp T.partial_cmp v w };
-
-    ghost laws = { on_po (λ v. v) (lists_po T.PartialOrd.laws) };
-
-    fn partial_cmp(&self, other: &Self) -> Option<Ordering> {
-        self.elements.partial_cmp(&other.elements)
-    }
-}
-
-impl<T: Ord> Ord for Sequence<T> {
-    ghost cmp = { λ v w. slice_cmp T.cmp v w };
-
-    ghost total = { on_total (λ v. v) (lists_total T.total) };
-
-    ghost matches_partial_cmp = { λ v w. lists_agrees T.matches_partial_cmp v w };
-
-    ghost matches_eq = { λ v w. lists_ties T.cmp T.matches_eq v w };
-
-    fn cmp(&self, other: &Self) -> Ordering {
-        self.elements.cmp(&other.elements)
-    }
 }
 
 impl<T: fmt::Debug> fmt::Debug for Sequence<T> {

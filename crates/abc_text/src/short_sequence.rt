@@ -7,7 +7,6 @@ ghost use Rattle.std.specs.List.{AllZip};
 
 use smallvec::SmallVec;
 use std::alloc::{AllocError, Global};
-use std::fmt;
 use std::marker::Model;
 
 /// How many elements need no memory of their own. Most lists have one element or none, and each value that holds a
@@ -80,10 +79,4 @@ impl<T: Default + Drop + PartialEq> PartialEq for ShortSequence<T> {
 
 impl<T: Default + Drop + Eq> Eq for ShortSequence<T> {
     ghost laws = { on_equiv (λ v. v) (lists_equiv T.Eq.laws) };
-}
-
-impl<T: Default + Drop + fmt::Debug> fmt::Debug for ShortSequence<T> {
-    fn fmt<W: fmt::Write>(&self, f: &mut fmt::Formatter<W>) -> fmt::Result {
-        self.elements.fmt(f)
-    }
 }

@@ -2,7 +2,7 @@
 
 /// A fraction of a whole note or of a length, as `1/8` or `3/2`. Both parts are from 1 to
 /// 999,999,999 where a call takes one, and it need not be in lowest terms.
-#[derive(Clone, Copy, Debug, PartialEq, Eq)]
+#[derive(Clone, Copy, PartialEq, Eq)]
 pub struct Ratio {
     pub num: u32,
     pub den: u32,

@@ -3,8 +3,8 @@ use Rattle.abc_repeat.specs.Strain.{strain_of}
 use Rattle.abc_repeat.proofs.Rounds.{none_put, ending_run}
 use Rattle.abc_repeat.proofs.play.put_ending.Goals as goal
 
-pub returns-then-pass-gt-GREATEST_ENDING : goal.returns-then-pass-gt-GREATEST_ENDING
-returns-then-pass-gt-GREATEST_ENDING c = none_put c.args.play.now.items c.args.from c.args.pass (strain_of c.args.text.now) c.if-pass-gt-GREATEST_ENDING.true
+pub returns-then-pass : goal.returns-then-pass
+returns-then-pass c = none_put c.args.play.now.items c.args.from c.args.pass (strain_of c.args.text.now) c.if-pass.true
 
 pub returns : goal.returns
 returns c =
