@@ -6,4 +6,5 @@ pub mod Lengths
 pub mod Mapped
 pub mod Placed
 pub mod Staged
+pub mod Straight
 pub mod Within

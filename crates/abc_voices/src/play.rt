@@ -1,16 +1,16 @@
 //! What a voice plays of a section.
 
-ghost use Rattle.std.specs.Prelude.{◌≡◌, ◌<◌, ◌≤◌, min, length, All, IfOk, IfSome, MatchOption, filter_map, slice_get};
+ghost use Rattle.std.specs.Prelude.{◌≡◌, ◌<◌, ◌≤◌, min, length, true, All, IfOk, IfSome, MatchOption, filter_map, slice_get};
 ghost use Rattle.abc_repeat.specs.declared.play.TheConstants.{MOST_PLACES};
 ghost use Rattle.abc_repeat.specs.declared.fault.RepeatFault.TheVariants.{TooLong};
 ghost use Rattle.abc_time.specs.Grains.{grains_of_the_latest_end};
 ghost use Rattle.abc_voices.specs.Moved.{moved};
-ghost use Rattle.abc_voices.specs.Play.{marks_of, places_of, played, duration};
+ghost use Rattle.abc_voices.specs.Play.{marks_of, places_of, played, duration, are_straight, without_marks};
 
 use crate::moved::moved;
-use crate::step::{length_of, mark_of};
+use crate::step::{is_played, is_straight, length_of, mark_of};
 use abc_music::Item;
-use abc_repeat::{Mark, RepeatFault, expand_within};
+use abc_repeat::{MOST_PLACES, Mark, RepeatFault, expand_within};
 use abc_time::{Grains, LATEST_END};
 use std::alloc::{AllocError, Global};
 
@@ -42,8 +42,54 @@ fn chosen<'a>(
     Ok(items)
 }
 
+/// Whether items have neither repeats nor double bars nor endings.
+fn are_straight(part: &[&Item]) -> bool
+    ensures { result ≡ are_straight (marks_of (λ step. step.now) part.now) }
+{
+    for step in part {
+        if !is_straight(step) {
+            return false;
+        }
+    }
+    true
+}
+
+/// All items but the marks that say how the others are played.
+fn without_marks<'a>(alloc: Global, part: &[&'a Item]) -> Result<Vec<&'a Item>, AllocError>
+    ensures { IfOk result (λ items. items.items ≡ without_marks (λ step. step.now) part.now) }
+{
+    let mut items = Vec::with_capacity(alloc, part.len())?;
+    for step in part {
+        if is_played(step) {
+            items.push(*step)?;
+        }
+    }
+    Ok(items)
+}
+
+/// What is played of items with neither repeats nor double bars nor endings, as they stand.
+fn played_once<'a>(
+    alloc: Global,
+    part: &[&'a Item],
+    room: u64,
+) -> Result<Vec<&'a Item>, RepeatFault>
+    requires { are_straight (marks_of (λ step. step.now) part.now) ≡ true }
+    ensures value { IfOk result (λ items. items.items ≡ played (λ step. step.now) part.now) }
+    ensures size { IfOk result (λ items. length items.items
+        ≡ length (places_of (λ step. step.now) (moved (λ step. step.now) part.now))) }
+    ensures within { IfOk result (λ items. length items.items ≤ min room MOST_PLACES) }
+    ensures too_long { result ≡ Err TooLong
+        → min room MOST_PLACES < length (places_of (λ step. step.now) (moved (λ step. step.now) part.now)) }
+{
+    let items = without_marks(alloc, part)?;
+    if items.len() as u64 > room.min(MOST_PLACES) {
+        return Err(RepeatFault::TooLong);
+    }
+    Ok(items)
+}
+
 /// What is played of the items of a voice in a section, in order of play, where there is room for so many
-/// places. Memory for the play is asked for only where there is room.
+/// places. Memory for more places than there are items is asked for only where there is room.
 pub fn played<'a>(alloc: Global, part: &[&'a Item], room: u64) -> Result<Vec<&'a Item>, RepeatFault>
     ensures value { IfOk result (λ items. items.items ≡ played (λ step. step.now) part.now) }
     ensures size { IfOk result (λ items. length items.items
@@ -52,6 +98,10 @@ pub fn played<'a>(alloc: Global, part: &[&'a Item], room: u64) -> Result<Vec<&'a
     ensures too_long { result ≡ Err TooLong
         → min room MOST_PLACES < length (places_of (λ step. step.now) (moved (λ step. step.now) part.now)) }
 {
+    // Most music is played as it stands, and then nothing has to be put in order or counted out.
+    if are_straight(part) {
+        return played_once(alloc, part, room);
+    }
     let steps = moved(alloc, part)?;
     let marks = marks_of(alloc, &steps)?;
     let places = expand_within(alloc, &marks, room)?;

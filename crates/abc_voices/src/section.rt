@@ -73,7 +73,7 @@ pub fn part<'a>(
 ) -> Result<Vec<&'a Item>, AllocError>
     ensures { IfOk result (λ part. part.items ≡ part_from (λ step. step.now) voice.now opening.now steps.now) }
 {
-    let mut part = Vec::new(alloc);
+    let mut part = Vec::with_capacity(alloc, steps.len())?;
     let mut current = opening;
     for item in steps {
         if is_step(item) && current == voice {

@@ -1,7 +1,8 @@
 //! What an item is to the play of its voice.
 
 ghost use Rattle.std.specs.Prelude.{◌≡◌};
-ghost use Rattle.abc_voices.specs.Step.{is_field, mark_of, length_of};
+ghost use Rattle.abc_repeat.specs.Mark.{is_play};
+ghost use Rattle.abc_voices.specs.Step.{is_field, is_straight, mark_of, length_of};
 
 use abc_music::Item;
 use abc_repeat::Mark;
@@ -30,6 +31,20 @@ pub(crate) fn mark_of(item: &Item) -> Mark
         Item::Ending(numbers) => Mark::Ending(*numbers),
         _ => Mark::Play,
     }
+}
+
+/// Whether it takes its turn in the play.
+pub(crate) fn is_played(item: &Item) -> bool
+    ensures { result ≡ is_play (mark_of item.now) }
+{
+    !matches!(item, Item::Bar(_) | Item::Ending(_))
+}
+
+/// Whether it takes its turn, or is a bar line that neither repeats nor is double.
+pub(crate) fn is_straight(item: &Item) -> bool
+    ensures { result ≡ is_straight (mark_of item.now) }
+{
+    is_played(item) || mark_of(item).is_single()
 }
 
 /// How long it takes.
