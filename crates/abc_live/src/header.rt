@@ -8,7 +8,7 @@ ghost use Rattle.abc_tunebook.specs.Book.{behind_header, header_faults};
 
 use crate::block::lines_in;
 use crate::fault::put_of_cells;
-use crate::fold::{cells_from, folded};
+use crate::fold::folded;
 use abc_book::Block;
 use abc_tune::Compiler;
 use abc_tunebook::Fault;
@@ -32,9 +32,9 @@ pub(crate) fn read_header<C: Compiler>(
         return Ok((faults, None));
     };
     let first = block.from as u32 + 1;
-    let cells = cells_from(compiler, alloc, first, lines_in(lines, block), work)?;
     let opening = compiler.header(alloc);
-    let (items, after) = folded(compiler, alloc, opening, &cells, work)?;
+    let own = lines_in(lines, block);
+    let (items, after) = folded(compiler, alloc, opening, first, own, work)?;
     put_of_cells(compiler, &mut faults, &items)?;
     Ok((faults, Some(after)))
 }

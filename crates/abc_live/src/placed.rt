@@ -1,7 +1,7 @@
 //! What stands in a line of a text.
 
-ghost use Rattle.std.specs.Prelude.{◌≡◌, ◌++◌, map, IfOk, OnOk};
-ghost use Rattle.abc_tunebook.specs.Placed.{placed_at, things};
+ghost use Rattle.std.specs.Prelude.{◌≡◌, IfOk};
+ghost use Rattle.abc_tunebook.specs.Placed.{things};
 
 use std::alloc::{AllocError, Global};
 use std::marker::Model;
@@ -19,17 +19,6 @@ impl<T> Model for InLine<T> {
     ghost Value = { Placed T };
 
     ghost view = { λ one. placed_at one.line one.here };
-}
-
-/// Puts what a line has behind what stands before it.
-pub(crate) fn put_line<T: Drop>(
-    placed: &mut Vec<InLine<T>>,
-    line: u32,
-    all: Vec<T>,
-) -> Result<(), AllocError>
-    ensures { OnOk result (placed.new.items ≡ placed.old.items ++ map (placed_at line) all.items) }
-{
-    placed.extend(all.into_iter().map(|here| InLine { line, here }))
 }
 
 /// What stands there, without the numbers of the lines.

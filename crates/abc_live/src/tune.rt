@@ -6,7 +6,7 @@ ghost use Rattle.abc_tunebook.specs.Placed.{cells_from, items_along};
 ghost use Rattle.abc_tunebook.specs.Tune.{first_of, tune_from};
 
 use crate::fault::{put_of_cells, put_of_tune};
-use crate::fold::{cells_from, folded};
+use crate::fold::folded;
 use crate::placed::{InLine, things};
 use abc_text::Sequence;
 use abc_tune::Compiler;
@@ -75,7 +75,6 @@ pub(crate) fn tune_of_lines<C: Compiler>(
     requires { first + length lines.now ≤ u32.MAX }
     ensures { IfOk result (λ tune. tune ≡ tune_from (C.rules compiler.now) first (items_along (C.next compiler.now) (C.gives compiler.now) opening (cells_from (C.rules compiler.now).cells first (seen_lines lines.now)))) }
 {
-    let cells = cells_from(compiler, alloc, first, lines, work)?;
-    let (items, _) = folded(compiler, alloc, opening, &cells, work)?;
+    let (items, _) = folded(compiler, alloc, opening, first, lines, work)?;
     tune_from(compiler, alloc, first, items, work)
 }
