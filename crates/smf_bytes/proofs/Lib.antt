@@ -1,5 +1,6 @@
 pub mod Files
 pub mod Lengths
+pub mod Notes
 pub mod NumberTexts
 pub mod Ordered
 pub mod Timed

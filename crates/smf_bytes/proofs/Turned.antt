@@ -1,36 +1,56 @@
 -- A voice's events in another order: its notes taken from the last to the first.
-use Rattle.std.proofs.Common.{◌≡◌, ℕ, List, [], ◌∷◌, ◌++◌, length, sym, ap, subst, ◌∙◌}
+use Rattle.std.proofs.Common.{◌≡◌, ℕ, ◌==◌, true, false, cond, List, [], ◌∷◌, ◌++◌, length, map, refl, sym, ap, subst, ◌∙◌}
 use Rattle.std.specs.Prelude.{All, IsPermutation, codes}
 use Rattle.byteorder.specs.Endian.{big_bytes}
 use Rattle.std.proofs.lemmas.Grind.{flat_map-append}
-use Rattle.std.proofs.lemmas.List.{append-nil, append_assoc}
+use Rattle.std.proofs.lemmas.List.{append-nil, append_assoc, map-append}
 use Rattle.std.proofs.lemmas.List.Elements.{All-head, All-tail}
-use Rattle.std.proofs.lemmas.List.Sorted.{All-permutation, IsPermutation-append_comm, IsPermutation-append_left, IsPermutation-append_right, IsPermutation-trans}
+use Rattle.std.proofs.lemmas.List.Sorted.{All-permutation, IsPermutation-append_comm, IsPermutation-append_left, IsPermutation-append_right, IsPermutation-map, IsPermutation-trans}
 use Rattle.abc_time.specs.declared.grains.Grains.{Grains}
+use Rattle.abc_time.specs.Grains.{tick_at}
 use Rattle.abc_voices.specs.Limits.{IsSoundingWithin}
 use Rattle.abc_voices.specs.declared.score.Sounding.{Sounding}
 use Rattle.smf_bytes.specs.declared.event.Event.{Event}
-use Rattle.smf_bytes.specs.Event.{end_event, note_events}
+use Rattle.smf_bytes.specs.declared.note_event.NoteEvent.{NoteEvent}
+use Rattle.smf_bytes.specs.Note.{all_ends, ends_of, event_at}
+use Rattle.smf_bytes.specs.Event.{end_event, note_events, note_off, note_on}
 use Rattle.smf_bytes.specs.Track.{timed, track, track_body, voice_events}
 use Rattle.smf_bytes.proofs.Ordered.{in_order_permutation}
 
-voice_push : (channel : ℕ) (notes : List Sounding) (note : Sounding) → voice_events channel (notes ++ note ∷ []) ≡ voice_events channel notes ++ note_events channel note
-voice_push channel notes note =
-    flat_map-append (note_events channel) notes (note ∷ []) ∙ ap (λ l. voice_events channel notes ++ l) (append-nil (note_events channel note))
+ends_push : (notes : List Sounding) (note : Sounding) → all_ends (notes ++ note ∷ []) ≡ all_ends notes ++ ends_of note
+ends_push notes note = flat_map-append ends_of notes (note ∷ []) ∙ ap (λ l. all_ends notes ++ l) (append-nil (ends_of note))
 
 -- the last note's events go behind the events so far
-pub one_back : (channel : ℕ) (all events events' : List Event) (left left' : List Sounding) (note : Sounding) → left ≡ left' ++ note ∷ [] → IsPermutation (events ++ note_events channel note) events'
-    → IsPermutation all (events ++ voice_events channel left) → IsPermutation all (events' ++ voice_events channel left')
-one_back channel all events events' left left' note e f p =
-    let own = note_events channel note in
-    let others = voice_events channel left' in
-    let split : events ++ voice_events channel left ≡ events ++ (others ++ own) = ap (λ l. events ++ voice_events channel l) e ∙ ap (λ l. events ++ l) (voice_push channel left' note) in
+pub one_back : (all events events' : List NoteEvent) (left left' : List Sounding) (note : Sounding) → left ≡ left' ++ note ∷ [] → IsPermutation (events ++ ends_of note) events'
+    → IsPermutation all (events ++ all_ends left) → IsPermutation all (events' ++ all_ends left')
+one_back all events events' left left' note e f p =
+    let own = ends_of note in
+    let others = all_ends left' in
+    let split : events ++ all_ends left ≡ events ++ (others ++ own) = ap (λ l. events ++ all_ends l) e ∙ ap (λ l. events ++ l) (ends_push left' note) in
     let joined : events ++ (own ++ others) ≡ (events ++ own) ++ others = sym (append_assoc events own others) in
     IsPermutation-trans all ((events ++ own) ++ others) (events' ++ others)
     (subst (IsPermutation all) joined
     (IsPermutation-trans all (events ++ (others ++ own)) (events ++ (own ++ others)) (subst (IsPermutation all) split p)
     (IsPermutation-append_right events (others ++ own) (own ++ others) (IsPermutation-append_comm others own))))
     (IsPermutation-append_left others (events ++ own) events' f)
+
+own_events : (channel : ℕ) (note : Sounding) → map (event_at channel) (ends_of note) ≡ note_events channel note
+own_events channel note = elim (tick_at note.on.0 == tick_at note.off.0) as (λ b. map (event_at channel) (cond b [] (record { tick = tick_at note.on.0; on = true; key = note.key } ∷ record { tick = tick_at note.off.0; on = false; key = note.key } ∷ [])) ≡ cond b [] (note_on channel note.key (tick_at note.on.0) ∷ note_off channel note.key (tick_at note.off.0) ∷ [])) [
+  | true ↦ refl
+  | false ↦ refl
+]
+
+-- the notes of a voice as they begin and end are its events
+own_all : (channel : ℕ) (notes : List Sounding) → map (event_at channel) (all_ends notes) ≡ voice_events channel notes
+own_all channel [] = refl
+own_all channel (note ∷ notes) =
+    map-append (event_at channel) (ends_of note) (all_ends notes)
+    ∙ ap (λ l. l ++ map (event_at channel) (all_ends notes)) (own_events channel note)
+    ∙ ap (λ l. note_events channel note ++ l) (own_all channel notes)
+
+pub in_events : (channel : ℕ) (notes : List Sounding) (ends : List NoteEvent) → IsPermutation (all_ends notes) ends → IsPermutation (voice_events channel notes) (map (event_at channel) ends)
+in_events channel notes ends p =
+    subst (λ (l : List Event). IsPermutation l (map (event_at channel) ends)) (own_all channel notes) (IsPermutation-map (event_at channel) (all_ends notes) ends p)
 
 -- events in another order make the same track
 pub same_body : (end : ℕ) (xs ys : List Event) → IsPermutation xs ys → track_body end xs ≡ track_body end ys
@@ -49,7 +69,7 @@ last_within end left left' note e within =
     (All-head P note left' turned, All-tail P note left' turned)
 
 -- two events are put to others, one after the other
-pub two_more : (events first both own : List Event) (on off : Event) → IsPermutation (events ++ on ∷ []) first → IsPermutation (first ++ off ∷ []) both → own ≡ on ∷ off ∷ [] → IsPermutation (events ++ own) both
+pub two_more : (events first both own : List NoteEvent) (on off : NoteEvent) → IsPermutation (events ++ on ∷ []) first → IsPermutation (first ++ off ∷ []) both → own ≡ on ∷ off ∷ [] → IsPermutation (events ++ own) both
 two_more events first both own on off p q e =
     subst (λ l. IsPermutation (events ++ l) both) (sym e)
     (subst (λ l. IsPermutation l both) (append_assoc events (on ∷ []) (off ∷ []))

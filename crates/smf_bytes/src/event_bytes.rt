@@ -41,14 +41,6 @@ impl EventBytes {
         })
     }
 
-    /// A copy of bytes for which there is room in place.
-    pub(crate) fn in_place(alloc: Global, bytes: &[u8]) -> Self
-        requires { length bytes.now ≤ ROOM_IN_PLACE }
-        ensures { result ≡ bytes.now }
-    {
-        EventBytes::from_slice(alloc, bytes).unwrap()
-    }
-
     /// The bytes in order.
     #[inline]
     pub fn as_slice(&self) -> &[u8]

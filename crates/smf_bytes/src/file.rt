@@ -8,7 +8,7 @@ ghost use Rattle.smf_bytes.specs.Track.{track, voice_events, channel_of};
 
 use crate::chunk::{put_u16, put_u32};
 use crate::conductor::conductor;
-use crate::track::put_track;
+use crate::track::{TrackEvents, put_track};
 use crate::voice::{channel, voice};
 use abc_text::Sequence;
 use abc_time::{Grains, tick_of};
@@ -30,7 +30,7 @@ pub fn file_of(alloc: Global, score: &Score) -> Result<Vec<u8>, AllocError>
         score.title.as_slice(),
         score.conductor.as_slice(),
     )?;
-    put_track(&mut file, end, changes)?;
+    put_track(&mut file, end, TrackEvents::Conductor(changes))?;
     for (place, notes) in score.voices.as_slice().iter().enumerate() {
         put_voice(alloc, &mut file, score.end, place, notes)?;
     }
@@ -65,6 +65,7 @@ fn put_voice(
     ensures { OnOk result (out.new.items
         ≡ out.old.items ++ track (tick_at end.0) (voice_events (channel_of place) notes.now)) }
 {
-    let events = voice(alloc, end, channel(place), notes.as_slice())?;
-    put_track(out, tick_of(end), events)
+    let channel = channel(place);
+    let notes = voice(alloc, end, notes.as_slice())?;
+    put_track(out, tick_of(end), TrackEvents::Voice { channel, notes })
 }

@@ -7,6 +7,7 @@ mod conductor;
 mod event;
 mod event_bytes;
 mod file;
+mod note_event;
 mod number;
 mod order;
 mod track;

@@ -1,22 +1,35 @@
 //! Tracks as chunks.
-ghost use Rattle.std.specs.Prelude.{◌≡◌, ◌≤◌, ◌<◌, ◌^◌, ◌-◌, ◌++◌, length, All, OnOk};
+ghost use Rattle.std.specs.Prelude.{◌≡◌, ◌≤◌, ◌<◌, ◌^◌, ◌-◌, ◌++◌, ◌∷◌, [], length, map, All, OnOk};
 ghost use Rattle.smf_bytes.specs.Number.{number_text};
+ghost use Rattle.smf_bytes.specs.Note.{event_at, note_bytes};
 ghost use Rattle.smf_bytes.specs.Track.{track_body, track};
+ghost use Rattle.smf_bytes.specs.Written.{HasChannel, events_in};
 
 use crate::chunk::put_u32;
 use crate::event::Event;
+use crate::note_event::{NoteEvent, order_notes};
 use crate::number::put_number;
 use crate::order::order_events;
 use byteorder::{BigEndian, ByteOrder};
 use std::alloc::AllocError;
 
-/// Appends the track of these events, in any order, that ends at the tick `end`.
+/// The events of a track, in any order.
+#[derive(Drop)]
+pub(crate) enum TrackEvents {
+    /// Those of the first track.
+    Conductor(Vec<Event>),
+    /// Those of a voice, on a channel.
+    Voice { channel: u8, notes: Vec<NoteEvent> },
+}
+
+/// Appends the track of these events that ends at the tick `end`.
 #[tactic(auto, unfolding(crate::specs::Track::track))]
-pub(crate) fn put_track(out: &mut Vec<u8>, end: u32, events: Vec<Event>) -> Result<(), AllocError>
+pub(crate) fn put_track(out: &mut Vec<u8>, end: u32, events: TrackEvents) -> Result<(), AllocError>
+    requires channel { HasChannel events }
     requires end { end < 2 ^ 28 }
-    requires before_end { All (λ event. event.tick ≤ end) events.items }
-    requires length { length (track_body end events.items) < 2 ^ 32 }
-    ensures { OnOk result (out.new.items ≡ out.old.items ++ track end events.items) }
+    requires before_end { All (λ event. event.tick ≤ end) (events_in events) }
+    requires length { length (track_body end (events_in events)) < 2 ^ 32 }
+    ensures { OnOk result (out.new.items ≡ out.old.items ++ track end (events_in events)) }
 {
     out.extend_from_slice(b"MTrk")?;
     // The length is known once the body stands: it is put in its place then.
@@ -29,7 +42,20 @@ pub(crate) fn put_track(out: &mut Vec<u8>, end: u32, events: Vec<Event>) -> Resu
 }
 
 /// Appends the events in their order, each after its delta time, and the end of the track.
-fn put_body(out: &mut Vec<u8>, end: u32, events: Vec<Event>) -> Result<(), AllocError>
+fn put_body(out: &mut Vec<u8>, end: u32, events: TrackEvents) -> Result<(), AllocError>
+    requires channel { HasChannel events }
+    requires end { end < 2 ^ 28 }
+    requires before_end { All (λ event. event.tick ≤ end) (events_in events) }
+    ensures { OnOk result (out.new.items ≡ out.old.items ++ track_body end (events_in events)) }
+{
+    match events {
+        TrackEvents::Conductor(events) => put_events(out, end, events),
+        TrackEvents::Voice { channel, notes } => put_notes(out, end, channel, notes),
+    }
+}
+
+/// Appends events in their order, each after its delta time, and the end of the track.
+fn put_events(out: &mut Vec<u8>, end: u32, events: Vec<Event>) -> Result<(), AllocError>
     requires end { end < 2 ^ 28 }
     requires before_end { All (λ event. event.tick ≤ end) events.items }
     ensures { OnOk result (out.new.items ≡ out.old.items ++ track_body end events.items) }
@@ -41,7 +67,49 @@ fn put_body(out: &mut Vec<u8>, end: u32, events: Vec<Event>) -> Result<(), Alloc
         out.extend_from_slice(event.bytes.as_slice())?;
         before = event.tick;
     }
-    put_number(out, end - before)?;
+    put_end(out, end - before)
+}
+
+/// Appends the events of notes in their order, each after its delta time, and the end of the track.
+fn put_notes(
+    out: &mut Vec<u8>,
+    end: u32,
+    channel: u8,
+    notes: Vec<NoteEvent>,
+) -> Result<(), AllocError>
+    requires channel { channel < 16 }
+    requires end { end < 2 ^ 28 }
+    requires before_end { All (λ event. event.tick ≤ end) (map (event_at channel) notes.items) }
+    ensures { OnOk result (out.new.items ≡ out.old.items ++ track_body end (map (event_at channel) notes.items)) }
+{
+    let ordered = order_notes(notes)?;
+    let mut before = 0;
+    for note in &ordered {
+        put_number(out, note.tick - before)?;
+        put_note(out, channel, *note)?;
+        before = note.tick;
+    }
+    put_end(out, end - before)
+}
+
+/// Appends what a track holds of a note that begins or ends, after its delta time.
+fn put_note(out: &mut Vec<u8>, channel: u8, note: NoteEvent) -> Result<(), AllocError>
+    requires { channel < 16 }
+    ensures { OnOk result (out.new.items ≡ out.old.items ++ note_bytes channel note) }
+{
+    if note.on {
+        out.extend_from_slice(&[0x90 + channel, note.key, 80])
+    } else {
+        out.extend_from_slice(&[0x80 + channel, note.key, 64])
+    }
+}
+
+/// Appends the end of a track, so many ticks behind its last event.
+fn put_end(out: &mut Vec<u8>, delta: u32) -> Result<(), AllocError>
+    requires { delta < 2 ^ 28 }
+    ensures { OnOk result (out.new.items ≡ (out.old.items ++ number_text delta) ++ 255 ∷ 47 ∷ 0 ∷ []) }
+{
+    put_number(out, delta)?;
     out.extend_from_slice(&[0xFF, 0x2F, 0])?;
     Ok(())
 }

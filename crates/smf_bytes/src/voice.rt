@@ -2,12 +2,11 @@
 ghost use Rattle.std.specs.Prelude.{◌≡◌, ◌≤◌, ◌<◌, ◌++◌, [], ◌∷◌, IfOk, IsPermutation, OnOk};
 ghost use Rattle.abc_time.specs.Grains.{grains_of_the_latest_end};
 ghost use Rattle.abc_music.specs.declared.item.TheConstants.{MOST_VOICES};
-ghost use Rattle.smf_bytes.specs.Event.{note_off, note_on, note_events};
 ghost use Rattle.abc_voices.specs.Limits.{IsSoundingWithin, IsVoiceWithin};
-ghost use Rattle.smf_bytes.specs.Track.{voice_events, channel_of};
+ghost use Rattle.smf_bytes.specs.Note.{all_ends, ends_of};
+ghost use Rattle.smf_bytes.specs.Track.{channel_of};
 
-use crate::event::Event;
-use crate::event_bytes::EventBytes;
+use crate::note_event::NoteEvent;
 use abc_time::{Grains, tick_of};
 use abc_voices::Sounding;
 use std::alloc::{AllocError, Global};
@@ -32,46 +31,52 @@ pub(crate) fn channel(place: usize) -> u8
 pub(crate) fn voice(
     alloc: Global,
     end: Grains,
-    channel: u8,
     notes: &[Sounding],
-) -> Result<Vec<Event>, AllocError>
+) -> Result<Vec<NoteEvent>, AllocError>
     requires end { end.0 ≤ grains_of_the_latest_end }
-    requires channel { channel < 16 }
     requires notes { IsVoiceWithin end notes.now }
-    ensures { IfOk result (λ events. IsPermutation (voice_events channel notes.now) events.items) }
+    ensures { IfOk result (λ events. IsPermutation (all_ends notes.now) events.items) }
 {
     let mut events = Vec::with_capacity(alloc, 2 * notes.len())?;
     for note in notes.iter().rev() {
-        push_note(alloc, &mut events, end, channel, note)?;
+        push_note(&mut events, end, note)?;
     }
     Ok(events)
 }
 
 /// Puts the on and the off of a note to the events, unless both fall on one tick.
 #[tactic(auto, using(crate::proofs::Turned::two_more))]
-fn push_note(
-    alloc: Global,
-    events: &mut Vec<Event>,
-    end: Grains,
-    channel: u8,
-    note: &Sounding,
-) -> Result<(), AllocError>
+fn push_note(events: &mut Vec<NoteEvent>, end: Grains, note: &Sounding) -> Result<(), AllocError>
     requires end { end.0 ≤ grains_of_the_latest_end }
-    requires channel { channel < 16 }
     requires note { IsSoundingWithin end note.now }
-    ensures { OnOk result (IsPermutation (events.old.items ++ note_events channel note.now) events.new.items) }
+    ensures { OnOk result (IsPermutation (events.old.items ++ ends_of note.now) events.new.items) }
 {
     let on = tick_of(note.on);
     let off = tick_of(note.off);
     if on != off {
-        put(events, on_event(alloc, channel, note.key, on))?;
-        put(events, off_event(alloc, channel, note.key, off))?;
+        let key = note.key;
+        put(
+            events,
+            NoteEvent {
+                tick: on,
+                on: true,
+                key,
+            },
+        )?;
+        put(
+            events,
+            NoteEvent {
+                tick: off,
+                on: false,
+                key,
+            },
+        )?;
     }
     Ok(())
 }
 
 /// Puts an event to others, before those just before it that come later.
-fn put(events: &mut Vec<Event>, event: Event) -> Result<(), AllocError>
+fn put(events: &mut Vec<NoteEvent>, event: NoteEvent) -> Result<(), AllocError>
     ensures { OnOk result (IsPermutation (events.old.items ++ event ∷ []) events.new.items) }
 {
     events.push(event)?;
@@ -80,7 +85,7 @@ fn put(events: &mut Vec<Event>, event: Event) -> Result<(), AllocError>
 }
 
 /// Moves the last event back to its place among those just before it.
-fn move_back(events: &mut [Event])
+fn move_back(events: &mut [NoteEvent])
     ensures { IsPermutation events.old events.new }
 {
     let mut place = events.len();
@@ -90,31 +95,5 @@ fn move_back(events: &mut [Event])
         }
         events.swap(place - 2, place - 1);
         place -= 1;
-    }
-}
-
-/// The event that ends a note.
-fn off_event(alloc: Global, channel: u8, key: u8, tick: u32) -> Event
-    requires { channel < 16 }
-    ensures { result ≡ note_off channel key tick }
-{
-    Event {
-        tick,
-        class: 1,
-        key,
-        bytes: EventBytes::in_place(alloc, &[0x80 + channel, key, 64]),
-    }
-}
-
-/// The event that begins a note.
-fn on_event(alloc: Global, channel: u8, key: u8, tick: u32) -> Event
-    requires { channel < 16 }
-    ensures { result ≡ note_on channel key tick }
-{
-    Event {
-        tick,
-        class: 2,
-        key,
-        bytes: EventBytes::in_place(alloc, &[0x90 + channel, key, 80]),
     }
 }

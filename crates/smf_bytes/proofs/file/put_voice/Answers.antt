@@ -1,21 +1,26 @@
-use Rattle.std.proofs.Common.{◌≡◌, ◌<◌, ◌≤◌, ◌++◌, ◌^◌, ℕ, List, length, arith, subst, sym, ap, ◌∙◌}
+use Rattle.std.proofs.Common.{◌≡◌, ◌<◌, ◌≤◌, ◌++◌, ◌^◌, ℕ, List, length, map, arith, subst, sym, ap, ◌∙◌}
 use Rattle.std.specs.Prelude.{IsPermutation, OnOk}
+use Rattle.std.proofs.lemmas.Grind.{common_steps}
 use Rattle.std.proofs.lemmas.List.Sorted.{All-permutation}
 use Rattle.abc_time.specs.Grains.{tick_at}
 use Rattle.abc_voices.specs.declared.score.Sounding.{Sounding}
+use Rattle.smf_bytes.specs.Note.{all_ends, event_at}
 use Rattle.smf_bytes.specs.Track.{channel_of, track, voice_events}
 use Rattle.smf_bytes.proofs.Lengths.{EndBy, voice_length, voice_ticks}
-use Rattle.smf_bytes.proofs.Turned.{same_body, same_track}
+use Rattle.smf_bytes.proofs.Turned.{in_events, same_body, same_track}
 use Rattle.smf_bytes.proofs.file.put_voice.Goals as goal
 
 pub put_track-requires : goal.put_track-requires
 put_track-requires c =
-    let channel = c.channel.result in
+    let channel = c.channel-channel.result in
     let notes = c.args.notes.now in
-    let events = c.in_ok-events.events.items in
+    let ends = c.in_ok-notes.notes.items in
+    let events = map (event_at channel) ends in
     let tick = c.tick_of.result in
-    let same : IsPermutation (voice_events channel notes) events = subst (λ (l : List Sounding). IsPermutation (voice_events channel l) events) c.as_slice.ensures c.in_ok-events.ensures in
+    let same : IsPermutation (voice_events channel notes) events =
+    in_events channel notes ends (subst (λ (l : List Sounding). IsPermutation (all_ends l) ends) c.as_slice.ensures c.in_ok-notes.ensures) in
     record {
+      channel = grind (arith, common_steps);
       end = omega arith;
       before_end =
           subst (λ (t : ℕ). EndBy t events) (sym c.tick_of.ensures.exact)
@@ -25,11 +30,14 @@ put_track-requires c =
 
 pub returns : goal.returns
 returns c =
+    let channel = c.channel-channel.result in
     let notes = c.args.notes.now in
-    let events = c.in_ok-events.events.items in
+    let ends = c.in_ok-notes.notes.items in
+    let events = map (event_at channel) ends in
     let tick = tick_at c.args.end.0 in
-    let same : IsPermutation (voice_events c.channel.result notes) events = subst (λ (l : List Sounding). IsPermutation (voice_events c.channel.result l) events) c.as_slice.ensures c.in_ok-events.ensures in
+    let same : IsPermutation (voice_events channel notes) events =
+    in_events channel notes ends (subst (λ (l : List Sounding). IsPermutation (all_ends l) ends) c.as_slice.ensures c.in_ok-notes.ensures) in
     let written : track c.tick_of.result events ≡ track tick (voice_events (channel_of c.args.place) notes) =
-    ap (λ t. track t events) c.tick_of.ensures.exact ∙ sym (same_track tick (voice_events c.channel.result notes) events same)
-    ∙ ap (λ channel. track tick (voice_events channel notes)) c.channel.ensures in
+    ap (λ t. track t events) c.tick_of.ensures.exact ∙ sym (same_track tick (voice_events channel notes) events same)
+    ∙ ap (λ n. track tick (voice_events n notes)) c.channel-channel.ensures in
     subst (λ (t : List ℕ). OnOk c.put_track.result (c.put_track.new.out.items ≡ c.args.out.now.items ++ t)) written c.put_track.ensures

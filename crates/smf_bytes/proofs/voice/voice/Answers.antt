@@ -4,7 +4,7 @@ use Rattle.std.proofs.lemmas.List.{append-nil, nil_from_length}
 use Rattle.std.proofs.lemmas.List.Sorted.{IsPermutation-refl}
 use Rattle.abc_voices.specs.Limits.{IsSoundingWithin}
 use Rattle.abc_voices.specs.declared.score.Sounding.{Sounding}
-use Rattle.smf_bytes.specs.Track.{voice_events}
+use Rattle.smf_bytes.specs.Note.{all_ends}
 use Rattle.smf_bytes.proofs.Turned.{last_within, one_back}
 use Rattle.smf_bytes.proofs.voice.voice.Goals as goal
 
@@ -12,10 +12,10 @@ pub loop-note-init : goal.loop-note-init
 loop-note-init c =
     let whole : c.into_iter-note-iterator.result.iter.rest.now ≡ c.args.notes.now =
     ap (λ i. i.iter.rest.now) c.into_iter-note-iterator.ensures.into_iter_gives ∙ ap (λ i. i.rest.now) c.rev-note-items.ensures.source ∙ c.iter.ensures.rest in
-    let bag = voice_events c.args.channel c.args.notes.now in
+    let bag = all_ends c.args.notes.now in
     record {
       within = subst (All (IsSoundingWithin c.args.end)) (sym whole) c.requires.notes.each;
-      events = subst (λ (left : List Sounding). IsPermutation bag (c.in_ok-events.events.items ++ voice_events c.args.channel left)) (sym whole)
+      events = subst (λ (left : List Sounding). IsPermutation bag (c.in_ok-events.events.items ++ all_ends left)) (sym whole)
           (subst (λ l. IsPermutation bag (l ++ bag)) (sym c.in_ok-events.ensures.items) (IsPermutation-refl bag));
     }
 
@@ -25,13 +25,13 @@ loop-note-preserved c =
     let left' = c.next.new.self.iter.rest.now in
     record {
       within = (last_within c.args.end left left' c.in-Some.note.now c.in-Some.ensures.steps c.loop-note.invariant.within).1;
-      events = one_back c.args.channel (voice_events c.args.channel c.args.notes.now) c.loop-note.events.items c.push_note.new.events.items left left'
+      events = one_back (all_ends c.args.notes.now) c.loop-note.events.items c.push_note.new.events.items left left'
           c.in-Some.note.now c.in-Some.ensures.steps c.in_ok-push_note.ensures c.loop-note.invariant.events;
     }
 
 pub returns : goal.returns
 returns c =
-    let bag = voice_events c.args.channel c.args.notes.now in
+    let bag = all_ends c.args.notes.now in
     let none : c.loop-note.note-iterator.iter.rest.now ≡ [] = nil_from_length c.loop-note.note-iterator.iter.rest.now c.in-None.ensures.steps.0 in
     subst (IsPermutation bag) (append-nil c.loop-note.events.items)
-    (subst (λ (left : List Sounding). IsPermutation bag (c.loop-note.events.items ++ voice_events c.args.channel left)) none c.loop-note.invariant.events)
+    (subst (λ (left : List Sounding). IsPermutation bag (c.loop-note.events.items ++ all_ends left)) none c.loop-note.invariant.events)

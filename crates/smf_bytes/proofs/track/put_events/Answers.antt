@@ -1,10 +1,11 @@
-use Rattle.std.proofs.Common.{◌≡◌, [], ◌∷◌, ◌++◌, arith, drop, refl, subst, sym, ap, ◌∙◌}
+use Rattle.std.proofs.Common.{◌≡◌, ℕ, List, [], ◌∷◌, ◌++◌, arith, drop, refl, subst, sym, ap, ◌∙◌}
+use Rattle.std.specs.Prelude.{OnOk}
 use Rattle.std.proofs.lemmas.List.{drop_all}
 use Rattle.smf_bytes.specs.Order.{in_order}
 use Rattle.smf_bytes.specs.Event.{end_event}
 use Rattle.smf_bytes.specs.Track.{timed, track_body}
 use Rattle.smf_bytes.proofs.Timed.{Follows, follows_sorted, closed}
-use Rattle.smf_bytes.proofs.track.put_body.Goals as goal
+use Rattle.smf_bytes.proofs.track.put_events.Goals as goal
 
 pub loop-event-init : goal.loop-event-init
 loop-event-init c =
@@ -20,12 +21,12 @@ pub returns : goal.returns
 unfolding track_body
 returns c =
     let items = c.deref-event-items.result.now in
-    let whole = c.args.out.now.items ++ timed 0 (items ++ end_event c.args.end ∷ []) in
+    let out = c.args.out.now.items in
+    let whole = out ++ timed 0 (items ++ end_event c.args.end ∷ []) in
     let done : drop c.loop-event.event-index items ≡ [] = drop_all c.loop-event.event-index items (omega arith) in
     let shut =
     closed c.loop-event.out.items whole c.loop-event.before c.args.end
     (ap (λ l. c.loop-event.out.items ++ timed c.loop-event.before (l ++ end_event c.args.end ∷ [])) (sym done) ∙ c.loop-event.invariant.written) in
     let same : items ≡ in_order c.args.events.items = c.deref-event-items.ensures.value ∙ c.in_ok-ordered.ensures.exact in
-    let last = c.in_ok-extend_from_slice-2.ensures.items in
-    let delta = c.in_ok-put_number-2.ensures.ok in
-    cc
+    subst (λ (l : List ℕ). OnOk c.put_end.result (c.put_end.new.out.items ≡ l))
+    (shut ∙ ap (λ l. out ++ timed 0 (l ++ end_event c.args.end ∷ [])) same) c.put_end.ensures

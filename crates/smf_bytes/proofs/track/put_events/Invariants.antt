@@ -3,7 +3,7 @@ use Rattle.std.specs.Prelude.{drop}
 use Rattle.smf_bytes.specs.Event.{end_event}
 use Rattle.smf_bytes.specs.Track.{timed}
 use Rattle.smf_bytes.proofs.Timed.{Follows}
-use Rattle.smf_bytes.proofs.track.put_body.Given as goal
+use Rattle.smf_bytes.proofs.track.put_events.Given as goal
 
 abbrev pub invariant-loop-event : goal.invariant-loop-event
 invariant-loop-event l =
