@@ -29,7 +29,8 @@ pub fn put_number(out: &mut Vec<u8>, n: u32) -> Result<(), AllocError>
     let third = second / 0x80;
     let fourth = third / 0x80;
     if second == 0 {
-        out.extend_from_slice(&[last])
+        out.push(last)?;
+        Ok(())
     } else if third == 0 {
         out.extend_from_slice(&[leading(second), last])
     } else if fourth == 0 {
