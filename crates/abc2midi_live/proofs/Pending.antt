@@ -1,6 +1,6 @@
 -- Laws of bringing a directory up to date.
 use Rattle.std.proofs.Common.{◌≡◌, ℕ, zero, suc, ◌+◌, ◌-◌, ◌^◌, ◌<◌, ◌≤◌, ◌&&◌, Bool, true, false, cond, List, [], ◌∷◌, ◌++◌, Option, Some, None, MatchOption, Result, Ok, Err, MatchResult, ◌≢◌, ◌⊎◌, inl, inr, ⊎_elim, refl, sym, ap, ◌∙◌, subst, arith, append_assoc, append-nil}
-use Rattle.std.specs.Prelude.{filter, is_none, is_ok, SomeIff, IfOk, IfSome}
+use Rattle.std.specs.Prelude.{filter, is_none, is_ok, SomeIff, IfOk, IfSome, OnErr}
 use Rattle.std.specs.declared.alloc.AllocError.{AllocError}
 use Rattle.std.specs.Result.{result_unwrap_or}
 use Rattle.std.proofs.lemmas.Bool.{cases_eq, false≢true, true≢false}
@@ -225,6 +225,16 @@ pub ends_failed : (r : Result Bool AllocError) (p q : Publishing) (n : ℕ) (byt
 ends_failed (Ok true) p q n bytes is e = absurd (true≢false is)
 ends_failed (Ok false) p q n bytes is e = e
 ends_failed (Err x) p q n bytes is e = tt
+
+-- a result that counts as stored is no error
+pub no_error : (r : Result Bool AllocError) (P : Type 0) → result_unwrap_or r false ≡ true → OnErr r P
+no_error (Ok stored) P is = tt
+no_error (Err x) P is = absurd (false≢true is)
+
+-- what holds in any case holds behind an error
+pub in_error : (r : Result Bool AllocError) (P : Type 0) → P → OnErr r P
+in_error (Ok stored) P p = tt
+in_error (Err x) P p = p
 
 -- the directory that a store follows is that of the publisher
 pub follows_ended : (r : Result Bool AllocError) (old new : StoreSeen) (p q : Publishing) (n : ℕ) (bytes : Option (List ℕ)) → IfOk r (λ stored. q ≡ ended p n (entry_behind (answer_of stored) bytes))

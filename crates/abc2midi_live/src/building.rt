@@ -1,7 +1,8 @@
 //! Bringing the files of a store up to date with a session.
 
-ghost use Rattle.std.specs.Prelude.{◌≡◌, string_bytes, ℕ, ◌<◌, ◌^◌, ◌++◌, ◌∷◌, [], List, None, Some, IfOk, IfSome, is_ok, option_copied};
+ghost use Rattle.std.specs.Prelude.{◌≡◌, string_bytes, ℕ, ◌<◌, ◌^◌, ◌++◌, ◌∷◌, [], List, None, Some, IfOk, IfSome, OnErr, is_ok, option_copied};
 ghost use Rattle.abc_publish.specs.Publisher.{ended, maps_of, with_entry, Directory};
+ghost use Rattle.abc_publish.specs.declared.slot.Stored.TheVariants.{Unknown};
 ghost use Rattle.abc2midi_live.specs.Building.{answer_line, answer_of, entry_behind, Builds, IsIdle, Stores};
 ghost use Rattle.abc2midi_live.specs.Storing.{file_name, store_seen, Follows, StoreAnswer};
 
@@ -61,7 +62,7 @@ fn store_file<S: Store>(
     Ok(stored)
 }
 
-/// Carries out a job and ends it, and answers whether its file was stored.
+/// Carries out a job and ends it, and answers whether its file was stored. For want of memory that is unknown.
 fn carry_out<S: Store>(
     alloc: Global,
     publisher: &mut Publisher,
@@ -72,6 +73,7 @@ fn carry_out<S: Store>(
     requires { (maps_of publisher.old).jobs job.number ≡ Some job.bytes }
     ensures text { IfOk result (λ stored. text.new.items ≡ text.old.items ++ answer_line (answer_of stored) job.number job.bytes) }
     ensures publisher { IfOk result (λ stored. maps_of publisher.new ≡ ended (maps_of publisher.old) job.number (entry_behind (answer_of stored) job.bytes)) }
+    ensures err { OnErr result (maps_of publisher.new ≡ ended (maps_of publisher.old) job.number (Some Unknown)) }
     ensures store { IfOk result (λ stored. Follows (store_seen (S.failures store.old) (S.contents store.old)) (store_seen (S.failures store.new) (S.contents store.new))
         (answer_of stored ∷ []) (maps_of publisher.old).directory (maps_of publisher.new).directory) }
     ensures jobs { (maps_of publisher.new).jobs ≡ with_entry (maps_of publisher.old).jobs job.number None }
