@@ -1,8 +1,9 @@
-//! A toy compiler of tunes, worked examples of its books by definition, and a session over it: what a caller of a
-//! session gets of a compiler of its own. Expected values are worked by hand from the toy's definitions.
+//! Code over the public calls of a session and a publisher, and worked examples by the definitions alone: a toy
+//! compiler of tunes, jobs that a caller holds, edits of a text, books in the toy language, the lines of tune books and
+//! the lists that are answered. Expected values are worked by hand from the toy's definitions and from
+//! `docs/program.md`. The tests of all these are in `session_examples`, so that nothing here is proved again with them.
 #![tactic(auto)]
 
 pub mod definitions;
-#[cfg(test)]
-mod sessions;
+pub mod held;
 pub mod toy;

@@ -1,13 +1,22 @@
-//! Worked examples of a session. `definitions` has edits and differences of books by the definitions alone, each
-//! proved; the tests call each public function of `abc2midi_live` once with ample memory, and try streams that fail.
-//! What commands can show stands in `tests/transcripts`. Expected values are worked by hand from the rules in
-//! `docs/program.md`.
+//! The tests of the session, the publisher and the run: each calls public functions with ample memory, whose results no
+//! clause promises. `sessions` has a session, and one over a compiler of its own, `publishing` and `orders` a publisher on a
+//! session that is edited, `runs` streams and stores that fail. What commands can show stands in
+//! `tests/transcripts`. Expected values are worked by hand from the rules in `docs/program.md`.
 #![tactic(auto)]
 
-pub mod definitions;
+#[cfg(test)]
+mod account;
+#[cfg(test)]
+mod orders;
+#[cfg(test)]
+mod publishing;
 #[cfg(test)]
 mod runs;
 #[cfg(test)]
 mod sessions;
 #[cfg(test)]
 mod shelf;
+#[cfg(test)]
+mod taken;
+#[cfg(test)]
+mod texts;

@@ -1,10 +1,10 @@
-//! A run of commands: its answers, however the input comes in pieces, and what a failing stream leaves.
+//! A run of commands: its answers, however the input comes in pieces, and what a failing stream or store leaves.
 
 ghost use Rattle.std.specs.Prelude.{ℕ, Some};
 
 use crate::shelf::Shelf;
 use abc_fold::Work;
-use abc2midi_live::{Piped, RunFault, Sink, Source, Store, StoreFault, StreamFault, run};
+use abc2midi_live::{RunFault, Sink, Source, StreamFault, run};
 
 /// A source that gives at most so many bytes at a time, and fails at one of its calls.
 #[derive(Drop)]
@@ -14,6 +14,18 @@ struct Pieces<'a> {
     fails_at: u64,
     calls: u64,
     failures: u64,
+}
+
+impl<'a> Pieces<'a> {
+    fn new(rest: &'a [u8], most: usize, fails_at: u64) -> Pieces<'a> {
+        Pieces {
+            rest,
+            most,
+            fails_at,
+            calls: 0,
+            failures: 0,
+        }
+    }
 }
 
 #[tactic(auto, using(abc2midi_live::proofs::Counts::raised_none, abc2midi_live::proofs::Counts::raised_within))]
@@ -63,33 +75,9 @@ impl Sink for Kept {
     }
 }
 
-/// A store that counts what is asked of it, and fails always.
-#[derive(Drop)]
-struct Failing {
-    failures: u64,
-}
-
-#[tactic(auto, using(abc2midi_live::proofs::Counts::raised_none, abc2midi_live::proofs::Counts::raised_within))]
-impl Store for Failing {
-    ghost failures = { λ s. s.failures };
-
-    fn put(&mut self, _name: &str, _bytes: &[u8]) -> Result<(), StoreFault> {
-        self.failures = self.failures.saturating_add(1);
-        Err(StoreFault)
-    }
-
-    fn remove(&mut self, _name: &str) -> Result<(), StoreFault> {
-        self.failures = self.failures.saturating_add(1);
-        Err(StoreFault)
-    }
-}
-
 /// A tune, the list of titles, and bytes behind `quit` that have no effect. The commands up to `quit` have 31 bytes,
 /// those up to `titles` 26, `insert` and its lines 19.
 const TUNE: &[u8] = b"insert 1 2\nX:1\nT:A\ntitles\nquit\ntitles\n";
-
-/// The same tune as a file: the mark of UTF-8, and no line feed behind the last line.
-const BOOK: &[u8] = b"\xEF\xBB\xBFX:1\nT:A";
 
 const EDIT_ANSWER: &[u8] = b"ok written 1 removed\n";
 
@@ -110,39 +98,23 @@ const RUNS: [(usize, u64, u64, &[u8], Option<RunFault>); 9] = [
     (1, 0, 1, b"", Some(RunFault::Write)),
 ];
 
-/// Whether a run over the tune, which comes in pieces of at most `most` bytes while the reader and the writer fail at a
-/// call, answers this text and ends so.
+/// Whether a run with these streams and this store answers this text and ends so.
 fn answers(
     rt: &HostRuntime,
-    most: usize,
-    read_fails_at: u64,
+    mut reader: Pieces<'_>,
     write_fails_at: u64,
+    store: &mut Shelf,
     answered: &[u8],
     fault: Option<RunFault>,
 ) -> bool {
-    let mut reader = Pieces {
-        rest: TUNE,
-        most,
-        fails_at: read_fails_at,
-        calls: 0,
-        failures: 0,
-    };
     let mut writer = Kept {
         bytes: Vec::new(rt.alloc()),
         fails_at: write_fails_at,
         calls: 0,
         failures: 0,
     };
-    let mut store = Failing { failures: 0 };
     let mut work = Work::mint(rt);
-    let ended = run(
-        rt.alloc(),
-        None,
-        &mut reader,
-        &mut writer,
-        &mut store,
-        &mut work,
-    );
+    let ended = run(rt.alloc(), None, &mut reader, &mut writer, store, &mut work);
     writer.bytes.as_slice() == answered && ended.err() == fault
 }
 
@@ -150,98 +122,52 @@ fn answers(
 #[test]
 fn pieces_and_failing_streams(rt: HostRuntime) {
     for (most, read_fails_at, write_fails_at, answered, fault) in RUNS.iter() {
-        assert!(rt;
-            answers(
-                &rt,
-                *most,
-                *read_fails_at,
-                *write_fails_at,
-                *answered,
-                *fault
-            )
-        );
+        let reader = Pieces::new(TUNE, *most, *read_fails_at);
+        let mut store = Shelf::new(rt.alloc(), 0);
+        let write_fails_at = *write_fails_at;
+        assert!(rt; answers(&rt, reader, write_fails_at, &mut store, *answered, *fault));
     }
-}
-
-/// Whether a run over a tune book and an input, by a reader and a writer of std and with a store, answers this text.
-fn writes<S: Store>(
-    rt: &HostRuntime,
-    book: Option<&[u8]>,
-    input: &[u8],
-    store: &mut S,
-    answered: &[u8],
-) -> bool {
-    let mut written = Vec::new(rt.alloc());
-    let mut writer = Piped::new(&mut written);
-    let mut work = Work::mint(rt);
-    let ended = run(
-        rt.alloc(),
-        book,
-        &mut Piped::new(input),
-        &mut writer,
-        store,
-        &mut work,
-    );
-    ended.is_ok() && written.as_slice() == answered
-}
-
-// Readers and writers of std. A tune book is answered before the commands.
-#[test]
-fn streams_of_std(rt: HostRuntime) {
-    let mut store = Failing { failures: 0 };
-    assert!(rt; writes(&rt, None, TUNE, &mut store, TUNE_ANSWERS));
-    assert!(rt;
-        writes(
-            &rt,
-            Some(BOOK),
-            b"titles".as_slice(),
-            &mut store,
-            TUNE_ANSWERS
-        )
-    );
 }
 
 /// The file of a tune without notes and without a title.
 const TUNE_FILE: &[u8] =
     b"MThd\x00\x00\x00\x06\x00\x01\x00\x01\x01\xE0MTrk\x00\x00\x00\x11\x00\xFF\x51\x03\x07\xA1\x20\x00\xFF\x59\x02\x00\x00\x00\xFF\x2F\x00";
 
-/// Whether a run over an input, with a store in memory that fails at this call, answers this text, and whether the store
-/// then has a file under this name, that of the tune, or none.
-fn stores(
-    rt: &HostRuntime,
-    fails_at: u64,
-    input: &[u8],
-    answered: &[u8],
-    name: &str,
-    file: Option<&[u8]>,
-) -> bool {
-    let mut store = Shelf::new(rt.alloc(), fails_at);
-    writes(rt, None, input, &mut store, answered) && store.get(name) == file
-}
+/// The call of the store that fails, what comes in, what the run answers, and what the store then has under a name.
+const BUILDS: [(u64, &[u8], &[u8], &str, Option<&[u8]>); 3] = [
+    // The tune is still to be stored, and the next build does it. Then there is nothing to do.
+    (
+        1,
+        b"insert 1 2\nX:1\nK:C\nbuild\nbuild\nbuild\n",
+        b"ok written 1 removed\nfailed 1.mid\nend\nwritten 1.mid\nend\nend\n",
+        "1.mid",
+        Some(TUNE_FILE),
+    ),
+    // A tune that went away has its file removed.
+    (
+        0,
+        b"insert 1 2\nX:1\nK:C\nbuild\ndelete 1 2\nbuild\n",
+        b"ok written 1 removed\nwritten 1.mid\nend\nok written removed 1\nremoved 1.mid\nend\n",
+        "1.mid",
+        None,
+    ),
+    // The second of two files cannot be stored: the build ends there, and the next one goes on with it.
+    (
+        2,
+        b"insert 1 5\nX:1\nK:C\n\nX:2\nK:C\nbuild\nbuild\n",
+        b"ok written 1 2 removed\nwritten 1.mid\nfailed 2.mid\nend\nwritten 2.mid\nend\n",
+        "2.mid",
+        Some(TUNE_FILE),
+    ),
+];
 
-// A store that fails at its first call: the tune is still to be stored, and the next build does it. Then there is
-// nothing to do.
+// A fault of the store is made good by the next build, and a store in memory has the files.
 #[test]
-fn a_fault_of_the_store_is_made_good(rt: HostRuntime) {
-    let input = b"insert 1 2\nX:1\nK:C\nbuild\nbuild\nbuild\n".as_slice();
-    let answered = b"ok written 1 removed\nfailed 1.mid\nend\nwritten 1.mid\nend\nend\n".as_slice();
-    assert!(rt; stores(&rt, 1, input, answered, "1.mid", Some(TUNE_FILE)));
-}
-
-// A tune that went away has its file removed.
-#[test]
-fn a_file_is_removed(rt: HostRuntime) {
-    let input = b"insert 1 2\nX:1\nK:C\nbuild\ndelete 1 2\nbuild\n".as_slice();
-    let answered =
-        b"ok written 1 removed\nwritten 1.mid\nend\nok written removed 1\nremoved 1.mid\nend\n".as_slice();
-    assert!(rt; stores(&rt, 0, input, answered, "1.mid", None));
-}
-
-// The second of two files cannot be stored: the build ends there, and the next one goes on with it.
-#[test]
-fn a_fault_ends_the_build(rt: HostRuntime) {
-    let input = b"insert 1 5\nX:1\nK:C\n\nX:2\nK:C\nbuild\nbuild\n".as_slice();
-    let answered =
-        b"ok written 1 2 removed\nwritten 1.mid\nfailed 2.mid\nend\nwritten 2.mid\nend\n".as_slice();
-    assert!(rt; stores(&rt, 2, input, answered, "2.mid", Some(TUNE_FILE)));
+fn stores_that_fail(rt: HostRuntime) {
+    for (fails_at, input, answered, name, file) in BUILDS.iter() {
+        let reader = Pieces::new(*input, 1_000, 0);
+        let mut store = Shelf::new(rt.alloc(), *fails_at);
+        assert!(rt; answers(&rt, reader, 0, &mut store, *answered, None));
+        assert!(rt; store.get(*name) == *file);
+    }
 }

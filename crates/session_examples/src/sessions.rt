@@ -1,58 +1,58 @@
 //! The session by its public calls.
 
+use crate::texts::{empty_session, insertion, lines_of};
 use abc_fold::Work;
-use abc_live::{Edit, EditError, Session};
-use std::alloc::{AllocError, Global};
-use std::test::Fail;
+use abc_live::{Edit, EditError, LiveSession, Session};
+use live_examples::toy::{Toy, file_of_number};
+use std::alloc::Global;
+use std::process::Abort;
 
-/// Each text as a line.
-fn lines_of(alloc: Global, texts: &[&[u8]]) -> Result<Vec<Vec<u8>>, AllocError> {
-    let mut lines = Vec::new(alloc);
-    for text in texts {
-        lines.push(Vec::from_slice(alloc, text)?)?;
+/// Whether an edit is accepted, and reports that these files were written and those removed.
+fn reports(
+    session: &mut Session,
+    edit: &Edit,
+    work: &mut Work,
+    written: &[u32],
+    removed: &[u32],
+) -> bool {
+    match session.apply(edit, work) {
+        Ok(report) => report.written.as_slice() == written && report.removed.as_slice() == removed,
+        Err(_) => false,
     }
-    Ok(lines)
 }
 
-// A tune comes in, a line of it is changed, an edit of lines that are not there is refused and changes nothing, and
-// the tune is taken out again.
-#[test]
-fn edits_are_reported(rt: HostRuntime) -> Result<(), Fail> {
-    let alloc = rt.alloc();
-    let mut work = Work::mint(&rt);
-    let mut session = Session::new(alloc)?;
-    let insertion = Edit::Insert {
-        at: 1,
-        lines: lines_of(alloc, &[b"X:1", b"K:C", b"C"])?,
-    };
-    let report = session.apply(&insertion, &mut work);
-    assert!(rt; report.is_ok_and(|it| it.written.as_slice() == [1].as_slice()));
-    let replacement = Edit::Replace {
-        from: 3,
-        to: 3,
-        lines: lines_of(alloc, &[b"D"])?,
-    };
-    assert!(rt; session.apply(&replacement, &mut work).is_ok());
-    let refused = session.apply(&Edit::Delete { from: 3, to: 4 }, &mut work);
+/// A tune comes in, a line of it is changed, an edit of lines that are not there is refused and changes nothing, and
+/// the tune is taken out again.
+fn edit(rt: &impl Abort, alloc: Global, session: &mut Session, work: &mut Work) {
+    let tune = insertion(rt, alloc, &[b"X:1", b"K:C", b"C"]);
+    assert!(rt; reports(session, &tune, work, &[1], &[]));
+    let lines = lines_of(rt, alloc, &[b"D"]);
+    let (from, to) = (3, 3);
+    assert!(rt; reports(session, &Edit::Replace { from, to, lines }, work, &[1], &[]));
+    let refused = session.apply(&Edit::Delete { from: 3, to: 4 }, work);
     assert!(rt; matches!(refused, Err(EditError::BadRange)));
-    assert_eq!(rt;
-        (session.line_count(), session.line(3)),
-        (3, Some(b"D".as_slice()))
-    );
+    assert!(rt; session.line_count() == 3 && session.line(3) == Some(b"D".as_slice()));
     assert!(rt; session.output(1).is_some());
-    let report = session.apply(&Edit::Delete { from: 1, to: 3 }, &mut work);
-    assert!(rt; report.is_ok_and(|it| it.removed.as_slice() == [1].as_slice()));
-    Ok(())
+    assert!(rt; reports(session, &Edit::Delete { from: 1, to: 3 }, work, &[], &[1]));
 }
 
-// The names of refusals, which answers tell, and the reason of one.
 #[test]
-fn refusals_have_names_and_reasons(rt: HostRuntime) -> Result<(), Fail> {
-    assert_eq!(rt; EditError::BadRange.name(), "BadRange");
-    assert_eq!(rt; EditError::BadLine.name(), "BadLine");
-    assert_eq!(rt; EditError::TooLarge.name(), "TooLarge");
-    assert_eq!(rt; EditError::OutOfMemory.name(), "OutOfMemory");
-    let printed = format!(in rt.alloc(); "{}", EditError::BadRange)?;
-    assert_eq!(rt; printed.as_str(), "the range is not in the text");
-    Ok(())
+fn edits_are_reported(rt: HostRuntime) {
+    let alloc = rt.alloc();
+    let mut session = empty_session(&rt, alloc);
+    edit(&rt, alloc, &mut session, &mut Work::mint(&rt));
+    let reason = format!(in alloc; "{}", EditError::BadRange).expect(&rt, "there is memory");
+    assert!(rt; reason.as_str() == "the range is not in the text");
+}
+
+// A session over a compiler of its own: of two tunes of one number the first is too long, so the second gives the
+// file, with the byte of the file header.
+#[test]
+fn a_toy_file_has_the_default_of_the_file_header(rt: HostRuntime) {
+    let alloc = rt.alloc();
+    let mut session = LiveSession::with(alloc, Toy).expect(&rt, "there is memory");
+    let texts: [&[u8]; 8] = [b"D:5", b"X:1", b"T:a", b"a", b"b", b"c", b"X:1", b"g"];
+    let edit = insertion(&rt, alloc, &texts);
+    assert!(rt; session.apply(&edit, &mut Work::mint(&rt)).is_ok());
+    assert!(rt; file_of_number(&session, 1) == Some(b"5g".as_slice()));
 }

@@ -1,5 +1,5 @@
-use Rattle.publish_examples.proofs.Jobs.{others}
-use Rattle.publish_examples.proofs.held.end.Goals as goal
+use Rattle.live_examples.proofs.Jobs.{others}
+use Rattle.live_examples.proofs.held.end.Goals as goal
 
 pub returns-then-done : goal.returns-then-done
 returns-then-done c = others _ _ c.args.job.number _ c.done.ensures

@@ -1,21 +1,16 @@
-//! Worked examples by the definitions of a session: edits of a text, the differences of two books, the lines of a
-//! file of tunes, lists of faults and titles. A body here does nothing; its contract is the example. How a text is
-//! edited is our own.
+//! Edits of a text, and the differences of two books. How a text is edited is our own.
 #![tactic(auto, unfolding(abc_lines::specs::Edits::edited, abc_lines::specs::Edits::replaced, abc_lines::specs::Text::spliced, abc_tunebook::specs::Files::removed, abc_tunebook::specs::Files::written))]
 
 ghost use Rattle.std.specs.Prelude.{◌≡◌, ℕ, true, false, [], ◌∷◌, ◌++◌, length, codes, replicate};
 ghost use Rattle.std.specs.Global.{Vec};
 ghost use Rattle.std.specs.List.{list_all};
-ghost use Rattle.abc2midi_live.specs.Answer.{fault_list, title_list};
-ghost use Rattle.abc2midi_live.specs.Transcript.{book_lines};
-ghost use Rattle.abc_fields.specs.declared.fault.FaultCode.TheVariants.{BadBroken, BadByte, MissingKey};
 ghost use Rattle.abc_lines.specs.Edits.{deletion, edited, insertion, replacement};
 ghost use Rattle.abc_lines.specs.Text.{Text, is_line};
 ghost use Rattle.abc_lines.specs.declared.edit_error.EditError.TheVariants.{BadLine, BadRange, TooLarge};
 ghost use Rattle.abc_live.specs.Edit.{line_at, splice_of};
 ghost use Rattle.abc_live.specs.declared.edit.Edit.TheVariants.{Delete, Insert, Replace};
 ghost use Rattle.abc_tunebook.specs.Files.{file_at, removed, written};
-ghost use Rattle.session_examples.specs.Values.{four_lines};
+ghost use Rattle.live_examples.specs.Values.{four_lines};
 
 /// Lines are counted from 1.
 pub fn line_numbers()
@@ -106,30 +101,4 @@ pub fn large_texts()
         → edited (codes "a" ∷ []) (insertion 1 lines) ≡ Err TooLarge }
     ensures bad_line { (lines : Text) → list_all is_line lines ≡ false
         → edited (codes "a" ∷ []) (insertion 1 lines) ≡ Err BadLine }
-{}
-
-/// The lines of a file of tunes. One mark of UTF-8 at its start is dropped; a last line without a line feed counts
-/// where it is not empty.
-#[tactic(auto, unfolding(abc2midi_live::specs::Transcript::book_lines, abc2midi_live::specs::Transcript::without_mark))]
-pub fn lines_of_books()
-    ensures marked { book_lines (239 ∷ 187 ∷ 191 ∷ codes "a\nb\n") ≡ codes "a" ∷ codes "b" ∷ [] }
-    ensures twice_marked { book_lines (239 ∷ 187 ∷ 191 ∷ 239 ∷ 187 ∷ 191 ∷ codes "a\n") ≡ (239 ∷ 187 ∷ 191 ∷ codes "a") ∷ [] }
-    ensures marked_behind { book_lines (codes "a\n" ++ 239 ∷ 187 ∷ 191 ∷ []) ≡ codes "a" ∷ (239 ∷ 187 ∷ 191 ∷ []) ∷ [] }
-    ensures part_of_a_mark { book_lines (239 ∷ 187 ∷ []) ≡ (239 ∷ 187 ∷ []) ∷ [] }
-    ensures unended { book_lines (codes "a\nb") ≡ codes "a" ∷ codes "b" ∷ [] }
-    ensures blank { book_lines (codes "\n\na\n\n") ≡ [] ∷ [] ∷ codes "a" ∷ [] ∷ [] }
-    ensures returned { book_lines (codes "a\r\n\r") ≡ codes "a\r" ∷ codes "\r" ∷ [] }
-    ensures only_a_mark { book_lines (239 ∷ 187 ∷ 191 ∷ []) ≡ [] }
-    ensures empty { book_lines [] ≡ [] }
-{}
-
-/// Lists of faults and of titles. A title that is not there is empty, and the space before it stands.
-#[tactic(auto, unfolding(abc2midi_live::specs::Answer::fault_line, abc2midi_live::specs::Answer::fault_list, abc2midi_live::specs::Answer::title_line, abc2midi_live::specs::Answer::title_list))]
-pub fn lists()
-    ensures fault { fault_list (record { line = 5; column = 2; code = BadBroken } ∷ []) ≡ codes "5:2 BadBroken\nend\n" }
-    ensures faults { fault_list (record { line = 1; column = 1; code = MissingKey } ∷ record { line = 12; column = 340; code = BadByte } ∷ [])
-        ≡ codes "1:1 MissingKey\n12:340 BadByte\nend\n" }
-    ensures titles { title_list (record { number = 5; text = codes "A plain tune" } ∷ record { number = 0; text = [] } ∷ [])
-        ≡ codes "5 A plain tune\n0 \nend\n" }
-    ensures none { (fault_list [] ≡ codes "end\n") × (title_list [] ≡ codes "end\n") }
 {}

@@ -2,7 +2,7 @@
 
 ghost use Rattle.std.specs.Prelude.{◌≡◌, ◌≢◌, ℕ, Some};
 ghost use Rattle.abc_publish.specs.Publisher.{maps_of};
-ghost use Rattle.publish_examples.specs.Held.{IsUnderWay};
+ghost use Rattle.live_examples.specs.Held.{IsUnderWay};
 
 use abc_publish::{Job, Publisher};
 

@@ -2,18 +2,17 @@
 
 ghost use Rattle.std.specs.Prelude.{◌<◌};
 ghost use Rattle.abc_publish.specs.Publisher.{maps_of};
-ghost use Rattle.publish_examples.specs.Held.{IsUnderWay};
+ghost use Rattle.live_examples.specs.Held.{IsUnderWay};
 
 use crate::account::{Account, OPENING, Version};
-use crate::held::{Held, end_newer, end_older, finish};
 use crate::taken::{FILE_OF_C, FILE_OF_D, check_newest, take};
-use crate::texts::insert;
+use crate::texts::{apply, empty_session, insertion};
 use abc_fold::Work;
 use abc_live::Session;
 use abc_publish::{Job, Publisher};
-use std::alloc::{AllocError, Global};
+use live_examples::held::{Held, end_newer, end_older, finish};
+use std::alloc::Global;
 use std::process::Abort;
-use std::test::Fail;
 
 /// How many events follow one another.
 const EVENTS: usize = 8;
@@ -55,14 +54,15 @@ impl Event {
 }
 
 /// The session of each version of both tunes, as the place of `session_of` says.
-fn sessions(rt: &impl Abort, alloc: Global, work: &mut Work) -> Result<Vec<Session>, AllocError> {
+fn sessions(rt: &impl Abort, alloc: Global, work: &mut Work) -> Vec<Session> {
     let mut sessions = Vec::new(alloc);
     for first in NOTES {
         for second in NOTES {
-            sessions.push(session_with(rt, alloc, first, second, work)?)?;
+            let session = session_with(rt, alloc, first, second, work);
+            sessions.push(session).expect(rt, "there is memory");
         }
     }
-    Ok(sessions)
+    sessions
 }
 
 /// The note of each version, where there is a tune.
@@ -75,27 +75,17 @@ fn session_with(
     first: Option<&[u8]>,
     second: Option<&[u8]>,
     work: &mut Work,
-) -> Result<Session, AllocError> {
-    let mut session = Session::new(alloc)?;
+) -> Session {
+    let mut session = empty_session(rt, alloc);
     if let Some(note) = second {
-        insert(
-            rt,
-            alloc,
-            &mut session,
-            &[b"X:2", b"T:A", b"K:C", note, b""],
-            work,
-        );
+        let tune = insertion(rt, alloc, &[b"X:2", b"T:A", b"K:C", note, b""]);
+        apply(rt, &mut session, tune, work);
     }
     if let Some(note) = first {
-        insert(
-            rt,
-            alloc,
-            &mut session,
-            &[b"X:1", b"T:A", b"K:C", note, b""],
-            work,
-        );
+        let tune = insertion(rt, alloc, &[b"X:1", b"T:A", b"K:C", note, b""]);
+        apply(rt, &mut session, tune, work);
     }
-    Ok(session)
+    session
 }
 
 /// The place of the session of the book.
@@ -227,17 +217,17 @@ fn moved_on(events: &mut [Event; EVENTS], at: usize) -> Option<usize> {
 
 // Each list of events is tried from the start; behind one that cannot go on the lists that begin like it are left out.
 #[test]
-fn all_orders_of_events(rt: HostRuntime) -> Result<(), Fail> {
+fn all_orders_of_events(rt: HostRuntime) {
     let alloc = rt.alloc();
     let mut work = Work::mint(&rt);
-    let sessions = sessions(&rt, alloc, &mut work)?;
+    let sessions = sessions(&rt, alloc, &mut work);
     let mut events = [FIRST_EVENT; EVENTS];
     let mut new = 0;
     for _ in 0..MOST_LISTS {
         let count = tried(&rt, alloc, &sessions, &events, new);
         match moved_on(&mut events, count) {
             Some(place) => new = place,
-            None => return Ok(()),
+            None => return,
         }
     }
     panic!(&rt; "there are more lists")

@@ -1,11 +1,11 @@
 //! Jobs that are taken, and what they carry.
 
 ghost use Rattle.abc_publish.specs.Publisher.{maps_of};
-ghost use Rattle.publish_examples.specs.Held.{IsUnderWay};
+ghost use Rattle.live_examples.specs.Held.{IsUnderWay};
 
-use crate::held::Held;
 use abc_live::Session;
 use abc_publish::Publisher;
+use live_examples::held::Held;
 use std::process::Abort;
 
 /// Takes the next job, where there is one.

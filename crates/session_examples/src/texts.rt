@@ -1,9 +1,14 @@
-//! Edits of a text, which are to succeed.
+//! Sessions and edits, which are to succeed. Want of memory ends the test, so that nothing is let go of on the way.
 
 use abc_fold::Work;
 use abc_live::{Edit, Session};
 use std::alloc::Global;
 use std::process::Abort;
+
+/// A session over no lines.
+pub fn empty_session(rt: &impl Abort, alloc: Global) -> Session {
+    Session::new(alloc).expect(rt, "there is memory")
+}
 
 /// Each text as a line.
 pub fn lines_of(rt: &impl Abort, alloc: Global, texts: &[&[u8]]) -> Vec<Vec<u8>> {
@@ -15,19 +20,13 @@ pub fn lines_of(rt: &impl Abort, alloc: Global, texts: &[&[u8]]) -> Vec<Vec<u8>>
     lines
 }
 
+/// The edit that puts lines in front of the text.
+pub fn insertion(rt: &impl Abort, alloc: Global, texts: &[&[u8]]) -> Edit {
+    let lines = lines_of(rt, alloc, texts);
+    Edit::Insert { at: 1, lines }
+}
+
 /// Edits the text.
 pub fn apply(rt: &impl Abort, session: &mut Session, edit: Edit, work: &mut Work) {
     assert!(rt; session.apply(&edit, work).is_ok());
-}
-
-/// Puts lines in front of the text.
-pub fn insert(
-    rt: &impl Abort,
-    alloc: Global,
-    session: &mut Session,
-    texts: &[&[u8]],
-    work: &mut Work,
-) {
-    let lines = lines_of(rt, alloc, texts);
-    apply(rt, session, Edit::Insert { at: 1, lines }, work);
 }

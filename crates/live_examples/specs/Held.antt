@@ -1,8 +1,8 @@
 -- Jobs that are held, and that they are under way. Our own.
 use Rattle.std.specs.Prelude.{◌≡◌, ◌≢◌, ⊤, Some}
 use Rattle.abc_publish.specs.Publisher.{Publishing}
-use Rattle.publish_examples.specs.declared.held.Held.{Held}
-use Rattle.publish_examples.specs.declared.held.Held.TheVariants.{Nothing, One, Two}
+use Rattle.live_examples.specs.declared.held.Held.{Held}
+use Rattle.live_examples.specs.declared.held.Held.TheVariants.{Nothing, One, Two}
 
 -- The jobs held are under way, for different numbers.
 abbrev pub IsUnderWay : Publishing → Held → Type 0

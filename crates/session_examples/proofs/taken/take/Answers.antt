@@ -1,8 +1,8 @@
 use Rattle.std.proofs.Common.{subst}
 use Rattle.abc_publish.specs.Publisher.{maps_of}
-use Rattle.publish_examples.specs.Held.{IsUnderWay}
-use Rattle.publish_examples.proofs.Jobs.{given, new, own, stays}
-use Rattle.publish_examples.proofs.taken.take.Goals as goal
+use Rattle.live_examples.specs.Held.{IsUnderWay}
+use Rattle.live_examples.proofs.Jobs.{given, new, own, stays}
+use Rattle.session_examples.proofs.taken.take.Goals as goal
 
 pub returns-in-Nothing-Some : goal.returns-in-Nothing-Some
 returns-in-Nothing-Some g c = own _ _ _ _ (given _ _ _ _ _ c.expect-taken.ensures c.in-Nothing-Some.is-1 c.take.ensures.after)
