@@ -1,11 +1,11 @@
 -- The changes of tempo, meter and key that are played, at their moments.
-use Rattle.std.specs.Prelude.{◌≡◌, refl, ℕ, ℤ, ◌+◌, Bool, if◌then◌else◌, List, [], ◌∷◌, Option, Some, None}
+use Rattle.std.specs.Prelude.{ℕ, ℤ, ◌+◌, Bool, List, [], ◌∷◌, Option, Some, None}
 use Rattle.std.specs.List.{cons_option}
 use Rattle.abc_music.specs.declared.item.Item.{Item}
 use Rattle.abc_music.specs.declared.item.Item.TheVariants as items
 use Rattle.abc_fields.specs.declared.meter.Meter.{Meter}
 use Rattle.abc_time.specs.declared.grains.Grains.{Grains}
-use Rattle.abc_voices.specs.Step.{is_field, length_of}
+use Rattle.abc_voices.specs.Step.{length_of}
 
 -- The tempo, meter and key that a field sets, if it sets one.
 abbrev pub tempo_of : Item → Option ℕ
@@ -19,49 +19,6 @@ meter_of _ = None
 abbrev pub key_of : Item → Option (ℤ × Bool)
 key_of (items.Key opening key) = key
 key_of _ = None
-
--- Only fields set something.
-pub tempos_set_by_fields : (item : Item) → (if is_field item then tempo_of item else None) ≡ tempo_of item
-tempos_set_by_fields (items.Number number) = refl
-tempos_set_by_fields (items.Tone tones length) = refl
-tempos_set_by_fields (items.Rest length bar) = refl
-tempos_set_by_fields (items.Bar line) = refl
-tempos_set_by_fields (items.Ending numbers) = refl
-tempos_set_by_fields (items.Section letter) = refl
-tempos_set_by_fields (items.Tempo opening micros out) = refl
-tempos_set_by_fields (items.Meter opening meter) = refl
-tempos_set_by_fields (items.Key opening key) = refl
-tempos_set_by_fields (items.Voice opening name) = refl
-tempos_set_by_fields (items.Title text) = refl
-tempos_set_by_fields (items.Order text) = refl
-
-pub meters_set_by_fields : (item : Item) → (if is_field item then meter_of item else None) ≡ meter_of item
-meters_set_by_fields (items.Number number) = refl
-meters_set_by_fields (items.Tone tones length) = refl
-meters_set_by_fields (items.Rest length bar) = refl
-meters_set_by_fields (items.Bar line) = refl
-meters_set_by_fields (items.Ending numbers) = refl
-meters_set_by_fields (items.Section letter) = refl
-meters_set_by_fields (items.Tempo opening micros out) = refl
-meters_set_by_fields (items.Meter opening meter) = refl
-meters_set_by_fields (items.Key opening key) = refl
-meters_set_by_fields (items.Voice opening name) = refl
-meters_set_by_fields (items.Title text) = refl
-meters_set_by_fields (items.Order text) = refl
-
-pub keys_set_by_fields : (item : Item) → (if is_field item then key_of item else None) ≡ key_of item
-keys_set_by_fields (items.Number number) = refl
-keys_set_by_fields (items.Tone tones length) = refl
-keys_set_by_fields (items.Rest length bar) = refl
-keys_set_by_fields (items.Bar line) = refl
-keys_set_by_fields (items.Ending numbers) = refl
-keys_set_by_fields (items.Section letter) = refl
-keys_set_by_fields (items.Tempo opening micros out) = refl
-keys_set_by_fields (items.Meter opening meter) = refl
-keys_set_by_fields (items.Key opening key) = refl
-keys_set_by_fields (items.Voice opening name) = refl
-keys_set_by_fields (items.Title text) = refl
-keys_set_by_fields (items.Order text) = refl
 
 -- A value at a moment, if there is one.
 abbrev pub at_moment : {V : Type 0} → ℕ → Option V → Option (Grains × V)

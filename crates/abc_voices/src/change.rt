@@ -1,13 +1,12 @@
 //! Changes of tempo, meter and key, at their moments.
 
-ghost use Rattle.std.specs.Prelude.{◌≡◌, ◌+◌, ◌++◌, ◌≤◌, if◌then◌else◌, None, Option, OnOk, option_to_list};
+ghost use Rattle.std.specs.Prelude.{◌≡◌, ◌+◌, ◌++◌, ◌≤◌, Option, OnOk};
 ghost use Rattle.abc_music.specs.declared.item.Item.{Item};
 ghost use Rattle.abc_time.specs.Grains.{grains_of_the_latest_end};
-ghost use Rattle.abc_voices.specs.Change.{at_moment, tempo_of, meter_of, key_of, set_from, tempos_set_by_fields, meters_set_by_fields, keys_set_by_fields};
-ghost use Rattle.abc_voices.specs.Step.{is_field};
+ghost use Rattle.abc_voices.specs.Change.{tempo_of, meter_of, key_of, set_from};
 ghost use Rattle.abc_voices.specs.Play.{duration};
 
-use crate::step::{is_field, length_of};
+use crate::step::length_of;
 use abc_fields::Meter;
 use abc_music::Item;
 use abc_time::Grains;
@@ -24,9 +23,6 @@ pub(crate) trait Setting {
     /// What an item sets, if it sets a value of this sort.
     fn value_of(item: &Item) -> Option<Self::Value>
         ensures { result ≡ value_of item.now };
-
-    // Only fields set something.
-    ghost set_by_fields: { (item : Item) → (if is_field item then value_of item else None) ≡ value_of item };
 }
 
 /// Tempos, as the microseconds of a quarter note.
@@ -36,8 +32,6 @@ impl Setting for Tempos {
     type Value = u32;
 
     ghost value_of = { tempo_of };
-
-    ghost set_by_fields = { tempos_set_by_fields };
 
     fn value_of(item: &Item) -> Option<u32> {
         match item {
@@ -55,8 +49,6 @@ impl Setting for Meters {
 
     ghost value_of = { meter_of };
 
-    ghost set_by_fields = { meters_set_by_fields };
-
     fn value_of(item: &Item) -> Option<Meter> {
         match item {
             Item::Meter { meter, .. } => *meter,
@@ -73,29 +65,12 @@ impl Setting for Keys {
 
     ghost value_of = { key_of };
 
-    ghost set_by_fields = { keys_set_by_fields };
-
     fn value_of(item: &Item) -> Option<(i8, bool)> {
         match item {
             Item::Key { key, .. } => *key,
             _ => None,
         }
     }
-}
-
-/// Puts what is set at a moment by an item, if it sets something.
-fn put_value<S: Setting>(
-    sets: &mut Vec<(Grains, S::Value)>,
-    at: Grains,
-    item: &Item,
-) -> Result<(), AllocError>
-    ensures { OnOk result (sets.new.items
-        ≡ sets.old.items ++ option_to_list (at_moment at.0 (S.value_of item.now))) }
-{
-    if let Some(value) = S::value_of(item) {
-        sets.push((at, value))?;
-    }
-    Ok(())
 }
 
 /// Puts what is set by items played one after another from a moment on.
@@ -111,8 +86,8 @@ pub(crate) fn put_set<S: Setting>(
 {
     let mut at = start;
     for step in steps {
-        if is_field(step) {
-            put_value::<S>(sets, at, step)?;
+        if let Some(value) = S::value_of(step) {
+            sets.push((at, value))?;
         }
         at.0 += length_of(step).0;
     }
