@@ -86,6 +86,7 @@ pub fn put_notes(
         (record { first = first.old.items; others = others.old.items })) }
 {
     let mut emptied = Vec::new(alloc);
+    others.reserve(steps.len())?;
     let mut at = end;
     let mut left = steps.len();
     while left > 0 {

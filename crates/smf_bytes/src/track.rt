@@ -83,6 +83,7 @@ fn put_notes(
     ensures { OnOk result (out.new.items ≡ out.old.items ++ track_body end (map (event_at channel) notes.items)) }
 {
     let ordered = order_notes(notes)?;
+    out.reserve(5 * ordered.len())?;
     let mut before = 0;
     for note in &ordered {
         put_number(out, note.tick - before)?;

@@ -1,4 +1,4 @@
-use Rattle.std.proofs.Common.{◌≡◌, ℕ, List, [], ◌∷◌, ◌++◌, arith, drop, map, refl, subst, sym, ap, ◌∙◌}
+use Rattle.std.proofs.Common.{◌≡◌, ℕ, List, [], ◌∷◌, ◌++◌, arith, drop, map, subst, sym, ap, ◌∙◌}
 use Rattle.std.specs.Prelude.{OnOk}
 use Rattle.std.proofs.lemmas.List.{drop_all}
 use Rattle.smf_bytes.specs.Order.{in_order}
@@ -15,7 +15,7 @@ loop-note-init c =
     let events = map f c.args.notes.items in
     let same : map f c.deref-note-items.result.now ≡ in_order events = ap (map f) c.deref-note-items.ensures.value ∙ c.in_ok-ordered.ensures.exact c.args.channel in
     record {
-      written = refl;
+      written = ap (λ l. l ++ timed 0 (map f c.deref-note-items.result.now ++ end_event c.args.end ∷ [])) c.in_ok-reserve.ensures.items;
       follows =
           subst (Follows c.args.end 0) (sym same)
           (follows_sorted c.args.end events (in_order events) c.requires.before_end (is_permutation events) (is_sorted events));
