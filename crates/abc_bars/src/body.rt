@@ -15,7 +15,7 @@ use std::alloc::{AllocError, Global};
 use std::mem;
 
 /// The voice that is the current one.
-#[derive(Drop, PartialEq, Eq)]
+#[derive(Drop)]
 pub(crate) enum Current {
     /// The voice without a name, which is not mentioned yet. As long as it is the current one, no other
     /// voice is mentioned.
@@ -62,7 +62,7 @@ fn nameless(alloc: Global, settings: Settings) -> Result<Voices<Settings>, Alloc
 }
 
 /// What holds at a place of a tune's body.
-#[derive(Drop, PartialEq, Eq)]
+#[derive(Drop)]
 pub struct Body {
     /// The voices that are mentioned, at most fifteen.
     pub(crate) voices: Voices<Settings>,

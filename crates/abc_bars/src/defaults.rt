@@ -9,7 +9,7 @@ use abc_music::{TuneMeter, TuneTempo, UnitLength};
 
 /// The last accepted values of M:, L: and Q: (ABC 2.1 section 3.1). A Q: that sets no tempo counts as
 /// none.
-#[derive(Clone, Copy, PartialEq, Eq)]
+#[derive(Clone, Copy)]
 pub struct Defaults {
     pub meter: Option<TuneMeter>,
     /// The unit note length.

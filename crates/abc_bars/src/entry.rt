@@ -11,7 +11,7 @@ use crate::header::Header;
 use std::alloc::Global;
 
 /// All that what follows a place of a file header or of a tune can depend on.
-#[derive(Drop, PartialEq, Eq)]
+#[derive(Drop)]
 pub enum Entry {
     /// In a file header: its values so far.
     FileHeader(Defaults),

@@ -5,7 +5,7 @@ ghost use Rattle.abc_bars.specs.FieldKind.{kind_of};
 ghost use Rattle.abc_bars.specs.declared.field_kind.TheConstants.{REFERENCE, TITLE, METER, UNIT_LENGTH, TEMPO, PARTS, VOICE, KEY};
 
 /// What a field is about (ABC 2.1 section 3).
-#[derive(Clone, Copy, PartialEq, Eq)]
+#[derive(Clone, Copy)]
 pub(crate) enum FieldKind {
     Reference,
     Title,

@@ -25,7 +25,7 @@ use std::alloc::{AllocError, Global};
 
 /// What holds at a place of a tune's header: the values so far, else the file header's, and the voices
 /// that are declared, each with the parts of its shift that were said for it.
-#[derive(Clone, Drop, PartialEq, Eq)]
+#[derive(Clone, Drop)]
 pub struct Header {
     pub(crate) defaults: Defaults,
     pub(crate) voices: Voices<Shift>,

@@ -1,9 +1,7 @@
 //! The voices of a tune.
 
-ghost use Rattle.std.specs.Prelude.{◌≡◌, ◌==◌, ◌<◌, ◌&&◌, [], ◌∷◌, ◌++◌, bytes_eq, length, slice_get, None, Some, IfSome, OnOk};
+ghost use Rattle.std.specs.Prelude.{◌≡◌, ◌==◌, ◌<◌, [], ◌∷◌, ◌++◌, bytes_eq, length, slice_get, None, Some, IfSome, OnOk};
 ghost use Rattle.std.specs.Borrow.{sem};
-ghost use Rattle.std.specs.Cmp.{and_equiv, and_per, on_equiv, on_per, partial_equiv_from_equiv};
-ghost use Rattle.std.specs.Cmp.Lexicographic.{lists_equiv, lists_per, nat_list_eq_equiv, pointwise};
 ghost use Rattle.std.specs.List.{AllZip, IsDistinct};
 ghost use Rattle.std.specs.Map.{keys_of};
 ghost use Rattle.std.specs.Map.Iter.{deref_pair};
@@ -119,18 +117,4 @@ impl<S: Clone> Clone for Voices<S> {
         let map = self.map.clone()?;
         Ok(Voices { map })
     }
-}
-
-impl<S: PartialEq> PartialEq for Voices<S> {
-    ghost eq = { pointwise (λ p q. bytes_eq p.0 q.0 && S.eq p.1 q.1) };
-
-    ghost laws = { lists_per (and_per (on_per (λ p. p.0) (partial_equiv_from_equiv nat_list_eq_equiv)) (on_per (λ p. p.1) S.laws)) };
-
-    fn eq(&self, other: &Self) -> bool {
-        self.map.as_slice() == other.map.as_slice()
-    }
-}
-
-impl<S: Eq> Eq for Voices<S> {
-    ghost laws = { lists_equiv (and_equiv (on_equiv (λ p. p.0) nat_list_eq_equiv) (on_equiv (λ p. p.1) S.Eq.laws)) };
 }

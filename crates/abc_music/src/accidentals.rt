@@ -7,7 +7,7 @@ use abc_scan::Letter;
 
 /// By how many semitones the accidentals that were written in a bar alter each letter, in every octave;
 /// None where there was none (ABC 2.1 section 4.2).
-#[derive(Clone, Copy, PartialEq, Eq)]
+#[derive(Clone, Copy)]
 pub struct Accidentals {
     pub c: Option<i8>,
     pub d: Option<i8>,

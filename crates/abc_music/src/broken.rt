@@ -24,7 +24,7 @@ pub enum Behind {
 }
 
 /// What a token is to broken rhythm.
-#[derive(Clone, Copy, PartialEq, Eq)]
+#[derive(Clone, Copy)]
 pub(crate) enum Role {
     /// A note, a rest, or a chord with a note.
     Time,

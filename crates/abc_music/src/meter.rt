@@ -8,7 +8,7 @@ use std::marker::Model;
 
 /// A meter that M: can say, or none, which is free meter (ABC 2.1 section 3.1.6). Contracts see the
 /// meter.
-#[derive(Clone, Copy, PartialEq, Eq)]
+#[derive(Clone, Copy)]
 pub struct TuneMeter {
     meter: Meter,
 }

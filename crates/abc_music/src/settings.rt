@@ -14,7 +14,7 @@ use abc_text::ShortSequence;
 use std::alloc::AllocError;
 
 /// What holds for a voice at a place of a tune.
-#[derive(Drop, PartialEq, Eq)]
+#[derive(Drop)]
 pub struct Settings {
     pub meter: TuneMeter,
     /// The unit note length.

@@ -11,7 +11,7 @@ use abc_time::quarter_micros;
 use std::marker::Model;
 
 /// A tempo that Q: can say (ABC 2.1 section 3.1.8). Contracts see the tempo.
-#[derive(Clone, Copy, PartialEq, Eq)]
+#[derive(Clone, Copy)]
 pub struct TuneTempo {
     tempo: Tempo,
 }

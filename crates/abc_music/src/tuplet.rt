@@ -15,7 +15,7 @@ const LARGEST_TUPLET_NUMBER: u32 = 64;
 
 /// A tuplet of a voice, with how many notes, chords and rests it still takes (ABC 2.1 section 4.13).
 /// Contracts see `(p, q, left)`.
-#[derive(Clone, Copy, PartialEq, Eq)]
+#[derive(Clone, Copy)]
 pub struct OpenTuplet {
     p: u8,
     q: u8,

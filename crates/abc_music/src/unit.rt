@@ -13,7 +13,7 @@ use abc_time::{Grains, Ratio, WHOLE_NOTE};
 use std::marker::Model;
 
 /// A unit note length, as a part of a whole note (ABC 2.1 section 3.1.7). Contracts see the part.
-#[derive(Clone, Copy, PartialEq, Eq)]
+#[derive(Clone, Copy)]
 pub struct UnitLength {
     part: Ratio,
 }

@@ -6,7 +6,7 @@ ghost use Rattle.abc_music.specs.VoiceShift.{with_properties};
 use abc_fields::Shift;
 
 /// How the notes of a voice are shifted (ABC 2.1 sections 4.6 and 7.1), each part 0 where no field says it.
-#[derive(Clone, Copy, PartialEq, Eq)]
+#[derive(Clone, Copy)]
 pub struct VoiceShift {
     /// In semitones.
     pub clef: i64,
