@@ -1,6 +1,7 @@
 pub mod Cuts
 pub mod Examples
 pub mod Fitting
+pub mod Given
 pub mod Layouts
 pub mod Lengths
 pub mod Mapped

@@ -1,5 +1,5 @@
 -- Items with neither repeats nor double bars nor endings are played once, as they stand.
-use Rattle.std.proofs.Common.{◌≡◌, ℕ, zero, suc, ◌+◌, ◌<◌, max, Bool, true, false, not, ◌&&◌, ◌||◌, cond, List, [], ◌∷◌, ◌++◌, length, map, get_or, refl, sym, ap, ◌∙◌, arith, append_assoc, length-append}
+use Rattle.std.proofs.Common.{◌≡◌, ℕ, suc, ◌+◌, ◌<◌, max, Bool, true, false, not, ◌&&◌, cond, List, [], ◌∷◌, ◌++◌, length, map, refl, sym, ap, ◌∙◌, arith, append_assoc, length-append}
 use Rattle.std.specs.Prelude.{◌==◌, Some, filter_map, slice_get}
 use Rattle.std.specs.List.{cons_option, flat_map, range_with_len}
 use Rattle.std.proofs.lemmas.Bool.{eqb-true, not-true}
@@ -13,7 +13,7 @@ use Rattle.abc_repeat.specs.Mark.{is_play, is_ending, closes_common, opens_next,
 use Rattle.abc_repeat.specs.Play.{places_from, pass_of, most_passes, strain_play, plays_from, play_of}
 use Rattle.abc_repeat.specs.Strain.{without_endings, put_first, texts_of, with_mark, strain_of}
 use Rattle.abc_voices.specs.declared.moved.Region.TheVariants.{Common}
-use Rattle.abc_voices.specs.Moved.{moved_from, moved, set_down, region_past}
+use Rattle.abc_voices.specs.Moved.{moved_from, moved, region_past}
 use Rattle.abc_voices.specs.Play.{marks_of, places_of, played, are_straight, without_marks}
 use Rattle.abc_voices.specs.Step.{is_straight, mark_of}
 

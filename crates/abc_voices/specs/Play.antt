@@ -1,5 +1,5 @@
 -- What a voice plays of a section, and how long that takes. ABC 2.1 sections 4.8 to 4.10.
-use Rattle.std.specs.Prelude.{ℕ, Bool, true, ◌&&◌, if◌then◌else◌, List, [], ◌∷◌, map, sum_by, filter_map, slice_get}
+use Rattle.std.specs.Prelude.{ℕ, Bool, true, ◌&&◌, List, [], ◌∷◌, filter, map, sum_by, filter_map, slice_get}
 use Rattle.abc_music.specs.declared.item.Item.{Item}
 use Rattle.abc_repeat.specs.declared.mark.Mark.{Mark}
 use Rattle.abc_repeat.specs.Mark.{is_play}
@@ -26,9 +26,7 @@ are_straight (mark ∷ marks) = is_straight mark && are_straight marks
 
 -- All steps but the marks that say how the others are played.
 abbrev pub without_marks : {A : Type 0} → (A → Item) → List A → List A
-without_marks item_of [] = []
-without_marks item_of (step ∷ steps) =
-    if is_play (mark_of (item_of step)) then step ∷ without_marks item_of steps else without_marks item_of steps
+without_marks item_of steps = filter (λ step. is_play (mark_of (item_of step))) steps
 
 -- How many grains steps take one after another.
 abbrev pub duration : {A : Type 0} → (A → Item) → List A → ℕ

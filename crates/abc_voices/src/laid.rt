@@ -24,21 +24,21 @@ use std::alloc::{AllocError, Global};
 /// The microseconds of a quarter note where no tempo is set: 120 quarters a minute.
 const USUAL_TEMPO: u32 = 500_000;
 
-/// The changes of stages, whose first track is the voice at a place.
+/// The changes of stages, by what the fields of their tune give; the voice at a place has the first track.
 fn changes_along(
     alloc: Global,
-    tune: &[&Item],
+    given: &[&Item],
     table: &[Option<Stage>],
     order: &[usize],
     first: usize,
 ) -> Result<Vec<Change>, AllocError>
     requires stages { All IsStage (at_places table.now order.now) }
     requires in_time { length_along (at_places table.now order.now) ≤ grains_of_the_latest_end }
-    ensures { IfOk result (λ changes. changes.items ≡ changes_along tune.now first (at_places table.now order.now)) }
+    ensures { IfOk result (λ changes. changes.items ≡ changes_along given.now first (at_places table.now order.now)) }
 {
-    let tempo = opening_tempo(tune).unwrap_or(USUAL_TEMPO);
-    let meter = opening_meter(tune).unwrap_or(Meter::Free);
-    let key = opening_key(tune).unwrap_or((0, false));
+    let tempo = opening_tempo(given).unwrap_or(USUAL_TEMPO);
+    let meter = opening_meter(given).unwrap_or(Meter::Free);
+    let key = opening_key(given).unwrap_or((0, false));
     let tempos = tempos_along(alloc, table, order, tempo)?;
     let meters = one_along::<Meters>(alloc, table, order, first, meter)?;
     let keys = one_along::<Keys>(alloc, table, order, first, key)?;
@@ -56,11 +56,12 @@ fn last_of_all(at: Grains, voices: &[Sequence<Sounding>]) -> Grains
     last
 }
 
-/// The score of stages that are played up to a moment; the voices from the first track on have tracks.
+/// The score of stages that are played up to a moment, by what the fields of their tune give; the voices from the first
+/// track on have tracks.
 #[tactic(auto, unfolding(abc_time::specs::Grains::grains_of_a_whole_note, abc_time::specs::Grains::grains_of_the_latest_end))]
 pub(crate) fn score_along(
     alloc: Global,
-    tune: &[&Item],
+    given: &[&Item],
     table: &[Option<Stage>],
     order: &[usize],
     total: Grains,
@@ -71,7 +72,7 @@ pub(crate) fn score_along(
     requires total { total.0 ≡ length_along (at_places table.now order.now) }
     requires in_time { total.0 ≤ grains_of_the_latest_end }
     requires voices { first ≤ count }
-    ensures value { IfOk result (λ score. score ≡ score_along tune.now first count (at_places table.now order.now)) }
+    ensures value { IfOk result (λ score. score ≡ score_along given.now first count (at_places table.now order.now)) }
     ensures in_time { IfOk result (λ score. score.end.0 ≤ grains_of_the_latest_end) }
     ensures too_many { result ≢ Err TooMany }
     ensures too_late { result ≡ Err TooLate
@@ -82,8 +83,8 @@ pub(crate) fn score_along(
     if end > LATEST_END {
         return Err(StageFault::TooLate);
     }
-    let changes = changes_along(alloc, tune, table, order, first)?;
-    let title = Sequence::from_slice(alloc, title_of(tune))?;
+    let changes = changes_along(alloc, given, table, order, first)?;
+    let title = Sequence::from_slice(alloc, title_of(given))?;
     Ok(Score {
         title,
         end,

@@ -10,6 +10,7 @@ ghost use Rattle.abc_repeat.specs.declared.order.TheConstants.{MOST_SECTIONS};
 ghost use Rattle.abc_repeat.specs.declared.play.TheConstants.{MOST_PLACES};
 ghost use Rattle.abc_voices.specs.Along.{at_places, first_place};
 ghost use Rattle.abc_voices.specs.Arrange.{played_sections, is_uneven, end_of, score_of, arranged_of, sections_played, places_played, is_too_long, items_in};
+ghost use Rattle.abc_voices.specs.Fields.{fields};
 ghost use Rattle.abc_voices.specs.Limits.{IsWithinLimits};
 ghost use Rattle.abc_voices.specs.Opening.{order_past, past_all};
 ghost use Rattle.abc_voices.specs.Section.{letters};
@@ -18,11 +19,12 @@ ghost use Rattle.abc_voices.specs.Track.{everyone};
 
 use crate::along::{is_uneven, length_along};
 use crate::arranged::{Arranged, BuildFault};
+use crate::fields::fields;
 use crate::laid::score_along;
 use crate::limits::is_within_limits;
 use crate::opening::order_of;
 use crate::score::Score;
-use crate::section::{letters, sections};
+use crate::section::{letters, opening_voice, sections};
 use crate::stage::{Stage, StageFault};
 use crate::stages::stages;
 use crate::track::{everyone, nameless_plays};
@@ -53,21 +55,21 @@ fn tune_of<'a>(alloc: Global, items: &'a [Items]) -> Result<Vec<&'a Item>, Alloc
     Ok(tune)
 }
 
-/// The sections of a tune that are played, in order.
-fn order_played(alloc: Global, tune: &[&Item]) -> Result<Played, BuildFault>
-    requires { All (λ step. IsItem step.now) tune.now }
+/// The sections of a tune that are played, in order, by what its fields give.
+fn order_played(alloc: Global, given: &[&Item]) -> Result<Played, BuildFault>
+    requires { All (λ step. IsItem step.now) given.now }
     ensures sections { IfOk result (λ played. played.sections.items
-        ≡ sections_of (past_all (λ step. step.now) order_past None tune.now) (letters (λ step. step.now) tune.now)) }
-    ensures few { IfOk result (λ _. sections_played (λ step. step.now) tune.now ≤ MOST_SECTIONS) }
+        ≡ sections_of (past_all (λ step. step.now) order_past None given.now) (letters (λ step. step.now) given.now)) }
+    ensures few { IfOk result (λ _. sections_played (λ step. step.now) given.now ≤ MOST_SECTIONS) }
     ensures unknown { IfOk result (λ played. played.unknown
-        ≡ has_unknown (past_all (λ step. step.now) order_past None tune.now) (letters (λ step. step.now) tune.now)) }
+        ≡ has_unknown (past_all (λ step. step.now) order_past None given.now) (letters (λ step. step.now) given.now)) }
     ensures too_long { (unknown : Bool) → result ≡ Err (BuildFault.TooLong unknown)
-        → MOST_SECTIONS < sections_played (λ step. step.now) tune.now }
+        → MOST_SECTIONS < sections_played (λ step. step.now) given.now }
     ensures too_long_unknown { (unknown : Bool) → result ≡ Err (BuildFault.TooLong unknown)
-        → unknown ≡ has_unknown (past_all (λ step. step.now) order_past None tune.now) (letters (λ step. step.now) tune.now) }
+        → unknown ≡ has_unknown (past_all (λ step. step.now) order_past None given.now) (letters (λ step. step.now) given.now) }
 {
-    let found = letters(alloc, tune)?;
-    match play_order(alloc, order_of(tune), &found) {
+    let found = letters(alloc, given)?;
+    match play_order(alloc, order_of(given), &found) {
         Ok(played) => Ok(played),
         Err(OrderFault::TooLong { unknown }) => Err(BuildFault::TooLong { unknown }),
         Err(OrderFault::OutOfMemory) => Err(BuildFault::OutOfMemory),
@@ -75,19 +77,26 @@ fn order_played(alloc: Global, tune: &[&Item]) -> Result<Played, BuildFault>
 }
 
 /// The place of the first voice that has a track.
-fn first_track(tune: &[&Item]) -> usize
+fn first_track(tune: &[&Item], given: &[&Item]) -> usize
+    requires { given.now ≡ fields (λ step. step.now) tune.now }
     ensures { result ≡ first_place tune.now }
 {
-    if nameless_plays(tune) { 0 } else { 1 }
+    if nameless_plays(tune, opening_voice(given)) {
+        0
+    } else {
+        1
+    }
 }
 
 /// The stages of the sections of a tune that are played.
 fn stages_of<'t>(
     alloc: Global,
     tune: &[&'t Item],
+    given: &[&'t Item],
     voices: &[&[u8]],
     played: &[usize],
 ) -> Result<Vec<Option<Stage<'t>>>, StageFault>
+    requires given { given.now ≡ fields (λ step. step.now) tune.now }
     requires voices { map (λ voice. voice.now) voices.now ≡ everyone (λ step. step.now) tune.now }
     requires played { played.now ≡ sections_of (past_all (λ step. step.now) order_past None tune.now) (letters (λ step. step.now) tune.now) }
     ensures value { IfOk result (λ table. at_places table.items played.now
@@ -96,7 +105,7 @@ fn stages_of<'t>(
     ensures too_many { result ≡ Err TooMany → MOST_PLACES < places_played (λ step. step.now) tune.now }
     ensures too_late { result ≡ Err TooLate → grains_of_the_latest_end < end_of (λ step. step.now) tune.now }
 {
-    let found = sections(alloc, tune)?;
+    let found = sections(alloc, tune, opening_voice(given))?;
     stages(alloc, &found, voices, played)
 }
 
@@ -104,11 +113,13 @@ fn stages_of<'t>(
 fn laid_along(
     alloc: Global,
     tune: &[&Item],
+    given: &[&Item],
     table: &[Option<Stage>],
     played: &[usize],
     count: usize,
 ) -> Result<(Score, bool), StageFault>
     requires tune { All (λ step. IsItem step.now) tune.now }
+    requires given { given.now ≡ fields (λ step. step.now) tune.now }
     requires stages { at_places table.now played.now
         ≡ map (stage_of (everyone (λ step. step.now) tune.now)) (played_sections (λ step. step.now) tune.now) }
     requires count { count ≡ length (everyone (λ step. step.now) tune.now) }
@@ -122,8 +133,8 @@ fn laid_along(
     let Some(total) = length_along(table, played) else {
         return Err(StageFault::TooLate);
     };
-    let first = first_track(tune);
-    match score_along(alloc, tune, table, played, total, first, count) {
+    let first = first_track(tune, given);
+    match score_along(alloc, given, table, played, total, first, count) {
         Ok(score) => {
             let uneven = is_uneven(table, played);
             Ok((score, uneven))
@@ -133,8 +144,14 @@ fn laid_along(
 }
 
 /// The score of the sections of a tune that are played, and whether voices are uneven in one of them.
-fn laid_out(alloc: Global, tune: &[&Item], played: &[usize]) -> Result<(Score, bool), StageFault>
+fn laid_out(
+    alloc: Global,
+    tune: &[&Item],
+    given: &[&Item],
+    played: &[usize],
+) -> Result<(Score, bool), StageFault>
     requires tune { All (λ step. IsItem step.now) tune.now }
+    requires given { given.now ≡ fields (λ step. step.now) tune.now }
     requires played { played.now ≡ sections_of (past_all (λ step. step.now) order_past None tune.now) (letters (λ step. step.now) tune.now) }
     ensures score { IfOk result (λ laid. laid.0 ≡ score_of (λ step. step.now) tune.now) }
     ensures uneven { IfOk result (λ laid. laid.1
@@ -144,9 +161,9 @@ fn laid_out(alloc: Global, tune: &[&Item], played: &[usize]) -> Result<(Score, b
     ensures too_many { result ≡ Err TooMany → MOST_PLACES < places_played (λ step. step.now) tune.now }
     ensures too_late { result ≡ Err TooLate → grains_of_the_latest_end < end_of (λ step. step.now) tune.now }
 {
-    let voices = everyone(alloc, tune)?;
-    match stages_of(alloc, tune, &voices, played) {
-        Ok(table) => laid_along(alloc, tune, &table, played, voices.len()),
+    let voices = everyone(alloc, given)?;
+    match stages_of(alloc, tune, given, &voices, played) {
+        Ok(table) => laid_along(alloc, tune, given, &table, played, voices.len()),
         Err(why) => Err(why),
     }
 }
@@ -155,10 +172,12 @@ fn laid_out(alloc: Global, tune: &[&Item], played: &[usize]) -> Result<(Score, b
 fn within_limits(
     alloc: Global,
     tune: &[&Item],
+    given: &[&Item],
     played: &[usize],
     unknown: bool,
 ) -> Result<Arranged, BuildFault>
     requires tune { All (λ step. IsItem step.now) tune.now }
+    requires given { given.now ≡ fields (λ step. step.now) tune.now }
     requires played { played.now ≡ sections_of (past_all (λ step. step.now) order_past None tune.now) (letters (λ step. step.now) tune.now) }
     requires few { sections_played (λ step. step.now) tune.now ≤ MOST_SECTIONS }
     requires unknown { unknown ≡ has_unknown (past_all (λ step. step.now) order_past None tune.now) (letters (λ step. step.now) tune.now) }
@@ -169,7 +188,7 @@ fn within_limits(
         → is_too_long (λ step. step.now) tune.now ≡ true }
     ensures unknown { (other : Bool) → result ≡ Err (BuildFault.TooLong other) → other ≡ unknown }
 {
-    match laid_out(alloc, tune, played) {
+    match laid_out(alloc, tune, given, played) {
         Ok((score, uneven)) => {
             if is_within_limits(&score) {
                 Ok(Arranged {
@@ -187,9 +206,10 @@ fn within_limits(
     }
 }
 
-/// A tune laid out, of its items.
-fn arranged(alloc: Global, tune: &[&Item]) -> Result<Arranged, BuildFault>
-    requires { All (λ step. IsItem step.now) tune.now }
+/// A tune laid out, of its items and those of them that its fields give.
+fn arranged(alloc: Global, tune: &[&Item], given: &[&Item]) -> Result<Arranged, BuildFault>
+    requires tune { All (λ step. IsItem step.now) tune.now }
+    requires given { given.now ≡ fields (λ step. step.now) tune.now }
     ensures value { IfOk result (λ laid. laid ≡ arranged_of (λ step. step.now) tune.now) }
     ensures short { IfOk result (λ _. is_too_long (λ step. step.now) tune.now ≡ false) }
     ensures limits { IfOk result (λ laid. IsWithinLimits laid.score) }
@@ -198,8 +218,8 @@ fn arranged(alloc: Global, tune: &[&Item]) -> Result<Arranged, BuildFault>
     ensures unknown { (unknown : Bool) → result ≡ Err (BuildFault.TooLong unknown)
         → unknown ≡ (arranged_of (λ step. step.now) tune.now).unknown }
 {
-    match order_played(alloc, tune) {
-        Ok(played) => within_limits(alloc, tune, &played.sections, played.unknown),
+    match order_played(alloc, given) {
+        Ok(played) => within_limits(alloc, tune, given, &played.sections, played.unknown),
         Err(why) => Err(why),
     }
 }
@@ -215,5 +235,6 @@ pub fn arrange(alloc: Global, items: &[Items]) -> Result<Arranged, BuildFault>
         → unknown ≡ (arranged_of (λ item. item) (items_in items.now)).unknown }
 {
     let tune = tune_of(alloc, items)?;
-    arranged(alloc, &tune)
+    let given = fields(alloc, &tune)?;
+    arranged(alloc, &tune, &given)
 }

@@ -6,6 +6,7 @@ mod along;
 mod arranged;
 mod change;
 mod conduct;
+mod fields;
 mod laid;
 mod layout;
 mod limits;

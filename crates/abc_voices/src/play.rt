@@ -55,33 +55,25 @@ fn are_straight(part: &[&Item]) -> bool
 }
 
 /// All items but the marks that say how the others are played.
-fn without_marks<'a>(alloc: Global, part: &[&'a Item]) -> Result<Vec<&'a Item>, AllocError>
-    ensures { IfOk result (λ items. items.items ≡ without_marks (λ step. step.now) part.now) }
+fn without_marks<'a>(part: Vec<&'a Item>) -> Vec<&'a Item>
+    ensures { result.items ≡ without_marks (λ step. step.now) part.entry.items }
 {
-    let mut items = Vec::with_capacity(alloc, part.len())?;
-    for step in part {
-        if is_played(step) {
-            items.push(*step)?;
-        }
-    }
-    Ok(items)
+    let mut items = part;
+    items.retain(|step| is_played(step));
+    items
 }
 
 /// What is played of items with neither repeats nor double bars nor endings, as they stand.
-fn played_once<'a>(
-    alloc: Global,
-    part: &[&'a Item],
-    room: u64,
-) -> Result<Vec<&'a Item>, RepeatFault>
-    requires { are_straight (marks_of (λ step. step.now) part.now) ≡ true }
-    ensures value { IfOk result (λ items. items.items ≡ played (λ step. step.now) part.now) }
+fn played_once<'a>(part: Vec<&'a Item>, room: u64) -> Result<Vec<&'a Item>, RepeatFault>
+    requires { are_straight (marks_of (λ step. step.now) part.items) ≡ true }
+    ensures value { IfOk result (λ items. items.items ≡ played (λ step. step.now) part.entry.items) }
     ensures size { IfOk result (λ items. length items.items
-        ≡ length (places_of (λ step. step.now) (moved (λ step. step.now) part.now))) }
+        ≡ length (places_of (λ step. step.now) (moved (λ step. step.now) part.entry.items))) }
     ensures within { IfOk result (λ items. length items.items ≤ min room MOST_PLACES) }
     ensures too_long { result ≡ Err TooLong
-        → min room MOST_PLACES < length (places_of (λ step. step.now) (moved (λ step. step.now) part.now)) }
+        → min room MOST_PLACES < length (places_of (λ step. step.now) (moved (λ step. step.now) part.entry.items)) }
 {
-    let items = without_marks(alloc, part)?;
+    let items = without_marks(part);
     if items.len() as u64 > room.min(MOST_PLACES) {
         return Err(RepeatFault::TooLong);
     }
@@ -90,19 +82,23 @@ fn played_once<'a>(
 
 /// What is played of the items of a voice in a section, in order of play, where there is room for so many
 /// places. Memory for more places than there are items is asked for only where there is room.
-pub fn played<'a>(alloc: Global, part: &[&'a Item], room: u64) -> Result<Vec<&'a Item>, RepeatFault>
-    ensures value { IfOk result (λ items. items.items ≡ played (λ step. step.now) part.now) }
+pub fn played<'a>(
+    alloc: Global,
+    part: Vec<&'a Item>,
+    room: u64,
+) -> Result<Vec<&'a Item>, RepeatFault>
+    ensures value { IfOk result (λ items. items.items ≡ played (λ step. step.now) part.entry.items) }
     ensures size { IfOk result (λ items. length items.items
-        ≡ length (places_of (λ step. step.now) (moved (λ step. step.now) part.now))) }
+        ≡ length (places_of (λ step. step.now) (moved (λ step. step.now) part.entry.items))) }
     ensures within { IfOk result (λ items. length items.items ≤ min room MOST_PLACES) }
     ensures too_long { result ≡ Err TooLong
-        → min room MOST_PLACES < length (places_of (λ step. step.now) (moved (λ step. step.now) part.now)) }
+        → min room MOST_PLACES < length (places_of (λ step. step.now) (moved (λ step. step.now) part.entry.items)) }
 {
     // Most music is played as it stands, and then nothing has to be put in order or counted out.
-    if are_straight(part) {
-        return played_once(alloc, part, room);
+    if are_straight(&part) {
+        return played_once(part, room);
     }
-    let steps = moved(alloc, part)?;
+    let steps = moved(alloc, &part)?;
     let marks = marks_of(alloc, &steps)?;
     let places = expand_within(alloc, &marks, room)?;
     let items = chosen(alloc, &steps, &places)?;

@@ -84,17 +84,20 @@ pub fn part<'a>(
     Ok(part)
 }
 
-/// The sections of a tune, the opening one first.
+/// The sections of a tune, the opening one first, where this voice is the current one before the first V: of the
+/// body.
 pub fn sections<'s, 't>(
     alloc: Global,
     tune: &'s [&'t Item],
+    first: &'t [u8],
 ) -> Result<Vec<Section<'s, 't>>, AllocError>
+    requires { first.now ≡ opening_voice (λ step. step.now) tune.now }
     ensures { IfOk result (λ found. map (λ section. (section.voice.now, section.items.now)) found.items
         ≡ sections (λ step. step.now) tune.entry.now) }
 {
     let mut found = Vec::new(alloc);
-    let mut voice = opening_voice(tune);
-    let mut opening = voice;
+    let mut voice = first;
+    let mut opening = first;
     let mut begin = 0;
     for (at, item) in tune.iter().enumerate() {
         if is_section(item) {

@@ -86,7 +86,7 @@ impl<'t> Part<'t> {
             → grains_of_the_latest_end < length_in (λ step. step.now) (content section.now) voice.now }
     {
         let items = part(alloc, voice, section.voice, section.items)?;
-        let steps = played(alloc, &items, room)?;
+        let steps = played(alloc, items, room)?;
         match duration(&steps) {
             Some(length) => Ok(Part {
                 steps: Sequence::from(steps),

@@ -2,9 +2,9 @@
 
 ghost use Rattle.std.specs.Prelude.{◌≡◌, [], ◌∷◌, IfOk, OnOk, map, bytes_eq};
 ghost use Rattle.std.specs.List.{list_any};
+ghost use Rattle.abc_voices.specs.Section.{opening_voice};
 ghost use Rattle.abc_voices.specs.Track.{with_name, everyone, plays_first, nameless_plays};
 
-use crate::section::opening_voice;
 use abc_music::Item;
 use std::alloc::{AllocError, Global};
 
@@ -60,9 +60,11 @@ fn plays_first(tune: &[&Item]) -> bool
     false
 }
 
-/// Whether the voice without a name has a track.
-pub fn nameless_plays(tune: &[&Item]) -> bool
+/// Whether the voice without a name has a track, where this one is the current one before the
+/// first V: of the body.
+pub fn nameless_plays(tune: &[&Item], opening: &[u8]) -> bool
+    requires { opening.now ≡ opening_voice (λ step. step.now) tune.now }
     ensures { result ≡ nameless_plays (λ step. step.now) tune.now }
 {
-    opening_voice(tune).is_empty() && plays_first(tune)
+    opening.is_empty() && plays_first(tune)
 }

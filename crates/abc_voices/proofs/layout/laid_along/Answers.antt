@@ -3,6 +3,7 @@ use Rattle.abc_time.specs.Grains.{grains_of_the_latest_end}
 use Rattle.abc_voices.specs.declared.stage.StageFault.TheVariants.{TooLate}
 use Rattle.abc_voices.specs.Along.{at_places}
 use Rattle.abc_voices.specs.declared.score.Score.{Score}
+use Rattle.abc_voices.proofs.Given.{score_given}
 use Rattle.abc_voices.proofs.Layouts.{stages_hold, late_total, late_end, score_is, uneven_is, first_within}
 use Rattle.abc_voices.proofs.layout.laid_along.Goals as goal
 
@@ -17,7 +18,7 @@ score_along-requires-clause-voices c = omega (arith, first_within c.args.tune.no
 
 pub returns-in-Ok-clause-score : goal.returns-in-Ok-clause-score
 returns-in-Ok-clause-score c =
-    c.in-Ok.ensures.value ∙ score_is c.args.tune.now (at_places c.args.table.now c.args.played.now) c.first_track-first.result c.args.count c.requires.stages c.first_track-first.ensures c.requires.count
+    c.in-Ok.ensures.value ∙ score_given c.args.tune.now c.args.given.now c.first_track-first.result c.args.count (at_places c.args.table.now c.args.played.now) c.requires.given ∙ score_is c.args.tune.now (at_places c.args.table.now c.args.played.now) c.first_track-first.result c.args.count c.requires.stages c.first_track-first.ensures c.requires.count
 
 pub returns-in-Ok-clause-uneven : goal.returns-in-Ok-clause-uneven
 returns-in-Ok-clause-uneven c =
@@ -25,7 +26,7 @@ returns-in-Ok-clause-uneven c =
 
 pub returns-in-Ok-clause-in_time : goal.returns-in-Ok-clause-in_time
 returns-in-Ok-clause-in_time c =
-    let score = c.in-Ok.ensures.value ∙ score_is c.args.tune.now (at_places c.args.table.now c.args.played.now) c.first_track-first.result c.args.count c.requires.stages c.first_track-first.ensures c.requires.count in
+    let score = c.in-Ok.ensures.value ∙ score_given c.args.tune.now c.args.given.now c.first_track-first.result c.args.count (at_places c.args.table.now c.args.played.now) c.requires.given ∙ score_is c.args.tune.now (at_places c.args.table.now c.args.played.now) c.first_track-first.result c.args.count c.requires.stages c.first_track-first.ensures c.requires.count in
     subst (λ (n : ℕ). n ≤ grains_of_the_latest_end) (ap (λ (s : Score). s.end.0) score) c.in-Ok.ensures.in_time
 
 pub returns-in-Err-clause-too_late : goal.returns-in-Err-clause-too_late

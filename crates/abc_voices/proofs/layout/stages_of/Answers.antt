@@ -8,9 +8,13 @@ use Rattle.abc_voices.specs.declared.stage.StageFault.TheVariants.{TooMany, TooL
 use Rattle.abc_voices.specs.Along.{at_places}
 use Rattle.abc_voices.specs.Arrange.{size_in, longest}
 use Rattle.abc_voices.specs.Stage.{content, stage_of}
+use Rattle.abc_voices.proofs.Given.{opening_given}
 use Rattle.abc_voices.proofs.Layouts.{played_here, alike}
 use Rattle.abc_voices.proofs.Staged.{total_within}
 use Rattle.abc_voices.proofs.layout.stages_of.Goals as goal
+
+pub sections-requires : goal.sections-requires
+sections-requires c = c.opening_voice.ensures ∙ opening_given c.args.tune.now c.args.given.now c.requires.given
 
 pub returns-clause-value : goal.returns-clause-value
 returns-clause-value c =
