@@ -7,5 +7,6 @@ pub mod Lengths
 pub mod Mapped
 pub mod Placed
 pub mod Staged
+pub mod Steady
 pub mod Straight
 pub mod Within

@@ -17,6 +17,7 @@ use Rattle.abc_voices.specs.Conduct.{conductor}
 use Rattle.abc_voices.specs.Linked.{Notes, notes_from}
 use Rattle.abc_voices.specs.Opening.{tempo_past, meter_past, key_past, past_all, title_of}
 use Rattle.abc_voices.specs.Play.{duration}
+use Rattle.abc_voices.specs.Step.{is_field}
 use Rattle.abc_voices.specs.Track.{nameless_plays}
 
 -- A part of items that can be, which says how long it is, and is not longer than its stage.
@@ -28,6 +29,10 @@ pub record IsPart (longest : Grains) (part : Part) : Type 0 where
 -- A stage whose parts are such.
 pub record IsStage (stage : Stage) : Type 0 where
   pub parts : All (IsPart stage.longest) stage.parts
+
+-- A stage in which no field is played.
+abbrev pub IsSteady : Stage → Type 0
+IsSteady stage = All (λ part. All (λ step. is_field step.now ≡ false) part.steps) stage.parts
 
 -- The stage at a place of a table, if one stands there.
 abbrev pub stage_at : List (Option Stage) → ℕ → Option Stage

@@ -1,8 +1,10 @@
 //! The items of a tune that its fields give.
 
 ghost use Rattle.std.specs.Prelude.{◌≡◌, IfOk};
-ghost use Rattle.abc_voices.specs.Fields.{is_music, fields};
+ghost use Rattle.abc_voices.specs.Fields.{is_music, is_change, is_steady, fields};
 
+use crate::section::is_step;
+use crate::step::is_field;
 use abc_music::Item;
 use std::alloc::{AllocError, Global};
 
@@ -14,6 +16,20 @@ fn is_music(item: &Item) -> bool
         item,
         Item::Tone { .. } | Item::Rest { .. } | Item::Bar(_) | Item::Ending(_)
     )
+}
+
+/// Whether it changes the tempo, the meter or the key while a tune is played.
+fn is_change(item: &Item) -> bool
+    ensures { result ≡ is_change item.now }
+{
+    is_field(item) && is_step(item)
+}
+
+/// Whether none of a tune's fields changes its tempo, its meter or its key while it is played.
+pub(crate) fn is_steady(given: &[&Item]) -> bool
+    ensures { result ≡ is_steady (λ step. step.now) given.now }
+{
+    given.iter().all(|item| !is_change(item))
 }
 
 /// The items of a tune that are no music. They are few, and they alone say what the tune opens with, which parts it

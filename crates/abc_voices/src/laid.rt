@@ -1,14 +1,16 @@
 //! The score of stages that are played one after another.
 
-ghost use Rattle.std.specs.Prelude.{◌≡◌, ◌≢◌, ◌<◌, ◌≤◌, ◌-◌, All, IfOk};
+ghost use Rattle.std.specs.Prelude.{true, ◌≡◌, ◌≢◌, ◌<◌, ◌≤◌, ◌-◌, All, IfOk};
 ghost use Rattle.std.specs.List.{flat_map};
 ghost use Rattle.abc_time.specs.Grains.{grains_of_the_latest_end};
 ghost use Rattle.abc_voices.specs.declared.stage.StageFault.TheVariants.{TooMany, TooLate};
-ghost use Rattle.abc_voices.specs.Along.{IsStage, at_places, length_along, voices_along, changes_along, end_along, score_along};
+ghost use Rattle.abc_voices.specs.Along.{IsStage, IsSteady, at_places, length_along, voices_along, changes_along, end_along, score_along};
 ghost use Rattle.abc_voices.specs.Arrange.{last_off};
+ghost use Rattle.abc_voices.specs.Fields.{is_steady};
 
 use crate::change::{Keys, Meters};
 use crate::conduct::conductor;
+use crate::fields::is_steady;
 use crate::opening::{opening_key, opening_meter, opening_tempo, title_of};
 use crate::score::{Change, Score, Sounding};
 use crate::setting::{one_along, tempos_along};
@@ -34,11 +36,17 @@ fn changes_along(
 ) -> Result<Vec<Change>, AllocError>
     requires stages { All IsStage (at_places table.now order.now) }
     requires in_time { length_along (at_places table.now order.now) ≤ grains_of_the_latest_end }
+    requires steady { is_steady (λ step. step.now) given.now ≡ true → All IsSteady (at_places table.now order.now) }
     ensures { IfOk result (λ changes. changes.items ≡ changes_along given.now first (at_places table.now order.now)) }
 {
     let tempo = opening_tempo(given).unwrap_or(USUAL_TEMPO);
     let meter = opening_meter(given).unwrap_or(Meter::Free);
     let key = opening_key(given).unwrap_or((0, false));
+    // Most tunes go on as they open, and then what is played need not be looked through.
+    if is_steady(given) {
+        let start = Grains(0);
+        return conductor(alloc, &[(start, tempo)], &[(start, meter)], &[(start, key)]);
+    }
     let tempos = tempos_along(alloc, table, order, tempo)?;
     let meters = one_along::<Meters>(alloc, table, order, first, meter)?;
     let keys = one_along::<Keys>(alloc, table, order, first, key)?;
@@ -71,6 +79,7 @@ pub(crate) fn score_along(
     requires stages { All IsStage (at_places table.now order.now) }
     requires total { total.0 ≡ length_along (at_places table.now order.now) }
     requires in_time { total.0 ≤ grains_of_the_latest_end }
+    requires steady { is_steady (λ step. step.now) given.now ≡ true → All IsSteady (at_places table.now order.now) }
     requires voices { first ≤ count }
     ensures value { IfOk result (λ score. score ≡ score_along given.now first count (at_places table.now order.now)) }
     ensures in_time { IfOk result (λ score. score.end.0 ≤ grains_of_the_latest_end) }

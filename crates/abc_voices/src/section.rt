@@ -23,7 +23,7 @@ fn is_section(item: &Item) -> bool
 }
 
 /// Whether it is played, or a mark that says how.
-fn is_step(item: &Item) -> bool
+pub(crate) fn is_step(item: &Item) -> bool
     ensures { result ≡ is_step item.now }
 {
     match item {

@@ -55,12 +55,16 @@ module _ {A : Type 0} (item_of : A → Item) (P : A → Type 0) where
       part_kept voice (voice_past current (item_of step)) steps (All-tail P step steps all) in
       either P (is_step (item_of step) && bytes_eq current voice) _ _ (All-cons P step _ (All-head P step steps all) rest) rest
 
+  -- what a voice plays of its part of a section
+  pub part_played : (opening : List ℕ) (steps : List A) (voice : List ℕ) → All P (part_from item_of voice opening steps)
+      → All P (play_in item_of (opening, steps) voice)
+  part_played opening steps voice all =
+      let mine : List A = part_from item_of voice opening steps in
+      picked P (moved item_of mine) (places_of item_of (moved item_of mine)) (moved_kept Common [] mine (All-nil P) all)
+
   -- what a voice plays of a section
   pub play_kept : (section : List ℕ × List A) (voice : List ℕ) → All P section.1 → All P (play_in item_of section voice)
-  play_kept (opening, steps) voice all =
-      let mine : List A = part_from item_of voice opening steps in
-      picked P (moved item_of mine) (places_of item_of (moved item_of mine))
-      (moved_kept Common [] mine (All-nil P) (part_kept voice opening steps all))
+  play_kept (opening, steps) voice all = part_played opening steps voice (part_kept voice opening steps all)
 
   abbrev InSection : List ℕ × List A → Type 0
   InSection section = All P section.1

@@ -5,6 +5,7 @@ use Rattle.abc_voices.specs.Along.{at_places}
 use Rattle.abc_voices.specs.declared.score.Score.{Score}
 use Rattle.abc_voices.proofs.Given.{score_given}
 use Rattle.abc_voices.proofs.Layouts.{stages_hold, late_total, late_end, score_is, uneven_is, first_within}
+use Rattle.abc_voices.proofs.Steady.{steady_along}
 use Rattle.abc_voices.proofs.layout.laid_along.Goals as goal
 
 pub returns-in_default-clause-too_late : goal.returns-in_default-clause-too_late
@@ -15,6 +16,10 @@ score_along-requires-clause-stages c = stages_hold c.args.tune.now (at_places c.
 
 pub score_along-requires-clause-voices : goal.score_along-requires-clause-voices
 score_along-requires-clause-voices c = omega (arith, first_within c.args.tune.now, c.first_track-first.ensures, c.requires.count)
+
+pub score_along-requires-clause-steady : goal.score_along-requires-clause-steady
+score_along-requires-clause-steady c =
+    steady_along c.args.tune.now c.args.given.now (at_places c.args.table.now c.args.played.now) c.requires.given c.requires.stages
 
 pub returns-in-Ok-clause-score : goal.returns-in-Ok-clause-score
 returns-in-Ok-clause-score c =

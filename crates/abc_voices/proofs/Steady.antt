@@ -1,0 +1,210 @@
+-- A tune whose fields change nothing while it is played goes on as it opens.
+use Rattle.std.proofs.Common.{◌≡◌, ℕ, ◌+◌, Bool, true, false, cond, List, [], ◌∷◌, ◌++◌, map, Option, Some, None, refl, sym, ap, subst, ◌∙◌}
+use Rattle.std.specs.Borrow.{Bor}
+use Rattle.std.specs.Prelude.{ℤ, pos, unwrap_or, not, ◌&&◌, bytes_eq, All, IfSome, slice_get}
+use Rattle.std.specs.List.{cons_option, flat_map}
+use Rattle.std.proofs.lemmas.List.Elements.{All-nil, All-cons, All-head, All-tail}
+use Rattle.abc_music.specs.declared.item.Item.{Item}
+use Rattle.abc_music.specs.declared.item.Item.TheVariants as items
+use Rattle.abc_fields.specs.declared.meter.Meter.{Meter}
+use Rattle.abc_fields.specs.declared.meter.Meter.TheVariants as meters
+use Rattle.abc_voices.specs.declared.stage.Part.{Part}
+use Rattle.abc_voices.specs.declared.stage.Stage.{Stage}
+use Rattle.abc_voices.specs.Along.{IsSteady, steps_of, set_by_all, set_by_one, changes_along}
+use Rattle.abc_voices.specs.Arrange.{played_sections, or_else, usual_tempo}
+use Rattle.abc_voices.specs.Change.{tempo_of, meter_of, key_of, at_moment, set_from}
+use Rattle.abc_voices.specs.Conduct.{conductor}
+use Rattle.abc_voices.specs.Fields.{is_music, is_change, is_steady, fields}
+use Rattle.abc_voices.specs.Opening.{tempo_past, meter_past, key_past, past_all}
+use Rattle.abc_voices.specs.Section.{is_step, voice_past, part_from}
+use Rattle.abc_voices.specs.Stage.{part_of, stage_of}
+use Rattle.abc_voices.specs.Step.{is_field, length_of}
+use Rattle.abc_voices.specs.Track.{everyone}
+use Rattle.abc_voices.proofs.Fitting.Kept.{got, part_played, played_kept}
+use Rattle.abc_voices.proofs.Mapped.{conductor_same}
+
+-- an item behind a reference
+abbrev there : Bor Item → Item
+there step = step.now
+
+-- a step that is no field that is played, and one that changes nothing
+abbrev IsPlain : Bor Item → Type 0
+IsPlain step = is_field step.now ≡ false
+
+abbrev ChangesNothing : Bor Item → Type 0
+ChangesNothing step = is_change step.now ≡ false
+
+-- such a step sets nothing
+sets_no_tempo : (item : Item) → is_field item ≡ false → tempo_of item ≡ None
+sets_no_tempo (items.Number number) h = refl
+sets_no_tempo (items.Tone tones length) h = refl
+sets_no_tempo (items.Rest length bar) h = refl
+sets_no_tempo (items.Bar line) h = refl
+sets_no_tempo (items.Ending numbers) h = refl
+sets_no_tempo (items.Section letter) h = refl
+sets_no_tempo (items.Tempo opening micros out) h = cc
+sets_no_tempo (items.Meter opening meter) h = cc
+sets_no_tempo (items.Key opening key) h = cc
+sets_no_tempo (items.Voice opening name) h = refl
+sets_no_tempo (items.Title text) h = refl
+sets_no_tempo (items.Order text) h = refl
+
+sets_no_meter : (item : Item) → is_field item ≡ false → meter_of item ≡ None
+sets_no_meter (items.Number number) h = refl
+sets_no_meter (items.Tone tones length) h = refl
+sets_no_meter (items.Rest length bar) h = refl
+sets_no_meter (items.Bar line) h = refl
+sets_no_meter (items.Ending numbers) h = refl
+sets_no_meter (items.Section letter) h = refl
+sets_no_meter (items.Tempo opening micros out) h = cc
+sets_no_meter (items.Meter opening meter) h = cc
+sets_no_meter (items.Key opening key) h = cc
+sets_no_meter (items.Voice opening name) h = refl
+sets_no_meter (items.Title text) h = refl
+sets_no_meter (items.Order text) h = refl
+
+sets_no_key : (item : Item) → is_field item ≡ false → key_of item ≡ None
+sets_no_key (items.Number number) h = refl
+sets_no_key (items.Tone tones length) h = refl
+sets_no_key (items.Rest length bar) h = refl
+sets_no_key (items.Bar line) h = refl
+sets_no_key (items.Ending numbers) h = refl
+sets_no_key (items.Section letter) h = refl
+sets_no_key (items.Tempo opening micros out) h = cc
+sets_no_key (items.Meter opening meter) h = cc
+sets_no_key (items.Key opening key) h = cc
+sets_no_key (items.Voice opening name) h = refl
+sets_no_key (items.Title text) h = refl
+sets_no_key (items.Order text) h = refl
+
+-- nor do steps, parts and stages of such steps
+module _ {V : Type 0} (value_of : Item → Option V) (sets_none : (item : Item) → is_field item ≡ false → value_of item ≡ None) where
+  set_by_steps : (at : ℕ) (steps : List (Bor Item)) → All IsPlain steps → set_from there value_of at steps ≡ []
+  set_by_steps at [] plain = refl
+  set_by_steps at (step ∷ steps) plain =
+      ap (λ value. cons_option (at_moment at value) (set_from there value_of (at + length_of step.now) steps)) (sets_none step.now (All-head IsPlain step steps plain))
+      ∙ set_by_steps (at + length_of step.now) steps (All-tail IsPlain step steps plain)
+
+  abbrev IsPlainPart : Part → Type 0
+  IsPlainPart part = All IsPlain part.steps
+
+  set_by_parts : (at : ℕ) (parts : List Part) → All IsPlainPart parts → flat_map (λ part. set_from there value_of at part.steps) parts ≡ []
+  set_by_parts at [] plain = refl
+  set_by_parts at (part ∷ parts) plain =
+      ap (λ sets. sets ++ flat_map (λ p. set_from there value_of at p.steps) parts) (set_by_steps at part.steps (All-head IsPlainPart part parts plain))
+      ∙ set_by_parts at parts (All-tail IsPlainPart part parts plain)
+
+  all_set_nothing : (at : ℕ) (stages : List Stage) → All IsSteady stages → set_by_all value_of at stages ≡ []
+  all_set_nothing at [] steady = refl
+  all_set_nothing at (stage ∷ stages) steady =
+      ap (λ sets. sets ++ set_by_all value_of (at + stage.longest.0) stages) (set_by_parts at stage.parts (All-head IsSteady stage stages steady))
+      ∙ all_set_nothing (at + stage.longest.0) stages (All-tail IsSteady stage stages steady)
+
+  set_by_part : (at : ℕ) (part : Option Part) → IfSome part IsPlainPart → set_from there value_of at (steps_of part) ≡ []
+  set_by_part at None plain = refl
+  set_by_part at (Some part) plain = set_by_steps at part.steps plain
+
+  one_sets_nothing : (voice at : ℕ) (stages : List Stage) → All IsSteady stages → set_by_one value_of voice at stages ≡ []
+  one_sets_nothing voice at [] steady = refl
+  one_sets_nothing voice at (stage ∷ stages) steady =
+      ap (λ sets. sets ++ set_by_one value_of voice (at + stage.longest.0) stages)
+      (set_by_part at (slice_get stage.parts voice) (got IsPlainPart stage.parts voice (All-head IsSteady stage stages steady)))
+      ∙ one_sets_nothing voice (at + stage.longest.0) stages (All-tail IsSteady stage stages steady)
+
+-- where the fields of a tune change nothing, no step of it does
+music_plain : (item : Item) → is_music item ≡ true → is_change item ≡ false
+music_plain (items.Number number) h = cc
+music_plain (items.Tone tones length) h = refl
+music_plain (items.Rest length bar) h = refl
+music_plain (items.Bar line) h = refl
+music_plain (items.Ending numbers) h = refl
+music_plain (items.Section letter) h = cc
+music_plain (items.Tempo opening micros out) h = cc
+music_plain (items.Meter opening meter) h = cc
+music_plain (items.Key opening key) h = cc
+music_plain (items.Voice opening name) h = cc
+music_plain (items.Title text) h = cc
+music_plain (items.Order text) h = cc
+
+and_first : (a b : Bool) → (a && b) ≡ true → a ≡ true
+and_first true b h = refl
+and_first false b h = h
+
+and_rest : (a b : Bool) → (a && b) ≡ true → b ≡ true
+and_rest true b h = h
+and_rest false b h = cc
+
+not_true : (a : Bool) → not a ≡ true → a ≡ false
+not_true true h = cc
+not_true false h = refl
+
+steady_step : (step : Bor Item) (tune : List (Bor Item)) (music : Bool) → is_music step.now ≡ music
+    → is_steady there (cond (not music) (step ∷ fields there tune) (fields there tune)) ≡ true
+    → ChangesNothing step × (is_steady there (fields there tune) ≡ true)
+steady_step step tune true is steady = (music_plain step.now is, steady)
+steady_step step tune false is steady = (
+  not_true (is_change step.now) (and_first (not (is_change step.now)) (is_steady there (fields there tune)) steady),
+  and_rest (not (is_change step.now)) (is_steady there (fields there tune)) steady,
+)
+
+steady_steps : (tune : List (Bor Item)) → is_steady there (fields there tune) ≡ true → All ChangesNothing tune
+steady_steps [] steady = All-nil ChangesNothing
+steady_steps (step ∷ tune) steady =
+    let both = steady_step step tune (is_music step.now) refl steady in
+    All-cons ChangesNothing step tune both.0 (steady_steps tune both.1)
+
+-- nor is a field played of it
+plain_step : (field takes : Bool) → (field && takes) ≡ false → takes ≡ true → field ≡ false
+plain_step true takes h e = sym e ∙ h
+plain_step false takes h e = refl
+
+plain_more : (voice current : List ℕ) (step : Bor Item) (rest : List (Bor Item)) → ChangesNothing step → All IsPlain rest
+    → (takes mine : Bool) → is_step step.now ≡ takes → All IsPlain (cond (takes && mine) (step ∷ rest) rest)
+plain_more voice current step rest none plain false mine e = plain
+plain_more voice current step rest none plain true false e = plain
+plain_more voice current step rest none plain true true e = All-cons IsPlain step rest (plain_step (is_field step.now) (is_step step.now) none e) plain
+
+plain_part : (voice current : List ℕ) (steps : List (Bor Item)) → All ChangesNothing steps → All IsPlain (part_from there voice current steps)
+plain_part voice current [] none = All-nil IsPlain
+plain_part voice current (step ∷ steps) none =
+    plain_more voice current step (part_from there voice (voice_past current step.now) steps) (All-head ChangesNothing step steps none)
+    (plain_part voice (voice_past current step.now) steps (All-tail ChangesNothing step steps none))
+    (is_step step.now) (bytes_eq current voice) refl
+
+plain_parts : (section : List ℕ × List (Bor Item)) (voices : List (List ℕ)) → All ChangesNothing section.1
+    → All (λ part. All IsPlain part.steps) (map (part_of section) voices)
+plain_parts section [] none = All-nil (λ (part : Part). All IsPlain part.steps)
+plain_parts (opening, steps) (voice ∷ voices) none =
+    All-cons (λ (part : Part). All IsPlain part.steps) (part_of (opening, steps) voice) (map (part_of (opening, steps)) voices)
+    (part_played there IsPlain opening steps voice (plain_part voice opening steps none)) (plain_parts (opening, steps) voices none)
+
+steady_stages : (voices : List (List ℕ)) (played : List (List ℕ × List (Bor Item))) → All (λ section. All ChangesNothing section.1) played
+    → All IsSteady (map (stage_of voices) played)
+steady_stages voices [] none = All-nil IsSteady
+steady_stages voices (section ∷ played) none =
+    let P : List ℕ × List (Bor Item) → Type 0 = λ one. All ChangesNothing one.1 in
+    All-cons IsSteady (stage_of voices section) (map (stage_of voices) played) (plain_parts section voices (All-head P section played none))
+    (steady_stages voices played (All-tail P section played none))
+
+pub steady_along : (tune given : List (Bor Item)) (stages : List Stage) → given ≡ fields there tune
+    → stages ≡ map (stage_of (everyone there tune)) (played_sections there tune)
+    → is_steady there given ≡ true → All IsSteady stages
+steady_along tune given stages is are steady =
+    subst (All IsSteady) (sym are)
+    (steady_stages (everyone there tune) (played_sections there tune)
+    (played_kept there ChangesNothing tune (steady_steps tune (sym (ap (is_steady there) is) ∙ steady))))
+
+-- the changes of steady stages are those with which their tune opens
+pub opening_is : {V : Type 0} (found behind : Option V) (usual value : V) → value ≡ unwrap_or found usual → found ≡ behind → value ≡ or_else usual behind
+opening_is None behind usual value is same = is ∙ ap (or_else usual) same
+opening_is (Some other) behind usual value is same = is ∙ ap (or_else usual) same
+
+pub steady_changes : (given : List (Bor Item)) (first : ℕ) (stages : List Stage) (tempo : ℕ) (meter : Meter) (key : ℤ × Bool) → All IsSteady stages
+    → tempo ≡ or_else usual_tempo (past_all there tempo_past None given) → meter ≡ or_else meters.Free (past_all there meter_past None given)
+    → key ≡ or_else (pos 0, false) (past_all there key_past None given)
+    → conductor ((record { 0 = 0 }, tempo) ∷ []) ((record { 0 = 0 }, meter) ∷ []) ((record { 0 = 0 }, key) ∷ []) ≡ changes_along given first stages
+steady_changes given first stages tempo meter key steady p q r =
+    conductor_same _ _ _ _ _ _
+    (ap (λ v. (record { 0 = 0 }, v) ∷ []) p ∙ ap (λ l. (record { 0 = 0 }, or_else usual_tempo (past_all there tempo_past None given)) ∷ l) (sym (all_set_nothing tempo_of sets_no_tempo 0 stages steady)))
+    (ap (λ v. (record { 0 = 0 }, v) ∷ []) q ∙ ap (λ l. (record { 0 = 0 }, or_else meters.Free (past_all there meter_past None given)) ∷ l) (sym (one_sets_nothing meter_of sets_no_meter first 0 stages steady)))
+    (ap (λ v. (record { 0 = 0 }, v) ∷ []) r ∙ ap (λ l. (record { 0 = 0 }, or_else (pos 0, false) (past_all there key_past None given)) ∷ l) (sym (one_sets_nothing key_of sets_no_key first 0 stages steady)))
