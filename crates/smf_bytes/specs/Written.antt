@@ -1,5 +1,5 @@
 -- The events of a track as they are kept before they are written.
-use Rattle.std.specs.Prelude.{ℕ, ◌<◌, List, map}
+use Rattle.std.specs.Prelude.{◌<◌, List, map}
 use Rattle.smf_bytes.specs.declared.event.Event.{Event}
 use Rattle.smf_bytes.specs.declared.track.TrackEvents.{TrackEvents}
 use Rattle.smf_bytes.specs.declared.track.TrackEvents.TheVariants.{Conductor, Voice}

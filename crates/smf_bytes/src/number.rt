@@ -41,7 +41,7 @@ pub fn put_number(out: &mut Vec<u8>, n: u32) -> Result<(), AllocError>
 }
 
 /// The byte of the lowest seven bits, with the top bit set.
-fn leading(n: u32) -> u8
+pub(crate) fn leading(n: u32) -> u8
     ensures { result ≡ 128 + n % 128 }
 {
     (0x80 + n % 0x80) as u8

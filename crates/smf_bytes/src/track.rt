@@ -8,7 +8,7 @@ ghost use Rattle.smf_bytes.specs.Written.{HasChannel, events_in};
 use crate::chunk::put_u32;
 use crate::event::Event;
 use crate::note_event::{NoteEvent, order_notes};
-use crate::number::put_number;
+use crate::number::{leading, put_number};
 use crate::order::order_events;
 use byteorder::{BigEndian, ByteOrder};
 use std::alloc::AllocError;
@@ -86,22 +86,41 @@ fn put_notes(
     out.reserve(5 * ordered.len())?;
     let mut before = 0;
     for note in &ordered {
-        put_number(out, note.tick - before)?;
-        put_note(out, channel, *note)?;
+        put_note(out, note.tick - before, channel, *note)?;
         before = note.tick;
     }
     put_end(out, end - before)
 }
 
-/// Appends what a track holds of a note that begins or ends, after its delta time.
-fn put_note(out: &mut Vec<u8>, channel: u8, note: NoteEvent) -> Result<(), AllocError>
+/// Appends a note that begins or ends, so many ticks behind the event before it. A delta time of one byte or
+/// two, as most are, goes in together with the note.
+#[tactic(auto, unfolding(crate::specs::Number::number_text))]
+fn put_note(out: &mut Vec<u8>, delta: u32, channel: u8, note: NoteEvent) -> Result<(), AllocError>
+    requires delta { delta < 2 ^ 28 }
+    requires channel { channel < 16 }
+    ensures { OnOk result (out.new.items ≡ out.old.items ++ number_text delta ++ note_bytes channel note) }
+{
+    let [status, key, velocity] = note_bytes(channel, note);
+    if delta < 0x80 {
+        out.extend_from_slice(&[delta as u8, status, key, velocity])
+    } else if delta < 0x4000 {
+        let last = (delta % 0x80) as u8;
+        out.extend_from_slice(&[leading(delta / 0x80), last, status, key, velocity])
+    } else {
+        put_number(out, delta)?;
+        out.extend_from_slice(&[status, key, velocity])
+    }
+}
+
+/// What a track holds of a note that begins or ends, after its delta time.
+fn note_bytes(channel: u8, note: NoteEvent) -> [u8; 3]
     requires { channel < 16 }
-    ensures { OnOk result (out.new.items ≡ out.old.items ++ note_bytes channel note) }
+    ensures { result ≡ note_bytes channel note }
 {
     if note.on {
-        out.extend_from_slice(&[0x90 + channel, note.key, 80])
+        [0x90 + channel, note.key, 80]
     } else {
-        out.extend_from_slice(&[0x80 + channel, note.key, 64])
+        [0x80 + channel, note.key, 64]
     }
 }
 
