@@ -86,8 +86,9 @@ fn put_notes(
     out.reserve(5 * ordered.len())?;
     let mut before = 0;
     for note in &ordered {
-        put_note(out, note.tick - before, channel, *note)?;
-        before = note.tick;
+        let tick = note.tick();
+        put_note(out, tick - before, channel, *note)?;
+        before = tick;
     }
     put_end(out, end - before)
 }
@@ -117,10 +118,10 @@ fn note_bytes(channel: u8, note: NoteEvent) -> [u8; 3]
     requires { channel < 16 }
     ensures { result ≡ note_bytes channel note }
 {
-    if note.on {
-        [0x90 + channel, note.key, 80]
+    if note.is_on() {
+        [0x90 + channel, note.key(), 80]
     } else {
-        [0x80 + channel, note.key, 64]
+        [0x80 + channel, note.key(), 64]
     }
 }
 

@@ -54,23 +54,8 @@ fn push_note(events: &mut Vec<NoteEvent>, end: Grains, note: &Sounding) -> Resul
     let on = tick_of(note.on);
     let off = tick_of(note.off);
     if on != off {
-        let key = note.key;
-        put(
-            events,
-            NoteEvent {
-                tick: on,
-                on: true,
-                key,
-            },
-        )?;
-        put(
-            events,
-            NoteEvent {
-                tick: off,
-                on: false,
-                key,
-            },
-        )?;
+        put(events, NoteEvent::new(on, true, note.key))?;
+        put(events, NoteEvent::new(off, false, note.key))?;
     }
     Ok(())
 }

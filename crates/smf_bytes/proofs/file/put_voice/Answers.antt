@@ -18,7 +18,7 @@ put_track-requires c =
     let events = map (event_at channel) ends in
     let tick = c.tick_of.result in
     let same : IsPermutation (voice_events channel notes) events =
-    in_events channel notes ends (subst (λ (l : List Sounding). IsPermutation (all_ends l) ends) c.as_slice.ensures c.in_ok-notes.ensures) in
+    in_events channel c.args.end notes ends c.requires.notes.each (subst (λ (l : List Sounding). IsPermutation (all_ends l) ends) c.as_slice.ensures c.in_ok-notes.ensures) in
     record {
       channel = grind (arith, common_steps);
       end = omega arith;
@@ -36,7 +36,7 @@ returns c =
     let events = map (event_at channel) ends in
     let tick = tick_at c.args.end.0 in
     let same : IsPermutation (voice_events channel notes) events =
-    in_events channel notes ends (subst (λ (l : List Sounding). IsPermutation (all_ends l) ends) c.as_slice.ensures c.in_ok-notes.ensures) in
+    in_events channel c.args.end notes ends c.requires.notes.each (subst (λ (l : List Sounding). IsPermutation (all_ends l) ends) c.as_slice.ensures c.in_ok-notes.ensures) in
     let written : track c.tick_of.result events ≡ track tick (voice_events (channel_of c.args.place) notes) =
     ap (λ t. track t events) c.tick_of.ensures.exact ∙ sym (same_track tick (voice_events channel notes) events same)
     ∙ ap (λ n. track tick (voice_events n notes)) c.channel-channel.ensures in
