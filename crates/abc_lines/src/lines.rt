@@ -1,6 +1,6 @@
 //! A text, and a splice of it that has been prepared.
 
-ghost use Rattle.std.specs.Prelude.{◌≡◌, ◌+◌, ◌≤◌, [], IfOk, IfErr, Ok, Err, option_copied, slice_get, length};
+ghost use Rattle.std.specs.Prelude.{◌≡◌, ◌+◌, ◌≤◌, [], IfOk, IsOk, IfErr, Ok, Err, option_copied, slice_get, length};
 ghost use Rattle.abc_lines.specs.Text.{IsText, splice_from, spliced, seen_lines};
 ghost use Rattle.abc_lines.specs.Edits.{replaced, Refuses};
 ghost use Rattle.abc_lines.specs.Lines.{IsReady, held_by, prepared};
@@ -54,7 +54,8 @@ impl Model for LinePatch {
 impl LineBuffer {
     /// A text with no lines.
     pub fn new(alloc: Global) -> Result<LineBuffer, AllocError>
-        ensures { IfOk result (λ lines. lines.text ≡ []) }
+        ensures empty { IfOk result (λ lines. lines.text ≡ []) }
+        ensures succeeds { IsOk result }
     {
         Ok(LineBuffer {
             lines: Vec::new(alloc),

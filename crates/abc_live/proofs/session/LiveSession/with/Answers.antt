@@ -12,5 +12,5 @@ invariant_of-result g c =
     let book = c.in_ok-book.ensures
     ∙ ap (λ faults. book_from (given_of faults c.new-4.result.items)) c.new-3.ensures.items
     ∙ ap (λ tunes. book_from (given_of [] tunes)) c.new-4.ensures.items
-    ∙ sym (ap (book_of next gives rules) c.in_ok-lines.ensures ∙ no_lines_no_book next gives rules) in
+    ∙ sym (ap (book_of next gives rules) c.in_ok-lines.ensures.empty ∙ no_lines_no_book next gives rules) in
     (none_kept next gives rules c.in_ok-lines.lines.text c.new-2.result.items c.new-2.ensures.items, book)
