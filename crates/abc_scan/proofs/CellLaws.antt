@@ -3,7 +3,7 @@ use Rattle.std.proofs.Common.{◌≡◌, ℕ, suc, ◌+◌, ◌-◌, ◌<◌, �
 use Rattle.std.specs.Prelude.{All, ◌==◌}
 use Rattle.std.proofs.Math.Seq.{drop-cons}
 use Rattle.std.proofs.lemmas.Bool.{cond-true, cond-false, cases_Bool, eqb-true}
-use Rattle.std.proofs.lemmas.List.{drop_all}
+use Rattle.std.proofs.lemmas.List.{drop_all, take_all}
 use Rattle.std.proofs.lemmas.List.Elements.{All-nil, All-cons, All-head, All-tail}
 use Rattle.abc_scan.specs.declared.spanned.Spanned.{Spanned}
 use Rattle.abc_scan.specs.declared.token.TokenKind.{TokenKind}
@@ -98,6 +98,13 @@ either_cell t ts more = ⊎_elim
 first_cell : (t : Spanned TokenKind) (ts : Tokens) → cells_of (t ∷ ts) ≡ take (first_size (t ∷ ts)) (t ∷ ts) ∷ cells_of (drop (first_size (t ∷ ts)) (t ∷ ts))
 first_cell t [] = either_cell t [] refl
 first_cell t (u ∷ us) = either_cell t (u ∷ us) (put_front t (u ∷ us) (first_cell u us))
+
+-- a line without a bar line before its last token is one cell
+pub one_cell : (ts : Tokens) → (length ts == 0) ≡ false → length ts ≤ first_size ts → cells_of ts ≡ ts ∷ []
+one_cell [] some whole = cc
+one_cell (t ∷ ts) some whole =
+    let all = t ∷ ts in
+    first_cell t ts ∙ (λ i. take_all (first_size all) all whole i ∷ cells_of (drop_all (first_size all) all whole i))
 
 pub first-some : (ts : Tokens) → 0 < length ts → 0 < first_size ts
 first-some [] h = absurd (omega arith)

@@ -9,7 +9,7 @@ use crate::compiler::Compiler;
 use abc_bars::{BarFold, Defaults, Entry, Item, Items};
 use abc_fields::FaultCode;
 use abc_fold::{Fold, Work};
-use abc_scan::{Cell, LineClass, cells, class_of, scan};
+use abc_scan::{Cell, LineClass, class_of, into_cells, scan};
 use std::alloc::{AllocError, Global};
 
 /// The compiler of tunes in ABC.
@@ -75,7 +75,7 @@ impl Compiler for Abc {
 
     fn cells(&self, alloc: Global, line: &[u8], work: &mut Work) -> Result<Vec<Cell>, AllocError> {
         let tokens = scan(alloc, line, work)?;
-        cells(alloc, tokens.as_slice())
+        into_cells(alloc, tokens)
     }
 
     fn header(&self, alloc: Global) -> Entry {

@@ -1,4 +1,4 @@
-use Rattle.std.proofs.Common.{◌≡◌, ◌<◌, [], ◌∷◌, ◌++◌, length, take, drop, ap, sym, subst, ◌∙◌, arith}
+use Rattle.std.proofs.Common.{◌≡◌, ◌<◌, [], ◌∷◌, ◌++◌, take, drop, ap, sym, subst, ◌∙◌, arith}
 use Rattle.abc_scan.specs.Cell.{AreCells, cells_of, first_size}
 use Rattle.abc_scan.proofs.CellLaws.{first-some, is_some, next_cell, no_more, are_cells}
 use Rattle.abc_scan.proofs.cell.cells.Goals as goal
