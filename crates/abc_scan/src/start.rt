@@ -1,9 +1,7 @@
 //! Which kind of token a text can begin with, by its first bytes.
 
 ghost use Rattle.std.specs.Prelude.{◌≡◌};
-ghost use Rattle.abc_scan.specs.Start.{has_no_effect, begins_note, mark_start, byte_start, bracket_start, start_of};
-
-use abc_text::is_blank;
+ghost use Rattle.abc_scan.specs.Start.{byte_start, bracket_start, start_of};
 
 /// The kinds of token that begin with different bytes: what begins as one of them is of no other.
 #[derive(Clone, Copy)]
@@ -32,62 +30,28 @@ pub(crate) enum Start {
     Nothing,
 }
 
-/// Whether a byte is a token without effect: `` ` `` `.` `~` `\` `$` `#` `*` `;` `?` `@` `(` `)`, or
-/// a letter H to W or h to w.
-fn has_no_effect(byte: u8) -> bool
-    ensures { result ≡ has_no_effect byte }
-{
-    matches!(byte, b'H'..=b'W' | b'h'..=b'w')
-        || matches!(
-            byte,
-            b'`' | b'.' | b'~' | b'\\' | b'$' | b'#' | b'*' | b';' | b'?' | b'@' | b'(' | b')'
-        )
-}
-
-/// Whether a byte is an accidental or the letter of a note.
-fn begins_note(byte: u8) -> bool
-    ensures { result ≡ begins_note byte }
-{
-    matches!(byte, b'A'..=b'G' | b'a'..=b'g' | b'^' | b'_' | b'=')
-}
-
-/// What one of the remaining bytes begins.
-fn mark_start(byte: u8) -> Start
-    ensures { result ≡ mark_start byte }
-{
-    match byte {
-        b'z' | b'x' => Start::Rest,
-        b'Z' | b'X' => Start::BarRest,
-        b'|' | b':' => Start::BarLine,
-        b'>' | b'<' => Start::Broken,
-        b'-' => Start::Tie,
-        b'"' | b'!' | b'{' => Start::Delimited,
-        b'y' => Start::Space,
-        _ => Start::Nothing,
-    }
-}
-
 /// What a byte other than `[` begins.
 #[tactic(auto, unfolding(crate::specs::Start::byte_start))]
 fn byte_start(byte: u8) -> Start
     ensures { result ≡ byte_start byte }
 {
-    if byte == b'(' {
-        return Start::Parenthesis;
+    match byte {
+        b'A'..=b'G' | b'a'..=b'g' | b'^' | b'_' | b'=' => Start::Note,
+        b' ' | b'\t' => Start::Blank,
+        b'z' | b'x' => Start::Rest,
+        b'Z' | b'X' => Start::BarRest,
+        b'|' | b':' => Start::BarLine,
+        b'(' => Start::Parenthesis,
+        b'>' | b'<' => Start::Broken,
+        b'-' => Start::Tie,
+        b'0'..=b'9' => Start::Digit,
+        b'"' | b'!' | b'{' => Start::Delimited,
+        b'y' => Start::Space,
+        b'H'..=b'W' | b'h'..=b'w' => Start::Single,
+        b'`' | b'.' | b'~' | b'\\' | b'$' | b'#' | b'*' | b';' | b'?' | b'@' | b')' =>
+            Start::Single,
+        _ => Start::Nothing,
     }
-    if has_no_effect(byte) {
-        return Start::Single;
-    }
-    if byte.is_ascii_digit() {
-        return Start::Digit;
-    }
-    if is_blank(byte) {
-        return Start::Blank;
-    }
-    if begins_note(byte) {
-        return Start::Note;
-    }
-    mark_start(byte)
 }
 
 /// What a `[` begins, by the bytes behind it.
