@@ -1,5 +1,5 @@
 -- Lengths as they are written behind notes and rests. ABC 2.1 section 4.3.
-use Rattle.std.specs.Prelude.{◌≤◌, ◌≡◌, ℕ, ◌+◌, ◌^◌, ◌<◌, Bool, Option, Some, None, List, [], ◌∷◌, ◌++◌, length, take, drop, replicate, if◌then◌else◌, ◌==◌, nat_lt}
+use Rattle.std.specs.Prelude.{◌≤◌, ◌≡◌, ℕ, ◌+◌, ◌^◌, ◌<◌, Bool, false, ◌||◌, Option, Some, None, List, [], ◌∷◌, ◌++◌, length, take, drop, replicate, if◌then◌else◌, ◌==◌, nat_lt}
 use Rattle.std.specs.List.{prefix_len, AllPass}
 use Rattle.abc_text.specs.declared.digit.TheConstants.{LONGEST_NUMBER, LARGEST_NUMBER}
 use Rattle.abc_text.specs.Digit.{is_digit, decimal}
@@ -10,6 +10,11 @@ use Rattle.abc_scan.specs.declared.length.WrittenLength.TheVariants.{Factor, Ref
 -- A slash.
 abbrev pub is_slash : ℕ → Bool
 is_slash = λ b. b == slash
+
+-- Whether a text begins with a digit or a slash.
+abbrev pub begins_length : List ℕ → Bool
+begins_length [] = false
+begins_length (b ∷ bs) = is_digit b || is_slash b
 
 -- The number that digits write, or another where there are none. It is refused where it has more than
 -- nine digits or is 0. Our own.

@@ -3,10 +3,10 @@
 ghost use Rattle.std.specs.Prelude.{◌≡◌, ◌≤◌, ◌==◌, if◌then◌else◌, length, take};
 ghost use Rattle.std.specs.List.{prefix_len, AllPass};
 ghost use Rattle.abc_text.specs.Digit.{is_digit};
-ghost use Rattle.abc_scan.specs.Length.{is_slash, number_or, written_length, length_at, length_size};
+ghost use Rattle.abc_scan.specs.Length.{begins_length, is_slash, number_or, written_length, length_at, length_size};
 
 use crate::run::run_of;
-use abc_text::{LONGEST_NUMBER, decimal, digits};
+use abc_text::{LONGEST_NUMBER, decimal, digits, is_digit};
 
 /// The value of a length text: what it multiplies the unit note length by (ABC 2.1 section 4.3).
 #[derive(Clone, Copy)]
@@ -66,13 +66,26 @@ fn written_length(over: &[u8], slashes: usize, under: &[u8]) -> WrittenLength
     }
 }
 
-/// The length at the front of a text, and how many bytes it takes.
+/// Whether a text begins with a digit or a slash.
+fn begins_length(text: &[u8]) -> bool
+    ensures { result ≡ begins_length text.now }
+{
+    match text {
+        [] => false,
+        [byte, ..] => is_digit(*byte) || *byte == b'/',
+    }
+}
+
+/// The length at the front of a text, and how many bytes it takes. Most notes have none.
 #[tactic(auto, unfolding(crate::specs::Length::length_at, crate::specs::Length::length_size))]
 pub(crate) fn length_at(text: &[u8]) -> (WrittenLength, usize)
     ensures value { result.0 ≡ length_at text.now }
     ensures size { result.1 ≡ length_size text.now }
     ensures inside { result.1 ≤ length text.now }
 {
+    if !begins_length(text) {
+        return (WrittenLength::Factor { num: 1, den: 1 }, 0);
+    }
     let over = digits(text);
     let rest = &text[over..];
     let slashes = slashes(rest);
