@@ -23,9 +23,14 @@ fn fold_line<F: Fold>(
     ensures state { OnOk result (state.new ≡ state_along (F.next fold.now) state.old (map (placed_at line) cells.now)) }
 {
     for cell in cells {
-        let (after, here) = fold.step(alloc, state, cell, work)?;
-        items.push(InLine { line, here })?;
-        *state = after;
+        // A match, since with `?` the state would be copied twice more.
+        match fold.step(alloc, state, cell, work) {
+            Ok((after, here)) => {
+                *state = after;
+                items.push(InLine { line, here })?;
+            }
+            Err(error) => return Err(error),
+        }
     }
     Ok(())
 }
