@@ -1,6 +1,7 @@
 -- A voice's events in another order: its notes taken from the last to the first.
 use Rattle.std.proofs.Common.{◌≡◌, ℕ, ◌≤◌, ◌==◌, Bool, true, false, cond, arith, List, [], ◌∷◌, ◌++◌, length, map, refl, sym, ap, subst, ◌∙◌}
-use Rattle.std.specs.Prelude.{All, IsPermutation, codes}
+use Rattle.std.specs.Prelude.{All, IsPermutation, codes, take}
+use Rattle.std.proofs.Math.Seq.{take-append_seam}
 use Rattle.byteorder.specs.Endian.{big_bytes}
 use Rattle.std.proofs.lemmas.Bool.Decides.{nat_tests}
 use Rattle.std.proofs.lemmas.Grind.{flat_map-append}
@@ -86,9 +87,6 @@ last_within end left left' note e within =
     let turned : All P (note ∷ left') = All-permutation P (left' ++ note ∷ []) (note ∷ left') (IsPermutation-append_comm left' (note ∷ [])) (subst (All P) e within) in
     (All-head P note left' turned, All-tail P note left' turned)
 
--- two events are put to others, one after the other
-pub two_more : (events first both own : List NoteEvent) (on off : NoteEvent) → IsPermutation (events ++ on ∷ []) first → IsPermutation (first ++ off ∷ []) both → own ≡ on ∷ off ∷ [] → IsPermutation (events ++ own) both
-two_more events first both own on off p q e =
-    subst (λ l. IsPermutation (events ++ l) both) (sym e)
-    (subst (λ l. IsPermutation l both) (append_assoc events (on ∷ []) (off ∷ []))
-    (IsPermutation-trans ((events ++ on ∷ []) ++ off ∷ []) (first ++ off ∷ []) both (IsPermutation-append_left (off ∷ []) (events ++ on ∷ []) first p) q))
+-- what a slice of all items leaves of them
+pub restored : (n : ℕ) (ys rest : List NoteEvent) → length ys ≡ n → take n (ys ++ rest) ≡ ys
+restored n ys rest h = subst (λ m. take m (ys ++ rest) ≡ ys) h (take-append_seam ys rest)

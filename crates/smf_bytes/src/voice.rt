@@ -1,5 +1,5 @@
 //! The events of a voice: its notes on and off.
-ghost use Rattle.std.specs.Prelude.{◌≡◌, ◌≤◌, ◌<◌, ◌++◌, [], ◌∷◌, IfOk, IsPermutation, OnOk};
+ghost use Rattle.std.specs.Prelude.{◌≡◌, ◌≤◌, ◌<◌, ◌++◌, [], ◌∷◌, length, IfOk, IsPermutation, OnOk};
 ghost use Rattle.abc_time.specs.Grains.{grains_of_the_latest_end};
 ghost use Rattle.abc_music.specs.declared.item.TheConstants.{MOST_VOICES};
 ghost use Rattle.abc_voices.specs.Limits.{IsSoundingWithin, IsVoiceWithin};
@@ -45,7 +45,6 @@ pub(crate) fn voice(
 }
 
 /// Puts the on and the off of a note to the events, unless both fall on one tick.
-#[tactic(auto, using(crate::proofs::Turned::two_more))]
 fn push_note(events: &mut Vec<NoteEvent>, end: Grains, note: &Sounding) -> Result<(), AllocError>
     requires end { end.0 ≤ grains_of_the_latest_end }
     requires note { IsSoundingWithin end note.now }
@@ -54,31 +53,43 @@ fn push_note(events: &mut Vec<NoteEvent>, end: Grains, note: &Sounding) -> Resul
     let on = tick_of(note.on);
     let off = tick_of(note.off);
     if on != off {
-        put(events, NoteEvent::new(on, true, note.key))?;
-        put(events, NoteEvent::new(off, false, note.key))?;
+        put(
+            events,
+            NoteEvent::new(on, true, note.key),
+            NoteEvent::new(off, false, note.key),
+        )?;
     }
     Ok(())
 }
 
-/// Puts an event to others, before those just before it that come later.
-fn put(events: &mut Vec<NoteEvent>, event: NoteEvent) -> Result<(), AllocError>
-    ensures { OnOk result (IsPermutation (events.old.items ++ event ∷ []) events.new.items) }
+/// Puts the on and the off of a note to other events. Unless the on comes last of them, each is moved back to its
+/// place.
+fn put(events: &mut Vec<NoteEvent>, on: NoteEvent, off: NoteEvent) -> Result<(), AllocError>
+    ensures { OnOk result (IsPermutation (events.old.items ++ on ∷ off ∷ []) events.new.items) }
 {
-    events.push(event)?;
-    move_back(events);
+    let place = events.len();
+    let is_last = events.last().is_none_or(|last| *last <= on);
+    events.push(on)?;
+    events.push(off)?;
+    if !is_last {
+        move_back(events, place);
+        move_back(events, place + 1);
+    }
     Ok(())
 }
 
-/// Moves the last event back to its place among those just before it.
-fn move_back(events: &mut [NoteEvent])
-    ensures { IsPermutation events.old events.new }
+/// Moves an event back to its place among those just before it.
+fn move_back(events: &mut [NoteEvent], from: usize)
+    requires { from < length events.old }
+    ensures permutation { IsPermutation events.old events.new }
+    ensures length { length events.new ≡ length events.old }
 {
-    let mut place = events.len();
+    let mut place = from;
     for _ in 0..FARTHEST_BACK {
-        if place < 2 || events[place - 2] <= events[place - 1] {
+        if place == 0 || events[place - 1] <= events[place] {
             return;
         }
-        events.swap(place - 2, place - 1);
+        events.swap(place - 1, place);
         place -= 1;
     }
 }
