@@ -2,7 +2,7 @@
 
 ghost use Rattle.std.specs.Prelude.{◌≡◌, ◌≤◌, ◌<◌, drop, length, false, IfOk, IfSome};
 ghost use Rattle.abc_scan.specs.Closing.{IsMissing};
-ghost use Rattle.abc_scan.specs.Token.{is_bar, mark_by, reading_by, reading_at, alone_of, next_token};
+ghost use Rattle.abc_scan.specs.Token.{is_bar, mark_by, reading_by, alone_of, next_token};
 
 use crate::bar::{BarLine, bar_at};
 use crate::bar_rest::bar_rest_at;
@@ -169,34 +169,8 @@ fn mark_at(start: Start, after_bar: bool, text: &[u8]) -> Option<(TokenKind, usi
     }
 }
 
-/// The token at the front of a text, and how many bytes it takes, where a bar line stands directly
-/// before it or not.
-#[tactic(auto, using(crate::proofs::Starts::mark_reading), unfolding(crate::specs::Token::reading_at))]
-fn reading_at(
-    alloc: Global,
-    after_bar: bool,
-    text: &[u8],
-    missing: &mut Missing,
-) -> Result<Option<(TokenKind, usize)>, AllocError>
-    requires some { 0 < length text.now }
-    requires known { IsMissing missing.old (drop 1 text.now) }
-    ensures value { IfOk result (λ token. token ≡ reading_at after_bar text.now) }
-    ensures some { IfOk result (λ token. IfSome token (λ r. 0 < r.1)) }
-    ensures inside { IfOk result (λ token. IfSome token (λ r. r.1 ≤ length text.now)) }
-    ensures kept { IsMissing missing.new (drop 1 text.now) }
-{
-    match start_of(text) {
-        Start::InlineField => field_at(alloc, text, missing),
-        Start::Bracket => bracket_at(alloc, after_bar, text),
-        Start::Delimited => match delimited_at(text, missing) {
-            Some(size) => Ok(Some((TokenKind::NoEffect, size))),
-            None => Ok(None),
-        },
-        start => Ok(mark_at(start, after_bar, text)),
-    }
-}
-
 /// What comes first in a text, and how many bytes it takes: a token, else one byte that begins none.
+#[tactic(auto, using(crate::proofs::Starts::mark_reading), unfolding(crate::specs::Token::reading_at))]
 pub(crate) fn next_token(
     alloc: Global,
     after_bar: bool,
@@ -210,7 +184,16 @@ pub(crate) fn next_token(
     ensures inside { IfOk result (λ r. r.1 ≤ length text.now) }
     ensures kept { IsMissing missing.new (drop 1 text.now) }
 {
-    match reading_at(alloc, after_bar, text, missing)? {
+    let found = match start_of(text) {
+        Start::InlineField => field_at(alloc, text, missing)?,
+        Start::Bracket => bracket_at(alloc, after_bar, text)?,
+        Start::Delimited => match delimited_at(text, missing) {
+            Some(size) => Some((TokenKind::NoEffect, size)),
+            None => None,
+        },
+        start => mark_at(start, after_bar, text),
+    };
+    match found {
         Some(token) => Ok(token),
         None => Ok((alone_of(text[0]), 1)),
     }
