@@ -100,9 +100,19 @@ impl Body {
     pub(crate) fn mention(&mut self, alloc: Global) -> Result<(), AllocError>
         ensures { OnOk result (self.new ≡ mentioned self.old) }
     {
-        if matches!(self.current, Current::At(_)) {
-            return Ok(());
+        match self.current {
+            Current::At(_) => Ok(()),
+            Current::Unnamed(_) => self.mention_unnamed(alloc),
         }
+    }
+
+    /// Mentions the voice without a name. It happens at most once in a tune, and stands apart from what each
+    /// note runs.
+    #[inline(never)]
+    fn mention_unnamed(&mut self, alloc: Global) -> Result<(), AllocError>
+        requires { IsUnnamed self.old.current }
+        ensures { OnOk result (self.new ≡ mentioned self.old) }
+    {
         if let Current::Unnamed(settings) = mem::replace(&mut self.current, Current::At(0)) {
             self.voices = nameless(alloc, settings)?;
         }
