@@ -32,6 +32,19 @@ cut_exactly den h =
     sym (ap (λ n. n * 1816214400) powers) ∙ (let e : 2 ^ (9 - h.power) * 2 ^ h.power * 1816214400 ≡ parts * 2 ^ h.power = omega arith in e) ∙ ap (λ n. parts * n) (sym h.value) in
     ap (λ n. n / den * den) whole ∙ ap (λ n. n * den) (mul-div_cancel parts (power_least 9 den h)) ∙ sym whole
 
+-- a part that is a unit's is so many of the shortest ones
+cut_by_parts : (den : ℕ) → IsPowerUpTo 9 den → 1816214400 * (512 / den) ≡ 929901772800 / den
+cut_by_parts den h =
+    let times = 2 ^ (9 - h.power) in
+    let small : h.power ≤ 9 = h.small in
+    let sum : (9 - h.power) + h.power ≡ 9 = omega arith in
+    let powers : times * 2 ^ h.power ≡ 512 = sym (pow-add 2 (9 - h.power) h.power) ∙ ap (λ k. 2 ^ k) sum in
+    let most : 512 ≡ times * den = sym powers ∙ ap (λ n. times * n) (sym h.value) in
+    let whole : 929901772800 ≡ (1816214400 * times) * den =
+    ap (λ n. 1816214400 * n) most ∙ (let e : 1816214400 * (times * den) ≡ (1816214400 * times) * den = omega arith in e) in
+    let cut : 512 / den ≡ times = ap (λ n. n / den) most ∙ mul-div_cancel times (power_least 9 den h) in
+    ap (λ n. 1816214400 * n) cut ∙ sym (ap (λ n. n / den) whole ∙ mul-div_cancel (1816214400 * times) (power_least 9 den h))
+
 pub read_part : (text : List ℕ) (part : Ratio) → IsUnit text part → IsUnitPart part
 read_part text part h = record {
   one = h.one;
@@ -90,6 +103,24 @@ unit_exact_at n inside self e v part =
 pub unit_short_at : (n : ℕ) (inside self : Ratio) → n ≡ inside.den → inside ≡ self → (cut_in n).0 ≤ grains_of_the_longest_length
 unit_short_at n inside self e v =
     subst (λ (g : Grains). g.0 ≤ grains_of_the_longest_length) (sym (unit_value n inside self e v)) (unit_short self)
+
+-- the shortest units that code counts
+abbrev pub part_in : ℕ → Grains
+part_in n = record { 0 = 1816214400 * n }
+
+part_is : (n : ℕ) (inside : Ratio) → n ≡ 512 / inside.den → IsUnitPart inside → part_in n ≡ cut_in inside.den
+part_is n inside e part = λ i. record { 0 = (ap (λ m. 1816214400 * m) e ∙ cut_by_parts inside.den part.power) i }
+
+pub part_value : (n : ℕ) (inside self : Ratio) → n ≡ 512 / inside.den → inside ≡ self → IsUnitPart inside → part_in n ≡ unit_grains self
+part_value n inside self e v part = part_is n inside e part ∙ unit_value inside.den inside self refl v
+
+pub part_exact : (n : ℕ) (inside self : Ratio) → n ≡ 512 / inside.den → inside ≡ self → IsUnitPart inside → IsLength self [] (part_in n).0
+part_exact n inside self e v part =
+    subst (λ (g : Grains). IsLength self [] g.0) (sym (part_is n inside e part)) (unit_exact_at inside.den inside self refl v part)
+
+pub part_short : (n : ℕ) (inside self : Ratio) → n ≡ 512 / inside.den → inside ≡ self → IsUnitPart inside → (part_in n).0 ≤ grains_of_the_longest_length
+part_short n inside self e v part =
+    subst (λ (g : Grains). g.0 ≤ grains_of_the_longest_length) (sym (part_is n inside e part)) (unit_short_at inside.den inside self refl v)
 
 pub bar_value : (a b num den : ℕ) → a ≡ den → b ≡ num → bar_in a b ≡ bar_grains num den
 unfolding bar_grains grains_of_a_whole_note

@@ -12,6 +12,13 @@ use abc_fields::{FaultCode, Meter, read_unit};
 use abc_time::{Grains, Ratio, WHOLE_NOTE};
 use std::marker::Model;
 
+/// Into how many units a whole note is cut at most.
+const MOST_PARTS: u32 = 512;
+
+/// The shortest unit in grains. Each unit is so many of it: to divide 512 is cheaper than to divide a whole
+/// note's grains, which take 64 bits.
+const SHORTEST_UNIT: u64 = WHOLE_NOTE.0 / 512;
+
 /// A unit note length, as a part of a whole note (ABC 2.1 section 3.1.7). Contracts see the part.
 #[derive(Clone, Copy)]
 pub struct UnitLength {
@@ -69,6 +76,6 @@ impl UnitLength {
         ensures exact { IsLength self [] result.0 }
         ensures range { result.0 ≤ grains_of_the_longest_length }
     {
-        Grains(WHOLE_NOTE.0 / u64::from(self.part.den))
+        Grains(SHORTEST_UNIT * u64::from(MOST_PARTS / self.part.den))
     }
 }
