@@ -7,11 +7,9 @@ ghost use Rattle.abc_fields.specs.declared.fault.FaultCode.{FaultCode};
 ghost use Rattle.abc_fields.specs.Fault.{name_of, number_of};
 
 use std::cmp::Ordering;
-use std::fmt;
-use thiserror::Error;
 
 /// What is wrong at a place of a tune book, in the order in which faults at one place are listed.
-#[derive(Clone, Copy, Debug, Error)]
+#[derive(Clone, Copy, Debug)]
 pub enum FaultCode {
     /// An `X:` that is no number from 1.
     BadReference = 1,
@@ -109,13 +107,6 @@ impl FaultCode {
             FaultCode::UnevenVoices => "UnevenVoices",
             FaultCode::TuneTooLong => "TuneTooLong",
         }
-    }
-}
-
-// One line for all the names, where a derived message would write one for each.
-impl fmt::Display for FaultCode {
-    fn fmt<W: fmt::Write>(&self, f: &mut fmt::Formatter<W>) -> fmt::Result {
-        f.write_str(self.name())
     }
 }
 
