@@ -1,4 +1,5 @@
 pub mod Accidentals
+pub mod Along
 pub mod Cells
 pub mod Heard
 pub mod Known

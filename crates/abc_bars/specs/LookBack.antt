@@ -1,5 +1,6 @@
 pub mod After
 pub mod AfterBody
+pub mod Along
 pub mod Cells
 pub mod Defaults
 pub mod Element

@@ -2,6 +2,7 @@
 //! and its faults.
 #![tactic(auto)]
 
+mod along_laws;
 mod bar_fold;
 mod body;
 mod body_fields;
@@ -27,6 +28,7 @@ pub use abc_music::{
     HIGHEST_KEY, Item, Items, LocalFault, MOST_NOTES, MOST_VOICES, Tone, TuneMeter, TuneTempo,
     UnitLength,
 };
+pub use along_laws::views_along;
 pub use bar_fold::BarFold;
 pub use body::Body;
 pub use body_laws::mentioned_voices;

@@ -1,0 +1,72 @@
+-- The steps along cells are the look back.
+use Rattle.std.proofs.Common.{◌≡◌, List, [], ◌∷◌, Option, Some, None, refl, sym, subst, ap, ◌∙◌}
+use Rattle.abc_scan.specs.declared.field.Field.{Field}
+use Rattle.abc_bars.specs.declared.entry.Entry.{Entry}
+use Rattle.abc_bars.specs.declared.entry.Entry.TheVariants as entries
+use Rattle.abc_bars.specs.Defaults.{no_defaults}
+use Rattle.abc_bars.specs.Entry.{opening_after}
+use Rattle.abc_bars.specs.Step.{field_in, stepped}
+use Rattle.abc_bars.specs.LookBack.Along.{CellTokens, IsLookBack, fields_behind, file_header_begins, given_along, items_along, place_after, state_after, states_along, tune_begins, views_along, with_field_line}
+use Rattle.abc_bars.specs.LookBack.Place.{Place, InFileHeader, behind_line, place_behind, view}
+use Rattle.abc_bars.proofs.LookBack.Places.{stepped_back}
+use Rattle.abc_music.specs.Item.{Items}
+use Rattle.std.specs.Option.{option_map}
+
+-- What holds behind a cell.
+abbrev to : Entry → CellTokens → Entry
+to entry cell = (stepped entry cell).0
+
+-- What a cell gives.
+abbrev giving : Entry → CellTokens → Items
+giving entry cell = (stepped entry cell).1
+
+to-view : (place : Place) (cell : CellTokens) → to (view place) cell ≡ view (place_behind place cell)
+to-view place cell = ap (λ (made : Entry × Items). made.0) (stepped_back place cell)
+
+entered-along : (place : Place) (cells : List CellTokens) → states_along to (view place) cells ≡ views_along place cells
+entered-along place [] = refl
+entered-along place (cell ∷ cells) =
+    ap (λ (rest : List Entry). view place ∷ rest)
+    (ap (λ (state : Entry). states_along to state cells) (to-view place cell) ∙ entered-along (place_behind place cell) cells)
+
+items-given : (place : Place) (cells : List CellTokens) → items_along to giving (view place) cells ≡ given_along place cells
+items-given place [] = refl
+items-given place (cell ∷ cells) = λ i.
+    ap (λ (made : Entry × Items). made.1) (stepped_back place cell) i
+    ∷ (ap (λ (state : Entry). items_along to giving state cells) (to-view place cell) ∙ items-given (place_behind place cell) cells) i
+
+behind-cells : (place : Place) (cells : List CellTokens) → state_after to (view place) cells ≡ view (place_after place cells)
+behind-cells place [] = refl
+behind-cells place (cell ∷ cells) =
+    ap (λ (state : Entry). state_after to state cells) (to-view place cell) ∙ behind-cells (place_behind place cell) cells
+
+-- From the view of any place on, the steps are the look back.
+from-view : (place : Place) → IsLookBack to giving (view place) place
+from-view place = record { entered = entered-along place; given = items-given place; behind = behind-cells place }
+
+-- The place behind the cells of a file header: its field lines stand before it.
+line-behind : (before : List Field) (field : Option Field) → behind_line before field ≡ InFileHeader (with_field_line field before)
+line-behind before None = refl
+line-behind before (Some field) = refl
+
+fields-along : (before : List Field) (cells : List CellTokens) → place_after (InFileHeader before) cells ≡ InFileHeader (fields_behind cells before)
+fields-along before [] = refl
+fields-along before (cell ∷ cells) =
+    ap (λ (place : Place). place_after place cells) (line-behind before (field_in cell))
+    ∙ fields-along (with_field_line (field_in cell) before) cells
+
+-- What opens a tune is the view of the place where it begins.
+opened : (header : Option (List CellTokens))
+    → opening_after (option_map (state_after to (entries.FileHeader no_defaults)) header) ≡ view (tune_begins header)
+opened None = refl
+opened (Some cells) =
+    ap (λ (state : Entry). opening_after (Some state))
+    (behind-cells file_header_begins cells ∙ ap view (fields-along [] cells))
+
+pub file_header_looked_back : IsLookBack to giving (entries.FileHeader no_defaults) file_header_begins
+file_header_looked_back = from-view file_header_begins
+
+pub tune_looked_back : (header : Option (List CellTokens))
+    → IsLookBack to giving (opening_after (option_map (state_after to (entries.FileHeader no_defaults)) header)) (tune_begins header)
+tune_looked_back header =
+    subst (λ (state : Entry). IsLookBack to giving state (tune_begins header)) (sym (opened header)) (from-view (tune_begins header))

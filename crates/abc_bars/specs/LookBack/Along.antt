@@ -1,0 +1,82 @@
+-- The places that cells lead to, one after another from where a file header or a tune begins, and what the
+-- cells give there; and what the steps of a fold make of the same cells.
+use Rattle.std.specs.Prelude.{◌≡◌, List, [], ◌∷◌, map, Option, Some, None}
+use Rattle.abc_scan.specs.declared.field.Field.{Field}
+use Rattle.abc_scan.specs.declared.spanned.Spanned.{Spanned}
+use Rattle.abc_scan.specs.declared.token.TokenKind.{TokenKind}
+use Rattle.abc_bars.specs.declared.defaults.Defaults.{Defaults}
+use Rattle.abc_bars.specs.declared.entry.Entry.{Entry}
+use Rattle.abc_bars.specs.Defaults.{no_defaults}
+use Rattle.abc_bars.specs.Step.{field_in}
+use Rattle.abc_bars.specs.LookBack.Defaults.{defaults_at}
+use Rattle.abc_bars.specs.LookBack.Place.{Place, InFileHeader, InHeader, given_at, place_behind, view}
+use Rattle.abc_music.specs.Item.{Items}
+
+-- The tokens of a cell.
+abbrev pub CellTokens : Type 0
+CellTokens = List (Spanned TokenKind)
+
+-- These fields, and the field line that a cell is, if it is one, before them.
+abbrev pub with_field_line : Option Field → List Field → List Field
+with_field_line None before = before
+with_field_line (Some field) before = field ∷ before
+
+-- The field lines among cells, newest first, before those that stand before them.
+abbrev pub fields_behind : List CellTokens → List Field → List Field
+fields_behind [] before = before
+fields_behind (cell ∷ cells) before = fields_behind cells (with_field_line (field_in cell) before)
+
+-- Where a file header begins: nothing stands before it.
+abbrev pub file_header_begins : Place
+file_header_begins = InFileHeader []
+
+-- The values that the cells of a file header set, if there is one.
+abbrev pub values_set : Option (List CellTokens) → Defaults
+values_set None = no_defaults
+values_set (Some cells) = defaults_at no_defaults (fields_behind cells [])
+
+-- Where a tune begins, by the cells of the file header, if there is one.
+abbrev pub tune_begins : Option (List CellTokens) → Place
+tune_begins header = InHeader (values_set header) []
+
+-- The place behind cells.
+abbrev pub place_after : Place → List CellTokens → Place
+place_after place [] = place
+place_after place (cell ∷ cells) = place_after (place_behind place cell) cells
+
+-- The place of each cell.
+abbrev pub places_along : Place → List CellTokens → List Place
+places_along place [] = []
+places_along place (cell ∷ cells) = place ∷ places_along (place_behind place cell) cells
+
+-- What looking back finds at the place of each cell.
+abbrev pub views_along : Place → List CellTokens → List Entry
+views_along place cells = map view (places_along place cells)
+
+-- What each cell gives at its place.
+abbrev pub given_along : Place → List CellTokens → List Items
+given_along place [] = []
+given_along place (cell ∷ cells) = given_at place cell ∷ given_along (place_behind place cell) cells
+
+-- The state behind cells, by the steps of a fold.
+abbrev pub state_after : {State Cell : Type 0} → (State → Cell → State) → State → List Cell → State
+state_after next state [] = state
+state_after next state (cell ∷ cells) = state_after next (next state cell) cells
+
+-- The state in which each cell is entered.
+abbrev pub states_along : {State Cell : Type 0} → (State → Cell → State) → State → List Cell → List State
+states_along next state [] = []
+states_along next state (cell ∷ cells) = state ∷ states_along next (next state cell) cells
+
+-- What each cell gives where it is entered.
+abbrev pub items_along : {State Cell Items : Type 0} → (State → Cell → State) → (State → Cell → Items) → State → List Cell → List Items
+items_along next gives state [] = []
+items_along next gives state (cell ∷ cells) = gives state cell ∷ items_along next gives (next state cell) cells
+
+-- From this state at this place on, the steps of a fold along any cells are the look back: each cell is
+-- entered in the view of its place, gives what looking back gives there, its faults among it, and behind them
+-- holds the view of the place behind them.
+pub record IsLookBack (next : Entry → CellTokens → Entry) (gives : Entry → CellTokens → Items) (state : Entry) (place : Place) : Type 0 where
+  pub entered : (cells : List CellTokens) → states_along next state cells ≡ views_along place cells
+  pub given : (cells : List CellTokens) → items_along next gives state cells ≡ given_along place cells
+  pub behind : (cells : List CellTokens) → state_after next state cells ≡ view (place_after place cells)
