@@ -5,8 +5,12 @@
 
 mod counts;
 mod fold;
+mod resumable;
+mod shared;
 mod work;
 
 pub use counts::Counts;
 pub use fold::Fold;
+pub use resumable::Resumable;
+pub use shared::Shared;
 pub use work::Work;
