@@ -1,1 +1,4 @@
+pub mod Alike
+pub mod Folding
+pub mod Kept
 pub mod Raised

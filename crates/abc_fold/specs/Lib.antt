@@ -1,2 +1,4 @@
+pub mod Chain
+pub mod Piece
 pub mod Steps
 pub mod Work

@@ -1,5 +1,5 @@
 -- The counters of an edit's work.
-use Rattle.std.specs.Prelude.{ℕ, ◌+◌, ◌-◌, ◌^◌, min, max}
+use Rattle.std.specs.Prelude.{◌≡◌, ℕ, ◌+◌, ◌-◌, ◌^◌, ◌≤◌, min, max}
 
 -- How many lines were scanned, steps folded and tunes built. Our own.
 pub record Counters : Type 0 where
@@ -14,3 +14,10 @@ raised count k = max count (min (count + k) (2 ^ 64 - 1))
 -- The counters after k more steps. Our own.
 abbrev pub after_steps : Counters → ℕ → Counters
 after_steps counters k = record counters { folded = raised counters.folded k }
+
+-- The steps folded have risen by k at most, and the other two counters have not. Our own.
+pub record IsRaisedUpTo (k : ℕ) (before after : Counters) : Type 0 where
+  pub scanned : after.scanned ≡ before.scanned
+  pub built : after.built ≡ before.built
+  pub least : before.folded ≤ after.folded
+  pub most : after.folded ≤ raised before.folded k

@@ -3,14 +3,18 @@
 //! these counters.
 #![tactic(auto)]
 
+mod chain;
 mod counts;
 mod fold;
+mod piece;
 mod resumable;
 mod shared;
 mod work;
 
+pub use chain::{Chain, ChainPatch};
 pub use counts::Counts;
 pub use fold::Fold;
+pub use piece::Piece;
 pub use resumable::Resumable;
 pub use shared::Shared;
 pub use work::Work;

@@ -1,0 +1,109 @@
+//! The pieces that a chain is made from.
+
+ghost use Rattle.std.specs.Prelude.{◌≡◌, IfOk};
+ghost use Rattle.abc_fold.specs.Piece.{IsKept, cell_of, steps_at};
+ghost use Rattle.abc_fold.specs.Steps.{IsAlike, steps_of};
+ghost use Rattle.abc_fold.specs.Work.{IsRaisedUpTo, after_steps};
+
+use crate::{Counts, Resumable, Shared};
+use std::alloc::{AllocError, Global};
+
+/// A cell that is to be folded, or one with what an earlier chain kept of it.
+#[derive(Drop)]
+pub enum Piece<F: Resumable> {
+    /// A cell.
+    New(F::Cell),
+    /// A cell, the states in which it was entered and left, and what it gave.
+    Kept {
+        cell: Shared<F::Cell>,
+        entered: Shared<F::State>,
+        left: Shared<F::State>,
+        items: Shared<F::Items>,
+    },
+}
+
+/// The cell of a piece: the kept one itself, or a copy of a new one.
+pub(crate) fn cell_in<F: Resumable>(
+    alloc: Global,
+    fold: &F,
+    piece: &Piece<F>,
+) -> Result<Shared<F::Cell>, AllocError>
+    ensures { IfOk result (λ cell. cell ≡ cell_of piece.now) }
+{
+    match piece {
+        Piece::New(cell) => Ok(Shared::new(alloc, fold.copy_cell(alloc, cell)?)?),
+        Piece::Kept { cell, .. } => cell.share(),
+    }
+}
+
+/// One of two states: the one before a cell where nothing that follows can tell it from the one behind, so that it is
+/// kept once.
+fn one_of<F: Resumable>(
+    fold: &F,
+    before: &Shared<F::State>,
+    behind: &Shared<F::State>,
+) -> Result<Shared<F::State>, AllocError>
+    ensures { let steps = steps_of (F.next fold.now) (F.gives fold.now) (F.alike fold.now) in
+        IfOk result (λ state. IsAlike steps state behind.now) }
+{
+    if fold.same(before.get(), behind.get()) {
+        before.share()
+    } else {
+        behind.share()
+    }
+}
+
+/// The state behind a cell and its items, by a step.
+fn stepped<F: Resumable>(
+    alloc: Global,
+    fold: &F,
+    state: &Shared<F::State>,
+    cell: &F::Cell,
+    work: &mut F::Work,
+) -> Result<(Shared<F::State>, Shared<F::Items>), AllocError>
+    ensures state_after { let steps = steps_of (F.next fold.now) (F.gives fold.now) (F.alike fold.now) in
+        IfOk result (λ made. IsAlike steps made.0 (steps.next state.now cell.now)) }
+    ensures items { IfOk result (λ made. made.1 ≡ F.gives fold.now state.now cell.now) }
+    ensures counted { F.Work.counts work.new ≡ after_steps (F.Work.counts work.old) 1 }
+{
+    let (next, items) = fold.step(alloc, state.get(), cell, work)?;
+    let items = Shared::new(alloc, items)?;
+    if fold.same(state.get(), &next) {
+        return Ok((state.share()?, items));
+    }
+    Ok((Shared::new(alloc, next)?, items))
+}
+
+/// The state behind a piece and its items, where it is entered in a state: kept ones where it was kept from a state
+/// alike, and else by a step.
+#[tactic(auto, using(crate::proofs::Raised::counted))]
+pub(crate) fn passed<F: Resumable>(
+    alloc: Global,
+    fold: &F,
+    state: &Shared<F::State>,
+    piece: &Piece<F>,
+    work: &mut F::Work,
+) -> Result<(Shared<F::State>, Shared<F::Items>), AllocError>
+    requires kept { IsKept (steps_of (F.next fold.now) (F.gives fold.now) (F.alike fold.now)) piece.now }
+    ensures state_after { let steps = steps_of (F.next fold.now) (F.gives fold.now) (F.alike fold.now) in
+        IfOk result (λ made. IsAlike steps made.0 (steps.next state.now (cell_of piece.now))) }
+    ensures items { IfOk result (λ made. made.1 ≡ F.gives fold.now state.now (cell_of piece.now)) }
+    ensures counted { let steps = steps_of (F.next fold.now) (F.gives fold.now) (F.alike fold.now) in
+        IsRaisedUpTo (steps_at steps state.now piece.now) (F.Work.counts work.old) (F.Work.counts work.new) }
+{
+    match piece {
+        Piece::New(cell) => stepped(alloc, fold, state, cell, work),
+        Piece::Kept {
+            cell,
+            entered,
+            left,
+            items,
+        } => {
+            if !fold.same(entered.get(), state.get()) {
+                return stepped(alloc, fold, state, cell.get(), work);
+            }
+            let left = one_of(fold, state, left)?;
+            Ok((left, items.share()?))
+        }
+    }
+}
