@@ -20,6 +20,7 @@ mod header_laws;
 mod heard_laws;
 mod opening;
 mod reference;
+mod same;
 mod voice_laws;
 mod voice_name;
 mod voices;

@@ -1,6 +1,6 @@
 //! The names of voices.
 
-ghost use Rattle.std.specs.Prelude.{◌≡◌, IfOk, bytes_eq};
+ghost use Rattle.std.specs.Prelude.{◌≡◌, ◌↔◌, IfOk, IsTrue, bytes_eq};
 ghost use Rattle.std.specs.Cmp.{on_equiv, on_per, partial_equiv_from_equiv};
 ghost use Rattle.std.specs.Cmp.Lexicographic.{nat_list_eq_equiv};
 ghost use Rattle.std.specs.Cmp.Rules.{hashing};
@@ -37,6 +37,13 @@ impl VoiceName {
     {
         let bytes = Sequence::from_slice(alloc, bytes)?;
         Ok(VoiceName { bytes })
+    }
+
+    /// Whether both are the same name.
+    pub(crate) fn same(&self, other: &VoiceName) -> bool
+        ensures { IsTrue result ↔ (self.now ≡ other.now) }
+    {
+        self.bytes == other.bytes
     }
 }
 

@@ -1,5 +1,6 @@
 pub mod Acting
 pub mod AddedNotes
+pub mod Alike
 pub mod BarCounts
 pub mod ChordTones
 pub mod Factors

@@ -12,6 +12,7 @@ mod lengths;
 mod meter;
 mod numbers;
 mod pitch;
+mod same;
 mod settings;
 mod sound;
 mod tempo;

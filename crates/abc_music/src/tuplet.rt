@@ -1,6 +1,6 @@
 //! Tuplets that are open.
 
-ghost use Rattle.std.specs.Prelude.{◌≡◌};
+ghost use Rattle.std.specs.Prelude.{◌≡◌, ◌↔◌, IsTrue};
 ghost use Rattle.abc_music.specs.Tuplet.{is_tuplet_number, is_compound, default_q, tuplet_with, tuplet_by, tuplet_opened, counted_down, tuplet_ratio, tuplet_factors};
 ghost use Rattle.abc_time.specs.Ratio.{IsRatio};
 
@@ -69,6 +69,13 @@ impl OpenTuplet {
             num: u32::from(self.q),
             den: u32::from(self.p),
         }
+    }
+
+    /// Whether both are the same tuplet, with as many notes, chords and rests left.
+    pub(crate) fn same(self, other: OpenTuplet) -> bool
+        ensures { IsTrue result ↔ (self ≡ other) }
+    {
+        self.p == other.p && self.q == other.q && self.left == other.left
     }
 }
 

@@ -1,0 +1,162 @@
+//! Whether the same holds at two places.
+
+ghost use Rattle.std.specs.Prelude.{◌≡◌, ◌↔◌, IsTrue, slice_get};
+
+use crate::body::{Body, Current};
+use crate::defaults::Defaults;
+use crate::entry::Entry;
+use crate::header::Header;
+use crate::voices::Voices;
+use abc_fields::Shift;
+use abc_music::{Settings, TuneMeter, TuneTempo, UnitLength};
+
+/// What is known of a voice, which can be compared.
+pub(crate) trait Known {
+    /// Whether both are the same.
+    fn is_same(&self, other: &Self) -> bool
+        ensures { IsTrue result ↔ (self.now ≡ other.now) };
+}
+
+impl Known for Settings {
+    fn is_same(&self, other: &Settings) -> bool {
+        self.same(other)
+    }
+}
+
+impl Known for Shift {
+    fn is_same(&self, other: &Shift) -> bool {
+        same_part(self.clef, other.clef)
+            && same_part(self.octave, other.octave)
+            && same_part(self.transpose, other.transpose)
+    }
+}
+
+/// Whether both say the same of a part of a shift, or nothing.
+fn same_part(said: Option<i64>, other: Option<i64>) -> bool
+    ensures { IsTrue result ↔ (said ≡ other) }
+{
+    said == other
+}
+
+/// Whether both are the same meter, or there is none.
+fn same_meter(meter: Option<TuneMeter>, other: Option<TuneMeter>) -> bool
+    ensures { IsTrue result ↔ (meter ≡ other) }
+{
+    match (meter, other) {
+        (Some(meter), Some(other)) => meter.same(other),
+        (None, None) => true,
+        _ => false,
+    }
+}
+
+/// Whether both are the same unit note length, or there is none.
+fn same_unit(unit: Option<UnitLength>, other: Option<UnitLength>) -> bool
+    ensures { IsTrue result ↔ (unit ≡ other) }
+{
+    match (unit, other) {
+        (Some(unit), Some(other)) => unit.same(other),
+        (None, None) => true,
+        _ => false,
+    }
+}
+
+/// Whether both are the same tempo, or there is none.
+fn same_tempo(tempo: Option<TuneTempo>, other: Option<TuneTempo>) -> bool
+    ensures { IsTrue result ↔ (tempo ≡ other) }
+{
+    match (tempo, other) {
+        (Some(tempo), Some(other)) => tempo.same(other),
+        (None, None) => true,
+        _ => false,
+    }
+}
+
+impl Defaults {
+    /// Whether the same values are set.
+    fn same(&self, other: &Defaults) -> bool
+        ensures { IsTrue result ↔ (self.now ≡ other.now) }
+    {
+        same_meter(self.meter, other.meter)
+            && same_unit(self.unit, other.unit)
+            && same_tempo(self.tempo, other.tempo)
+    }
+}
+
+impl<S: Known> Voices<S> {
+    /// Whether both have the same voice at a place, of which the same is known, or none.
+    fn same_at(&self, other: &Voices<S>, at: usize) -> bool
+        ensures { IsTrue result ↔ (slice_get self.now at ≡ slice_get other.now at) }
+    {
+        match (self.entry(at), other.entry(at)) {
+            (Some((name, known)), Some((with, known_with))) => {
+                name.same(with) && known.is_same(known_with)
+            }
+            (None, None) => true,
+            _ => false,
+        }
+    }
+
+    /// Whether both are the same voices in the same order, of which the same is known.
+    fn same(&self, other: &Voices<S>) -> bool
+        ensures { IsTrue result ↔ (self.now ≡ other.now) }
+    {
+        if self.len() != other.len() {
+            return false;
+        }
+        for at in 0..self.len() {
+            if !self.same_at(other, at) {
+                return false;
+            }
+        }
+        true
+    }
+}
+
+impl Header {
+    /// Whether the same holds in both headers.
+    fn same(&self, other: &Header) -> bool
+        ensures { IsTrue result ↔ (self.now ≡ other.now) }
+    {
+        self.defaults.same(&other.defaults) && self.voices.same(&other.voices)
+    }
+}
+
+impl Current {
+    /// Whether both are the same voice; of one that is not mentioned yet also what holds for it.
+    fn same(&self, other: &Current) -> bool
+        ensures { IsTrue result ↔ (self.now ≡ other.now) }
+    {
+        match (self, other) {
+            (Current::Unnamed(settings), Current::Unnamed(with)) => settings.same(with),
+            (Current::At(at), Current::At(place)) => at == place,
+            _ => false,
+        }
+    }
+}
+
+impl Body {
+    /// Whether the same holds in both bodies.
+    fn same(&self, other: &Body) -> bool
+        ensures { IsTrue result ↔ (self.now ≡ other.now) }
+    {
+        self.voices.same(&other.voices)
+            && self.current.same(&other.current)
+            && self.another.same(&other.another)
+    }
+}
+
+impl Entry {
+    /// Whether the same holds at both places: then the same cells give the same there, and the same holds
+    /// behind them. No memory is taken.
+    pub fn same(&self, other: &Entry) -> bool
+        ensures { IsTrue result ↔ (self.now ≡ other.now) }
+    {
+        match (self, other) {
+            (Entry::FileHeader(defaults), Entry::FileHeader(with)) => defaults.same(with),
+            (Entry::Opening(defaults), Entry::Opening(with)) => defaults.same(with),
+            (Entry::Header(header), Entry::Header(with)) => header.same(with),
+            (Entry::Body(body), Entry::Body(with)) => body.same(with),
+            _ => false,
+        }
+    }
+}
