@@ -8,6 +8,7 @@ pub mod Places
 pub mod Step
 pub mod Tied
 pub mod Tokens
+pub mod TunePlaces
 pub mod Tuplets
 pub mod Voice
 pub mod Voices

@@ -7,4 +7,5 @@ pub mod Element
 pub mod Header
 pub mod Heard
 pub mod Place
+pub mod TunePlaces
 pub mod Voice

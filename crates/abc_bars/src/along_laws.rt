@@ -4,7 +4,8 @@ ghost use Rattle.std.specs.Prelude.{List, Option};
 ghost use Rattle.std.specs.Option.{option_map};
 ghost use Rattle.abc_bars.specs.Defaults.{no_defaults};
 ghost use Rattle.abc_bars.specs.Entry.{opening_after};
-ghost use Rattle.abc_bars.specs.LookBack.Along.{CellTokens, IsLookBack, file_header_begins, state_after, tune_begins};
+ghost use Rattle.abc_bars.specs.LookBack.Along.{CellTokens, IsLookBack, file_header_begins, place_after, state_after, tune_begins, values_set};
+ghost use Rattle.abc_bars.specs.LookBack.TunePlaces.{IsOfTune};
 ghost use Rattle.abc_bars.specs.declared.bar_fold.BarFold.{BarFold};
 ghost use Rattle.abc_bars.specs.declared.entry.Entry.TheVariants as entries;
 
@@ -21,4 +22,12 @@ pub fn views_along()
     ensures tune { (fold : BarFold) (header : Option (List CellTokens)) →
         IsLookBack (⟦<BarFold as Fold>⟧.next fold) (⟦<BarFold as Fold>⟧.gives fold)
         (opening_after (option_map (state_after (⟦<BarFold as Fold>⟧.next fold) (entries.FileHeader no_defaults)) header)) (tune_begins header) }
+{}
+
+/// What a place of a tune keeps is what stands before it in the file header and in its own: the values of the
+/// former, and in the body the key of the latter. A tune is in its header as long as that has no K:.
+#[tactic(auto, using(crate::proofs::LookBack::TunePlaces::places_kept))]
+pub fn tune_places()
+    ensures { (header : Option (List CellTokens)) (cells : List CellTokens) →
+        IsOfTune (values_set header) (place_after (tune_begins header) cells) }
 {}
