@@ -406,7 +406,7 @@ pub marks_act : (cell : List (Spanned TokenKind)) (place : ℕ) (mark : BrokenRh
     → (is_bad_mark (behind_at cell place) (drop (place + 1) cell) ≡ false) ↔ Acts cell mark place
 marks_act cell place mark h = (acts_from cell place mark h, acts_to cell place mark)
 
-before_from : (cell : List (Spanned TokenKind)) (place : ℕ) (mark : BrokenRhythm) → IsTimeAt cell place → mark_behind (behind_at cell place) ≡ Some mark → ActsBefore cell mark place
+pub before_from : (cell : List (Spanned TokenKind)) (place : ℕ) (mark : BrokenRhythm) → IsTimeAt cell place → mark_behind (behind_at cell place) ≡ Some mark → ActsBefore cell mark place
 before_from cell place mark h e =
     let inside : place < length cell = within cell place (λ t. is_time_token t.kind ≡ true) h in
     let last = last_mark cell mark place (omega arith) e in
@@ -424,13 +424,13 @@ before_from cell place mark h e =
       };
     }
 
-before_to : (cell : List (Spanned TokenKind)) (place : ℕ) (mark : BrokenRhythm) → ActsBefore cell mark place → mark_behind (behind_at cell place) ≡ Some mark
+pub before_to : (cell : List (Spanned TokenKind)) (place : ℕ) (mark : BrokenRhythm) → ActsBefore cell mark place → mark_behind (behind_at cell place) ≡ Some mark
 before_to cell place mark acts =
     let a = acts.acting in
     let inside : place < length cell = within cell place (λ t. is_time_token t.kind ≡ true) a.second_is in
     last_mark_is cell mark place acts.first acts.place (omega arith) a.before a.behind a.mark_is a.first_is a.free_before a.free_behind
 
-behind_of : (cell : List (Spanned TokenKind)) (place : ℕ) (mark : BrokenRhythm) → IsTimeAt cell place → mark_ahead (drop (place + 1) cell) ≡ Some mark → ActsBehind cell mark place
+pub behind_of : (cell : List (Spanned TokenKind)) (place : ℕ) (mark : BrokenRhythm) → IsTimeAt cell place → mark_ahead (drop (place + 1) cell) ≡ Some mark → ActsBehind cell mark place
 behind_of cell place mark h e =
     let next = mark_first (drop (place + 1) cell) mark e in
     let order : next.place < next.second = next.order in
@@ -450,7 +450,7 @@ behind_of cell place mark h e =
       };
     }
 
-behind_to : (cell : List (Spanned TokenKind)) (place : ℕ) (mark : BrokenRhythm) → ActsBehind cell mark place → mark_ahead (drop (place + 1) cell) ≡ Some mark
+pub behind_to : (cell : List (Spanned TokenKind)) (place : ℕ) (mark : BrokenRhythm) → ActsBehind cell mark place → mark_ahead (drop (place + 1) cell) ≡ Some mark
 behind_to cell place mark acts =
     let a = acts.acting in
     let before : place < acts.place = a.before in

@@ -5,5 +5,6 @@ pub mod BarCounts
 pub mod ChordTones
 pub mod Factors
 pub mod InsideLoop
+pub mod Lasting
 pub mod Pitches
 pub mod WholeParts

@@ -13,7 +13,7 @@ use Rattle.abc_music.specs.declared.item.Item.TheVariants as items
 use Rattle.abc_music.specs.declared.item.TheConstants.{HIGHEST_KEY, MOST_NOTES}
 use Rattle.abc_music.specs.declared.item.Tone.{Tone}
 
--- What a cell gives: its items, and its faults, each with its column, in the order of their columns and codes.
+-- What a cell gives: its items, and its faults, each with its column.
 pub record Items : Type 0 where
   pub items : List Item
   pub faults : List (ℕ × FaultCode)

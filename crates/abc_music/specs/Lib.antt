@@ -6,6 +6,7 @@ pub mod Broken
 pub mod Chords
 pub mod Column
 pub mod Item
+pub mod Lasting
 pub mod Lengths
 pub mod Pitch
 pub mod Settings

@@ -91,7 +91,7 @@ pub enum Item {
 /// A fault of a cell: its column, counted from 1, and its code.
 pub type LocalFault = (u32, FaultCode);
 
-/// What a cell gives: its items, and its faults in the order of their columns and codes.
+/// What a cell gives: its items, and its faults, each in the order in which it was put here.
 #[derive(Drop)]
 pub struct Items {
     items: Sequence<Item>,
@@ -137,7 +137,7 @@ impl Items {
         self.items.as_slice()
     }
 
-    /// The faults in the order of their columns and codes, each column counted from 1.
+    /// The faults in order, each column counted from 1.
     pub fn faults(&self) -> &[LocalFault]
         ensures { result.now ≡ self.now.faults }
     {

@@ -1,0 +1,16 @@
+//! What holds of the music of every voice. Each function has no body: its contract is the law.
+
+ghost use Rattle.abc_music.specs.Lasting.{NotesLast, RestsLast, BarRestsLast, FreeBarRests};
+
+/// A note or a rest lasts the unit times what is written, what its tuplet says and what the marks of broken
+/// rhythm say that act on it, exactly; where that is no length it lasts one unit, and that is a fault.
+pub fn lengths_of_notes()
+    ensures notes { NotesLast }
+    ensures rests { RestsLast }
+{}
+
+/// A rest of bars lasts as many bars as it says; in free meter, and where that is no length, it is a fault.
+pub fn lengths_of_bar_rests()
+    ensures bars { BarRestsLast }
+    ensures free { FreeBarRests }
+{}
