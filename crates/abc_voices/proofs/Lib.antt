@@ -10,3 +10,4 @@ pub mod Staged
 pub mod Steady
 pub mod Straight
 pub mod Within
+pub mod Voices

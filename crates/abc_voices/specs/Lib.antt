@@ -14,3 +14,4 @@ pub mod Stage
 pub mod Stages
 pub mod Step
 pub mod Track
+pub mod Voices
