@@ -59,23 +59,30 @@ impl<'a, R: Files + AllocGlobal> Directory<'a, R> {
     fn write(&self, name: &str, bytes: &[u8]) -> io::Result<()> {
         let path = self.path_of(name)?;
         let beside = self.path_beside(name)?;
-        self.delete(beside.as_str())?;
-        let outcome = self.write_beside(beside.as_str(), path.as_str(), bytes);
+        let file = self.new_file(beside.as_str())?;
+        let outcome = self.fill(file, bytes, beside.as_str(), path.as_str());
         if outcome.is_err() {
             let _ = self.delete(beside.as_str());
         }
         outcome
     }
 
-    /// Writes a file under a path that is free, and gives it another one, in place of what is there.
-    fn write_beside(&self, beside: &str, path: &str, bytes: &[u8]) -> io::Result<()> {
-        self.write_new(beside, bytes)?;
-        fs::rename(self.rt, beside, path)
+    /// Makes a file under a path. What a crash may have left there is removed, and never written through.
+    fn new_file(&self, path: &str) -> io::Result<R::File> {
+        match File::create_new(self.rt, path) {
+            Err(error) if error.kind() == ErrorKind::AlreadyExists => {
+                self.delete(path)?;
+                File::create_new(self.rt, path)
+            }
+            outcome => outcome,
+        }
     }
 
-    fn write_new(&self, path: &str, bytes: &[u8]) -> io::Result<()> {
-        let mut file = File::create_new(self.rt, path)?;
-        file.write_all(bytes)
+    /// Writes a file that was made under a path, and gives it another one, in place of what is there.
+    fn fill(&self, mut file: R::File, bytes: &[u8], beside: &str, path: &str) -> io::Result<()> {
+        file.write_all(bytes)?;
+        drop(file);
+        fs::rename(self.rt, beside, path)
     }
 
     fn delete(&self, path: &str) -> io::Result<()> {
