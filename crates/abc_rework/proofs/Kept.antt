@@ -1,0 +1,104 @@
+-- What is held by addresses stands for pasts.
+use Rattle.std.proofs.Common.{◌≡◌, ℕ, zero, suc, ◌+◌, ◌≤◌, IsTrue, List, [], ◌∷◌, map, length, cond, true, false, slice_get, Contains, Option, Some, None, find, flat_map, refl, sym, ap, ◌∙◌, subst, ⊎_elim, arith}
+use Rattle.std.specs.List.{AllZip}
+use Rattle.abc_rework.proofs.Full.{full_of, is_at}
+use Rattle.abc_rework.proofs.Rows.{rows_hold, carried_rows}
+use Rattle.abc_rework.proofs.Rising.{In, InLines, each_in, along_each, found_in}
+use Rattle.abc_rework.proofs.Pieces.{look, pieces_are}
+use Rattle.abc_rework.proofs.Steps.{some_past, from_flat, same_test, steps_are_fresh}
+use Rattle.abc_rework.proofs.Counting.{fresh_of_chain}
+use Rattle.std.proofs.lemmas.Bool.{cases_Bool}
+use Rattle.abc_lines.specs.Text.{Text, Splice, spliced}
+use Rattle.abc_tunebook.specs.Tune.{lines_in}
+use Rattle.abc_rework.specs.Steps.{Steps, IsResumable}
+use Rattle.abc_rework.specs.Laid.{Laid, Chain, chains_of, LiesInOrder}
+use Rattle.abc_rework.specs.Entered.{Spot, entered_of}
+use Rattle.abc_rework.specs.Fresh.{carried, is_fresh_after}
+use Rattle.abc_rework.specs.Pasts.{Past, rows_of, pasts, past_at, first_past, rest}
+use Rattle.abc_rework.specs.Pieces.{pieces_of}
+use Rattle.abc_rework.specs.Origins.{address_of}
+use Rattle.abc_rework.specs.Kept.{cells_of, states_over, states_of, Held, entry_of, behind, made_over, StandsFor, StandFor, both_held, held_at, AreKept}
+use Rattle.abc_rework.specs.EditLaws.{HeldsStand, KeptSteps, KeptAgain}
+use Rattle.abc_rework.proofs.Same.{cell_at, cells_of_chain}
+use Rattle.abc_rework.proofs.Origins.{pasts_held, some_through}
+
+contains_from_in : {A : Type 0} (x : A) (xs : List A) → In x xs → Contains xs x
+contains_from_in x [] h = absurd h
+contains_from_in x (y ∷ ys) h = ⊎_elim (λ (e : y ≡ x). (0, omega arith, e)) (λ (m : In x ys). let more = contains_from_in x ys m in (suc more.0, omega (arith, more.1), more.2)) h
+
+-- a past is of some old chain
+chain_of_past : {State Cell Items : Type 0} (steps : Steps State Cell Items) (read : List ℕ → List Cell) (old : Laid State) (line nth : ℕ) (past : Past State) → LiesInOrder old → past_at (rows_of steps read old) line nth ≡ Some past → (was : Chain State) × Contains (chains_of old) was × (was.source ≡ past.source)
+chain_of_past steps read old line nth past h e =
+    let chains = chains_of old in
+    let all = flat_map (full_of steps read old.text) chains in
+    let some = some_past (find (is_at line nth) all) past (rows_hold steps read old line nth h ∙ e) in
+    let own = from_flat (full_of steps read old.text) chains some.0 (found_in (is_at line nth) some.0 all some.1).0 in
+    let chain = own.0 in
+    let of_chain : some.0.source ≡ chain.source = (each_in (InLines chain.block.from (chain.block.from + length (lines_in old.text chain.block)) chain.source 0) some.0 (full_of steps read old.text chain) (along_each steps read chain.block.from chain.source 0 chain.opening (lines_in old.text chain.block)) own.2).source_is in
+    (chain, contains_from_in chain chains own.1, sym of_chain ∙ ap (λ p. p.source) some.2)
+
+zip_get : {A B : Type 0} (R : A → B → Type 0) (xs : List A) (ys : List B) (i : ℕ) (b : B) → AllZip R xs ys → slice_get ys i ≡ Some b → (a : A) × (slice_get xs i ≡ Some a) × R a b
+zip_get R [] [] i b h e = absurd (cc)
+zip_get R [] (y ∷ ys) i b h e = absurd h
+zip_get R (x ∷ xs) [] i b h e = absurd h
+zip_get R (x ∷ xs) (y ∷ ys) zero b h e = let same : y ≡ b = cc in (x, refl, subst (R x) same h.0)
+zip_get R (x ∷ xs) (y ∷ ys) (suc i) b h e = zip_get R xs ys i b h.1 e
+
+stands_one : {State Cell Items : Type 0} (steps : Steps State Cell Items) (cell : Cell) (kept : ℕ → List State) (past : Past State) (a b : State) → slice_get (kept past.source) past.place ≡ Some a → slice_get (kept past.source) (past.place + 1) ≡ Some b → IsTrue (steps.alike a past.entered) → IsTrue (steps.alike b (steps.next past.entered cell)) → StandsFor steps cell (held_at kept (address_of (Some past))) (Some past)
+stands_one steps cell kept past a b e k h m =
+    let both : both_held (slice_get (kept past.source) past.place) (slice_get (kept past.source) (past.place + 1)) ≡ both_held (Some a) (Some b) = λ i. both_held (e i) (k i) in
+    subst (λ held. StandsFor steps cell held (Some past)) (sym both) (h, m)
+
+stands_spot : {State Cell Items : Type 0} (steps : Steps State Cell Items) (read : List ℕ → List Cell) (old : Laid State) (s : Splice) (kept : ℕ → List State) (spot : Spot State) (cell : Cell) (piece : Option (Past State)) → LiesInOrder old → s.at + s.removed ≤ length old.text → AreKept steps read old kept → cell_at steps read (spliced old.text s) spot ≡ Some cell → look (past_at (pasts steps read old s)) spot ≡ piece → StandsFor steps cell (held_at kept (address_of piece)) piece
+stands_spot steps read old s kept spot cell None h inside k c e = tt
+stands_spot {State = State} steps read old s kept spot cell (Some past) h inside k c e =
+    let by = some_through (λ m. past_at (rows_of steps read old) m spot.nth) (carried s spot.line) past (sym (carried_rows steps read old s spot.line spot.nth h inside) ∙ e) in
+    let own = chain_of_past steps read old by.0 spot.nth past h by.2 in
+    let was = own.0 in
+    let states = pasts_held steps read old s spot.line spot.nth past was cell h inside own.1 own.2 e c in
+    let alike = k was own.1 in
+    let R : State → State → Type 0 = λ a b. IsTrue (steps.alike a b) in
+    let here = zip_get R (kept was.source) (states_of steps read old.text was) past.place past.entered alike states.0 in
+    let next = zip_get R (kept was.source) (states_of steps read old.text was) (past.place + 1) (steps.next past.entered cell) alike states.1 in
+    stands_one steps cell kept past here.0 next.0 (ap (λ n. slice_get (kept n) past.place) (sym own.2) ∙ here.1) (ap (λ n. slice_get (kept n) (past.place + 1)) (sym own.2) ∙ next.1) here.2 next.2
+
+stand_along : {State Cell Items : Type 0} (steps : Steps State Cell Items) (read : List ℕ → List Cell) (text : Text) (past : ℕ → ℕ → Option (Past State)) (hold : Option (Past State) → Option (Held State)) (spots : List (Spot State)) (cells : List Cell) → map (cell_at steps read text) spots ≡ map (λ cell. Some cell) cells → ((spot : Spot State) (cell : Cell) → cell_at steps read text spot ≡ Some cell → StandsFor steps cell (hold (look past spot)) (look past spot)) → StandFor steps cells (map hold (map (look past) spots)) (map (look past) spots)
+stand_along steps read text past hold spots [] e each = tt
+stand_along steps read text past hold [] (cell ∷ cells) e each = absurd (cc)
+stand_along steps read text past hold (spot ∷ spots) (cell ∷ cells) e each =
+    let here : cell_at steps read text spot ≡ Some cell = cc in
+    let more : map (cell_at steps read text) spots ≡ map (λ c. Some c) cells = cc in
+    (each spot cell here, stand_along steps read text past hold spots cells more each)
+
+pub helds_stand : {State Cell Items : Type 0} → HeldsStand State Cell Items
+helds_stand {State = State} steps read old s chain kept h inside k =
+    let text = spliced old.text s in
+    let hold : Option (Past State) → Option (Held State) = λ piece. held_at kept (address_of piece) in
+    let flat = stand_along steps read text (past_at (pasts steps read old s)) hold (entered_of steps read text chain) (cells_of read text chain) (cells_of_chain steps read text chain)
+    (λ spot cell c. stands_spot steps read old s kept spot cell (look (past_at (pasts steps read old s)) spot) h inside k c refl) in
+    subst (λ pieces. StandFor steps (cells_of read text chain) (map hold pieces) pieces) (sym (pieces_are steps read text (pasts steps read old s) chain)) flat
+
+-- the state that a program goes on in is the same as the one from scratch
+goes_on : {State Cell Items : Type 0} (steps : Steps State Cell Items) (a b : State) (cell : Cell) (held : Option (Held State)) (past : Option (Past State)) → IsResumable steps → IsTrue (steps.alike a b) → StandsFor steps cell held past → IsTrue (steps.alike (cond (is_fresh_after steps.alike a (entry_of held)) (steps.next a cell) (behind a held)) (steps.next b cell))
+goes_on steps a b cell None past one h m = one.alike_states a b cell h
+goes_on steps a b cell (Some held) None one h m = absurd m
+goes_on steps a b cell (Some held) (Some past) one h m = ⊎_elim
+    (λ (e : steps.alike held.entry a ≡ true).
+    let first : IsTrue (steps.alike past.entered b) = sym (same_test steps held.entry past.entered a b one m.0 h) ∙ e in
+    simp e (one.transitive held.after (steps.next past.entered cell) (steps.next b cell) m.1 (one.alike_states past.entered b cell first)))
+    (λ (e : steps.alike held.entry a ≡ false). simp e (one.alike_states a b cell h))
+    (cases_Bool (steps.alike held.entry a))
+
+made_alike : {State Cell Items : Type 0} (steps : Steps State Cell Items) (a b : State) (cells : List Cell) (helds : List (Option (Held State))) (pieces : List (Option (Past State))) → IsResumable steps → IsTrue (steps.alike a b) → StandFor steps cells helds pieces → AllZip (λ a b. IsTrue (steps.alike a b)) (made_over steps a cells helds) (states_over steps.next b cells)
+made_alike steps a b [] helds pieces one h k = (h, tt)
+made_alike steps a b (cell ∷ cells) helds pieces one h k =
+    (h, made_alike steps (cond (is_fresh_after steps.alike a (entry_of (first_past helds))) (steps.next a cell) (behind a (first_past helds))) (steps.next b cell) cells (rest helds) (rest pieces) one (goes_on steps a b cell (first_past helds) (first_past pieces) one h k.0) k.1)
+
+pub kept_again : {State Cell Items : Type 0} → KeptAgain State Cell Items
+kept_again steps read old s chain kept state h inside one k e =
+    made_alike steps state chain.opening (cells_of read (spliced old.text s) chain) _ (pieces_of read (spliced old.text s) (pasts steps read old s) chain) one e (helds_stand steps read old s chain kept h inside k)
+
+pub kept_steps : {State Cell Items : Type 0} → KeptSteps State Cell Items
+kept_steps steps read old s chain kept state h inside one k e =
+    steps_are_fresh steps read (spliced old.text s) (pasts steps read old s) chain state _ one e (helds_stand steps read old s chain kept h inside k)
+    ∙ fresh_of_chain steps read old s (spliced old.text s) chain h inside

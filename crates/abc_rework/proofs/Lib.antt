@@ -1,0 +1,13 @@
+pub mod Lists
+pub mod Full
+pub mod Rows
+pub mod Counting
+pub mod Same
+pub mod Rising
+pub mod Pieces
+pub mod Steps
+pub mod Words
+pub mod Origins
+pub mod ByLines
+pub mod OneTune
+pub mod Kept

@@ -1,0 +1,10 @@
+pub mod Steps
+pub mod Laid
+pub mod Entered
+pub mod Fresh
+pub mod Pasts
+pub mod Pieces
+pub mod Origins
+pub mod Kept
+pub mod Laws
+pub mod EditLaws

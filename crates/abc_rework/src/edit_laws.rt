@@ -1,0 +1,28 @@
+//! What an edit may take over, and how many steps it takes where the states of the old chains are kept.
+//! Each function has no body: its contract is the law.
+
+ghost use Rattle.abc_rework.specs.EditLaws.{CellsAreThings, CarriedCells, UntouchedItems, StepsAreFresh, HeldsStand, KeptSteps, KeptAgain};
+
+/// A tune whose cells are carried, in order, from all those of an old one has the same cells.
+pub fn carried_cells<State, Cell, Items>()
+    ensures things { CellsAreThings State Cell }
+    ensures carried { CarriedCells State Cell Items }
+{}
+
+/// The cells of an untouched tune give the items of an old one.
+pub fn untouched_items<State, Cell, Items>()
+    ensures { UntouchedItems State Cell Items }
+{}
+
+/// Where what is held stands for the pasts of a chain's cells, the steps along it are its fresh cells.
+pub fn steps_are_fresh<State, Cell, Items>()
+    ensures { StepsAreFresh State Cell Items }
+{}
+
+/// With the states of the old chains kept, alike to those from scratch, the steps along a new chain are
+/// exactly its fresh cells, and the states made may be kept again.
+pub fn kept_states_serve<State, Cell, Items>()
+    ensures stand { HeldsStand State Cell Items }
+    ensures steps { KeptSteps State Cell Items }
+    ensures again { KeptAgain State Cell Items }
+{}
