@@ -11,3 +11,4 @@ pub mod Origins
 pub mod ByLines
 pub mod OneTune
 pub mod Kept
+pub mod WorkedEdits

@@ -8,3 +8,4 @@ pub mod Origins
 pub mod Kept
 pub mod Laws
 pub mod EditLaws
+pub mod WorkedEdits

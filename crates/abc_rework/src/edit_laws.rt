@@ -2,6 +2,7 @@
 //! Each function has no body: its contract is the law.
 
 ghost use Rattle.abc_rework.specs.EditLaws.{CellsAreThings, CarriedCells, UntouchedItems, StepsAreFresh, HeldsStand, KeptSteps, KeptAgain};
+ghost use Rattle.abc_rework.specs.WorkedEdits.{WorkedEdits};
 
 /// A tune whose cells are carried, in order, from all those of an old one has the same cells.
 pub fn carried_cells<State, Cell, Items>()
@@ -25,4 +26,9 @@ pub fn kept_states_serve<State, Cell, Items>()
     ensures stand { HeldsStand State Cell Items }
     ensures steps { KeptSteps State Cell Items }
     ensures again { KeptAgain State Cell Items }
+{}
+
+/// The counts of edits of small texts, worked by hand.
+pub fn worked_edits()
+    ensures { WorkedEdits }
 {}
