@@ -1,9 +1,9 @@
 -- What follows where two states are alike.
-use Rattle.std.proofs.Common.{◌≡◌, Bool, true, false, List, [], ◌∷◌, ◌++◌, refl, sym}
+use Rattle.std.proofs.Common.{◌≡◌, Bool, true, false, List, [], ◌∷◌, ◌++◌, refl, sym, ◌∙◌}
 use Rattle.abc_fold.specs.declared.piece.Piece.{Piece}
 use Rattle.abc_fold.specs.declared.piece.Piece.TheVariants.{New, Kept}
 use Rattle.abc_fold.specs.Steps.{Steps, IsAlike, AreAlike, IsResumable, states_from, items_from}
-use Rattle.abc_fold.specs.Piece.{cell_of, steps_at, steps_needed}
+use Rattle.abc_fold.specs.Piece.{IsStep, cell_of, steps_at, steps_needed}
 
 -- Two tests that imply each other are equal.
 same_test : (p q : Bool) → (p ≡ true → q ≡ true) → (q ≡ true → p ≡ true) → p ≡ q
@@ -63,3 +63,15 @@ module _ {State Cell Items : Type 0} (steps : Steps State Cell Items) (laws : Is
   other_tail [] tail old whole all same = transitive tail old whole same all
   other_tail (x ∷ front) tail old [] all same = all
   other_tail (x ∷ front) tail old (y ∷ whole) all same = (all.0, other_tail front tail old whole all.1 same)
+
+  -- A state alike to the one that was kept behind a cell, where the cell is entered in a state alike to the kept one.
+  pub taken_state : (state entered left own x y : State) (cell : Cell) (given : Items) → x ≡ entered → y ≡ state → true ≡ steps.alike x y → IsStep steps cell entered left given → IsAlike steps own left → IsAlike steps own (steps.next state cell)
+  taken_state state entered left own x y cell given first second test kept alike =
+      let same : IsAlike steps entered state = rw (← first, ← second) (sym test) in
+      laws.transitive own left (steps.next state cell) alike (laws.transitive left (steps.next entered cell) (steps.next state cell) kept.behind_alike (laws.alike_states entered state cell same))
+
+  -- What was kept of a cell is what it gives there.
+  pub taken_items : (state entered left x y : State) (cell : Cell) (given out : Items) → x ≡ entered → y ≡ state → true ≡ steps.alike x y → IsStep steps cell entered left given → out ≡ given → out ≡ steps.gives state cell
+  taken_items state entered left x y cell given out first second test kept is =
+      let same : IsAlike steps entered state = rw (← first, ← second) (sym test) in
+      is ∙ kept.given_equal ∙ laws.equal_items entered state cell same

@@ -1,7 +1,7 @@
 -- A chain in the making: what is made so far, and what the rest makes.
 use Rattle.std.proofs.Common.{◌≡◌, ℕ, ◌+◌, ◌<◌, ◌≤◌, List, [], ◌∷◌, ◌++◌, length, drop, get_or, refl, sym, ◌∙◌, ap, subst, arith, append_assoc, length-append, add-one}
 use Rattle.std.proofs.Math.Seq.{drop-cons}
-use Rattle.std.proofs.lemmas.List.{append-nil}
+use Rattle.std.proofs.lemmas.List.{append-nil, drop_all}
 use Rattle.abc_fold.specs.Work.{Counters, IsRaisedUpTo, raised}
 use Rattle.abc_fold.proofs.Raised.{raised-raised, raised-least}
 use Rattle.abc_fold.specs.declared.piece.Piece.{Piece}
@@ -84,15 +84,23 @@ module _ {F State Cell Items Work : Type 0} (steps : Steps State Cell Items) (op
   }
 
   -- Behind the last piece.
-  pub ahead_done : (state : State) (entries : List State) (cells : List Cell) (items : List Items)
-      → IsAhead steps opening pieces state [] entries cells items
+  pub ahead_done : (i : ℕ) (state : State) (entries : List State) (cells : List Cell) (items : List Items) → length pieces ≤ i
+      → IsAhead steps opening pieces state (drop i pieces) entries cells items
       → Folds steps opening (record { entries = entries ++ state ∷ []; cells = cells; items = items })
-  ahead_done state entries cells items ahead =
+  ahead_done i state entries cells items past at =
+      let ahead : IsAhead steps opening pieces state [] entries cells items =
+      subst (λ rest. IsAhead steps opening pieces state rest entries cells items) (drop_all i pieces past) at in
       let all : cells ≡ cells_of pieces = sym (append-nil cells) ∙ ahead.all_cells in
       record {
         items = rw all (sym (append-nil items) ∙ ahead.all_items);
         entries = rw all ahead.all_states;
       }
+
+  -- The cells behind the last piece.
+  pub cells_done : (i : ℕ) (state : State) (entries : List State) (cells : List Cell) (items : List Items) → length pieces ≤ i
+      → IsAhead steps opening pieces state (drop i pieces) entries cells items → cells ≡ cells_of pieces
+  cells_done i state entries cells items past ahead =
+      sym (append-nil cells) ∙ subst (λ rest. cells ++ cells_of rest ≡ cells_of pieces) (drop_all i pieces past) ahead.all_cells
 
   rest_at : (i : ℕ) (piece : Piece F State Cell Items Work) → piece ≡ get_or pieces i piece → i < length pieces → drop i pieces ≡ piece ∷ drop (i + 1) pieces
   rest_at i piece is inside =

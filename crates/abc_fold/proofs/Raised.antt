@@ -37,6 +37,3 @@ raised-once before after is = record {
   least = rw is (raised-least before.folded 1);
   most = rw is (omega arith);
 }
-
--- What a proof needs where there is one step or none.
-pub ruleset counted = (raised-none, raised-once)

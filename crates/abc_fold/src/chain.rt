@@ -195,7 +195,6 @@ impl<F: Resumable> ChainPatch<F> {
 }
 
 /// The chain of a fold over pieces.
-#[tactic(auto, using(crate::proofs::Raised::counted))]
 fn folded<F: Resumable>(
     alloc: Global,
     fold: &F,

@@ -76,7 +76,7 @@ fn stepped<F: Resumable>(
 
 /// The state behind a piece and its items, where it is entered in a state: kept ones where it was kept from a state
 /// alike, and else by a step.
-#[tactic(auto, using(crate::proofs::Raised::counted))]
+
 pub(crate) fn passed<F: Resumable>(
     alloc: Global,
     fold: &F,
