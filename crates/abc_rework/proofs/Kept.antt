@@ -1,16 +1,14 @@
 -- What is held by addresses stands for pasts.
-use Rattle.std.proofs.Common.{◌≡◌, ℕ, zero, suc, ◌+◌, ◌≤◌, IsTrue, List, [], ◌∷◌, map, length, cond, true, false, slice_get, Contains, Option, Some, None, find, flat_map, refl, sym, ap, ◌∙◌, subst, ⊎_elim, arith}
+use Rattle.std.proofs.Common.{◌≡◌, ℕ, zero, suc, ◌+◌, ◌≤◌, IsTrue, List, [], ◌∷◌, map, length, cond, true, false, slice_get, Contains, Option, Some, None, refl, sym, ap, ◌∙◌, subst, ⊎_elim, arith}
 use Rattle.std.specs.List.{AllZip}
-use Rattle.abc_rework.proofs.Full.{full_of, is_at}
-use Rattle.abc_rework.proofs.Rows.{rows_hold, carried_rows}
-use Rattle.abc_rework.proofs.Rising.{In, InLines, each_in, along_each, found_in}
+use Rattle.abc_rework.proofs.Rows.{carried_rows}
+use Rattle.abc_rework.proofs.Rising.{In}
 use Rattle.abc_rework.proofs.Pieces.{look, pieces_are}
-use Rattle.abc_rework.proofs.Steps.{some_past, from_flat, same_test, steps_are_fresh}
+use Rattle.abc_rework.proofs.Steps.{found_past, source_is, same_test, steps_are_fresh}
 use Rattle.abc_rework.proofs.Counting.{fresh_of_chain}
 use Rattle.std.proofs.lemmas.Bool.{cases_Bool}
 use Rattle.abc_lines.specs.Text.{Text, Splice, spliced}
-use Rattle.abc_tunebook.specs.Tune.{lines_in}
-use Rattle.abc_rework.specs.Steps.{Steps, IsResumable}
+use Rattle.abc_rework.specs.Steps.{Steps, IsAlike, IsResumable}
 use Rattle.abc_rework.specs.Laid.{Laid, Chain, chains_of, LiesInOrder}
 use Rattle.abc_rework.specs.Entered.{Spot, entered_of}
 use Rattle.abc_rework.specs.Fresh.{carried, is_fresh_after}
@@ -29,13 +27,8 @@ contains_from_in x (y ∷ ys) h = ⊎_elim (λ (e : y ≡ x). (0, omega arith, e
 -- a past is of some old chain
 chain_of_past : {State Cell Items : Type 0} (steps : Steps State Cell Items) (read : List ℕ → List Cell) (old : Laid State) (line nth : ℕ) (past : Past State) → LiesInOrder old → past_at (rows_of steps read old) line nth ≡ Some past → (was : Chain State) × Contains (chains_of old) was × (was.source ≡ past.source)
 chain_of_past steps read old line nth past h e =
-    let chains = chains_of old in
-    let all = flat_map (full_of steps read old.text) chains in
-    let some = some_past (find (is_at line nth) all) past (rows_hold steps read old line nth h ∙ e) in
-    let own = from_flat (full_of steps read old.text) chains some.0 (found_in (is_at line nth) some.0 all some.1).0 in
-    let chain = own.0 in
-    let of_chain : some.0.source ≡ chain.source = (each_in (InLines chain.block.from (chain.block.from + length (lines_in old.text chain.block)) chain.source 0) some.0 (full_of steps read old.text chain) (along_each steps read chain.block.from chain.source 0 chain.opening (lines_in old.text chain.block)) own.2).source_is in
-    (chain, contains_from_in chain chains own.1, sym of_chain ∙ ap (λ p. p.source) some.2)
+    let found = found_past steps read old line nth past h e in
+    (found.chain, contains_from_in found.chain (chains_of old) found.among, sym (source_is steps read old.text found.chain found.cell found.inside) ∙ ap (λ p. p.source) found.is)
 
 zip_get : {A B : Type 0} (R : A → B → Type 0) (xs : List A) (ys : List B) (i : ℕ) (b : B) → AllZip R xs ys → slice_get ys i ≡ Some b → (a : A) × (slice_get xs i ≡ Some a) × R a b
 zip_get R [] [] i b h e = absurd (cc)
@@ -49,18 +42,21 @@ stands_one steps cell kept past a b e k h m =
     let both : both_held (slice_get (kept past.source) past.place) (slice_get (kept past.source) (past.place + 1)) ≡ both_held (Some a) (Some b) = λ i. both_held (e i) (k i) in
     subst (λ held. StandsFor steps cell held (Some past)) (sym both) (h, m)
 
+-- of the kept states of its chain
+stands_in : {State Cell Items : Type 0} (steps : Steps State Cell Items) (read : List ℕ → List Cell) (old : Laid State) (kept : ℕ → List State) (was : Chain State) (past : Past State) (cell : Cell) → was.source ≡ past.source → AllZip (IsAlike steps) (kept was.source) (states_of steps read old.text was) → (slice_get (states_of steps read old.text was) past.place ≡ Some past.entered) × (slice_get (states_of steps read old.text was) (past.place + 1) ≡ Some (steps.next past.entered cell)) → StandsFor steps cell (held_at kept (address_of (Some past))) (Some past)
+stands_in steps read old kept was past cell e alike states =
+    let whole = states_of steps read old.text was in
+    let here = zip_get (IsAlike steps) (kept was.source) whole past.place past.entered alike states.0 in
+    let next = zip_get (IsAlike steps) (kept was.source) whole (past.place + 1) (steps.next past.entered cell) alike states.1 in
+    stands_one steps cell kept past here.0 next.0 (ap (λ n. slice_get (kept n) past.place) (sym e) ∙ here.1) (ap (λ n. slice_get (kept n) (past.place + 1)) (sym e) ∙ next.1) here.2 next.2
+
 stands_spot : {State Cell Items : Type 0} (steps : Steps State Cell Items) (read : List ℕ → List Cell) (old : Laid State) (s : Splice) (kept : ℕ → List State) (spot : Spot State) (cell : Cell) (piece : Option (Past State)) → LiesInOrder old → s.at + s.removed ≤ length old.text → AreKept steps read old kept → cell_at steps read (spliced old.text s) spot ≡ Some cell → look (past_at (pasts steps read old s)) spot ≡ piece → StandsFor steps cell (held_at kept (address_of piece)) piece
 stands_spot steps read old s kept spot cell None h inside k c e = tt
-stands_spot {State = State} steps read old s kept spot cell (Some past) h inside k c e =
+stands_spot steps read old s kept spot cell (Some past) h inside k c e =
     let by = some_through (λ m. past_at (rows_of steps read old) m spot.nth) (carried s spot.line) past (sym (carried_rows steps read old s spot.line spot.nth h inside) ∙ e) in
     let own = chain_of_past steps read old by.0 spot.nth past h by.2 in
-    let was = own.0 in
-    let states = pasts_held steps read old s spot.line spot.nth past was cell h inside own.1 own.2 e c in
-    let alike = k was own.1 in
-    let R : State → State → Type 0 = λ a b. IsTrue (steps.alike a b) in
-    let here = zip_get R (kept was.source) (states_of steps read old.text was) past.place past.entered alike states.0 in
-    let next = zip_get R (kept was.source) (states_of steps read old.text was) (past.place + 1) (steps.next past.entered cell) alike states.1 in
-    stands_one steps cell kept past here.0 next.0 (ap (λ n. slice_get (kept n) past.place) (sym own.2) ∙ here.1) (ap (λ n. slice_get (kept n) (past.place + 1)) (sym own.2) ∙ next.1) here.2 next.2
+    stands_in steps read old kept own.0 past cell own.2 (k own.0 own.1)
+    (pasts_held steps read old s spot.line spot.nth past own.0 cell h inside own.1 own.2 e c)
 
 stand_along : {State Cell Items : Type 0} (steps : Steps State Cell Items) (read : List ℕ → List Cell) (text : Text) (past : ℕ → ℕ → Option (Past State)) (hold : Option (Past State) → Option (Held State)) (spots : List (Spot State)) (cells : List Cell) → map (cell_at steps read text) spots ≡ map (λ cell. Some cell) cells → ((spot : Spot State) (cell : Cell) → cell_at steps read text spot ≡ Some cell → StandsFor steps cell (hold (look past spot)) (look past spot)) → StandFor steps cells (map hold (map (look past) spots)) (map (look past) spots)
 stand_along steps read text past hold spots [] e each = tt

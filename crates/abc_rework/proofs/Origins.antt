@@ -10,11 +10,11 @@ use Rattle.abc_rework.specs.Entered.{Spot, state_behind, entered_in_line, entere
 use Rattle.abc_rework.specs.Fresh.{carried}
 use Rattle.abc_rework.specs.Pasts.{Past, pasts_in_line, no_pasts, pasts_along, lines_between, rows_from, rows_of, row_at, past_at}
 use Rattle.abc_rework.specs.Origins.{Origin, no_origins, origins_along, origins_from, origins_of, origins, numbered, addresses, addresses_beside, address_of}
-use Rattle.abc_rework.specs.Kept.{cells_of, states_over}
+use Rattle.abc_rework.specs.Kept.{cells_of, states_of, states_over}
 use Rattle.abc_rework.specs.Laws.{OriginsStand, PastsHeld}
 use Rattle.abc_rework.proofs.Rows.{carried_rows}
 use Rattle.abc_rework.proofs.Same.{cell_at, cells_of_chain, carried_line}
-use Rattle.abc_rework.proofs.Steps.{named}
+use Rattle.abc_rework.proofs.Steps.{Named, named}
 
 -- origins stand for pasts
 
@@ -153,21 +153,27 @@ pub some_through : {A : Type 0} (g : ℕ → Option A) (o : Option ℕ) (a : A) 
 some_through g None a h = absurd (cc)
 some_through g (Some m) a h = (m, refl, h)
 
-pub pasts_held : {State Cell Items : Type 0} → PastsHeld State Cell Items
-pasts_held {State = State} {Cell = Cell} steps read old s line nth past was cell h inside member source e c =
-    let by = some_through (λ m. past_at (rows_of steps read old) m nth) (carried s line) past (sym (carried_rows steps read old s line nth h inside) ∙ e) in
-    let m = by.0 in
-    let name = named steps read old m nth past was h member source by.2 in
-    let row : row_at (spliced old.text s) line ≡ row_at old.text m = carried_line old.text s line m inside by.1 in
-    let entered : slice_get (entered_over steps.next was.opening (cells_of read old.text was)) past.place ≡ Some past.entered =
-    ap (λ l. slice_get l past.place) (sym (states_lines steps read was.block.from was.opening (lines_in old.text was.block)))
-    ∙ (slice_get-map (λ (spot : Spot State). spot.entered) (entered_of steps read old.text was) past.place
+-- of a cell that is named, whose line has the same bytes
+held_by : {State Cell Items : Type 0} (steps : Steps State Cell Items) (read : List ℕ → List Cell) (text : Text) (bytes : List ℕ) (m nth : ℕ) (past : Past State) (was : Chain State) (cell : Cell) → Named steps read text m nth past was → bytes ≡ row_at text m → slice_get (read bytes) nth ≡ Some cell → (slice_get (states_of steps read text was) past.place ≡ Some past.entered) × (slice_get (states_of steps read text was) (past.place + 1) ≡ Some (steps.next past.entered cell))
+held_by {State = State} {Cell = Cell} steps read text bytes m nth past was cell name row c =
+    let spots = entered_of steps read text was in
+    let cells = cells_of read text was in
+    let entered : slice_get (entered_over steps.next was.opening cells) past.place ≡ Some past.entered =
+    ap (λ l. slice_get l past.place) (sym (states_lines steps read was.block.from was.opening (lines_in text was.block)))
+    ∙ (slice_get-map (λ (spot : Spot State). spot.entered) spots past.place
     ∙ (ap (option_map (λ (spot : Spot State). spot.entered)) name.spot ∙ ap (λ y. Some y) name.entered)) in
-    let own : slice_get (read (row_at old.text name.one.line)) name.one.nth ≡ Some cell =
-    (λ i. slice_get (read (row_at old.text (name.line i))) (name.nth i)) ∙ (ap (λ b. slice_get (read b) nth) (sym row) ∙ c) in
-    let got : option_map (λ (x : Cell). Some x) (slice_get (cells_of read old.text was) past.place) ≡ Some (Some cell) =
-    sym (slice_get-map (λ (x : Cell). Some x) (cells_of read old.text was) past.place)
-    ∙ (ap (λ l. slice_get l past.place) (sym (cells_of_chain steps read old.text was))
-    ∙ (slice_get-map (cell_at steps read old.text) (entered_of steps read old.text was) past.place
-    ∙ (ap (option_map (cell_at steps read old.text)) name.spot ∙ ap (λ y. Some y) own))) in
-    at_cell steps.next was.opening (cells_of read old.text was) past.place past.entered cell entered (some_some (slice_get (cells_of read old.text was) past.place) cell got)
+    let own : slice_get (read (row_at text name.one.line)) name.one.nth ≡ Some cell =
+    (λ i. slice_get (read (row_at text (name.line i))) (name.nth i)) ∙ (ap (λ b. slice_get (read b) nth) (sym row) ∙ c) in
+    let got : option_map (λ (x : Cell). Some x) (slice_get cells past.place) ≡ Some (Some cell) =
+    sym (slice_get-map (λ (x : Cell). Some x) cells past.place)
+    ∙ (ap (λ l. slice_get l past.place) (sym (cells_of_chain steps read text was))
+    ∙ (slice_get-map (cell_at steps read text) spots past.place
+    ∙ (ap (option_map (cell_at steps read text)) name.spot ∙ ap (λ y. Some y) own))) in
+    at_cell steps.next was.opening cells past.place past.entered cell entered (some_some (slice_get cells past.place) cell got)
+
+pub pasts_held : {State Cell Items : Type 0} → PastsHeld State Cell Items
+pasts_held steps read old s line nth past was cell h inside member source e c =
+    let by = some_through (λ m. past_at (rows_of steps read old) m nth) (carried s line) past (sym (carried_rows steps read old s line nth h inside) ∙ e) in
+    held_by steps read old.text (row_at (spliced old.text s) line) by.0 nth past was cell
+    (named steps read old by.0 nth past was h member source by.2)
+    (carried_line old.text s line by.0 inside by.1) c

@@ -134,31 +134,50 @@ pub record Named {State Cell Items : Type 0} (steps : Steps State Cell Items) (r
   pub nth : one.nth ≡ k
   pub entered : one.entered ≡ past.entered
 
-pub named : {State Cell Items : Type 0} (steps : Steps State Cell Items) (read : List ℕ → List Cell) (old : Laid State) (line nth : ℕ) (past : Past State) (was : Chain State) → LiesInOrder old → Contains (chains_of old) was → was.source ≡ past.source → past_at (rows_of steps read old) line nth ≡ Some past → Named steps read old.text line nth past was
-named {State = State} steps read old line nth past was h member source e =
-    let chains = chains_of old in
-    let all = flat_map (full_of steps read old.text) chains in
-    let some = some_past (find (is_at line nth) all) past (rows_hold steps read old line nth h ∙ e) in
-    let x = some.0 in
-    let stands = found_in (is_at line nth) x all some.1 in
-    let both = and_parts (x.line == line) (x.nth == nth) stands.1 in
-    let own = from_flat (full_of steps read old.text) chains x stands.0 in
-    let chain = own.0 in
-    let of_chain : x.source ≡ chain.source = (each_in (InLines chain.block.from (chain.block.from + length (lines_in old.text chain.block)) chain.source 0) x (full_of steps read old.text chain) (along_each steps read chain.block.from chain.source 0 chain.opening (lines_in old.text chain.block)) own.2).source_is in
-    let a : chain.source ≡ was.source = sym of_chain ∙ (ap (λ p. p.source) some.2 ∙ sym source) in
-    let same : chain ≡ was = one_source 0 chains chain was (sources_rise old) own.1 (in_from_contains was chains member.0 member.1 member.2) a in
-    let in_was : In x (full_of steps read old.text was) = subst (λ c. In x (full_of steps read old.text c)) same own.2 in
-    let place : x.place ≡ past.place = ap (λ p. p.place) some.2 in
-    let got : slice_get (full_of steps read old.text was) past.place ≡ Some x =
-    at_place (full_of steps read old.text was) was.source 0 (full_of steps read old.text was) x past.place (along_follows (full_of steps read old.text was) steps read was.block.from was.source 0 was.opening (lines_in old.text was.block) (λ w m. m)) in_was (place ∙ sym (zero-add past.place)) in
+-- a cell has the number of its chain
+pub source_is : {State Cell Items : Type 0} (steps : Steps State Cell Items) (read : List ℕ → List Cell) (text : Text) (chain : Chain State) (x : Full State) → In x (full_of steps read text chain) → x.source ≡ chain.source
+source_is steps read text chain x h =
+    (each_in (InLines chain.block.from (chain.block.from + length (lines_in text chain.block)) chain.source 0) x (full_of steps read text chain) (along_each steps read chain.block.from chain.source 0 chain.opening (lines_in text chain.block)) h).source_is
+
+named_by : {State Cell Items : Type 0} (steps : Steps State Cell Items) (read : List ℕ → List Cell) (old : Laid State) (line nth : ℕ) (past : Past State) (was chain : Chain State) (x : Full State) → Contains (chains_of old) was → was.source ≡ past.source → as_past x ≡ past → is_at line nth x ≡ true → In chain (chains_of old) → In x (full_of steps read old.text chain) → Named steps read old.text line nth past was
+named_by {State = State} steps read old line nth past was chain x member source e stands own inside =
+    let both = and_parts (x.line == line) (x.nth == nth) stands in
+    let a : chain.source ≡ was.source = sym (source_is steps read old.text chain x inside) ∙ (ap (λ p. p.source) e ∙ sym source) in
+    let same : chain ≡ was = one_source 0 (chains_of old) chain was (sources_rise old) own (in_from_contains was (chains_of old) member.0 member.1 member.2) a in
+    let cells = full_of steps read old.text was in
+    let in_was : In x cells = subst (λ c. In x (full_of steps read old.text c)) same inside in
+    let place : x.place ≡ past.place = ap (λ p. p.place) e in
+    let got : slice_get cells past.place ≡ Some x = at_place cells was.source 0 cells x past.place (along_follows cells steps read was.block.from was.source 0 was.opening (lines_in old.text was.block) (λ w m. m)) in_was (place ∙ sym (zero-add past.place)) in
     let spots = along_spots steps read was.block.from was.source 0 was.opening (lines_in old.text was.block) in
     record {
       one = x;
-      spot = ap (λ l. slice_get l past.place) (sym spots) ∙ (slice_get-map as_spot (full_of steps read old.text was) past.place ∙ ap (option_map as_spot) got);
+      spot = ap (λ l. slice_get l past.place) (sym spots) ∙ (slice_get-map as_spot cells past.place ∙ ap (option_map as_spot) got);
       line = eqb-true x.line line both.0;
       nth = eqb-true x.nth nth both.1;
-      entered = ap (λ p. p.entered) some.2;
+      entered = ap (λ p. p.entered) e;
     }
+
+-- the cell of a past, and its chain
+pub record Found {State Cell Items : Type 0} (steps : Steps State Cell Items) (read : List ℕ → List Cell) (old : Laid State) (line nth : ℕ) (past : Past State) : Type 0 where
+  pub cell : Full State
+  pub chain : Chain State
+  pub is : as_past cell ≡ past
+  pub stands : is_at line nth cell ≡ true
+  pub among : In chain (chains_of old)
+  pub inside : In cell (full_of steps read old.text chain)
+
+pub found_past : {State Cell Items : Type 0} (steps : Steps State Cell Items) (read : List ℕ → List Cell) (old : Laid State) (line nth : ℕ) (past : Past State) → LiesInOrder old → past_at (rows_of steps read old) line nth ≡ Some past → Found steps read old line nth past
+found_past steps read old line nth past h e =
+    let all = flat_map (full_of steps read old.text) (chains_of old) in
+    let some = some_past (find (is_at line nth) all) past (rows_hold steps read old line nth h ∙ e) in
+    let stands = found_in (is_at line nth) some.0 all some.1 in
+    let own = from_flat (full_of steps read old.text) (chains_of old) some.0 stands.0 in
+    record { cell = some.0; chain = own.0; is = some.2; stands = stands.1; among = own.1; inside = own.2 }
+
+pub named : {State Cell Items : Type 0} (steps : Steps State Cell Items) (read : List ℕ → List Cell) (old : Laid State) (line nth : ℕ) (past : Past State) (was : Chain State) → LiesInOrder old → Contains (chains_of old) was → was.source ≡ past.source → past_at (rows_of steps read old) line nth ≡ Some past → Named steps read old.text line nth past was
+named steps read old line nth past was h member source e =
+    let found = found_past steps read old line nth past h e in
+    named_by steps read old line nth past was found.chain found.cell member source found.is found.stands found.among found.inside
 
 pub pasts_name : {State Cell Items : Type 0} → PastsName State Cell Items
 pasts_name {State = State} steps read old line nth past was h member source e =

@@ -21,6 +21,7 @@ worked_edits = record {
   other_meter = (refl, refl);
   header_longer = (refl, refl);
   meter_before = (refl, refl);
+  inside_a_line = (refl, refl);
   header_goes = (refl, refl);
   header_to_tune = (refl, refl);
 }

@@ -1,6 +1,6 @@
 -- What is held of the cells of a new chain where the states of the old chains are kept, and the steps that are taken
 -- along it. Our own.
-use Rattle.std.specs.Prelude.{ℕ, ◌+◌, cond, IsTrue, List, [], ◌∷◌, map, slice_get, Contains, Option, Some, None}
+use Rattle.std.specs.Prelude.{ℕ, ◌+◌, cond, List, [], ◌∷◌, map, slice_get, Contains, Option, Some, None}
 use Rattle.std.specs.List.{AllZip, flat_map}
 use Rattle.std.specs.Option.{option_map}
 use Rattle.abc_lines.specs.Text.{Splice, Text}
@@ -63,7 +63,7 @@ abbrev pub StandsFor : {State Cell Items : Type 0} → Steps State Cell Items �
 StandsFor steps cell None None = Unit {0}
 StandsFor steps cell None (Some past) = ⊥
 StandsFor steps cell (Some held) None = ⊥
-StandsFor steps cell (Some held) (Some past) = IsTrue (steps.alike held.entry past.entered) × IsTrue (steps.alike held.after (steps.next past.entered cell))
+StandsFor steps cell (Some held) (Some past) = IsAlike steps held.entry past.entered × IsAlike steps held.after (steps.next past.entered cell)
 
 -- Cell by cell.
 abbrev pub StandFor : {State Cell Items : Type 0} → Steps State Cell Items → List Cell → List (Option (Held State)) → List (Option (Past State)) → Type 0

@@ -15,8 +15,8 @@ IsAlike steps a b = IsTrue (steps.alike a b)
 -- Being alike is an equivalence, and from states that are alike a cell gives equal items and leads to states that
 -- are alike.
 pub record IsResumable {State Cell Items : Type 0} (steps : Steps State Cell Items) : Type 0 where
-  pub reflexive : (a : State) → IsTrue (steps.alike a a)
-  pub symmetric : (a b : State) → IsTrue (steps.alike a b) → IsTrue (steps.alike b a)
-  pub transitive : (a b c : State) → IsTrue (steps.alike a b) → IsTrue (steps.alike b c) → IsTrue (steps.alike a c)
-  pub equal_items : (a b : State) (cell : Cell) → IsTrue (steps.alike a b) → steps.gives a cell ≡ steps.gives b cell
-  pub alike_states : (a b : State) (cell : Cell) → IsTrue (steps.alike a b) → IsTrue (steps.alike (steps.next a cell) (steps.next b cell))
+  pub reflexive : (a : State) → IsAlike steps a a
+  pub symmetric : (a b : State) → IsAlike steps a b → IsAlike steps b a
+  pub transitive : (a b c : State) → IsAlike steps a b → IsAlike steps b c → IsAlike steps a c
+  pub equal_items : (a b : State) (cell : Cell) → IsAlike steps a b → steps.gives a cell ≡ steps.gives b cell
+  pub alike_states : (a b : State) (cell : Cell) → IsAlike steps a b → IsAlike steps (steps.next a cell) (steps.next b cell)

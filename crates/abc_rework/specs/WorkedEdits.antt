@@ -1,6 +1,8 @@
--- Edits of small texts, worked by hand: how many cells are fresh and how many tunes are touched. Each line but blank
--- ones and comments is a cell, and the state is what the last M: line set, or `0`. Our own.
+-- Edits of small texts, worked by hand: how many cells are fresh and how many tunes are touched. A field is a cell, a
+-- line of music has one before each bar line and one behind the last, and the state is what the last M: set, or `0`.
+-- Our own.
 use Rattle.std.specs.Prelude.{◌≡◌, ℕ, ◌==◌, if◌then◌else◌, List, [], ◌∷◌, codes, slice_index, None, unwrap_or}
+use Rattle.std.specs.List.{slice_split}
 use Rattle.abc_lines.specs.Text.{Splice, Text}
 use Rattle.abc_scan.specs.Class.{class_of}
 use Rattle.abc_scan.specs.declared.class.LineClass.{LineClass}
@@ -13,19 +15,19 @@ use Rattle.abc_rework.specs.Steps.{Steps}
 abbrev pub unset : ℕ
 unset = 48
 
--- The state behind a line: the first byte that an M: line has behind its colon.
+-- The state behind a cell: the first byte that an M: has behind its colon.
 abbrev pub toy_next : ℕ → List ℕ → ℕ
-toy_next state line = if slice_index line 0 == 77 then slice_index line 2 else state
+toy_next state cell = if slice_index cell 0 == 77 then slice_index cell 2 else state
 
 abbrev pub toy_steps : Steps ℕ (List ℕ) ℕ
-toy_steps = record { next = toy_next; gives = λ state line. state; alike = λ a b. a == b }
+toy_steps = record { next = toy_next; gives = λ state cell. state; alike = λ a b. a == b }
 
 -- The cells of a line of this class.
 abbrev pub toy_cells : LineClass → List ℕ → List (List ℕ)
 toy_cells Blank line = []
 toy_cells Comment line = []
 toy_cells (Field letter) line = line ∷ []
-toy_cells Music line = line ∷ []
+toy_cells Music line = slice_split (λ byte. byte == 124) line
 
 abbrev pub toy_rules : Rules ℕ (List ℕ) ℕ ℕ
 toy_rules = record {
@@ -49,7 +51,7 @@ splice at removed lines = record { at = at; removed = removed; lines = lines }
 abbrev pub Costs : Text → Splice → ℕ → ℕ → Type 0
 Costs text s fresh touched = (fresh_after toy_steps toy_rules text s ≡ fresh) × (touched_after toy_steps toy_rules text s ≡ touched)
 
--- A tune of three lines and one of four.
+-- A tune of three cells and one of four.
 abbrev pub short_tune : Text
 short_tune = codes "X:1" ∷ codes "K:C" ∷ codes "C" ∷ []
 
@@ -87,6 +89,8 @@ pub record WorkedEdits : Type 0 where
   pub header_longer : Costs with_header (splice 1 0 (codes "T:x" ∷ [])) 1 0
   -- another meter stands before one that stays: that one is entered in another state, and the tune as before
   pub meter_before : Costs (codes "M:2" ∷ codes "M:3" ∷ [] ∷ short_tune) (splice 0 1 (codes "M:4" ∷ [])) 2 0
+  -- it reaches as far as the next meter, which stands inside a line
+  pub inside_a_line : Costs (codes "M:2" ∷ codes "X:1" ∷ codes "K:C" ∷ codes "C|M:3|D" ∷ []) (splice 0 1 (codes "M:4" ∷ [])) 5 1
   -- the file header becomes free text: each cell of the tune is entered in another state
   pub header_goes : Costs with_header (splice 0 0 ([] ∷ codes "C" ∷ [] ∷ [])) 3 1
   -- the file header becomes a tune: its cell was there
