@@ -1,22 +1,23 @@
 -- What is held by addresses stands for pasts.
 use Rattle.std.proofs.Common.{◌≡◌, ℕ, zero, suc, ◌+◌, ◌≤◌, IsTrue, List, [], ◌∷◌, map, length, cond, true, false, slice_get, Contains, Option, Some, None, refl, sym, ap, ◌∙◌, subst, ⊎_elim, arith}
-use Rattle.std.specs.List.{AllZip}
+use Rattle.std.specs.List.{AllZip, sum_by}
 use Rattle.abc_rework.proofs.Rows.{carried_rows}
 use Rattle.abc_rework.proofs.Rising.{In}
 use Rattle.abc_rework.proofs.Pieces.{look, pieces_are}
 use Rattle.abc_rework.proofs.Steps.{found_past, source_is, same_test, steps_are_fresh}
-use Rattle.abc_rework.proofs.Counting.{fresh_of_chain}
+use Rattle.abc_rework.proofs.Words.{chains_lie}
+use Rattle.abc_rework.proofs.Counting.{edits_count, fresh_of_chain}
 use Rattle.std.proofs.lemmas.Bool.{cases_Bool}
 use Rattle.abc_lines.specs.Text.{Text, Splice, spliced}
 use Rattle.abc_rework.specs.Steps.{Steps, IsAlike, IsResumable}
-use Rattle.abc_rework.specs.Laid.{Laid, Chain, chains_of, LiesInOrder}
+use Rattle.abc_rework.specs.Laid.{laid_in, Laid, Chain, chains_of, LiesInOrder}
 use Rattle.abc_rework.specs.Entered.{Spot, entered_of}
 use Rattle.abc_rework.specs.Fresh.{carried, is_fresh_after}
-use Rattle.abc_rework.specs.Pasts.{Past, rows_of, pasts, past_at, first_past, rest}
+use Rattle.abc_rework.specs.Pasts.{fresh_of, Past, rows_of, pasts, past_at, first_past, rest}
 use Rattle.abc_rework.specs.Pieces.{pieces_of}
 use Rattle.abc_rework.specs.Origins.{address_of}
-use Rattle.abc_rework.specs.Kept.{cells_of, states_over, states_of, Held, entry_of, behind, made_over, StandsFor, StandFor, both_held, held_at, AreKept}
-use Rattle.abc_rework.specs.EditLaws.{HeldsStand, KeptSteps, KeptAgain}
+use Rattle.abc_rework.specs.Kept.{steps_over, held_over, cells_of, states_over, states_of, Held, entry_of, behind, made_over, StandsFor, StandFor, both_held, held_at, AreKept}
+use Rattle.abc_rework.specs.EditLaws.{KeptEdits, HeldsStand, KeptSteps, KeptAgain}
 use Rattle.abc_rework.proofs.Same.{cell_at, cells_of_chain}
 use Rattle.abc_rework.proofs.Origins.{pasts_held, some_through}
 
@@ -98,3 +99,13 @@ pub kept_steps : {State Cell Items : Type 0} → KeptSteps State Cell Items
 kept_steps steps read old s chain kept state h inside one k e =
     steps_are_fresh steps read (spliced old.text s) (pasts steps read old s) chain state _ one e (helds_stand steps read old s chain kept h inside k)
     ∙ fresh_of_chain steps read old s (spliced old.text s) chain h inside
+
+pub kept_edits : {State Cell Items Defaults : Type 0} → KeptEdits State Cell Items Defaults
+kept_edits {State = State} steps rules text s kept begins inside one k alike =
+    let old = laid_in steps rules text in
+    let new = spliced text s in
+    let walked : Chain State → ℕ = λ chain. steps_over steps (begins chain) (cells_of rules.cells new chain) (held_over steps rules.cells old s kept new chain) in
+    let each : (chain : Chain State) → walked chain ≡ fresh_of steps rules.cells new (pasts steps rules.cells old s) chain =
+    λ chain. steps_are_fresh steps rules.cells new (pasts steps rules.cells old s) chain (begins chain) _ one (alike chain) (helds_stand steps rules.cells old s chain kept (chains_lie steps rules text) inside k) in
+    ap (λ (count : Chain State → ℕ). sum_by count (chains_of (laid_in steps rules new))) (λ i chain. each chain i)
+    ∙ edits_count steps rules text s inside

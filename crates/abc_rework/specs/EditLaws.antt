@@ -1,13 +1,14 @@
 -- What an edit may take over, and the steps where the states of the old chains are kept. Our own.
 use Rattle.std.specs.Prelude.{◌≡◌, ℕ, ◌+◌, ◌≤◌, true, List, length, count_by, Option}
-use Rattle.std.specs.List.{AllZip, Any}
+use Rattle.std.specs.List.{AllZip, Any, sum_by}
 use Rattle.abc_lines.specs.Text.{Splice, Text, spliced}
 use Rattle.abc_tunebook.specs.Placed.{cells_from, things}
+use Rattle.abc_tunebook.specs.Rules.{Rules}
 use Rattle.abc_tunebook.specs.Tune.{lines_in}
 use Rattle.abc_rework.specs.Entered.{entered_of}
-use Rattle.abc_rework.specs.Fresh.{are_carried_from, is_fresh, is_untouched}
+use Rattle.abc_rework.specs.Fresh.{are_carried_from, fresh_after, is_fresh, is_untouched}
 use Rattle.abc_rework.specs.Kept.{AreKept, Held, StandFor, cells_of, held_over, items_of, made_over, states_of, steps_over}
-use Rattle.abc_rework.specs.Laid.{Chain, Laid, LiesInOrder, tune_chains}
+use Rattle.abc_rework.specs.Laid.{Chain, Laid, LiesInOrder, chains_of, laid_in, tune_chains}
 use Rattle.abc_rework.specs.Pasts.{Past, fresh_of, pasts}
 use Rattle.abc_rework.specs.Pieces.{pieces_of}
 use Rattle.abc_rework.specs.Steps.{IsAlike, IsResumable, Steps}
@@ -65,3 +66,12 @@ KeptAgain State Cell Items =
     → AllZip (IsAlike steps)
     (made_over steps state (cells_of read (spliced old.text s) chain) (held_over steps read old s kept (spliced old.text s) chain))
     (states_of steps read (spliced old.text s) chain)
+
+-- For every text and every splice of it: begun in states alike to their openings, the steps along all its chains are
+-- exactly its fresh cells.
+abbrev pub KeptEdits : Type 0 → Type 0 → Type 0 → Type 0 → Type 0
+KeptEdits State Cell Items Defaults =
+    (steps : Steps State Cell Items) (rules : Rules State Cell Items Defaults) (text : Text) (s : Splice) (kept : ℕ → List State) (begins : Chain State → State)
+    → s.at + s.removed ≤ length text → IsResumable steps → AreKept steps rules.cells (laid_in steps rules text) kept → ((chain : Chain State) → IsAlike steps (begins chain) chain.opening)
+    → sum_by (λ chain. steps_over steps (begins chain) (cells_of rules.cells (spliced text s) chain) (held_over steps rules.cells (laid_in steps rules text) s kept (spliced text s) chain)) (chains_of (laid_in steps rules (spliced text s)))
+    ≡ fresh_after steps rules text s

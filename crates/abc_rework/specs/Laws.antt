@@ -1,5 +1,5 @@
 -- What ties the rows along which code walks to the meaning of fresh cells and touched tunes. Our own.
-use Rattle.std.specs.Prelude.{◌≡◌, ℕ, ◌+◌, ◌≤◌, ◌==◌, not, false, List, ◌∷◌, map, filter, length, slice_get, count_by, Contains, Option, Some, IfSome}
+use Rattle.std.specs.Prelude.{◌≡◌, ℕ, ◌+◌, ◌≤◌, ◌==◌, not, false, List, ◌∷◌, ◌++◌, map, filter, length, slice_get, count_by, Contains, Option, Some, IfSome}
 use Rattle.std.specs.List.{sum_by}
 use Rattle.std.specs.Option.{option_map}
 use Rattle.abc_lines.specs.Text.{Splice, Text, spliced}
@@ -46,7 +46,14 @@ RowsCount State Cell Items =
     → LiesInOrder old → s.at + s.removed ≤ length old.text
     → sum_by (fresh_of steps read new.text (pasts steps read old s)) (chains_of new) ≡ fresh_in steps read old s new
 
--- So they are for every text and every splice of it.
+-- Those of some chains that follow one another are at most as many.
+abbrev pub StretchesCount : Type 0 → Type 0 → Type 0 → Type 0
+StretchesCount State Cell Items =
+    (steps : Steps State Cell Items) (read : List ℕ → List Cell) (old new : Laid State) (s : Splice) (before stretch behind : List (Chain State))
+    → LiesInOrder old → s.at + s.removed ≤ length old.text → chains_of new ≡ before ++ (stretch ++ behind)
+    → sum_by (fresh_of steps read new.text (pasts steps read old s)) stretch ≤ fresh_in steps read old s new
+
+-- For every text and every splice of it, the fresh cells counted along the rows are those of the definition.
 abbrev pub EditsCount : Type 0 → Type 0 → Type 0 → Type 0 → Type 0
 EditsCount State Cell Items Defaults =
     (steps : Steps State Cell Items) (rules : Rules State Cell Items Defaults) (text : Text) (s : Splice) → s.at + s.removed ≤ length text
@@ -67,7 +74,7 @@ PiecesCount State Cell Items =
     → LiesInOrder old → s.at + s.removed ≤ length old.text
     → count_by (λ tune. not (is_untouched_by steps read old (pasts steps read old s) new.text tune)) (tune_chains 1 new.opening new.tunes) ≡ touched_in steps read old s new
 
--- So they are for every text and every splice of it.
+-- For every text and every splice of it, the touched tunes counted by pieces are those of the definition.
 abbrev pub EditsTouch : Type 0 → Type 0 → Type 0 → Type 0 → Type 0
 EditsTouch State Cell Items Defaults =
     (steps : Steps State Cell Items) (rules : Rules State Cell Items Defaults) (text : Text) (s : Splice) → s.at + s.removed ≤ length text

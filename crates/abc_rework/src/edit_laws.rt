@@ -1,7 +1,7 @@
 //! What an edit may take over, and how many steps it takes where the states of the old chains are kept.
 //! Each function has no body: its contract is the law.
 
-ghost use Rattle.abc_rework.specs.EditLaws.{CellsAreThings, CarriedCells, UntouchedItems, StepsAreFresh, HeldsStand, KeptSteps, KeptAgain};
+ghost use Rattle.abc_rework.specs.EditLaws.{CellsAreThings, CarriedCells, UntouchedItems, StepsAreFresh, HeldsStand, KeptSteps, KeptAgain, KeptEdits};
 ghost use Rattle.abc_rework.specs.WorkedEdits.{WorkedEdits};
 
 /// A tune whose cells are carried, in order, from all those of an old one has the same cells.
@@ -22,10 +22,11 @@ pub fn steps_are_fresh<State, Cell, Items>()
 
 /// With the states of the old chains kept, alike to those from scratch, the steps along a new chain are
 /// exactly its fresh cells, and the states made may be kept again.
-pub fn kept_states_serve<State, Cell, Items>()
+pub fn kept_states_serve<State, Cell, Items, Defaults>()
     ensures stand { HeldsStand State Cell Items }
     ensures steps { KeptSteps State Cell Items }
     ensures again { KeptAgain State Cell Items }
+    ensures edits { KeptEdits State Cell Items Defaults }
 {}
 
 /// The counts of edits of small texts, worked by hand.

@@ -1,7 +1,7 @@
 //! What ties the rows along which code walks to the meaning of fresh cells and touched tunes. Each
 //! function has no body: its contract is the law.
 
-ghost use Rattle.abc_rework.specs.Laws.{ChainsLie, EnteredAreItems, NthOfLine, RowsTell, RowsCount, EditsCount, PiecesTell, PiecesCount, EditsTouch, OneTune, NoTune, LinesSuffice, OriginsStand, PastsName, PastsHeld};
+ghost use Rattle.abc_rework.specs.Laws.{ChainsLie, EnteredAreItems, NthOfLine, RowsTell, RowsCount, StretchesCount, EditsCount, PiecesTell, PiecesCount, EditsTouch, OneTune, NoTune, LinesSuffice, OriginsStand, PastsName, PastsHeld};
 
 /// The file header and the tunes of a text follow one another within it.
 pub fn chains_lie<State, Cell, Items, Defaults>()
@@ -23,6 +23,7 @@ pub fn rows_tell<State, Cell, Items>()
 /// Counted along the rows, the fresh cells are those of the definition.
 pub fn rows_count<State, Cell, Items, Defaults>()
     ensures count { RowsCount State Cell Items }
+    ensures stretch { StretchesCount State Cell Items }
     ensures edits { EditsCount State Cell Items Defaults }
 {}
 
