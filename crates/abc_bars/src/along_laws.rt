@@ -1,10 +1,11 @@
 //! The law of the fold along the cells of a file header and of a tune.
 
-ghost use Rattle.std.specs.Prelude.{List, Option};
+ghost use Rattle.std.specs.Prelude.{◌≡◌, List, Option};
 ghost use Rattle.std.specs.Option.{option_map};
 ghost use Rattle.abc_bars.specs.Defaults.{no_defaults};
 ghost use Rattle.abc_bars.specs.Entry.{opening_after};
-ghost use Rattle.abc_bars.specs.LookBack.Along.{CellTokens, IsLookBack, file_header_begins, place_after, state_after, tune_begins, values_set};
+ghost use Rattle.abc_bars.specs.LookBack.Along.{CellTokens, IsLookBack, file_header_begins, given_along, place_after, state_after, tune_begins, values_set};
+ghost use Rattle.abc_bars.specs.LookBack.Place.{Place, view};
 ghost use Rattle.abc_bars.specs.LookBack.TunePlaces.{IsOfTune};
 ghost use Rattle.abc_bars.specs.declared.bar_fold.BarFold.{BarFold};
 ghost use Rattle.abc_bars.specs.declared.entry.Entry.TheVariants as entries;
@@ -14,14 +15,28 @@ use abc_fold::Fold;
 
 /// The fold is the look back: along any cells, those of a file header from `Entry::header` on and those of a
 /// tune from `Entry::tune` on, each cell is entered in the view of its place and gives what looking back gives
-/// there, items and faults. A tune begins with what the field lines of the file header set, if there is one.
-#[tactic(auto, using(crate::proofs::LookBack::Along::file_header_looked_back, crate::proofs::LookBack::Along::tune_looked_back))]
+/// there, items and faults. A tune begins with what the field lines of the file header set, if there is one. So it is
+/// from the view of any place on.
+#[tactic(auto, using(crate::proofs::LookBack::Along::file_header_looked_back, crate::proofs::LookBack::Along::tune_looked_back, crate::proofs::LookBack::Along::from-view))]
 pub fn views_along()
     ensures file_header { (fold : BarFold) →
         IsLookBack (⟦<BarFold as Fold>⟧.next fold) (⟦<BarFold as Fold>⟧.gives fold) (entries.FileHeader no_defaults) file_header_begins }
     ensures tune { (fold : BarFold) (header : Option (List CellTokens)) →
         IsLookBack (⟦<BarFold as Fold>⟧.next fold) (⟦<BarFold as Fold>⟧.gives fold)
         (opening_after (option_map (state_after (⟦<BarFold as Fold>⟧.next fold) (entries.FileHeader no_defaults)) header)) (tune_begins header) }
+    ensures place { (fold : BarFold) (place : Place) →
+        IsLookBack (⟦<BarFold as Fold>⟧.next fold) (⟦<BarFold as Fold>⟧.gives fold) (view place) place }
+{}
+
+/// What cells give, and what holds behind them, depends on the view at the place that they follow and on nothing
+/// else that stands before it: where the views at two places of two texts are the same and the same cells follow,
+/// these give the same items and the same faults at both, and the views behind them are the same.
+#[tactic(auto, using(crate::proofs::LookBack::Along::same_given, crate::proofs::LookBack::Along::same_behind))]
+pub fn views_decide()
+    ensures given { (here there : Place) (cells : List CellTokens) → view here ≡ view there →
+        given_along here cells ≡ given_along there cells }
+    ensures behind { (here there : Place) (cells : List CellTokens) → view here ≡ view there →
+        view (place_after here cells) ≡ view (place_after there cells) }
 {}
 
 /// What a place of a tune keeps is what stands before it in the file header and in its own: the values of the

@@ -41,8 +41,17 @@ behind-cells place (cell ∷ cells) =
     ap (λ (state : Entry). state_after to state cells) (to-view place cell) ∙ behind-cells (place_behind place cell) cells
 
 -- From the view of any place on, the steps are the look back.
-from-view : (place : Place) → IsLookBack to giving (view place) place
+pub from-view : (place : Place) → IsLookBack to giving (view place) place
 from-view place = record { entered = entered-along place; given = items-given place; behind = behind-cells place }
+
+-- The same cells give the same where the views are the same, and the same holds behind them.
+pub same_given : (here there : Place) (cells : List CellTokens) → view here ≡ view there → given_along here cells ≡ given_along there cells
+same_given here there cells same =
+    sym (items-given here cells) ∙ ap (λ (entry : Entry). items_along to giving entry cells) same ∙ items-given there cells
+
+pub same_behind : (here there : Place) (cells : List CellTokens) → view here ≡ view there → view (place_after here cells) ≡ view (place_after there cells)
+same_behind here there cells same =
+    sym (behind-cells here cells) ∙ ap (λ (entry : Entry). state_after to entry cells) same ∙ behind-cells there cells
 
 -- The place behind the cells of a file header: its field lines stand before it.
 line-behind : (before : List Field) (field : Option Field) → behind_line before field ≡ InFileHeader (with_field_line field before)
