@@ -1,8 +1,10 @@
 pub mod Accidentals
 pub mod Along
+pub mod ByName
 pub mod Cells
 pub mod Heard
 pub mod Known
+pub mod Named
 pub mod Placed
 pub mod Places
 pub mod Step

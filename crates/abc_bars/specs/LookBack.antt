@@ -1,6 +1,7 @@
 pub mod After
 pub mod AfterBody
 pub mod Along
+pub mod ByName
 pub mod Cells
 pub mod Defaults
 pub mod Element

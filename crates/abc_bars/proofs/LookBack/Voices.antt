@@ -24,7 +24,7 @@ current-of None unnamed = refl
 current-of (Some place) unnamed = refl
 
 -- The voices that looking back finds in a body are those that are mentioned.
-roll-held : (opening : Body) (before : List Element) → roll_of (held_at opening before) ≡ roll_at (roll_of opening) before
+pub roll-held : (opening : Body) (before : List Element) → roll_of (held_at opening before) ≡ roll_at (roll_of opening) before
 unfolding held_at
 roll-held opening before = λ i. record {
   names = keys-by (λ at. settings_in (music_at opening at before)) (roll_at (roll_of opening) before).names i;
@@ -44,7 +44,7 @@ distinct-behind roll Each h distinct = distinct
 distinct-behind roll (Former place) h distinct = distinct
 distinct-behind roll (New name) h distinct = IsDistinct-push nat_list_eq_equiv roll.names name distinct h.apart
 
-distinct-at : (opening : Roll) → IsDistinct bytes_eq opening.names → (before : List Element) → IsDistinct bytes_eq (roll_at opening before).names
+pub distinct-at : (opening : Roll) → IsDistinct bytes_eq opening.names → (before : List Element) → IsDistinct bytes_eq (roll_at opening before).names
 distinct-at opening distinct [] = distinct
 distinct-at opening distinct (element ∷ before) =
     let roll = roll_at opening before in

@@ -1,0 +1,347 @@
+-- What looking back by places finds is what looking back by names finds.
+use Rattle.std.proofs.Common.{◌≡◌, ℕ, ◌+◌, ◌-◌, ◌<◌, ◌==◌, Bool, true, false, cond, List, [], ◌∷◌, ◌++◌, drop, take, length, map, Option, Some, None, unwrap_or, position, bytes_eq, slice_range, Result, Ok, Err, is_some, refl, sym, ap, ◌∙◌, subst, arith}
+use Rattle.std.proofs.Math.Seq.{take-append_seam, drop-append_seam}
+use Rattle.std.proofs.lemmas.Bool.Decides.{nat_tests}
+use Rattle.std.proofs.lemmas.Map.Keys.{any_passes_from_place}
+use Rattle.std.proofs.lemmas.Option.{slice_get_within}
+use Rattle.std.specs.Cmp.Lexicographic.{nat_list_eq_equiv}
+use Rattle.std.specs.List.{IsDistinct, list_any, slice_get}
+use Rattle.std.specs.Map.{keys_of}
+use Rattle.std.specs.Option.{option_and_then}
+use Rattle.std.specs.Result.{result_ok}
+use Rattle.abc_fields.proofs.Voices.{voice_read}
+use Rattle.abc_fields.specs.declared.fault.FaultCode.{FaultCode}
+use Rattle.abc_fields.specs.declared.key.Key.{Key}
+use Rattle.abc_fields.specs.declared.meter.Meter.{Meter}
+use Rattle.abc_fields.specs.declared.shift.Shift.{Shift}
+use Rattle.abc_fields.specs.declared.voice.Voice.{Voice}
+use Rattle.abc_fields.specs.Meter.{meter_of}
+use Rattle.abc_fields.specs.Spelling.Voice.{IsVoice}
+use Rattle.abc_fields.specs.Unit.{unit_of}
+use Rattle.abc_fields.specs.Voice.{voice_of}
+use Rattle.abc_music.specs.declared.settings.Settings.{Settings}
+use Rattle.abc_music.specs.Settings.{without_accidentals}
+use Rattle.abc_scan.specs.declared.field.Field.{Field}
+use Rattle.abc_scan.specs.declared.token.TokenKind.{TokenKind}
+use Rattle.abc_scan.specs.declared.token.TokenKind.TheVariants as kinds
+use Rattle.abc_time.specs.declared.ratio.Ratio.{Ratio}
+use Rattle.abc_bars.specs.declared.body.Body.{Body}
+use Rattle.abc_bars.specs.declared.defaults.Defaults.{Defaults}
+use Rattle.abc_bars.specs.declared.field_kind.FieldKind.{FieldKind}
+use Rattle.abc_bars.specs.declared.field_kind.FieldKind.TheVariants as fields
+use Rattle.abc_bars.specs.declared.header.Header.{Header}
+use Rattle.abc_bars.specs.Body.{here}
+use Rattle.abc_bars.specs.BodyFields.{part_of}
+use Rattle.abc_bars.specs.BodyOpening.{body_from, current_in, opening_voice}
+use Rattle.abc_bars.specs.FieldKind.{kind_of}
+use Rattle.abc_bars.specs.Voices.{voice_at}
+use Rattle.abc_bars.specs.LookBack.After.{after, after_field, in_meter, in_part, in_unit, in_voice}
+use Rattle.abc_bars.specs.LookBack.AfterBody.{mentions}
+use Rattle.abc_bars.specs.LookBack.ByName.{Owner, Current, Naming, first_name, is_owned_by, naming_at, naming_behind, opening_of, owner_of, owner_of_field, owner_of_part, owner_of_voice, settings_named, tokens_of}
+use Rattle.abc_bars.specs.LookBack.Element.{Element}
+use Rattle.abc_bars.specs.LookBack.Header.{header_at}
+use Rattle.abc_bars.specs.LookBack.Heard.{Each, Former, First, Hearing, Here, Music, New, Nobody, Roll, each_if, field_hearing, hearing_of, held_at, here_if, is_current, music_at, music_behind, place_of_current, roll_at, roll_behind, roll_of, settings_in, unnamed_behind, unnamed_music, voice_said, with_heard}
+use Rattle.abc_bars.specs.LookBack.Place.{opening_at}
+use Rattle.abc_bars.specs.LookBack.Voice.{accidental_at, accidentals_at, settings_at}
+use Rattle.abc_bars.proofs.BodyOpenings.{opening_names}
+use Rattle.abc_bars.proofs.DeclaredVoices.{declared_keys, distinct_names}
+use Rattle.abc_bars.proofs.LookBack.ByName.{Agrees, Fits, IsNamed, behind, finds, hearing_by, known_behind, place-name, unnamed_after}
+use Rattle.abc_bars.proofs.LookBack.Heard.{held}
+use Rattle.abc_bars.proofs.LookBack.Known.{at-by}
+use Rattle.abc_bars.proofs.LookBack.Placed.{fresh-another}
+use Rattle.abc_bars.proofs.LookBack.Voice.{settings_behind}
+use Rattle.abc_bars.proofs.LookBack.Voices.{distinct-at, roll-held}
+use Rattle.abc_bars.proofs.NamePlaces.{find_place}
+
+-- Whether a token that is the current voice's can change what holds for it.
+abbrev acts-field : FieldKind → List ℕ → Bool
+acts-field fields.Meter value = is_some (result_ok (meter_of value))
+acts-field fields.UnitLength value = is_some (result_ok (unit_of value))
+acts-field fields.Key value = true
+acts-field _ value = false
+
+abbrev acts : TokenKind → Bool
+acts (kinds.Note note) = true
+acts (kinds.Rest length) = true
+acts (kinds.Chord chord) = true
+acts (kinds.Bar bar) = true
+acts (kinds.Tuplet mark) = true
+acts (kinds.InlineField field) = acts-field (kind_of field.letter) field.value
+acts (kinds.Field field) = acts-field (kind_of field.letter) field.value
+acts _ = false
+
+here-is : (b : Bool) → here_if b ≡ cond b Here Nobody
+here-is true = refl
+here-is false = refl
+
+part-is : (roll : Roll) (part : Option ℕ) → each_if (is_some part) ≡ hearing_by roll (owner_of_part part) false false
+part-is roll (Some letter) = refl
+part-is roll None = refl
+
+voice-is : (roll : Roll) (value : List ℕ) (r : Result Voice FaultCode) → voice_said roll.names value r ≡ hearing_by roll (owner_of_voice value r) false false
+voice-is roll value (Ok voice) = refl
+voice-is roll value (Err fault) = refl
+
+field-is : (roll : Roll) (kind : FieldKind) (value : List ℕ)
+    → field_hearing roll.names kind value ≡ hearing_by roll (owner_of_field kind value) false (acts-field kind value)
+field-is roll fields.Meter value = here-is (is_some (result_ok (meter_of value)))
+field-is roll fields.UnitLength value = here-is (is_some (result_ok (unit_of value)))
+field-is roll fields.Key value = refl
+field-is roll fields.Parts value = part-is roll (part_of value)
+field-is roll fields.Voice value = voice-is roll value (voice_of value)
+field-is roll fields.Tempo value = refl
+field-is roll fields.Reference value = refl
+field-is roll fields.Title value = refl
+field-is roll fields.Other value = refl
+
+-- Which voices a token belongs to.
+hearing-is : (roll : Roll) (kind : TokenKind) → hearing_of roll kind ≡ hearing_by roll (owner_of kind) (mentions kind) (acts kind)
+hearing-is roll (kinds.Note note) = refl
+hearing-is roll (kinds.Rest length) = refl
+hearing-is roll (kinds.BarRest bars) = refl
+hearing-is roll (kinds.Chord chord) = refl
+hearing-is roll (kinds.InlineField field) = field-is roll (kind_of field.letter) field.value
+hearing-is roll (kinds.Field field) = field-is roll (kind_of field.letter) field.value
+hearing-is roll (kinds.Bar bar) = refl
+hearing-is roll (kinds.Tuplet mark) = refl
+hearing-is roll (kinds.Ending passes) = refl
+hearing-is roll (kinds.Broken mark) = refl
+hearing-is roll kinds.Tie = refl
+hearing-is roll kinds.Blank = refl
+hearing-is roll kinds.NoEffect = refl
+hearing-is roll kinds.Unclosed = refl
+hearing-is roll kinds.BadByte = refl
+
+filled : (name : List ℕ) → 0 < length name → (bytes_eq name [] ≡ false) × (bytes_eq [] name ≡ false)
+filled [] some = absurd (omega arith)
+filled (byte ∷ name) some = (refl, refl)
+
+-- The name that a V: says is not empty.
+name-some : (value : List ℕ) (voice : Voice) → voice_of value ≡ Ok voice → 0 < length (slice_range value voice.from voice.to)
+name-some value voice read =
+    let is : IsVoice value voice = ((voice_read value (voice_of value) refl).ok voice).0 read in
+    let word : List ℕ = is.identifier in
+    let rest : drop voice.from value ≡ word ++ is.behind =
+        (λ i. drop (is.from i) (is.first.spelling i)) ∙ drop-append_seam is.first.blanks (word ++ is.behind) in
+    let to : voice.to ≡ voice.from + length word = is.to in
+    let size : voice.to - voice.from ≡ length word = omega (arith, to) in
+    let same : slice_range value voice.from voice.to ≡ word = (λ i. take (size i) (rest i)) ∙ take-append_seam word is.behind in
+    subst (λ (name : List ℕ). 0 < length name) (sym same) is.first.some
+
+module _ (another : Settings) (plain : without_accidentals another ≡ another) where
+  fits-meter : (r : Result Meter FaultCode) → Fits (λ settings. in_meter settings r) another Current (is_some (result_ok r))
+  fits-meter (Ok meter) = tt
+  fits-meter (Err fault) = λ settings. refl
+
+  fits-unit : (r : Result Ratio FaultCode) → Fits (λ settings. in_unit settings r) another Current (is_some (result_ok r))
+  fits-unit (Ok unit) = tt
+  fits-unit (Err fault) = λ settings. refl
+
+  fits-part : (part : Option ℕ) → Fits (λ settings. in_part settings part) another (owner_of_part part) false
+  fits-part (Some letter) = plain
+  fits-part None = λ settings. refl
+
+  fits-voice : (value : List ℕ) (r : Result Voice FaultCode) → voice_of value ≡ r → Fits (λ settings. in_voice settings r) another (owner_of_voice value r) false
+  fits-voice value (Ok voice) read = filled (slice_range value voice.from voice.to) (name-some value voice read)
+  fits-voice value (Err fault) read = λ settings. refl
+
+  fits-field : (kind : FieldKind) (value : List ℕ) → Fits (λ settings. after_field settings kind value) another (owner_of_field kind value) (acts-field kind value)
+  fits-field fields.Meter value = fits-meter (meter_of value)
+  fits-field fields.UnitLength value = fits-unit (unit_of value)
+  fits-field fields.Key value = tt
+  fits-field fields.Parts value = fits-part (part_of value)
+  fits-field fields.Voice value = fits-voice value (voice_of value) refl
+  fits-field fields.Tempo value = λ settings. refl
+  fits-field fields.Reference value = λ settings. refl
+  fits-field fields.Title value = λ settings. refl
+  fits-field fields.Other value = λ settings. refl
+
+  -- What a token changes.
+  fits : (kind : TokenKind) (tied : Bool) → Fits (λ settings. after settings (record { kind = kind; tied = tied })) another (owner_of kind) (acts kind)
+  fits (kinds.Note note) tied = tt
+  fits (kinds.Rest length) tied = tt
+  fits (kinds.BarRest bars) tied = λ settings. refl
+  fits (kinds.Chord chord) tied = tt
+  fits (kinds.InlineField field) tied = fits-field (kind_of field.letter) field.value
+  fits (kinds.Field field) tied = fits-field (kind_of field.letter) field.value
+  fits (kinds.Bar bar) tied = tt
+  fits (kinds.Tuplet mark) tied = tt
+  fits (kinds.Ending passes) tied = λ settings. refl
+  fits (kinds.Broken mark) tied = λ settings. refl
+  fits kinds.Tie tied = λ settings. refl
+  fits kinds.Blank tied = λ settings. refl
+  fits kinds.NoEffect tied = λ settings. refl
+  fits kinds.Unclosed tied = λ settings. refl
+  fits kinds.BadByte tied = λ settings. refl
+
+-- No accidentals hold where a body begins.
+blank : (settings : Settings) → without_accidentals (settings_at settings []) ≡ settings_at settings []
+unfolding settings_at accidentals_at accidental_at
+blank settings = refl
+
+-- The same found agrees too.
+moved : (roll next : Roll) (naming other : Naming) (known found : ℕ → Settings) (unnamed nameless : Settings) (by named_by : List ℕ → Settings) (another : Settings)
+    → roll ≡ next → naming ≡ other → ((at : ℕ) → known at ≡ found at) → unnamed ≡ nameless → ((name : List ℕ) → by name ≡ named_by name)
+    → Agrees roll naming known unnamed by another → Agrees next other found nameless named_by another
+moved roll next naming other known found unnamed nameless by named_by another rolls namings each one names agrees =
+    subst (λ (r : Roll). Agrees r other found nameless named_by another) rolls
+    (subst (λ (n : Naming). Agrees roll n found nameless named_by another) namings
+    (record {
+      names = agrees.names;
+      current = agrees.current;
+      voices = λ at name there. sym (each at) ∙ agrees.voices at name there ∙ names name;
+      nameless = λ e. sym one ∙ agrees.nameless e ∙ names [];
+      absent = λ name some apart room. sym (names name) ∙ agrees.absent name some apart room;
+    }))
+
+module _ (another : Settings) (fresh : settings_at another [] ≡ another) (roll : Roll) (element : Element) (unnamed : Music) where
+  heard : (m : Music) → settings_in (with_heard element m) ≡ after (settings_in m) element
+  heard m = settings_behind m.opening m.before element
+
+  if-heard : (b : Bool) (m : Music) → settings_in (cond b (with_heard element m) m) ≡ cond b (after (settings_in m) element) (settings_in m)
+  if-heard true m = heard m
+  if-heard false m = refl
+
+  if-new : (b : Bool) (m : Music)
+      → settings_in (cond b (record { opening = another; before = element ∷ [] }) m) ≡ cond b (after another element) (settings_in m)
+  if-new true m = settings_behind another [] element ∙ ap (λ (settings : Settings). after settings element) fresh
+  if-new false m = refl
+
+  known-is : (hearing : Hearing) (at : ℕ) (m : Music)
+      → settings_in (music_behind another roll hearing element unnamed at m)
+      ≡ known_behind another roll hearing (λ settings. after settings element) (settings_in unnamed) at (settings_in m)
+  known-is Nobody at m = refl
+  known-is Here at m = if-heard (is_current roll.current at) m
+  known-is First at m = heard unnamed
+  known-is Each at m = heard m
+  known-is (Former place) at m = if-heard (at == place) m
+  known-is (New name) at m = if-new (at == length roll.names) m
+
+  unnamed-is : (hearing : Hearing) → settings_in (unnamed_behind hearing element unnamed)
+      ≡ unnamed_after hearing (λ settings. after settings element) (settings_in unnamed)
+  unnamed-is Nobody = refl
+  unnamed-is Here = heard unnamed
+  unnamed-is First = heard unnamed
+  unnamed-is Each = heard unnamed
+  unnamed-is (Former place) = refl
+  unnamed-is (New name) = refl
+
+owned : (opening : Settings) (element : Element) (tokens : List Element) (b : Bool)
+    → settings_at opening (cond b (element ∷ tokens) tokens) ≡ cond b (after (settings_at opening tokens) element) (settings_at opening tokens)
+owned opening element tokens true = settings_behind opening tokens element
+owned opening element tokens false = refl
+
+-- The place of a name among names of which none stands twice.
+found-at : (names : List (List ℕ)) (at : ℕ) (name : List ℕ) → IsDistinct bytes_eq names → slice_get names at ≡ Some name → position (bytes_eq name) names ≡ Some at
+found-at names at name distinct there =
+    let self : bytes_eq name name ≡ true = nat_list_eq_equiv.refl name in
+    let place = find_place (bytes_eq name) names (any_passes_from_place (bytes_eq name) names at name there self) in
+    let found = finds (bytes_eq name) names place.0 place.1 in
+    let tested : (at == place.0) ≡ true = place-name names at place.0 name found.0 distinct there found.1 ∙ found.2 in
+    let same : place.0 ≡ at = grind (arith, nat_tests) in
+    place.1 ∙ ap Some same
+
+no-place-by : (name : List ℕ) (names : List (List ℕ)) (o : Option ℕ) → position (bytes_eq name) names ≡ o → list_any (bytes_eq name) names ≡ false → position (bytes_eq name) names ≡ None
+no-place-by name names None is apart = is
+no-place-by name names (Some place) is apart =
+    let found = finds (bytes_eq name) names place is in
+    let there = any_passes_from_place (bytes_eq name) names place found.0 found.1 found.2 in
+    absurd (cc)
+
+module _ (opening : Body) (fresh : settings_at opening.another [] ≡ opening.another) (distinct : IsDistinct bytes_eq (keys_of opening.voices))
+    (opens : IsNamed (keys_of opening.voices) (place_of_current opening.current) (first_name (keys_of opening.voices))) where
+  at-opening : (name : List ℕ) (place : Option ℕ) → position (bytes_eq name) (keys_of opening.voices) ≡ place
+      → settings_named opening name [] ≡ settings_at (unwrap_or (option_and_then (voice_at opening.voices) place) opening.another) []
+  at-opening name place is = ap (λ (p : Option ℕ). settings_at (unwrap_or (option_and_then (voice_at opening.voices) p) opening.another) []) is
+
+  nameless-opening : place_of_current opening.current ≡ None → settings_at opening.another [] ≡ settings_named opening [] []
+  nameless-opening e =
+      let none = subst (λ (c : Option ℕ). IsNamed (keys_of opening.voices) c (first_name (keys_of opening.voices))) e opens in
+      sym (at-opening [] None (ap (position (bytes_eq [])) none.0))
+
+  abbrev AgreesAt : List Element → Type 0
+  AgreesAt before = Agrees (roll_at (roll_of opening) before) (naming_at opening before)
+      (λ at. settings_in (music_at opening at before)) (settings_in (unnamed_music opening before)) (λ name. settings_named opening name before) opening.another
+
+  opened : AgreesAt []
+  opened = record {
+    names = refl;
+    current = opens;
+    voices = λ at name there. sym (at-opening name (Some at) (found-at (keys_of opening.voices) at name distinct there));
+    nameless = nameless-opening;
+    absent = λ name some apart room.
+        at-opening name None (no-place-by name (keys_of opening.voices) (position (bytes_eq name) (keys_of opening.voices)) refl apart) ∙ fresh;
+  }
+
+  stepped : (before : List Element) (element : Element) → AgreesAt before → AgreesAt (element ∷ before)
+  stepped before element agrees =
+      let roll : Roll = roll_at (roll_of opening) before in
+      let naming : Naming = naming_at opening before in
+      let unnamed : Music = unnamed_music opening before in
+      let change : Settings → Settings = λ settings. after settings element in
+      let owner : Owner = owner_of element.kind in
+      let hearing : hearing_by roll owner (mentions element.kind) (acts element.kind) ≡ hearing_of roll element.kind = sym (hearing-is roll element.kind) in
+      let names : record { names = roll.names; current = naming.current } ≡ naming = λ i. record { names = sym agrees.names i; current = naming.current } in
+      moved _ _ _ _ _ _ _ _ _ _ opening.another
+      (ap (roll_behind roll) hearing)
+      (ap (λ (n : Naming). naming_behind n owner (mentions element.kind)) names)
+      (λ at. ap (λ (h : Hearing). known_behind opening.another roll h change (settings_in unnamed) at (settings_in (music_at opening at before))) hearing
+      ∙ sym (known-is opening.another fresh roll element unnamed (hearing_of roll element.kind) at (music_at opening at before)))
+      (ap (λ (h : Hearing). unnamed_after h change (settings_in unnamed)) hearing
+      ∙ sym (unnamed-is opening.another fresh roll element unnamed (hearing_of roll element.kind)))
+      (λ name. sym (owned (opening_of opening name) element (tokens_of opening name before) (is_owned_by name naming.current owner)))
+      (behind roll.names (distinct-at (roll_of opening) distinct before) (λ at. settings_in (music_at opening at before)) (settings_in unnamed)
+      (λ name. settings_named opening name before) opening.another change roll.current naming.current owner (mentions element.kind) (acts element.kind)
+      (record { names = refl; current = agrees.current; voices = agrees.voices; nameless = agrees.nameless; absent = agrees.absent })
+      (fits opening.another (ap without_accidentals (sym fresh) ∙ blank opening.another ∙ fresh) element.kind element.tied))
+
+  agrees-at : (before : List Element) → AgreesAt before
+  agrees-at [] = opened
+  agrees-at (element ∷ before) = stepped before element (agrees-at before)
+
+here-by : (names : List (List ℕ)) (current : Option ℕ) (naming : Naming) (known : ℕ → Settings) (unnamed : Settings) (by : List ℕ → Settings) (another : Settings)
+    → Agrees (record { names = names; current = current }) naming known unnamed by another → here (held names current known unnamed another) ≡ by naming.current
+here-by names None naming known unnamed by another agrees = agrees.nameless refl ∙ ap by (sym agrees.current.1)
+here-by names (Some place) naming known unnamed by another agrees =
+    ap (λ (o : Option Settings). unwrap_or o another) (at-by known names place (slice_get_within names place naming.current agrees.current))
+    ∙ agrees.voices place naming.current agrees.current
+
+named-opening : (header : Header) (key : Key) (another : Settings) (voices : List (List ℕ × Shift))
+    → IsNamed (keys_of (map (opening_voice header key) voices)) (place_of_current (current_in voices another)) (first_name (keys_of (map (opening_voice header key) voices)))
+named-opening header key another [] = (refl, refl)
+named-opening header key another (voice ∷ voices) = refl
+
+module _ (values : Defaults) (fields : List Field) (key : Key) (before : List Element) where
+  found : (let opening = opening_at values fields key in
+      Agrees (roll_at (roll_of opening) before) (naming_at opening before)
+      (λ at. settings_in (music_at opening at before)) (settings_in (unnamed_music opening before)) (λ name. settings_named opening name before) opening.another)
+  found =
+      let header : Header = header_at values fields in
+      let opening : Body = body_from header key in
+      agrees-at opening (fresh-another header key)
+      (subst (IsDistinct bytes_eq) (sym (opening_names header key ∙ declared_keys fields)) (distinct_names fields))
+      (named-opening header key opening.another header.voices) before
+
+  -- The names of the voices that are mentioned.
+  pub names_found : (roll_of (held_at (opening_at values fields key) before)).names ≡ (naming_at (opening_at values fields key) before).names
+  names_found = ap (λ (roll : Roll). roll.names) (roll-held (opening_at values fields key) before) ∙ sym found.names
+
+  -- What holds for the voice of each name.
+  pub voices_found : (at : ℕ) (name : List ℕ) → slice_get (roll_of (held_at (opening_at values fields key) before)).names at ≡ Some name
+      → voice_at (held_at (opening_at values fields key) before).voices at ≡ Some (settings_named (opening_at values fields key) name before)
+  unfolding held_at
+  voices_found at name there =
+      let opening : Body = opening_at values fields key in
+      let names : List (List ℕ) = (roll_at (roll_of opening) before).names in
+      let in_roll : slice_get names at ≡ Some name = ap (λ (roll : Roll). slice_get roll.names at) (sym (roll-held opening before)) ∙ there in
+      at-by (λ at. settings_in (music_at opening at before)) names at (slice_get_within names at name in_roll)
+      ∙ ap Some (found.voices at name in_roll)
+
+  -- What holds for the current voice.
+  pub here_found : here (held_at (opening_at values fields key) before)
+      ≡ settings_named (opening_at values fields key) (naming_at (opening_at values fields key) before).current before
+  unfolding held_at
+  here_found =
+      let opening : Body = opening_at values fields key in
+      here-by (roll_at (roll_of opening) before).names (roll_at (roll_of opening) before).current (naming_at opening before)
+      (λ at. settings_in (music_at opening at before)) (settings_in (unnamed_music opening before)) (λ name. settings_named opening name before) opening.another found

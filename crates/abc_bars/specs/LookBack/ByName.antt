@@ -1,0 +1,110 @@
+-- What holds for a voice of a tune's body in two sentences, by names. The name of the voice at a place is that of
+-- the last accepted V: before it, if that is not one voice too many; else that of the first voice that the header
+-- declares, or none. The tokens of a voice are those that stand where it is the current one, each V: that names
+-- it, and each accepted P:. ABC 2.1 section 7.1; that a P: is every voice's, and the limit, are our own.
+use Rattle.std.specs.Prelude.{ℕ, Bool, true, if◌then◌else◌, List, [], ◌∷◌, slice_range, bytes_eq, Option, Some, None, unwrap_or, Result, Ok, Err}
+use Rattle.std.specs.List.{list_any}
+use Rattle.std.specs.Map.{keys_of}
+use Rattle.std.specs.Option.{option_and_then}
+use Rattle.abc_fields.specs.declared.fault.FaultCode.{FaultCode}
+use Rattle.abc_fields.specs.declared.voice.Voice.{Voice}
+use Rattle.abc_fields.specs.Voice.{voice_of}
+use Rattle.abc_scan.specs.declared.token.TokenKind.{TokenKind}
+use Rattle.abc_scan.specs.declared.token.TokenKind.TheVariants as kinds
+use Rattle.abc_bars.specs.declared.body.Body.{Body}
+use Rattle.abc_bars.specs.declared.field_kind.FieldKind.{FieldKind}
+use Rattle.abc_bars.specs.declared.field_kind.FieldKind.TheVariants as fields
+use Rattle.abc_music.specs.declared.settings.Settings.{Settings}
+use Rattle.abc_bars.specs.BodyFields.{part_of}
+use Rattle.abc_bars.specs.FieldKind.{kind_of}
+use Rattle.abc_bars.specs.Voices.{place_of, voice_at}
+use Rattle.abc_bars.specs.LookBack.AfterBody.{mentions}
+use Rattle.abc_bars.specs.LookBack.Element.{Element}
+use Rattle.abc_bars.specs.LookBack.Header.{with_name}
+use Rattle.abc_bars.specs.LookBack.Voice.{settings_at}
+
+-- Whose a token is.
+pub data Owner : Type 0 where
+  -- The voice of this name's, which a V: makes the current one.
+  Named : List ℕ → Owner
+  -- Every voice's.
+  Everyone : Owner
+  -- The current voice's.
+  Current : Owner
+
+-- A V: is the voice's that it names, if it is accepted.
+abbrev pub owner_of_voice : List ℕ → Result Voice FaultCode → Owner
+owner_of_voice value (Ok voice) = Named (slice_range value voice.from voice.to)
+owner_of_voice value (Err fault) = Current
+
+-- A P: is every voice's, if it is accepted.
+abbrev pub owner_of_part : Option ℕ → Owner
+owner_of_part (Some letter) = Everyone
+owner_of_part None = Current
+
+abbrev pub owner_of_field : FieldKind → List ℕ → Owner
+owner_of_field fields.Voice value = owner_of_voice value (voice_of value)
+owner_of_field fields.Parts value = owner_of_part (part_of value)
+owner_of_field _ value = Current
+
+abbrev pub owner_of : TokenKind → Owner
+owner_of (kinds.InlineField field) = owner_of_field (kind_of field.letter) field.value
+owner_of (kinds.Field field) = owner_of_field (kind_of field.letter) field.value
+owner_of _ = Current
+
+-- The names of the voices that are mentioned before a place, in order, and that of the current one.
+pub record Naming : Type 0 where
+  pub names : List (List ℕ)
+  pub current : List ℕ
+
+-- The names behind a token, which mentions its voice or not.
+abbrev pub names_behind : Naming → Owner → Bool → List (List ℕ)
+names_behind naming (Named name) sounds = with_name naming.names name
+names_behind naming Everyone sounds = naming.names
+names_behind naming Current sounds = if sounds then with_name naming.names naming.current else naming.names
+
+-- The name of the current voice behind a token, where these are mentioned behind it.
+abbrev pub current_behind : List (List ℕ) → Owner → List ℕ → List ℕ
+current_behind names (Named name) current = if list_any (bytes_eq name) names then name else current
+current_behind names Everyone current = current
+current_behind names Current current = current
+
+abbrev pub naming_behind : Naming → Owner → Bool → Naming
+naming_behind naming owner sounds =
+    let names = names_behind naming owner sounds in
+    record { names = names; current = current_behind names owner naming.current }
+
+-- The first of the names, or none.
+abbrev pub first_name : List (List ℕ) → List ℕ
+first_name [] = []
+first_name (name ∷ names) = name
+
+-- The names where a body begins.
+abbrev pub opening_naming : Body → Naming
+opening_naming opening = record { names = keys_of opening.voices; current = first_name (keys_of opening.voices) }
+
+-- The names at a place.
+abbrev pub naming_at : Body → List Element → Naming
+naming_at opening [] = opening_naming opening
+naming_at opening (element ∷ before) = naming_behind (naming_at opening before) (owner_of element.kind) (mentions element.kind)
+
+-- Whether a token is the voice's of this name, where another or the same is the current one.
+abbrev pub is_owned_by : List ℕ → List ℕ → Owner → Bool
+is_owned_by name current (Named owner) = bytes_eq name owner
+is_owned_by name current Everyone = true
+is_owned_by name current Current = bytes_eq name current
+
+-- The tokens of the voice of this name before a place, newest first.
+abbrev pub tokens_of : Body → List ℕ → List Element → List Element
+tokens_of opening name [] = []
+tokens_of opening name (element ∷ before) =
+    if is_owned_by name (naming_at opening before).current (owner_of element.kind) then element ∷ tokens_of opening name before
+    else tokens_of opening name before
+
+-- What holds for the voice of this name where the body begins.
+abbrev pub opening_of : Body → List ℕ → Settings
+opening_of opening name = unwrap_or (option_and_then (voice_at opening.voices) (place_of name opening.voices)) opening.another
+
+-- What holds for the voice of this name at a place.
+abbrev pub settings_named : Body → List ℕ → List Element → Settings
+settings_named opening name before = settings_at (opening_of opening name) (tokens_of opening name before)
