@@ -366,7 +366,7 @@ length_lasts settings cell place own outer g h =
     )
 
 -- the length that is given
-given_by : (unit : Ratio) (found : Option Grains) (Lasting : ℕ → Type 0) → IsUnitPart unit → ((g : ℕ) → (found ≡ Some (record { 0 = g })) ↔ Lasting g)
+pub given_by : (unit : Ratio) (found : Option Grains) (Lasting : ℕ → Type 0) → IsUnitPart unit → ((g : ℕ) → (found ≡ Some (record { 0 = g })) ↔ Lasting g)
     → IsGiven Lasting unit (or_unit unit found).0
 given_by unit None Lasting h is = record {
   accepted = λ g l. (let no = (is g).1 l in cc);

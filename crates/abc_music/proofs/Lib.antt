@@ -2,9 +2,11 @@ pub mod Acting
 pub mod AddedNotes
 pub mod Alike
 pub mod BarCounts
+pub mod ChordNotes
 pub mod ChordTones
 pub mod Factors
 pub mod InsideLoop
 pub mod Lasting
+pub mod LooseTies
 pub mod Pitches
 pub mod WholeParts

@@ -3,11 +3,13 @@ pub mod Acting
 pub mod Alteration
 pub mod BarRest
 pub mod Broken
+pub mod ChordNotes
 pub mod Chords
 pub mod Column
 pub mod Item
 pub mod Lasting
 pub mod Lengths
+pub mod LooseTies
 pub mod Pitch
 pub mod Settings
 pub mod Sound

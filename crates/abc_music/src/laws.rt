@@ -1,6 +1,8 @@
 //! What holds of the music of every voice. Each function has no body: its contract is the law.
 
+ghost use Rattle.abc_music.specs.ChordNotes.{ChordsSound, BigAtTheSeventeenth};
 ghost use Rattle.abc_music.specs.Lasting.{NotesLast, RestsLast, BarRestsLast, FreeBarRests};
+ghost use Rattle.abc_music.specs.LooseTies.{TiesBehindNotes};
 
 /// A note or a rest lasts the unit times what is written, what its tuplet says and what the marks of broken
 /// rhythm say that act on it, exactly; where that is no length it lasts one unit, and that is a fault.
@@ -13,4 +15,16 @@ pub fn lengths_of_notes()
 pub fn lengths_of_bar_rests()
     ensures bars { BarRestsLast }
     ensures free { FreeBarRests }
+{}
+
+/// Of a chord its first sixteen notes sound, each for its own length, and it lasts as long as its first note; a
+/// seventeenth is a fault, and no other note is.
+pub fn notes_of_chords()
+    ensures sound { ChordsSound }
+    ensures big { BigAtTheSeventeenth }
+{}
+
+/// A tie inside a chord is loose exactly where no note stands directly before it.
+pub fn loose_ties_of_chords()
+    ensures { TiesBehindNotes }
 {}
