@@ -11,3 +11,4 @@ pub mod Steady
 pub mod Straight
 pub mod Within
 pub mod Voices
+pub mod Ties

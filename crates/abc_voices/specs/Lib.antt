@@ -13,5 +13,6 @@ pub mod Settle
 pub mod Stage
 pub mod Stages
 pub mod Step
+pub mod Ties
 pub mod Track
 pub mod Voices

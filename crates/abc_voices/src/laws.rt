@@ -1,5 +1,6 @@
 //! Laws of the layout: what a tune is laid out by is what ABC says.
 
+ghost use Rattle.abc_voices.specs.Ties.{PlaysChains, VoicesPlayChains};
 ghost use Rattle.abc_voices.specs.Voices.{AreOfVoices};
 
 /// Each item is played by the voice of the last V: before it, else by the first declared one, else by the one
@@ -7,4 +8,12 @@ ghost use Rattle.abc_voices.specs.Voices.{AreOfVoices};
 #[tactic(auto, using(crate::proofs::Voices::are_of_voices))]
 pub fn voices_by_looking_back()
     ensures { AreOfVoices }
+{}
+
+/// A note is heard for each longest chain of tied tones, of which each is joined with one of its key in the next
+/// time token that is played: the first tied one of the key with the first of the key, and so on.
+#[tactic(auto, using(crate::proofs::Ties::plays_chains, crate::proofs::Ties::voices_play_chains))]
+pub fn ties_in_play()
+    ensures play { PlaysChains }
+    ensures voices { VoicesPlayChains }
 {}

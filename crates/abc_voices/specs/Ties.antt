@@ -1,0 +1,102 @@
+-- The notes that are heard, as chains of tied tones. ABC 2.1 section 4.11; which tones are joined is our own.
+use Rattle.std.specs.Prelude.{◌≡◌, ℕ, suc, ◌+◌, ◌==◌, nat_lt, Bool, false, ◌&&◌, if◌then◌else◌, List, [], ◌∷◌, ◌++◌, map, Option, Some, None}
+use Rattle.abc_music.specs.declared.item.Item.{Item}
+use Rattle.abc_music.specs.declared.item.Tone.{Tone}
+use Rattle.abc_voices.specs.declared.score.Sounding.{Sounding}
+use Rattle.abc_voices.specs.Arrange.{all_notes, longest, play_in, played_sections, score_of}
+use Rattle.abc_voices.specs.Linked.{notes_from}
+use Rattle.abc_voices.specs.Step.{length_of, tones_of}
+use Rattle.abc_voices.specs.Track.{everyone, tracks}
+
+-- A time token that is played: the moment at which it begins, and its tones.
+pub record TimeToken : Type 0 where
+  pub at : ℕ
+  pub tones : List Tone
+
+-- A time token, if it is one, in front of others.
+abbrev pub with_token : ℕ → Option (List Tone) → List TimeToken → List TimeToken
+with_token at None tokens = tokens
+with_token at (Some tones) tokens = record { at = at; tones = tones } ∷ tokens
+
+-- The time tokens of what is played from a moment on, in front of others.
+abbrev pub tokens_from : ℕ → List Item → List TimeToken → List TimeToken
+tokens_from at [] tokens = tokens
+tokens_from at (item ∷ play) tokens = with_token at (tones_of item) (tokens_from (at + length_of item) play tokens)
+
+-- The time tokens of a voice in sections that are played from a moment on.
+abbrev pub tokens_in : List (List ℕ) → List ℕ → ℕ → List (List ℕ × List Item) → List TimeToken
+tokens_in voices voice at [] = []
+tokens_in voices voice at (section ∷ rest) =
+    tokens_from at (play_in (λ item. item) section voice) (tokens_in voices voice (at + longest (λ item. item) voices section) rest)
+
+-- Whether a tone has this key.
+abbrev pub is_key : ℕ → Option ℕ → Bool
+is_key key None = false
+is_key key (Some own) = own == key
+
+-- How many of some tones have a key.
+abbrev pub tones_with : ℕ → List Tone → ℕ
+tones_with key [] = 0
+tones_with key (tone ∷ tones) = if is_key key tone.key then suc (tones_with key tones) else tones_with key tones
+
+-- How many of some tones that have a key are tied.
+abbrev pub tied_with : ℕ → List Tone → ℕ
+tied_with key [] = 0
+tied_with key (tone ∷ tones) = if tone.tied && is_key key tone.key then suc (tied_with key tones) else tied_with key tones
+
+-- The tone of a key that so many of the key stand in front of, of tones behind these, the last of these first; and
+-- how many tied ones of the key stand in front of it.
+abbrev pub tone_at : ℕ → ℕ → List Tone → List Tone → Option (Tone × ℕ)
+tone_at key number past [] = None
+tone_at key number past (tone ∷ tones) =
+    if is_key key tone.key && (tones_with key past == number) then Some (tone, tied_with key past)
+    else tone_at key number (tone ∷ past) tones
+
+-- The tone of the next time token that a tone is joined with: a tied one that so many tied ones of its key stand in
+-- front of with the one that so many of the key stand in front of.
+abbrev pub joined_with : Tone → ℕ → ℕ → List Tone → Option (Tone × ℕ)
+joined_with tone key number next = if tone.tied then tone_at key number [] next else None
+
+-- The end of a tone that is joined with another, or with none.
+abbrev pub end_by : ℕ → (Tone × ℕ → ℕ) → Option (Tone × ℕ) → ℕ
+end_by own behind None = own
+end_by own behind (Some other) = behind other
+
+-- When the chain of a tone ends, which begins at this moment in front of these time tokens, and which so many tied ones
+-- of its key stand in front of: with the last tone that is joined.
+abbrev pub chain_end : ℕ → Tone → ℕ → ℕ → List TimeToken → ℕ
+chain_end at tone key number [] = at + tone.length.0
+chain_end at tone key number (token ∷ tokens) =
+    end_by (at + tone.length.0) (λ other. chain_end token.at other.0 key other.1 tokens) (joined_with tone key number token.tones)
+
+-- The note of a chain that a tone begins behind these tones of its time token, the last of these first; none where
+-- the tone is joined with one of the time token before, which has so many tied ones of each key.
+abbrev pub begun_by : (ℕ → ℕ) → ℕ → List Tone → Tone → List TimeToken → Option ℕ → List Sounding
+begun_by tied at past tone tokens None = []
+begun_by tied at past tone tokens (Some key) =
+    if nat_lt (tones_with key past) (tied key) then []
+    else record { key = key; on = record { 0 = at }; off = record { 0 = chain_end at tone key (tied_with key past) tokens } } ∷ []
+
+-- The notes of the chains that begin with tones of one time token, in front of these.
+abbrev pub begun_at : (ℕ → ℕ) → ℕ → List Tone → List Tone → List TimeToken → List Sounding
+begun_at tied at past [] tokens = []
+begun_at tied at past (tone ∷ tones) tokens = begun_by tied at past tone tokens tone.key ++ begun_at tied at (tone ∷ past) tones tokens
+
+-- The notes of all chains, those that begin at the last time token first.
+abbrev pub chains : (ℕ → ℕ) → List TimeToken → List Sounding
+chains tied [] = []
+chains tied (token ∷ tokens) = chains (λ key. tied_with key token.tones) tokens ++ begun_at tied token.at [] token.tones tokens
+
+-- What is heard of time tokens: a note for each longest chain of joined tones.
+abbrev pub heard : List TimeToken → List Sounding
+heard tokens = chains (λ key. 0) tokens
+
+-- The notes of a play are its chains.
+abbrev pub PlaysChains : Type 0
+PlaysChains = (at : ℕ) (play : List Item)
+    → all_notes (notes_from (λ item. item) at play (record { first = []; others = [] })) ≡ heard (tokens_from at play [])
+
+-- So are those of each voice of a tune, over its repeats and sections.
+abbrev pub VoicesPlayChains : Type 0
+VoicesPlayChains = (tune : List Item) → (score_of (λ item. item) tune).voices
+    ≡ map (λ voice. heard (tokens_in (everyone (λ item. item) tune) voice 0 (played_sections (λ item. item) tune))) (tracks (λ item. item) tune)
