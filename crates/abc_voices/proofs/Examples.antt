@@ -1,13 +1,16 @@
 -- Tunes laid out by the definitions.
-use Rattle.std.specs.Prelude.{◌≡◌, ℕ, Bool, true, false, List, [], ◌∷◌, Some, refl}
+use Rattle.std.specs.Prelude.{◌≡◌, ℕ, pos, Bool, true, false, List, [], ◌∷◌, Option, None, Some, refl}
 use Rattle.abc_music.specs.declared.item.Item.{Item}
 use Rattle.abc_music.specs.declared.item.Item.TheVariants as items
 use Rattle.abc_repeat.specs.Mark.{names, greatest, greatest_to}
 use Rattle.abc_repeat.specs.Play.{play_of, strain_play}
 use Rattle.abc_repeat.specs.Order.{sections_of}
+use Rattle.abc_time.specs.Grains.{grains_of_a_tick}
+use Rattle.abc_voices.specs.declared.score.ChangeKind.TheVariants as kinds
 use Rattle.abc_voices.specs.declared.score.Sounding.{Sounding}
 use Rattle.abc_voices.specs.Change.{tempo_of}
-use Rattle.abc_voices.specs.Arrange.{played_sections, set_in, voices_notes, is_uneven}
+use Rattle.abc_voices.specs.Arrange.{played_sections, set_in, voices_notes, is_uneven, end_of, changes_of}
+use Rattle.abc_voices.specs.Ties.{heard, tokens_from}
 use Rattle.abc_voices.specs.Track.{everyone}
 use Rattle.std.specs.List.{list_any}
 
@@ -50,3 +53,36 @@ ties_over_sections = refl
 voices_differ : list_any (is_uneven own (everyone own voices)) (played_sections own voices) ≡ true
 unfolding play_of strain_play sections_of names greatest greatest_to
 voices_differ = refl
+
+-- a chord of two tied tones of a key, and another of two of that key: each tone with its own length
+abbrev twice : List Item
+twice =
+    items.Tone (record { key = Some 60; length = record { 0 = 1 }; tied = true } ∷ record { key = Some 60; length = record { 0 = 2 }; tied = true } ∷ []) (record { 0 = 1 })
+    ∷ items.Tone (record { key = Some 60; length = record { 0 = 1 }; tied = false } ∷ record { key = Some 60; length = record { 0 = 4 }; tied = false } ∷ []) (record { 0 = 1 })
+    ∷ []
+
+each_tied_with_its_own : heard (tokens_from 0 twice []) ≡ note 60 0 2 ∷ note 60 0 5 ∷ []
+each_tied_with_its_own = refl
+
+-- a chord of one grain, of which a tone lasts five: of this key, or silent
+abbrev long_tone : Option ℕ → List Item
+long_tone key =
+    items.Tone (record { key = Some 60; length = record { 0 = 1 }; tied = false } ∷ record { key = key; length = record { 0 = 5 }; tied = false } ∷ []) (record { 0 = 1 }) ∷ []
+
+a_note_ends_a_tune : end_of own (long_tone (Some 62)) ≡ 5
+unfolding play_of strain_play sections_of names greatest greatest_to
+a_note_ends_a_tune = refl
+
+a_silent_note_does_not : end_of own (long_tone None) ≡ 1
+unfolding play_of strain_play sections_of names greatest greatest_to
+a_silent_note_does_not = refl
+
+-- V:1 [Q:] C V:2 [Q:] C
+abbrev tempos : List Item
+tempos =
+    items.Voice false (49 ∷ []) ∷ items.Tempo false (Some 400000) false ∷ tone 60 false
+    ∷ items.Voice false (50 ∷ []) ∷ items.Tempo false (Some 300000) false ∷ tone 60 false ∷ []
+
+the_last_at_a_tick_stands : changes_of own tempos ≡ record { at = record { 0 = 0 }; what = kinds.Tempo 300000 } ∷ record { at = record { 0 = 0 }; what = kinds.Key (pos 0) false } ∷ []
+unfolding play_of strain_play sections_of names greatest greatest_to grains_of_a_tick
+the_last_at_a_tick_stands = refl
