@@ -1,12 +1,10 @@
 -- Loose ties are those that have no note directly before them.
 use Rattle.std.proofs.Common.{◌≡◌, ◌∙◌, ℕ, ◌+◌, Bool, true, false, List, [], ◌∷◌, ◌++◌, map, Option, Some, None, refl, sym, ap, append-nil, append_assoc}
-use Rattle.std.specs.Prelude.{◌||◌, ◌&&◌, not, nat_lt, if◌then◌else◌, filter, zip}
+use Rattle.std.specs.Prelude.{◌&&◌, not, nat_lt, if◌then◌else◌, filter, zip}
 use Rattle.std.specs.Prelude.{length}
 use Rattle.std.proofs.lemmas.List.Elements.{filter-append}
 use Rattle.abc_fields.specs.declared.fault.FaultCode.{FaultCode}
 use Rattle.abc_fields.specs.declared.fault.FaultCode.TheVariants.{BadByte, BadLength, BigChord, KeyRange, LooseTie}
-use Rattle.abc_scan.specs.declared.chord.Chord.{Chord}
-use Rattle.abc_scan.specs.declared.note.Note.{Note}
 use Rattle.abc_scan.specs.declared.parts.ChordPartKind.{ChordPartKind}
 use Rattle.abc_scan.specs.declared.parts.ChordPartKind.TheVariants as kinds
 use Rattle.abc_scan.specs.declared.spanned.Spanned.{Spanned}
@@ -15,12 +13,12 @@ use Rattle.abc_music.specs.declared.chords.Outside.{Outside}
 use Rattle.abc_music.specs.declared.item.TheConstants.{MOST_NOTES}
 use Rattle.abc_music.specs.declared.settings.Settings.{Settings}
 use Rattle.abc_music.specs.declared.sound.Inside.{Inside}
-use Rattle.abc_music.specs.Broken.{has_note, is_note_part}
-use Rattle.abc_music.specs.Chords.{inside_from, inside_of, is_tie, tie_follows, with_chord_note, with_dropped, with_fault, with_kind, with_part}
+use Rattle.abc_music.specs.Broken.{has_note}
+use Rattle.abc_music.specs.Chords.{inside_from, inside_of, is_tie, tie_follows, with_fault, with_kind, with_part}
 use Rattle.abc_music.specs.Column.{column_of}
-use Rattle.abc_music.specs.LooseTies.{is_behind_note, is_loose, is_loose_tie, with_before, TiesBehindNotes}
-use Rattle.abc_music.specs.Sound.{fault_if, no_notes, note_faults, with_note}
-use Rattle.abc_music.specs.TimeTokens.{chord_by, chord_played}
+use Rattle.abc_music.specs.LooseTies.{is_behind_note, is_loose, is_loose_tie, TiesBehindNotes}
+use Rattle.abc_music.specs.Sound.{fault_if, no_notes, note_faults}
+use Rattle.abc_music.specs.TimeTokens.{chord_by}
 
 -- the loose ties among faults
 abbrev Ties : Inside → List (ℕ × FaultCode)

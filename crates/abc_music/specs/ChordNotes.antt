@@ -16,7 +16,7 @@ use Rattle.abc_time.specs.declared.grains.Grains.{Grains}
 use Rattle.abc_music.specs.Broken.{has_note, is_note_part}
 use Rattle.abc_music.specs.Column.{column_of}
 use Rattle.abc_music.specs.Lasting.{IsGiven, IsPlace, Lasts, factors_at}
-use Rattle.abc_music.specs.TimeTokens.{Played, chord_played}
+use Rattle.abc_music.specs.TimeTokens.{chord_played}
 
 -- The notes of a chord in order, each with its place.
 abbrev pub notes_of : Chord → List (Spanned ChordPartKind)

@@ -1,5 +1,5 @@
 -- Which ties of a chord are loose, by what stands directly before them. ABC 2.1 section 4.11.
-use Rattle.std.specs.Prelude.{◌≡◌, ℕ, ◌+◌, ◌==◌, ◌&&◌, not, Bool, true, false, List, [], ◌∷◌, map, filter, zip, Option, Some, None}
+use Rattle.std.specs.Prelude.{◌≡◌, ℕ, ◌+◌, ◌==◌, ◌&&◌, not, Bool, false, List, ◌∷◌, map, filter, zip, Option, Some, None}
 use Rattle.abc_fields.specs.declared.fault.FaultCode.{FaultCode}
 use Rattle.abc_fields.specs.declared.fault.FaultCode.TheVariants.{LooseTie}
 use Rattle.abc_fields.specs.Fault.{number_of}
