@@ -8,5 +8,6 @@ pub mod Factors
 pub mod InsideLoop
 pub mod Lasting
 pub mod LooseTies
+pub mod NoteKeys
 pub mod Pitches
 pub mod WholeParts

@@ -10,6 +10,7 @@ pub mod Item
 pub mod Lasting
 pub mod Lengths
 pub mod LooseTies
+pub mod NoteKeys
 pub mod Pitch
 pub mod Settings
 pub mod Sound

@@ -3,6 +3,7 @@
 ghost use Rattle.abc_music.specs.ChordNotes.{ChordsSound, BigAtTheSeventeenth};
 ghost use Rattle.abc_music.specs.Lasting.{NotesLast, RestsLast, BarRestsLast, FreeBarRests};
 ghost use Rattle.abc_music.specs.LooseTies.{TiesBehindNotes};
+ghost use Rattle.abc_music.specs.NoteKeys.{NotesSoundTheirKeys};
 
 /// A note or a rest lasts the unit times what is written, what its tuplet says and what the marks of broken
 /// rhythm say that act on it, exactly; where that is no length it lasts one unit, and that is a fault.
@@ -27,4 +28,10 @@ pub fn notes_of_chords()
 /// A tie inside a chord is loose exactly where no note stands directly before it.
 pub fn loose_ties_of_chords()
     ensures { TiesBehindNotes }
+{}
+
+/// A note sounds the key of its pitch, altered by its own accidental, else by the last one on its letter, else as
+/// the last tied note of its letter and octave before it, else by the signature.
+pub fn keys_of_notes()
+    ensures { NotesSoundTheirKeys }
 {}

@@ -30,7 +30,9 @@ pub use broken::{Behind, BrokenFactors, acting_marks, behind_after, has_note, is
 pub use chords::Outside;
 pub use column::{FIRST_COLUMN, column_of};
 pub use item::{HIGHEST_KEY, Item, Items, LocalFault, MOST_NOTES, MOST_VOICES, Tone};
-pub use laws::{lengths_of_bar_rests, lengths_of_notes, loose_ties_of_chords, notes_of_chords};
+pub use laws::{
+    keys_of_notes, lengths_of_bar_rests, lengths_of_notes, loose_ties_of_chords, notes_of_chords,
+};
 pub use meter::TuneMeter;
 pub use numbers::{key_numbers, music_limits};
 pub use settings::Settings;
