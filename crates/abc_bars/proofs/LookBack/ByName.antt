@@ -313,7 +313,7 @@ module _ (names : List (List ℕ)) (distinct : IsDistinct bytes_eq names) (known
       let more : with_name names owner ≡ names ++ owner ∷ [] = new names owner apart room in
       let small : length names < MOST_VOICES = grind (arith, nat_tests) in
       let self : list_any (bytes_eq owner) (names ++ owner ∷ []) ≡ true =
-          any_passes_from_place (bytes_eq owner) (names ++ owner ∷ []) (length names) owner (at-last names owner) (nat_list_eq_equiv.refl owner) in
+      any_passes_from_place (bytes_eq owner) (names ++ owner ∷ []) (length names) owner (at-last names owner) (nat_list_eq_equiv.refl owner) in
       record {
         names = more;
         current = at-last names owner ∙ ap Some (sym (cond-true _ _ _ (ap (list_any (bytes_eq owner)) more ∙ self)));
