@@ -191,17 +191,17 @@ onward from m (Some n) low h = let e : n ≡ m + 1 = h.1 in (omega arith, let fi
 
 -- the file of a number was put, or the store failed
 pub follows_stored : (r : Result (Unit {0}) StoreFault) (old new : StoreSeen) (d : Directory) (n : ℕ) (name bytes : List ℕ) → n < 2 ^ 32 → name ≡ file_name n
-    → MatchResult r (λ _. Puts old.contents new.contents name bytes) (λ _. KeepsOthers old.contents new.contents name) → new.failures ≡ raised old.failures (faults r)
+    → MatchResult r (λ _. Puts old.contents new.contents name bytes) (λ _. KeepsOthers old.contents new.contents name) → new.failures ≡ raised old.failures (faults r) → new.calls ≡ raised old.calls 1
     → Follows old new (answer_of (is_ok r) ∷ []) d (with_entry d n (entry_behind (answer_of (is_ok r)) (Some bytes)))
-follows_stored (Ok x) old new d n name bytes small e put counted = follows_put old new d n name bytes small e put counted
-follows_stored (Err x) old new d n name bytes small e kept counted = follows_fault old new d n name small e kept counted
+follows_stored (Ok x) old new d n name bytes small e put counted called = follows_put old new d n name bytes small e put counted called
+follows_stored (Err x) old new d n name bytes small e kept counted called = follows_fault old new d n name small e kept counted called
 
 -- it was removed, or the store failed
 pub follows_taken : (r : Result (Unit {0}) StoreFault) (old new : StoreSeen) (d : Directory) (n : ℕ) (name : List ℕ) → n < 2 ^ 32 → name ≡ file_name n
-    → MatchResult r (λ _. TakesOut old.contents new.contents name) (λ _. KeepsOthers old.contents new.contents name) → new.failures ≡ raised old.failures (faults r)
+    → MatchResult r (λ _. TakesOut old.contents new.contents name) (λ _. KeepsOthers old.contents new.contents name) → new.failures ≡ raised old.failures (faults r) → new.calls ≡ raised old.calls 1
     → Follows old new (answer_of (is_ok r) ∷ []) d (with_entry d n (entry_behind (answer_of (is_ok r)) None))
-follows_taken (Ok x) old new d n name small e taken counted = follows_removed old new d n name small e taken counted
-follows_taken (Err x) old new d n name small e kept counted = follows_fault old new d n name small e kept counted
+follows_taken (Ok x) old new d n name small e taken counted called = follows_removed old new d n name small e taken counted called
+follows_taken (Err x) old new d n name small e kept counted called = follows_fault old new d n name small e kept counted called
 
 -- the same of the number and the bytes of a job
 pub follows_job : (old new : StoreSeen) (d : Directory) (n m : ℕ) (done stored : Bool) (bytes file : Option (List ℕ)) → n ≡ m → bytes ≡ file → done ≡ stored

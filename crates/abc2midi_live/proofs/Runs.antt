@@ -77,6 +77,7 @@ module _ (book : Option (List ℕ)) (text : List ℕ) (session : Text) (director
         told = told (text ++ t.text) t.directory;
         text = told_whole stored t input old.output mid new.output wrote h;
         failures = tied.failures;
+        calls = tied.calls;
         contents = λ none. tied.contents old.store.contents (mirrors_first old.store.contents none);
       }
 

@@ -1,5 +1,5 @@
 -- Laws of a store that is followed.
-use Rattle.std.proofs.Common.{◌≡◌, ◌≢◌, ℕ, ◌+◌, ◌<◌, ◌^◌, true, false, cond, codes, List, [], ◌∷◌, ◌++◌, Option, Some, None, inl, inr, refl, sym, ap, ◌∙◌, subst, arith}
+use Rattle.std.proofs.Common.{◌≡◌, ◌≢◌, ℕ, ◌+◌, ◌<◌, ◌^◌, true, false, cond, codes, List, [], ◌∷◌, ◌++◌, length, length-append, Option, Some, None, inl, inr, refl, sym, ap, ◌∙◌, subst, arith}
 use Rattle.std.specs.Prelude.{decimal}
 use Rattle.std.specs.Str.{bytes_eq}
 use Rattle.std.specs.Ordering.{eq_by_cmp, nat_cmp}
@@ -94,31 +94,34 @@ mirrors_fault (Some f) (Some o) (Some c) d n small p m = changed f o c d n (Some
 
 -- A file was put.
 pub follows_put : (old new : StoreSeen) (d : Directory) (n : ℕ) (name bytes : List ℕ) → n < 2 ^ 32 → name ≡ file_name n → Puts old.contents new.contents name bytes
-    → new.failures ≡ raised old.failures 0 → Follows old new (Done ∷ []) d (with_entry d n (stored_as (Some bytes)))
-follows_put old new d n name bytes small e p counted = record {
+    → new.failures ≡ raised old.failures 0 → new.calls ≡ raised old.calls 1 → Follows old new (Done ∷ []) d (with_entry d n (stored_as (Some bytes)))
+follows_put old new d n name bytes small e p counted called = record {
   failures = counted;
+  calls = called;
   contents = λ first. mirrors_put first old.contents new.contents d n bytes small (subst (λ name. Puts old.contents new.contents name bytes) e p);
 }
 
 -- A file was removed.
 pub follows_removed : (old new : StoreSeen) (d : Directory) (n : ℕ) (name : List ℕ) → n < 2 ^ 32 → name ≡ file_name n → TakesOut old.contents new.contents name
-    → new.failures ≡ raised old.failures 0 → Follows old new (Done ∷ []) d (with_entry d n (stored_as None))
-follows_removed old new d n name small e p counted = record {
+    → new.failures ≡ raised old.failures 0 → new.calls ≡ raised old.calls 1 → Follows old new (Done ∷ []) d (with_entry d n (stored_as None))
+follows_removed old new d n name small e p counted called = record {
   failures = counted;
+  calls = called;
   contents = λ first. mirrors_removed first old.contents new.contents d n small (subst (λ name. TakesOut old.contents new.contents name) e p);
 }
 
 -- The store failed.
 pub follows_fault : (old new : StoreSeen) (d : Directory) (n : ℕ) (name : List ℕ) → n < 2 ^ 32 → name ≡ file_name n → KeepsOthers old.contents new.contents name
-    → new.failures ≡ raised old.failures 1 → Follows old new (Fault ∷ []) d (with_entry d n (Some Unknown))
-follows_fault old new d n name small e p counted = record {
+    → new.failures ≡ raised old.failures 1 → new.calls ≡ raised old.calls 1 → Follows old new (Fault ∷ []) d (with_entry d n (Some Unknown))
+follows_fault old new d n name small e p counted called = record {
   failures = counted;
+  calls = called;
   contents = λ first. mirrors_fault first old.contents new.contents d n small (subst (λ name. KeepsOthers old.contents new.contents name) e p);
 }
 
 -- The store was not called.
 pub follows_none : (s : StoreSeen) (d : Directory) → Follows s s [] d d
-follows_none s d = record { failures = sym (raised_none s.failures); contents = λ first m. m }
+follows_none s d = record { failures = sym (raised_none s.failures); calls = sym (raised_none s.calls); contents = λ first m. m }
 
 pub follows_same : (s : StoreSeen) (d after : Directory) → after ≡ d → Follows s s [] d after
 follows_same s d after same = subst (λ e. Follows s s [] d e) (sym same) (follows_none s d)
@@ -133,6 +136,8 @@ pub follows_both : (old mid new : StoreSeen) (a b : List StoreAnswer) (d e f : D
 follows_both old mid new a b d e f first second = record {
   failures = second.failures ∙ ap (λ c. raised c (faults_among b)) first.failures ∙ raised_twice old.failures (faults_among a) (faults_among b)
       ∙ ap (raised old.failures) (sym (faults_among-append a b));
+  calls = second.calls ∙ ap (λ c. raised c (length b)) first.calls ∙ raised_twice old.calls (length a) (length b)
+      ∙ ap (raised old.calls) (sym (length-append a b));
   contents = λ at_first m. second.contents at_first (first.contents at_first m);
 }
 

@@ -95,14 +95,15 @@ Turn before t old new true =
     (taken : List ℕ) × (0 < length taken) × Consumes old.input new.input taken × Serves before t taken old.out new.out true
 Turn before t old new false = Ended before t.before old new
 
--- What was written is what is told for all of an input and the answers that the store gave; these are its only
--- faults, and where none of the files stood there at first, it holds what the directory is known to hold, and nothing
--- else of that kind.
+-- What was written is what is told for all of an input and the answers that the store gave; it was called once for
+-- each of these, and they are its only faults; and where none of the files stood there at first, it holds what the
+-- directory is known to hold, and nothing else of that kind.
 pub record Completes (answered : List ℕ → List StoreAnswer → Option Told) (old new : Ends) : Type 0 where
   pub stored : List StoreAnswer
   pub told : Told
   pub text : IfSome old.input (λ bytes. (answered bytes stored ≡ Some told) × Appends old.out.output new.out.output told.text)
   pub failures : new.out.store.failures ≡ raised old.out.store.failures (faults_among stored)
+  pub calls : new.out.store.calls ≡ raised old.out.store.calls (length stored)
   pub contents : HasNoFiles old.out.store.contents → MirrorsWhereTold old.out.store.contents new.out.store.contents told.directory
 
 -- how many faults of the reader a read tells of

@@ -1,5 +1,5 @@
 -- The answers of a store, and what it then contains. Our own.
-use Rattle.std.specs.Prelude.{◌≡◌, ◌≢◌, ℕ, ◌+◌, ◌<◌, ◌^◌, List, [], ◌∷◌, ◌++◌, codes, decimal, Option, Some, None, ⊤}
+use Rattle.std.specs.Prelude.{◌≡◌, ◌≢◌, ℕ, ◌+◌, ◌<◌, ◌^◌, List, [], ◌∷◌, ◌++◌, length, codes, decimal, Option, Some, None, ⊤}
 use Rattle.std.specs.FinMap.{get}
 use Rattle.abc_fold.specs.Work.{raised}
 use Rattle.abc_publish.specs.Publisher.{Directory}
@@ -45,16 +45,18 @@ abbrev pub HasNoFiles : Option Contents → Type 0
 HasNoFiles None = ⊤
 HasNoFiles (Some contents) = (n : ℕ) → n < 2 ^ 32 → get contents (file_name n) ≡ None
 
--- What is seen of a store: how often it failed, and its contents, where they are told.
+-- What is seen of a store: how often it failed, how often it was called, and its contents, where they are told.
 pub record StoreSeen : Type 0 where
   pub failures : ℕ
+  pub calls : ℕ
   pub contents : Option Contents
 
-abbrev pub store_seen : ℕ → Option Contents → StoreSeen
-store_seen failures contents = record { failures = failures; contents = contents }
+abbrev pub store_seen : ℕ → ℕ → Option Contents → StoreSeen
+store_seen failures calls contents = record { failures = failures; calls = calls; contents = contents }
 
--- A store gave these answers, and no other fault; and where it mirrored a directory before, it mirrors another one
--- after them.
+-- A store gave these answers, was called once for each of them, and gave no other fault; and where it mirrored a
+-- directory before, it mirrors another one after them.
 pub record Follows (old new : StoreSeen) (answers : List StoreAnswer) (before after : Directory) : Type 0 where
   pub failures : new.failures ≡ raised old.failures (faults_among answers)
+  pub calls : new.calls ≡ raised old.calls (length answers)
   pub contents : (first : Option Contents) → MirrorsWhereTold first old.contents before → MirrorsWhereTold first new.contents after

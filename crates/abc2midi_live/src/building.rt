@@ -29,7 +29,7 @@ fn put_or_remove<S: Store>(
 ) -> Result<(), StoreFault>
     requires { name.now ≡ file_name number }
     ensures { (directory : Directory)
-        → Follows (store_seen (S.failures store.old) (S.contents store.old)) (store_seen (S.failures store.new) (S.contents store.new))
+        → Follows (store_seen (S.failures store.old) (S.calls store.old) (S.contents store.old)) (store_seen (S.failures store.new) (S.calls store.new) (S.contents store.new))
         (answer_of (is_ok result) ∷ []) directory (with_entry directory number (entry_behind (answer_of (is_ok result)) (option_copied bytes.entry))) }
 {
     match bytes {
@@ -47,7 +47,7 @@ fn store_file<S: Store>(
 ) -> Result<bool, AllocError>
     ensures text { IfOk result (λ stored. text.new.items ≡ text.old.items ++ answer_line (answer_of stored) job.now.number job.now.bytes) }
     ensures store { IfOk result (λ stored. (directory : Directory)
-        → Follows (store_seen (S.failures store.old) (S.contents store.old)) (store_seen (S.failures store.new) (S.contents store.new))
+        → Follows (store_seen (S.failures store.old) (S.calls store.old) (S.contents store.old)) (store_seen (S.failures store.new) (S.calls store.new) (S.contents store.new))
         (answer_of stored ∷ []) directory (with_entry directory job.now.number (entry_behind (answer_of stored) job.now.bytes))) }
 {
     let number = job.number();
@@ -74,7 +74,7 @@ fn carry_out<S: Store>(
     ensures text { IfOk result (λ stored. text.new.items ≡ text.old.items ++ answer_line (answer_of stored) job.number job.bytes) }
     ensures publisher { IfOk result (λ stored. maps_of publisher.new ≡ ended (maps_of publisher.old) job.number (entry_behind (answer_of stored) job.bytes)) }
     ensures err { OnErr result (maps_of publisher.new ≡ ended (maps_of publisher.old) job.number (Some Unknown)) }
-    ensures store { IfOk result (λ stored. Follows (store_seen (S.failures store.old) (S.contents store.old)) (store_seen (S.failures store.new) (S.contents store.new))
+    ensures store { IfOk result (λ stored. Follows (store_seen (S.failures store.old) (S.calls store.old) (S.contents store.old)) (store_seen (S.failures store.new) (S.calls store.new) (S.contents store.new))
         (answer_of stored ∷ []) (maps_of publisher.old).directory (maps_of publisher.new).directory) }
     ensures jobs { (maps_of publisher.new).jobs ≡ with_entry (maps_of publisher.old).jobs job.number None }
 {
@@ -100,7 +100,7 @@ fn store_next<S: Store>(
     requires { IsIdle (maps_of publisher.old) }
     ensures stored { IfOk result (λ next. (now : List StoreAnswer) × (told : List ℕ) × (text.new.items ≡ text.old.items ++ told)
         × Stores session.now.text (maps_of publisher.old).directory (Some from) now told (maps_of publisher.new).directory next
-        × Follows (store_seen (S.failures store.old) (S.contents store.old)) (store_seen (S.failures store.new) (S.contents store.new))
+        × Follows (store_seen (S.failures store.old) (S.calls store.old) (S.contents store.old)) (store_seen (S.failures store.new) (S.calls store.new) (S.contents store.new))
         now (maps_of publisher.old).directory (maps_of publisher.new).directory) }
     ensures onward { IfOk result (λ next. IfSome next (λ n. (from < n) × (n < 2 ^ 32))) }
     ensures idle { IsIdle (maps_of publisher.new) }
@@ -127,7 +127,7 @@ pub fn build<S: Store>(
     requires { IsIdle (maps_of publisher.old) }
     ensures answer { IfOk result (λ text. (now : List StoreAnswer)
         × Builds session.now.text (maps_of publisher.old).directory now text.items (maps_of publisher.new).directory
-        × Follows (store_seen (S.failures store.old) (S.contents store.old)) (store_seen (S.failures store.new) (S.contents store.new))
+        × Follows (store_seen (S.failures store.old) (S.calls store.old) (S.contents store.old)) (store_seen (S.failures store.new) (S.calls store.new) (S.contents store.new))
         now (maps_of publisher.old).directory (maps_of publisher.new).directory) }
     ensures idle { IsIdle (maps_of publisher.new) }
 {

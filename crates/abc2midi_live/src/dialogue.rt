@@ -95,7 +95,7 @@ impl Dialogue {
         requires { length lines.items ≡ line_count command }
         ensures reply { let before = (maps_of self.old.publisher).directory in let after = (maps_of self.new.publisher).directory in IfOk result (λ reply. (stored : List StoreAnswer)
             × Responds (holding self.old.session.text before) (holding self.new.session.text after) (request_of command (text_of lines)) stored reply
-            × Follows (store_seen (S.failures store.old) (S.contents store.old)) (store_seen (S.failures store.new) (S.contents store.new)) stored before after) }
+            × Follows (store_seen (S.failures store.old) (S.calls store.old) (S.contents store.old)) (store_seen (S.failures store.new) (S.calls store.new) (S.contents store.new)) stored before after) }
         ensures gathering { self.new.gathering ≡ self.old.gathering }
         ensures uncounted { OnOk result (is_taken self.old.session.text (request_of command (text_of lines)) ≡ false → work.new ≡ work.old) }
     {
@@ -148,7 +148,7 @@ impl Dialogue {
         requires few { length lines.items ≤ line_count command }
         ensures reply { let before = (maps_of self.old.publisher).directory in let after = (maps_of self.new.publisher).directory in IfOk result (λ reply. (stored : List StoreAnswer)
             × Proceeds (holding self.old.session.text before) command (text_of lines) (holding self.new.session.text after) (begun_of self.new.gathering) stored reply
-            × Follows (store_seen (S.failures store.old) (S.contents store.old)) (store_seen (S.failures store.new) (S.contents store.new)) stored before after) }
+            × Follows (store_seen (S.failures store.old) (S.calls store.old) (S.contents store.old)) (store_seen (S.failures store.new) (S.calls store.new) (S.contents store.new)) stored before after) }
         ensures uncounted { OnOk result (is_taken self.old.session.text (request_of command (text_of lines)) ≡ false → work.new ≡ work.old) }
     {
         if lines.len() < command.line_count() {

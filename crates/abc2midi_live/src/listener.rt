@@ -32,8 +32,8 @@ fn serve<M: Machine, W: Sink, S: Store>(
 ) -> Result<bool, RunFault>
     ensures answer { MatchResult result
         (Serves (M.directory machine.old) (telling (M.future machine.old) (M.future machine.new) (M.directory machine.new)) (line.items ∷ [])
-        (outlets (W.contents writer.old) (store_seen (S.failures store.old) (S.contents store.old)))
-        (outlets (W.contents writer.new) (store_seen (S.failures store.new) (S.contents store.new))))
+        (outlets (W.contents writer.old) (store_seen (S.failures store.old) (S.calls store.old) (S.contents store.old)))
+        (outlets (W.contents writer.new) (store_seen (S.failures store.new) (S.calls store.new) (S.contents store.new))))
         (Unserved (W.contents writer.old) (W.contents writer.new)) }
     ensures fails { W.failures writer.new ≡ raised (W.failures writer.old) (write_faults result) }
     ensures uncounted { OnOk result (M.costs machine.old line.items ≡ false → work.new ≡ work.old) }
@@ -121,8 +121,8 @@ impl<M: Machine> Listener<M> {
             (Serves (M.directory self.old.machine)
             (telling (ahead (M.future self.old.machine) self.old.begun.items) (ahead (M.future self.new.machine) self.new.begun.items) (M.directory self.new.machine))
             (piece.now ++ line_feed ∷ [])
-            (outlets (W.contents writer.old) (store_seen (S.failures store.old) (S.contents store.old)))
-            (outlets (W.contents writer.new) (store_seen (S.failures store.new) (S.contents store.new))))
+            (outlets (W.contents writer.old) (store_seen (S.failures store.old) (S.calls store.old) (S.contents store.old)))
+            (outlets (W.contents writer.new) (store_seen (S.failures store.new) (S.calls store.new) (S.contents store.new))))
             (Unserved (W.contents writer.old) (W.contents writer.new)) }
         ensures fails { W.failures writer.new ≡ raised (W.failures writer.old) (write_faults result) }
     {
@@ -145,8 +145,8 @@ impl<M: Machine> Listener<M> {
             (Serves (M.directory self.old.machine)
             (telling (ahead (M.future self.old.machine) self.old.begun.items) (ahead (M.future self.new.machine) self.new.begun.items) (M.directory self.new.machine))
             piece.now
-            (outlets (W.contents writer.old) (store_seen (S.failures store.old) (S.contents store.old)))
-            (outlets (W.contents writer.new) (store_seen (S.failures store.new) (S.contents store.new))))
+            (outlets (W.contents writer.old) (store_seen (S.failures store.old) (S.calls store.old) (S.contents store.old)))
+            (outlets (W.contents writer.new) (store_seen (S.failures store.new) (S.calls store.new) (S.contents store.new))))
             (BrokenOff (ahead (M.future self.old.machine) self.old.begun.items) piece.now
             (W.contents writer.old) (W.contents writer.new)) }
         ensures fails { W.failures writer.new ≡ raised (W.failures writer.old) (write_faults result) }
@@ -178,8 +178,8 @@ impl<M: Machine> Listener<M> {
     ) -> Result<(), RunFault>
         ensures answer { MatchResult result
             (λ _. Tells (M.directory self.old.machine) (ahead (M.future self.old.machine) self.old.begun.items true [])
-            (outlets (W.contents writer.old) (store_seen (S.failures store.old) (S.contents store.old)))
-            (outlets (W.contents writer.new) (store_seen (S.failures store.new) (S.contents store.new))))
+            (outlets (W.contents writer.old) (store_seen (S.failures store.old) (S.calls store.old) (S.contents store.old)))
+            (outlets (W.contents writer.new) (store_seen (S.failures store.new) (S.calls store.new) (S.contents store.new))))
             (Unserved (W.contents writer.old) (W.contents writer.new)) }
         ensures fails { W.failures writer.new ≡ raised (W.failures writer.old) (write_faults result) }
     {

@@ -42,7 +42,7 @@ pub trait Machine {
     ) -> Result<Reply, AllocError>
         ensures reply { IfOk result (λ reply. (stored : List StoreAnswer)
             × Replies (telling (future self.old) (future self.new) (directory self.new)) line.items stored reply
-            × Follows (store_seen (S.failures store.old) (S.contents store.old)) (store_seen (S.failures store.new) (S.contents store.new))
+            × Follows (store_seen (S.failures store.old) (S.calls store.old) (S.contents store.old)) (store_seen (S.failures store.new) (S.calls store.new) (S.contents store.new))
             stored (directory self.old) (directory self.new)) }
         ensures uncounted { OnOk result (costs self.old line.items ≡ false → work.new ≡ work.old) };
 

@@ -38,11 +38,11 @@ fn turn<M: Machine, R: Source, W: Sink, S: Store>(
         (Turn (M.directory listener.old.machine)
         (telling (ahead (M.future listener.old.machine) listener.old.begun.items) (ahead (M.future listener.new.machine) listener.new.begun.items)
         (M.directory listener.new.machine))
-        (ends (R.remaining reader.old) (W.contents writer.old) (store_seen (S.failures store.old) (S.contents store.old)))
-        (ends (R.remaining reader.new) (W.contents writer.new) (store_seen (S.failures store.new) (S.contents store.new))))
+        (ends (R.remaining reader.old) (W.contents writer.old) (store_seen (S.failures store.old) (S.calls store.old) (S.contents store.old)))
+        (ends (R.remaining reader.new) (W.contents writer.new) (store_seen (S.failures store.new) (S.calls store.new) (S.contents store.new))))
         (Leaves (M.directory listener.old.machine) (ahead (M.future listener.old.machine) listener.old.begun.items false)
-        (ends (R.remaining reader.old) (W.contents writer.old) (store_seen (S.failures store.old) (S.contents store.old)))
-        (ends (R.remaining reader.new) (W.contents writer.new) (store_seen (S.failures store.new) (S.contents store.new)))) }
+        (ends (R.remaining reader.old) (W.contents writer.old) (store_seen (S.failures store.old) (S.calls store.old) (S.contents store.old)))
+        (ends (R.remaining reader.new) (W.contents writer.new) (store_seen (S.failures store.new) (S.calls store.new) (S.contents store.new)))) }
     ensures calls { R.calls reader.new ≡ raised (R.calls reader.old) 1 }
     ensures reads { R.failures reader.new ≡ raised (R.failures reader.old) (read_faults result) }
     ensures writes { W.failures writer.new ≡ raised (W.failures writer.old) (write_faults result) }
@@ -73,11 +73,11 @@ pub fn listen<M: Machine + Drop, R: Source, W: Sink, S: Store>(
     requires { 0 < length buffer.old }
     ensures answers { MatchResult result
         (λ _. Ended (M.directory machine) (λ ended input. M.future machine ended (input_lines ended input))
-        (ends (R.remaining reader.old) (W.contents writer.old) (store_seen (S.failures store.old) (S.contents store.old)))
-        (ends (R.remaining reader.new) (W.contents writer.new) (store_seen (S.failures store.new) (S.contents store.new))))
+        (ends (R.remaining reader.old) (W.contents writer.old) (store_seen (S.failures store.old) (S.calls store.old) (S.contents store.old)))
+        (ends (R.remaining reader.new) (W.contents writer.new) (store_seen (S.failures store.new) (S.calls store.new) (S.contents store.new))))
         (Leaves (M.directory machine) (λ input. M.future machine false (input_lines false input))
-        (ends (R.remaining reader.old) (W.contents writer.old) (store_seen (S.failures store.old) (S.contents store.old)))
-        (ends (R.remaining reader.new) (W.contents writer.new) (store_seen (S.failures store.new) (S.contents store.new)))) }
+        (ends (R.remaining reader.old) (W.contents writer.old) (store_seen (S.failures store.old) (S.calls store.old) (S.contents store.old)))
+        (ends (R.remaining reader.new) (W.contents writer.new) (store_seen (S.failures store.new) (S.calls store.new) (S.contents store.new)))) }
     ensures calls { (made : ℕ) × (made ≤ MOST_READS) × (R.calls reader.new ≡ raised (R.calls reader.old) made) }
     ensures reads { Reads (R.remaining reader.old) (read_counts (R.failures reader.old) (R.calls reader.old))
         (read_counts (R.failures reader.new) (R.calls reader.new)) result }

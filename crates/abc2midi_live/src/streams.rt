@@ -57,6 +57,9 @@ pub trait Store {
     // How many calls failed.
     ghost failures: { Self → ℕ };
 
+    // How many calls were made.
+    ghost calls: { Self → ℕ };
+
     // The bytes under each name, where they are told.
     ghost contents: { Self → Option Contents } = { λ _. None };
 
@@ -65,14 +68,16 @@ pub trait Store {
         ensures files { MatchResult result
             (λ _. Puts (contents self.old) (contents self.new) name.now bytes.now)
             (λ _. KeepsOthers (contents self.old) (contents self.new) name.now) }
-        ensures fails { failures self.new ≡ raised (failures self.old) (faults result) };
+        ensures fails { failures self.new ≡ raised (failures self.old) (faults result) }
+        ensures counts { calls self.new ≡ raised (calls self.old) 1 };
 
     /// Takes the name out, which is no fault where it is not there. A fault leaves the other names.
     fn remove(&mut self, name: &str) -> Result<(), StoreFault>
         ensures files { MatchResult result
             (λ _. TakesOut (contents self.old) (contents self.new) name.now)
             (λ _. KeepsOthers (contents self.old) (contents self.new) name.now) }
-        ensures fails { failures self.new ≡ raised (failures self.old) (faults result) };
+        ensures fails { failures self.new ≡ raised (failures self.old) (faults result) }
+        ensures counts { calls self.new ≡ raised (calls self.old) 1 };
 }
 
 /// A source over a reader of std, or a sink over a writer.

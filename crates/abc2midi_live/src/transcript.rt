@@ -68,11 +68,11 @@ pub fn run<R: Source, W: Sink, S: Store>(
     // which mirrors what this tells of it; or what a fault leaves of these.
     ensures transcript { MatchResult result
         (λ _. Completes (transcript (option_copied book.entry))
-        (ends (R.remaining reader.old) (W.contents writer.old) (store_seen (S.failures store.old) (S.contents store.old)))
-        (ends (R.remaining reader.new) (W.contents writer.new) (store_seen (S.failures store.new) (S.contents store.new))))
+        (ends (R.remaining reader.old) (W.contents writer.old) (store_seen (S.failures store.old) (S.calls store.old) (S.contents store.old)))
+        (ends (R.remaining reader.new) (W.contents writer.new) (store_seen (S.failures store.new) (S.calls store.new) (S.contents store.new))))
         (LeavesRun (option_copied book.entry) (transcript_so_far (option_copied book.entry))
-        (ends (R.remaining reader.old) (W.contents writer.old) (store_seen (S.failures store.old) (S.contents store.old)))
-        (ends (R.remaining reader.new) (W.contents writer.new) (store_seen (S.failures store.new) (S.contents store.new)))) }
+        (ends (R.remaining reader.old) (W.contents writer.old) (store_seen (S.failures store.old) (S.calls store.old) (S.contents store.old)))
+        (ends (R.remaining reader.new) (W.contents writer.new) (store_seen (S.failures store.new) (S.calls store.new) (S.contents store.new)))) }
 
     // What the counts of the reader and the writer say.
     ensures calls { (made : ℕ) × (made ≤ MOST_READS) × (R.calls reader.new ≡ raised (R.calls reader.old) made) }

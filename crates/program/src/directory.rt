@@ -20,6 +20,7 @@ pub(crate) struct Directory<'a, R: Files + AllocGlobal> {
     rt: &'a R,
     path: &'a str,
     failures: u64,
+    calls: u64,
 }
 
 impl<'a, R: Files + AllocGlobal> Directory<'a, R> {
@@ -28,6 +29,7 @@ impl<'a, R: Files + AllocGlobal> Directory<'a, R> {
             rt,
             path,
             failures: 0,
+            calls: 0,
         }
     }
 
@@ -102,7 +104,10 @@ impl<'a, R: Files + AllocGlobal> Directory<'a, R> {
 impl<'a, R: Files + AllocGlobal> Store for Directory<'a, R> {
     ghost failures = { λ d. d.failures };
 
+    ghost calls = { λ d. d.calls };
+
     fn put(&mut self, name: &str, bytes: &[u8]) -> Result<(), StoreFault> {
+        self.calls = self.calls.saturating_add(1);
         match self.write(name, bytes) {
             Ok(()) => Ok(()),
             Err(_) => {
@@ -113,6 +118,7 @@ impl<'a, R: Files + AllocGlobal> Store for Directory<'a, R> {
     }
 
     fn remove(&mut self, name: &str) -> Result<(), StoreFault> {
+        self.calls = self.calls.saturating_add(1);
         match self.delete_named(name) {
             Ok(()) => Ok(()),
             Err(_) => {

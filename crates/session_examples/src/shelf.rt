@@ -48,7 +48,7 @@ impl Shelf {
     fn note(&mut self, name: &str, bytes: Option<Sequence<u8>>) -> Result<(), AllocError>
         ensures ok { OnOk result (self.new.changes.items ≡ (name.now, bytes) ∷ self.old.changes.items) }
         ensures err { OnErr result (self.new.changes.items ≡ self.old.changes.items) }
-        ensures failures { self.new.failures ≡ self.old.failures }
+        ensures counts { (self.new.failures ≡ self.old.failures) × (self.new.calls ≡ self.old.calls) }
     {
         let name = Sequence::from_slice(self.alloc, name.as_bytes())?;
         self.changes.push_front((name, bytes))?;
@@ -58,7 +58,7 @@ impl Shelf {
     fn note_bytes(&mut self, name: &str, bytes: &[u8]) -> Result<(), AllocError>
         ensures ok { OnOk result (self.new.changes.items ≡ (name.now, Some bytes.now) ∷ self.old.changes.items) }
         ensures err { OnErr result (self.new.changes.items ≡ self.old.changes.items) }
-        ensures failures { self.new.failures ≡ self.old.failures }
+        ensures counts { (self.new.failures ≡ self.old.failures) × (self.new.calls ≡ self.old.calls) }
     {
         let bytes = Sequence::from_slice(self.alloc, bytes)?;
         self.note(name, Some(bytes))
@@ -68,6 +68,7 @@ impl Shelf {
     #[tactic(auto, using(abc2midi_live::proofs::Counts::raised_within))]
     fn fail(&mut self) -> Result<(), StoreFault>
         ensures failures { self.new.failures ≡ raised self.old.failures 1 }
+        ensures calls { self.new.calls ≡ self.old.calls }
         ensures changes { self.new.changes ≡ self.old.changes }
         ensures fault { IsErr result }
     {
@@ -76,7 +77,9 @@ impl Shelf {
     }
 
     /// Counts a call. Whether it is the one that fails.
+    #[tactic(auto, using(abc2midi_live::proofs::Counts::raised_within))]
     fn is_failing(&mut self) -> bool
+        ensures calls { self.new.calls ≡ raised self.old.calls 1 }
         ensures failures { self.new.failures ≡ self.old.failures }
         ensures changes { self.new.changes ≡ self.old.changes }
     {
@@ -88,6 +91,8 @@ impl Shelf {
 #[tactic(auto, using(abc2midi_live::proofs::Counts::raised_none))]
 impl Store for Shelf {
     ghost failures = { λ s. s.failures };
+
+    ghost calls = { λ s. s.calls };
 
     ghost contents = { λ s. Some (contents_of s.changes.items) };
 

@@ -8,7 +8,7 @@ use Rattle.abc2midi_live.proofs.building.build.Goals as goal
 pub loop-next-init : goal.loop-next-init
 loop-next-init g c =
     let directory = (maps_of c.args.publisher.now).directory in
-    let seen = store_seen (g.S.Store.failures c.args.store.now) (g.S.Store.contents c.args.store.now) in
+    let seen = store_seen (g.S.Store.failures c.args.store.now) (g.S.Store.calls c.args.store.now) (g.S.Store.contents c.args.store.now) in
     record {
       stored = subst (λ (t : List ℕ). StoresSoFar c.args.session.now.text directory directory t seen seen (Some 0)) (sym c.new-text.ensures.items) (so_far_none c.args.session.now.text directory seen);
       idle = c.requires;

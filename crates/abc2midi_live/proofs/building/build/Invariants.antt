@@ -10,10 +10,11 @@ use Rattle.abc2midi_live.proofs.building.build.Given as goal
 abbrev pub invariant-loop-next : goal.invariant-loop-next
 invariant-loop-next g l =
     let failures = g.S.Store.failures in
+    let calls = g.S.Store.calls in
     let contents = g.S.Store.contents in
     record {
       stored : StoresSoFar l.session.text (maps_of l.fn.publisher).directory (maps_of l.publisher).directory l.text.items
-          (store_seen (failures l.fn.store) (contents l.fn.store)) (store_seen (failures l.store) (contents l.store)) l.next;
+          (store_seen (failures l.fn.store) (calls l.fn.store) (contents l.fn.store)) (store_seen (failures l.store) (calls l.store) (contents l.store)) l.next;
       idle : IsIdle (maps_of l.publisher);
       small : IfSome l.next (λ n. n < 2 ^ 32);
     }

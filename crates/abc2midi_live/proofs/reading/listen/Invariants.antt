@@ -13,11 +13,12 @@ invariant-reads g l =
     let directory = g.M.Machine.directory in
     let contents = g.W.Sink.contents in
     let failures = g.S.Store.failures in
+    let calls = g.S.Store.calls in
     let files = g.S.Store.contents in
     record {
       heard : Heard l.counter (ahead (future l.fn.machine) []) (ahead (future l.listener.machine) l.listener.begun.items) (directory l.fn.machine) (directory l.listener.machine)
           (g.R.Source.remaining l.fn.reader) (g.R.Source.remaining l.reader)
-          (outlets (contents l.fn.writer) (store_seen (failures l.fn.store) (files l.fn.store))) (outlets (contents l.writer) (store_seen (failures l.store) (files l.store)));
+          (outlets (contents l.fn.writer) (store_seen (failures l.fn.store) (calls l.fn.store) (files l.fn.store))) (outlets (contents l.writer) (store_seen (failures l.store) (calls l.store) (files l.store)));
       calls : g.R.Source.calls l.reader ≡ raised (g.R.Source.calls l.fn.reader) l.counter;
       reads : g.R.Source.failures l.reader ≡ g.R.Source.failures l.fn.reader;
       writes : g.W.Sink.failures l.writer ≡ g.W.Sink.failures l.fn.writer;

@@ -9,6 +9,6 @@ returns-clause-answer g c =
     let before = c.args.self.now in
     let same = c.take_begun-line.ensures.machine ∙ c.keep.ensures.machine in
     serve_line c.serve.result (g.M.Machine.future before.machine) _ (g.M.Machine.future c.serve.new.machine) (g.M.Machine.directory before.machine) _ (g.M.Machine.directory c.serve.new.machine) before.begun.items c.args.piece.now c.take_begun-line.result.items _
-    (outlets (g.W.Sink.contents c.args.writer.now) (store_seen (g.S.Store.failures c.args.store.now) (g.S.Store.contents c.args.store.now)))
-    (outlets (g.W.Sink.contents c.serve.new.writer) (store_seen (g.S.Store.failures c.serve.new.store) (g.S.Store.contents c.serve.new.store)))
+    (outlets (g.W.Sink.contents c.args.writer.now) (store_seen (g.S.Store.failures c.args.store.now) (g.S.Store.calls c.args.store.now) (g.S.Store.contents c.args.store.now)))
+    (outlets (g.W.Sink.contents c.serve.new.writer) (store_seen (g.S.Store.failures c.serve.new.store) (g.S.Store.calls c.serve.new.store) (g.S.Store.contents c.serve.new.store)))
     (ap g.M.Machine.future same) (ap g.M.Machine.directory same) before.whole c.requires (c.take_begun-line.ensures.line ∙ c.in_ok-keep.ensures.begun) c.take_begun-line.ensures.begun c.serve.ensures.answer

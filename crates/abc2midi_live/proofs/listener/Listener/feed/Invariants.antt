@@ -12,11 +12,12 @@ invariant-lines g l =
     let directory = g.M.Machine.directory in
     let contents = g.W.Sink.contents in
     let failures = g.S.Store.failures in
+    let calls = g.S.Store.calls in
     let files = g.S.Store.contents in
     record {
       fed : Fed (ahead (future l.fn.self.machine) l.fn.self.begun.items) (ahead (future l.self.machine) l.self.begun.items)
           (directory l.fn.self.machine) (directory l.self.machine) l.fn.piece l.rest
-          (outlets (contents l.fn.writer) (store_seen (failures l.fn.store) (files l.fn.store))) (outlets (contents l.writer) (store_seen (failures l.store) (files l.store)));
+          (outlets (contents l.fn.writer) (store_seen (failures l.fn.store) (calls l.fn.store) (files l.fn.store))) (outlets (contents l.writer) (store_seen (failures l.store) (calls l.store) (files l.store)));
       failures : g.W.Sink.failures l.writer ≡ g.W.Sink.failures l.fn.writer;
     }
 
