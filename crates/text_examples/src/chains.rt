@@ -1,0 +1,73 @@
+//! A fold whose states are seldom equal, and often alike: what chains of it keep is taken up where as much is counted.
+
+ghost use Rattle.text_examples.specs.Counting.{counted_next, counted_gives, same_count, counting_resumable};
+
+use abc_fold::{Fold, Resumable, Work};
+use std::alloc::{AllocError, Global};
+
+/// What is counted, and how many cells there were, which nothing that is given shows.
+#[derive(Drop)]
+pub struct Counted {
+    pub count: u8,
+    pub mark: u64,
+}
+
+/// Counts numbers together, and begins anew at 0. Each gives what was counted before it.
+#[derive(Drop)]
+pub struct Counting;
+
+impl Fold for Counting {
+    type State = Counted;
+
+    type Cell = u8;
+
+    type Items = u8;
+
+    type Work = Work;
+
+    ghost next = { λ _. counted_next };
+
+    ghost gives = { λ _. counted_gives };
+
+    fn step(
+        &self,
+        _alloc: Global,
+        state: &Counted,
+        cell: &u8,
+        work: &mut Work,
+    ) -> Result<(Counted, u8), AllocError> {
+        work.count_folded();
+        let count = if *cell == 0 {
+            0
+        } else {
+            state.count.saturating_add(*cell)
+        };
+        let mark = state.mark.saturating_add(1);
+        Ok((Counted { count, mark }, state.count))
+    }
+}
+
+impl Resumable for Counting {
+    ghost alike = { λ _. same_count };
+
+    ghost resumable = { λ _. counting_resumable };
+
+    fn same(&self, a: &Counted, b: &Counted) -> bool {
+        a.count == b.count
+    }
+
+    fn copy_state(&self, _alloc: Global, state: &Counted) -> Result<Counted, AllocError> {
+        Ok(Counted {
+            count: state.count,
+            mark: state.mark,
+        })
+    }
+
+    fn copy_cell(&self, _alloc: Global, cell: &u8) -> Result<u8, AllocError> {
+        Ok(*cell)
+    }
+
+    fn copy_items(&self, _alloc: Global, items: &u8) -> Result<u8, AllocError> {
+        Ok(*items)
+    }
+}
