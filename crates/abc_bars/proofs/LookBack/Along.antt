@@ -41,8 +41,8 @@ behind-cells place (cell ∷ cells) =
     ap (λ (state : Entry). state_after to state cells) (to-view place cell) ∙ behind-cells (place_behind place cell) cells
 
 -- From the view of any place on, the steps are the look back.
-pub from-view : (place : Place) → IsLookBack to giving (view place) place
-from-view place = record { entered = entered-along place; given = items-given place; behind = behind-cells place }
+pub from_view : (place : Place) → IsLookBack to giving (view place) place
+from_view place = record { entered = entered-along place; given = items-given place; behind = behind-cells place }
 
 -- The same cells give the same where the views are the same, and the same holds behind them.
 pub same_given : (here there : Place) (cells : List CellTokens) → view here ≡ view there → given_along here cells ≡ given_along there cells
@@ -73,9 +73,9 @@ opened (Some cells) =
     (behind-cells file_header_begins cells ∙ ap view (fields-along [] cells))
 
 pub file_header_looked_back : IsLookBack to giving (entries.FileHeader no_defaults) file_header_begins
-file_header_looked_back = from-view file_header_begins
+file_header_looked_back = from_view file_header_begins
 
 pub tune_looked_back : (header : Option (List CellTokens))
     → IsLookBack to giving (opening_after (option_map (state_after to (entries.FileHeader no_defaults)) header)) (tune_begins header)
 tune_looked_back header =
-    subst (λ (state : Entry). IsLookBack to giving state (tune_begins header)) (sym (opened header)) (from-view (tune_begins header))
+    subst (λ (state : Entry). IsLookBack to giving state (tune_begins header)) (sym (opened header)) (from_view (tune_begins header))
