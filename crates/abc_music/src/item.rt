@@ -42,7 +42,7 @@ impl Default for Tone {
 /// What a cell gives to the score. `opening` marks what holds when the tune begins: each field of a
 /// header gives the tempo and meter as if the header ended behind it, of which the last counts, and the
 /// field that ends a header gives the key.
-#[derive(Drop)]
+#[derive(Clone, Drop)]
 pub enum Item {
     /// The tune's reference number, 0 where X: has none.
     Number(u32),

@@ -7,6 +7,7 @@ mod bar_rest;
 mod broken;
 mod chords;
 mod column;
+mod copies;
 mod item;
 mod laws;
 mod lengths;
