@@ -5,6 +5,7 @@ pub mod BodyOpening
 pub mod Cell
 pub mod Defaults
 pub mod Entry
+pub mod Equality
 pub mod FieldFault
 pub mod FieldKind
 pub mod FileHeader
@@ -12,6 +13,7 @@ pub mod Header
 pub mod LookBack
 pub mod Opening
 pub mod Reference
+pub mod SameEntry
 pub mod Step
 pub mod Voices
 pub mod VoicesLent

@@ -1,6 +1,6 @@
 //! The law of the fold along the cells of a file header and of a tune.
 
-ghost use Rattle.std.specs.Prelude.{◌≡◌, List, Option};
+ghost use Rattle.std.specs.Prelude.{◌≡◌, ◌↔◌, IsTrue, List, Option};
 ghost use Rattle.std.specs.Option.{option_map};
 ghost use Rattle.abc_bars.specs.Defaults.{no_defaults};
 ghost use Rattle.abc_bars.specs.Entry.{opening_after};
@@ -8,10 +8,11 @@ ghost use Rattle.abc_bars.specs.LookBack.Along.{CellTokens, IsLookBack, file_hea
 ghost use Rattle.abc_bars.specs.LookBack.Place.{Place, view};
 ghost use Rattle.abc_bars.specs.LookBack.TunePlaces.{IsOfTune};
 ghost use Rattle.abc_bars.specs.declared.bar_fold.BarFold.{BarFold};
+ghost use Rattle.abc_bars.specs.declared.entry.Entry.{Entry};
 ghost use Rattle.abc_bars.specs.declared.entry.Entry.TheVariants as entries;
 
 use crate::bar_fold::BarFold;
-use abc_fold::Fold;
+use abc_fold::{Fold, Resumable};
 
 /// The fold is the look back: along any cells, those of a file header from `Entry::header` on and those of a
 /// tune from `Entry::tune` on, each cell is entered in the view of its place and gives what looking back gives
@@ -37,6 +38,13 @@ pub fn views_decide()
         given_along here cells ≡ given_along there cells }
     ensures behind { (here there : Place) (cells : List CellTokens) → view here ≡ view there →
         view (place_after here cells) ≡ view (place_after there cells) }
+{}
+
+/// What the fold tells apart is what differs: it takes two places for alike exactly where what holds there is equal,
+/// part by part and voice by voice, in the order in which the voices were mentioned.
+#[tactic(auto, using(crate::proofs::EntryLaws::alike_where_equal))]
+pub fn alike_views()
+    ensures { (fold : BarFold) (here there : Entry) → IsTrue (⟦<BarFold as Resumable>⟧.alike fold here there) ↔ (here ≡ there) }
 {}
 
 /// What a place of a tune keeps is what stands before it in the file header and in its own: the values of the

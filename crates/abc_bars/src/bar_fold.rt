@@ -3,6 +3,7 @@
 ghost use Rattle.std.specs.Prelude.{◌≡◌, All, IfOk};
 ghost use Rattle.std.specs.Option.{option_copied};
 ghost use Rattle.abc_bars.specs.Cell.{cell_given};
+ghost use Rattle.abc_bars.specs.SameEntry.{bars_resumable, same_entry};
 ghost use Rattle.abc_music.specs.Item.{IsItem};
 ghost use Rattle.abc_bars.specs.Step.{field_line, field_in, body_stepped, behind_field, header_stepped, file_header_stepped, stepped};
 
@@ -15,9 +16,9 @@ use crate::field_kind::{FieldKind, kind_of};
 use crate::file_header::file_header_given;
 use crate::header::{Header, HeaderGiven, header_given};
 use abc_fields::{EMPTY_SIGNATURE, key_set_by};
-use abc_fold::{Fold, Work};
+use abc_fold::{Fold, Resumable, Work};
 use abc_music::Items;
-use abc_scan::{Cell, Field, Token, TokenKind};
+use abc_scan::{Cell, Field, Token, TokenKind, cell_of};
 use abc_text::Sequence;
 use std::alloc::{AllocError, Global};
 
@@ -148,5 +149,27 @@ impl Fold for BarFold {
     ) -> Result<(Entry, Items), AllocError> {
         work.count_folded();
         stepped(alloc, state, cell.as_slice())
+    }
+}
+
+impl Resumable for BarFold {
+    ghost alike = { λ _. same_entry };
+
+    ghost resumable = { λ _. bars_resumable };
+
+    fn same(&self, a: &Entry, b: &Entry) -> bool {
+        a.same(b)
+    }
+
+    fn copy_state(&self, _alloc: Global, state: &Entry) -> Result<Entry, AllocError> {
+        state.copied()
+    }
+
+    fn copy_cell(&self, alloc: Global, cell: &Cell) -> Result<Cell, AllocError> {
+        cell_of(alloc, cell.as_slice())
+    }
+
+    fn copy_items(&self, alloc: Global, items: &Items) -> Result<Items, AllocError> {
+        items.copied(alloc)
     }
 }

@@ -1,6 +1,6 @@
 //! What holds at a place of a file header or of a tune.
 
-ghost use Rattle.std.specs.Prelude.{◌≡◌};
+ghost use Rattle.std.specs.Prelude.{◌≡◌, IfOk};
 ghost use Rattle.std.specs.Option.{option_copied};
 ghost use Rattle.abc_bars.specs.Entry.{defaults_of, opening_after};
 ghost use Rattle.abc_bars.specs.Defaults.{no_defaults};
@@ -8,7 +8,7 @@ ghost use Rattle.abc_bars.specs.Defaults.{no_defaults};
 use crate::body::Body;
 use crate::defaults::{Defaults, NO_DEFAULTS};
 use crate::header::Header;
-use std::alloc::Global;
+use std::alloc::{AllocError, Global};
 
 /// All that what follows a place of a file header or of a tune can depend on.
 #[derive(Drop)]
@@ -49,6 +49,24 @@ impl Entry {
         match self {
             Entry::FileHeader(defaults) => *defaults,
             Entry::Opening(_) | Entry::Header(_) | Entry::Body(_) => NO_DEFAULTS,
+        }
+    }
+
+    /// A copy of all that holds there.
+    pub fn copied(&self) -> Result<Entry, AllocError>
+        ensures { IfOk result (λ copy. copy ≡ self.now) }
+    {
+        match self {
+            Entry::FileHeader(defaults) => Ok(Entry::FileHeader(*defaults)),
+            Entry::Opening(defaults) => Ok(Entry::Opening(*defaults)),
+            Entry::Header(header) => {
+                let header = header.copied()?;
+                Ok(Entry::Header(header))
+            }
+            Entry::Body(body) => {
+                let body = body.clone()?;
+                Ok(Entry::Body(body))
+            }
         }
     }
 }

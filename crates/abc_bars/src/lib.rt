@@ -30,7 +30,7 @@ pub use abc_music::{
     HIGHEST_KEY, Item, Items, LocalFault, MOST_NOTES, MOST_VOICES, Tone, TuneMeter, TuneTempo,
     UnitLength,
 };
-pub use along_laws::{tune_places, views_along, views_decide};
+pub use along_laws::{alike_views, tune_places, views_along, views_decide};
 pub use bar_fold::BarFold;
 pub use body::Body;
 pub use body_laws::mentioned_voices;

@@ -31,8 +31,8 @@ fn copy_of(token: &Token) -> Result<Token, AllocError>
     token.clone()
 }
 
-/// The cell of these tokens.
-fn cell_of(alloc: Global, tokens: &[Token]) -> Result<Cell, AllocError>
+/// The cell of copies of these tokens.
+pub fn cell_of(alloc: Global, tokens: &[Token]) -> Result<Cell, AllocError>
     ensures { IfOk result (λ cell. cell ≡ tokens.now) }
 {
     let mut cell = Sequence::from(Vec::with_capacity(alloc, tokens.len())?);

@@ -1,0 +1,181 @@
+-- Whether the same holds at two places, component by component. Our own.
+use Rattle.std.specs.Prelude.{◌≡◌, ◌⊎◌, ℕ, Bool, true, List, Option, Some, None, unwrap_or, refl}
+use Rattle.std.proofs.Common.{inl, inr}
+use Rattle.abc_fields.specs.declared.meter.Meter.{Meter}
+use Rattle.abc_fields.specs.declared.meter.Meter.TheVariants as meters
+use Rattle.abc_fields.specs.declared.shift.Shift.{Shift}
+use Rattle.abc_fields.specs.declared.signature.Signature.{Signature}
+use Rattle.abc_fields.specs.declared.tempo.Tempo.{Tempo}
+use Rattle.abc_fields.specs.declared.tempo.Tempo.TheVariants as tempos
+use Rattle.abc_fold.specs.Steps.{IsResumable, resumable_where_equal, steps_of}
+use Rattle.abc_music.specs.declared.accidentals.Accidentals.{Accidentals}
+use Rattle.abc_music.specs.declared.settings.Settings.{Settings}
+use Rattle.abc_music.specs.declared.tied.TiedNote.{TiedNote}
+use Rattle.abc_music.specs.declared.voice_shift.VoiceShift.{VoiceShift}
+use Rattle.abc_text.specs.declared.letter.Letter.{Letter}
+use Rattle.abc_text.specs.declared.letter.Letter.TheVariants as letters
+use Rattle.abc_text.specs.Letter.{capital, letter_of}
+use Rattle.abc_time.specs.declared.ratio.Ratio.{Ratio}
+use Rattle.abc_bars.specs.declared.body.Body.{Body}
+use Rattle.abc_bars.specs.declared.body.Current.{Current}
+use Rattle.abc_bars.specs.declared.body.Current.TheVariants as currents
+use Rattle.abc_bars.specs.declared.defaults.Defaults.{Defaults}
+use Rattle.abc_bars.specs.declared.entry.Entry.{Entry}
+use Rattle.abc_bars.specs.declared.entry.Entry.TheVariants as entries
+use Rattle.abc_bars.specs.declared.header.Header.{Header}
+use Rattle.abc_bars.specs.Equality.{Equality, by_parts, either, lists, numbers, options, pairs, wholes}
+use Rattle.abc_bars.specs.Step.{stepped}
+
+-- Seven values, by each.
+abbrev sevens : {A : Type 0} → Equality A → Equality (A × (A × (A × (A × (A × (A × A))))))
+sevens each = pairs each (pairs each (pairs each (pairs each (pairs each (pairs each each)))))
+
+-- Three values, by each.
+abbrev threes : {A : Type 0} → Equality A → Equality (A × (A × A))
+threes each = pairs each (pairs each each)
+
+abbrev meter_parts : Meter → Option (ℕ × ℕ)
+meter_parts meters.Free = None
+meter_parts (meters.Of num den) = Some (num, den)
+
+abbrev meter_of_parts : Option (ℕ × ℕ) → Meter
+meter_of_parts None = meters.Free
+meter_of_parts (Some p) = meters.Of p.0 p.1
+
+pub meter_back : (meter : Meter) → meter_of_parts (meter_parts meter) ≡ meter
+meter_back meters.Free = refl
+meter_back (meters.Of num den) = refl
+
+abbrev meter_equality : Equality Meter
+meter_equality = by_parts (options (pairs numbers numbers)) meter_parts meter_of_parts meter_back
+
+abbrev ratio_equality : Equality Ratio
+ratio_equality = by_parts (pairs numbers numbers) (λ r. (r.num, r.den)) (λ p. record { num = p.0; den = p.1 }) (λ _. refl)
+
+abbrev tempo_parts : Tempo → Option (ℕ ⊎ (Ratio × ℕ))
+tempo_parts tempos.Unset = None
+tempo_parts (tempos.Units n) = Some (inl n)
+tempo_parts (tempos.Beat beat n) = Some (inr (beat, n))
+
+abbrev tempo_of_parts : Option (ℕ ⊎ (Ratio × ℕ)) → Tempo
+tempo_of_parts None = tempos.Unset
+tempo_of_parts (Some (inl n)) = tempos.Units n
+tempo_of_parts (Some (inr p)) = tempos.Beat p.0 p.1
+
+pub tempo_back : (tempo : Tempo) → tempo_of_parts (tempo_parts tempo) ≡ tempo
+tempo_back tempos.Unset = refl
+tempo_back (tempos.Units n) = refl
+tempo_back (tempos.Beat beat n) = refl
+
+abbrev tempo_equality : Equality Tempo
+tempo_equality = by_parts (options (either numbers (pairs ratio_equality numbers))) tempo_parts tempo_of_parts tempo_back
+
+abbrev signature_equality : Equality Signature
+signature_equality = by_parts (sevens wholes) (λ s. (s.a, (s.b, (s.c, (s.d, (s.e, (s.f, s.g)))))))
+    (λ p. record { a = p.0; b = p.1.0; c = p.1.1.0; d = p.1.1.1.0; e = p.1.1.1.1.0; f = p.1.1.1.1.1.0; g = p.1.1.1.1.1.1 }) (λ _. refl)
+
+abbrev accidentals_equality : Equality Accidentals
+accidentals_equality = by_parts (sevens (options wholes)) (λ s. (s.a, (s.b, (s.c, (s.d, (s.e, (s.f, s.g)))))))
+    (λ p. record { a = p.0; b = p.1.0; c = p.1.1.0; d = p.1.1.1.0; e = p.1.1.1.1.0; f = p.1.1.1.1.1.0; g = p.1.1.1.1.1.1 }) (λ _. refl)
+
+abbrev voice_shift_equality : Equality VoiceShift
+voice_shift_equality = by_parts (threes wholes) (λ s. (s.clef, (s.octave, s.transpose))) (λ p. record { clef = p.0; octave = p.1.0; transpose = p.1.1 }) (λ _. refl)
+
+abbrev shift_equality : Equality Shift
+shift_equality = by_parts (threes (options wholes)) (λ s. (s.clef, (s.octave, s.transpose))) (λ p. record { clef = p.0; octave = p.1.0; transpose = p.1.1 }) (λ _. refl)
+
+abbrev tuplet_equality : Equality (ℕ × ℕ × ℕ)
+tuplet_equality = by_parts (threes numbers) (λ t. (t.0, (t.1, t.2))) (λ p. (p.0, p.1.0, p.1.1)) (λ _. refl)
+
+abbrev letter_at : ℕ → Letter
+letter_at byte = unwrap_or (letter_of byte) letters.C
+
+pub letter_back : (letter : Letter) → letter_at (capital letter) ≡ letter
+unfolding letter_of
+letter_back letters.C = refl
+letter_back letters.D = refl
+letter_back letters.E = refl
+letter_back letters.F = refl
+letter_back letters.G = refl
+letter_back letters.A = refl
+letter_back letters.B = refl
+
+abbrev letter_equality : Equality Letter
+letter_equality = by_parts numbers capital letter_at letter_back
+
+abbrev tied_equality : Equality TiedNote
+tied_equality = by_parts (pairs wholes (pairs letter_equality wholes)) (λ t. (t.octave, (t.letter, t.alteration)))
+    (λ p. record { octave = p.0; letter = p.1.0; alteration = p.1.1 }) (λ _. refl)
+
+-- What holds for two voices, by each of its parts.
+abbrev pub settings_equality : Equality Settings
+settings_equality = by_parts
+    (pairs meter_equality (pairs ratio_equality (pairs signature_equality (pairs voice_shift_equality
+    (pairs accidentals_equality (pairs (options tuplet_equality) (lists tied_equality)))))))
+    (λ s. (s.meter, (s.unit, (s.signature, (s.shift, (s.accidentals, (s.tuplet, s.tied)))))))
+    (λ p. record { meter = p.0; unit = p.1.0; signature = p.1.1.0; shift = p.1.1.1.0; accidentals = p.1.1.1.1.0; tuplet = p.1.1.1.1.1.0; tied = p.1.1.1.1.1.1 })
+    (λ _. refl)
+
+-- Voices, by their names and what is known of each, in the order in which they were mentioned.
+abbrev pub voices_equality : {S : Type 0} → Equality S → Equality (List (List ℕ × S))
+voices_equality known = lists (pairs (lists numbers) known)
+
+abbrev pub defaults_equality : Equality Defaults
+defaults_equality = by_parts (pairs (options meter_equality) (pairs (options ratio_equality) (options tempo_equality)))
+    (λ d. (d.meter, (d.unit, d.tempo))) (λ p. record { meter = p.0; unit = p.1.0; tempo = p.1.1 }) (λ _. refl)
+
+abbrev pub header_equality : Equality Header
+header_equality = by_parts (pairs defaults_equality (voices_equality shift_equality)) (λ h. (h.defaults, h.voices)) (λ p. record { defaults = p.0; voices = p.1 }) (λ _. refl)
+
+abbrev current_parts : Current → Settings ⊎ ℕ
+current_parts (currents.Unnamed settings) = inl settings
+current_parts (currents.At at) = inr at
+
+abbrev current_of_parts : Settings ⊎ ℕ → Current
+current_of_parts (inl settings) = currents.Unnamed settings
+current_of_parts (inr at) = currents.At at
+
+pub current_back : (current : Current) → current_of_parts (current_parts current) ≡ current
+current_back (currents.Unnamed settings) = refl
+current_back (currents.At at) = refl
+
+abbrev current_equality : Equality Current
+current_equality = by_parts (either settings_equality numbers) current_parts current_of_parts current_back
+
+abbrev pub body_equality : Equality Body
+body_equality = by_parts (pairs (voices_equality settings_equality) (pairs current_equality settings_equality))
+    (λ b. (b.voices, (b.current, b.another))) (λ p. record { voices = p.0; current = p.1.0; another = p.1.1 }) (λ _. refl)
+
+abbrev entry_parts : Entry → (Defaults ⊎ Defaults) ⊎ (Header ⊎ Body)
+entry_parts (entries.FileHeader defaults) = inl (inl defaults)
+entry_parts (entries.Opening defaults) = inl (inr defaults)
+entry_parts (entries.Header header) = inr (inl header)
+entry_parts (entries.Body body) = inr (inr body)
+
+abbrev entry_of_parts : (Defaults ⊎ Defaults) ⊎ (Header ⊎ Body) → Entry
+entry_of_parts (inl (inl defaults)) = entries.FileHeader defaults
+entry_of_parts (inl (inr defaults)) = entries.Opening defaults
+entry_of_parts (inr (inl header)) = entries.Header header
+entry_of_parts (inr (inr body)) = entries.Body body
+
+pub entry_back : (entry : Entry) → entry_of_parts (entry_parts entry) ≡ entry
+entry_back (entries.FileHeader defaults) = refl
+entry_back (entries.Opening defaults) = refl
+entry_back (entries.Header header) = refl
+entry_back (entries.Body body) = refl
+
+abbrev pub entry_equality : Equality Entry
+entry_equality = by_parts (either (either defaults_equality defaults_equality) (either header_equality body_equality)) entry_parts entry_of_parts entry_back
+
+-- Whether the same holds at two places.
+unfoldable pub same_entry : Entry → Entry → Bool
+same_entry = entry_equality.same
+
+-- It tells exactly whether what holds there is equal.
+pub same_entry_tells : (a b : Entry) → (same_entry a b ≡ true → a ≡ b) × (a ≡ b → same_entry a b ≡ true)
+unfolding same_entry
+same_entry_tells a b = entry_equality.exact a b
+
+-- States that are the same may stand for each other: they are equal.
+pub bars_resumable : IsResumable (steps_of (λ entry cell. (stepped entry cell).0) (λ entry cell. (stepped entry cell).1) same_entry)
+bars_resumable = resumable_where_equal _ (λ a b. (same_entry_tells a b).0) (λ a. (same_entry_tells a a).1 refl)
