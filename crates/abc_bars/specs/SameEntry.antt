@@ -7,11 +7,14 @@ use Rattle.abc_fields.specs.declared.shift.Shift.{Shift}
 use Rattle.abc_fields.specs.declared.signature.Signature.{Signature}
 use Rattle.abc_fields.specs.declared.tempo.Tempo.{Tempo}
 use Rattle.abc_fields.specs.declared.tempo.Tempo.TheVariants as tempos
-use Rattle.abc_fold.specs.Steps.{IsResumable, resumable_where_equal, steps_of}
+use Rattle.abc_fold.specs.Steps.{Steps, IsResumable, resumable_where_equal, steps_of}
+use Rattle.abc_music.specs.Item.{Items}
 use Rattle.abc_music.specs.declared.accidentals.Accidentals.{Accidentals}
 use Rattle.abc_music.specs.declared.settings.Settings.{Settings}
 use Rattle.abc_music.specs.declared.tied.TiedNote.{TiedNote}
 use Rattle.abc_music.specs.declared.voice_shift.VoiceShift.{VoiceShift}
+use Rattle.abc_scan.specs.declared.spanned.Spanned.{Spanned}
+use Rattle.abc_scan.specs.declared.token.TokenKind.{TokenKind}
 use Rattle.abc_text.specs.declared.letter.Letter.{Letter}
 use Rattle.abc_text.specs.declared.letter.Letter.TheVariants as letters
 use Rattle.abc_text.specs.Letter.{capital, letter_of}
@@ -176,6 +179,10 @@ pub same_entry_tells : (a b : Entry) → (same_entry a b ≡ true → a ≡ b) �
 unfolding same_entry
 same_entry_tells a b = entry_equality.exact a b
 
--- States that are the same may stand for each other: they are equal.
-pub bars_resumable : IsResumable (steps_of (λ entry cell. (stepped entry cell).0) (λ entry cell. (stepped entry cell).1) same_entry)
-bars_resumable = resumable_where_equal _ (λ a b. (same_entry_tells a b).0) (λ a. (same_entry_tells a a).1 refl)
+-- The fold over bars: what holds behind a cell and what it gives, and which places are alike.
+abbrev pub bars : Steps Entry (List (Spanned TokenKind)) Items
+bars = steps_of (λ entry cell. (stepped entry cell).0) (λ entry cell. (stepped entry cell).1) same_entry
+
+-- Places that are alike may stand for each other: what holds there is equal.
+pub bars_resumable : IsResumable bars
+bars_resumable = resumable_where_equal bars (λ a b. (same_entry_tells a b).0) (λ a. (same_entry_tells a a).1 refl)
