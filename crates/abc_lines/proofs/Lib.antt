@@ -1,3 +1,4 @@
 pub mod Edits
 pub mod Ready
+pub mod Rings
 pub mod Splices

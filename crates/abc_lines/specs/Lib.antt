@@ -1,4 +1,5 @@
 pub mod EditError
 pub mod Edits
+pub mod GapList
 pub mod Lines
 pub mod Text

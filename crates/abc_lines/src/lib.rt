@@ -1,13 +1,16 @@
-//! The lines of a tune book's text, and how a run of them is replaced in two steps: one that needs memory and changes
+//! Lists with a gap, the lines of a tune book's text, and how a run of them is replaced in two steps: one that needs memory and changes
 //! nothing, and one that needs none and changes the text.
 #![tactic(auto)]
 
 mod edit_error;
+mod gap_list;
 mod limits;
 mod line;
 mod lines;
 mod moves;
+mod ring;
 
 pub use edit_error::EditError;
+pub use gap_list::GapList;
 pub use limits::{LONGEST_LINE, MOST_LINES, text_limits};
 pub use lines::{LineBuffer, LinePatch};

@@ -8,4 +8,6 @@ pub mod chains;
 pub mod definitions;
 pub mod folds;
 #[cfg(test)]
+mod gap_lists;
+#[cfg(test)]
 mod tests;

@@ -1,0 +1,118 @@
+//! A list with a gap: what changes it where it was last changed moves nothing.
+
+ghost use Rattle.std.specs.Prelude.{◌≡◌, ◌+◌, ◌-◌, ◌<◌, ◌≤◌, ◌^◌, [], length, IfOk, IsOk, option_copied, slice_get, Some};
+ghost use Rattle.std.specs.List.{insert, remove};
+ghost use Rattle.abc_lines.specs.GapList.{gapped, distance, tallied};
+
+use crate::ring;
+use std::alloc::{AllocError, Global};
+use std::collections::VecDeque;
+use std::marker::Model;
+
+/// Items in order with spare room among them, the gap. It takes its memory once, and each item moves as often as the
+/// gap passes over it. Contracts see the items, the place of the gap, the room and how many places the gap has moved.
+#[derive(Drop)]
+pub struct GapList<T> {
+    ring: VecDeque<T>,
+    gap: usize,
+    moved: u64,
+}
+
+impl<T> Model for GapList<T> {
+    ghost use Rattle.std.specs.Prelude.{◌-◌, length};
+    ghost use Rattle.std.specs.VecDeque.{deque_capacity};
+    ghost use Rattle.abc_lines.specs.GapList.{Gapped, IsRing, gapped, in_order};
+
+    ghost Value = { Gapped T };
+
+    ghost view = { λ l. gapped (in_order l.gap l.ring.items) l.gap (deque_capacity l.ring - length l.ring.items) l.moved };
+
+    ghost invariant = { λ l. IsRing l.gap l.ring.items (deque_capacity l.ring) };
+}
+
+impl<T> GapList<T> {
+    /// A list with no items, and room for as many as it says.
+    pub fn with_room(alloc: Global, room: usize) -> Result<GapList<T>, AllocError>
+        ensures empty { IfOk result (λ list. list ≡ gapped [] 0 room 0) }
+        ensures succeeds { room ≡ 0 → IsOk result }
+    {
+        Ok(GapList {
+            ring: VecDeque::with_capacity(alloc, room)?,
+            gap: 0,
+            moved: 0,
+        })
+    }
+
+    /// The allocator that the list is from.
+    pub fn allocator(&self) -> Global {
+        *self.ring.allocator()
+    }
+
+    /// How many items there are.
+    pub fn len(&self) -> usize
+        ensures count { result ≡ length self.now.items }
+        ensures small { length self.now.items + self.now.room < 2 ^ 63 }
+        ensures inside { self.now.gap ≤ length self.now.items }
+    {
+        self.ring.len()
+    }
+
+    /// How many more items there is room for.
+    pub fn room(&self) -> usize
+        ensures { result ≡ self.now.room }
+    {
+        self.ring.capacity() - self.ring.len()
+    }
+
+    /// How many items stand before the gap.
+    pub fn gap(&self) -> usize
+        ensures { result ≡ self.now.gap }
+    {
+        self.gap
+    }
+
+    /// How many places the gap has moved in all, up to the greatest number that the type has.
+    pub fn moved(&self) -> u64
+        ensures { result ≡ self.now.moved }
+    {
+        self.moved
+    }
+
+    /// The item with `i` others before it.
+    pub fn get(&self, i: usize) -> Option<&T>
+        ensures { option_copied result ≡ slice_get self.now.items i }
+    {
+        ring::item(&self.ring, self.gap, i)
+    }
+
+    /// Puts an item before the one with `i` others before it, or at the end. The gap stands behind it then.
+    pub fn insert(&mut self, i: usize, item: T)
+        requires inside { i ≤ length self.old.items }
+        requires room { 0 < self.old.room }
+        ensures { self.new ≡ gapped (insert self.old.items i item) (i + 1) (self.old.room - 1) (tallied self.old.moved (distance self.old.gap i)) }
+    {
+        self.move_gap(i);
+        ring::put(&mut self.ring, i, item);
+        self.gap = i + 1;
+    }
+
+    /// Takes out the item with `i` others before it. The gap stands in its place then.
+    pub fn remove(&mut self, i: usize) -> T
+        requires { i < length self.old.items }
+        ensures item { slice_get self.old.items i ≡ Some result }
+        ensures list { self.new ≡ gapped (remove self.old.items i) i (self.old.room + 1) (tallied self.old.moved (distance self.old.gap i)) }
+    {
+        self.move_gap(i);
+        ring::take_next(&mut self.ring, i)
+    }
+
+    /// Moves the gap to a place.
+    fn move_gap(&mut self, to: usize)
+        requires { to ≤ length self.old.items }
+        ensures { self.new ≡ gapped self.old.items to self.old.room (tallied self.old.moved (distance self.old.gap to)) }
+    {
+        ring::turn(&mut self.ring, self.gap, to);
+        self.moved = self.moved.saturating_add(self.gap.abs_diff(to) as u64);
+        self.gap = to;
+    }
+}

@@ -1,0 +1,68 @@
+//! A list with a gap: what moves it, and what becomes of the items that it no longer has.
+
+use abc_lines::GapList;
+use std::alloc::{AllocError, Global};
+use std::cell::Cell;
+use std::rt::HostRuntime;
+
+/// The items in order.
+fn items(alloc: Global, list: &GapList<u8>) -> Result<Vec<u8>, AllocError> {
+    let mut items = Vec::new(alloc);
+    for i in 0..list.len() {
+        if let Some(item) = list.get(i) {
+            items.push(*item)?;
+        }
+    }
+    Ok(items)
+}
+
+#[test]
+fn the_gap_stands_where_a_list_was_last_changed(rt: HostRuntime) {
+    let alloc = rt.alloc();
+    let mut list = GapList::with_room(alloc, 3).expect(&rt, "there is memory");
+    list.insert(0, 7);
+    list.insert(0, 8);
+    list.insert(1, 9);
+    assert_eq!(rt;
+        items(alloc, &list)
+            .expect(&rt, "there is memory")
+            .as_slice(),
+        &[8, 9, 7][..]
+    );
+    assert_eq!(rt; list.room(), 0);
+    assert_eq!(rt; list.gap(), 2);
+    assert!(rt; list.len() == 3);
+    assert_eq!(rt; list.remove(0), 8);
+    assert_eq!(rt; list.gap(), 0);
+    assert_eq!(rt; list.moved(), 3);
+    assert_eq!(rt; list.room(), 1);
+}
+
+/// Counts up when it is dropped.
+struct Told<'a> {
+    drops: &'a Cell<u32>,
+}
+
+impl Drop for Told<'_> {
+    fn drop(self) {
+        let Told { drops } = self;
+        drops.set(drops.get().wrapping_add(1));
+    }
+}
+
+#[test]
+fn each_item_of_a_list_is_dropped_once(rt: HostRuntime) {
+    let alloc = rt.alloc();
+    let drops = Cell::new(0);
+    let mut list = GapList::with_room(alloc, 8).expect(&rt, "there is memory");
+    list.insert(0, Told { drops: &drops });
+    list.insert(1, Told { drops: &drops });
+    list.insert(0, Told { drops: &drops });
+    assert_eq!(rt; drops.get(), 0);
+    let taken = list.remove(1);
+    assert_eq!(rt; drops.get(), 0);
+    drop(taken);
+    assert_eq!(rt; drops.get(), 1);
+    drop(list);
+    assert_eq!(rt; drops.get(), 3);
+}
