@@ -1,4 +1,5 @@
 pub mod Edits
+pub mod ListSplices
 pub mod Ready
 pub mod Rings
 pub mod Splices

@@ -3,8 +3,8 @@ use Rattle.std.proofs.Common.{◌≡◌, ℕ, suc, ◌+◌, ◌-◌, ◌<◌, �
 use Rattle.std.specs.List.{insert, remove, slice_get}
 use Rattle.std.proofs.lemmas.Grind.{common_steps}
 use Rattle.std.proofs.lemmas.Option.{gets}
-use Rattle.std.proofs.lemmas.List.{same_lists, places, drop-drop, drop-take, length-drop, take_at, drop_at}
-use Rattle.abc_lines.specs.GapList.{IsRing, gapped, in_order}
+use Rattle.std.proofs.lemmas.List.{same_lists, places, drop-drop, drop-take, length-drop, take_at, drop_at, append-nil, length-append, drop-append-le, take-append-le}
+use Rattle.abc_lines.specs.GapList.{IsRing, gapped, in_order, replaced_run}
 
 pub length-in_order : {X : Type 0} (gap : ℕ) (ring : List X) → length (in_order gap ring) ≡ length ring
 unfolding in_order
@@ -72,3 +72,35 @@ item_after gap ring i behind inside = grind (arith, common_steps, gets)
 
 pub gapped_alike : {X : Type 0} (xs ys : List X) (gap moved m n : ℕ) → xs ≡ ys → m ≡ n → gapped xs gap m moved ≡ gapped ys gap n moved
 gapped_alike xs ys gap moved m n same alike = rw same (rw alike refl)
+
+dropped : {X : Type 0} (n k gap : ℕ) (ring : List X) → length ring ≡ n + k + gap
+    → in_order gap (drop k ring) ≡ replaced_run (in_order gap ring) gap k []
+unfolding in_order
+dropped n k gap ring count =
+    let back : length (drop k ring) - gap ≡ n = omega (arith, length-drop k ring) in
+    let all : length ring - gap ≡ k + n = omega arith in
+    let front : length (drop (k + n) ring) ≡ gap = omega (arith, length-drop (k + n) ring) in
+    rw back (rw all (rw (drop-drop n k ring) (
+    rw (take_at (drop (k + n) ring) (take (k + n) ring) gap front) (
+    rw (append-nil (drop (k + n) ring)) (
+    rw (← drop-drop k gap (drop (k + n) ring ++ take (k + n) ring)) (
+    rw (drop_at (drop (k + n) ring) (take (k + n) ring) gap front)
+    (ap (λ xs. drop (k + n) ring ++ xs) (sym (drop-take k n ring)))))))))
+
+-- so many items behind the gap have gone
+pub dropped_behind : {X : Type 0} (gap k : ℕ) (ring : List X) → gap + k ≤ length ring
+    → in_order gap (drop k ring) ≡ replaced_run (in_order gap ring) gap k []
+dropped_behind gap k ring inside = dropped (length ring - k - gap) k gap ring (omega arith)
+
+-- items have come before the gap
+pub put_all_before : {X : Type 0} (gap : ℕ) (ring new : List X) → gap ≤ length ring
+    → in_order (gap + length new) (ring ++ new) ≡ replaced_run (in_order gap ring) gap 0 new
+unfolding in_order
+put_all_before gap ring new inside =
+    let m : ℕ = length ring - gap in
+    let back : length (ring ++ new) - (gap + length new) ≡ m = omega (arith, length-append ring new) in
+    let front : length (drop m ring) ≡ gap = omega (arith, length-drop m ring) in
+    let none : gap + 0 ≡ gap = omega arith in
+    rw back (rw (drop-append-le m ring new (omega arith)) (rw (take-append-le m ring new (omega arith)) (
+    rw (take_at (drop m ring) (take m ring) gap front) (rw none (
+    rw (drop_at (drop m ring) (take m ring) gap front) refl)))))

@@ -19,6 +19,10 @@ distance from to = (to - from) + (from - to)
 abbrev pub tallied : ℕ → ℕ → ℕ
 tallied tally more = min (tally + more) (2 ^ 64 - 1)
 
+-- Items, with others in the place of those that follow the first so many.
+abbrev pub replaced_run : {T : Type 0} → List T → ℕ → ℕ → List T → List T
+replaced_run items at removed new = take at items ++ new ++ drop (at + removed) items
+
 -- The items of a ring that begins with the item behind the gap and ends with the one before it.
 unfoldable pub in_order : {T : Type 0} → ℕ → List T → List T
 in_order gap ring = drop (length ring - gap) ring ++ take (length ring - gap) ring

@@ -2,4 +2,5 @@ pub mod EditError
 pub mod Edits
 pub mod GapList
 pub mod Lines
+pub mod ListSplice
 pub mod Text

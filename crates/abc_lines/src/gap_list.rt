@@ -2,7 +2,7 @@
 
 ghost use Rattle.std.specs.Prelude.{◌≡◌, ◌+◌, ◌-◌, ◌<◌, ◌≤◌, ◌^◌, [], length, IfOk, IsOk, option_copied, slice_get, Some};
 ghost use Rattle.std.specs.List.{insert, remove};
-ghost use Rattle.abc_lines.specs.GapList.{gapped, distance, tallied};
+ghost use Rattle.abc_lines.specs.GapList.{gapped, distance, tallied, replaced_run};
 
 use crate::ring;
 use std::alloc::{AllocError, Global};
@@ -114,5 +114,44 @@ impl<T> GapList<T> {
         ring::turn(&mut self.ring, self.gap, to);
         self.moved = self.moved.saturating_add(self.gap.abs_diff(to) as u64);
         self.gap = to;
+    }
+
+    /// Drops so many items behind a place. The gap stands there then.
+    pub(crate) fn remove_run(&mut self, at: usize, count: usize)
+    where
+        T: Drop,
+        requires { at + count ≤ length self.old.items }
+        ensures { self.new ≡ gapped (replaced_run self.old.items at count []) at (self.old.room + count) (tallied self.old.moved (distance self.old.gap at)) }
+    {
+        self.move_gap(at);
+        ring::drop_next(&mut self.ring, at, count);
+    }
+
+    /// Moves all items over into an empty list with room for them, which takes the place of theirs.
+    pub(crate) fn move_over(&mut self, roomier: GapList<T>)
+    where
+        T: Drop,
+        requires empty { roomier.items ≡ [] }
+        requires room { length self.old.items ≤ roomier.room }
+        ensures { self.new ≡ gapped self.old.items self.old.gap (roomier.room - length self.old.items) self.old.moved }
+    {
+        let GapList {
+            ring,
+            gap: _,
+            moved: _,
+        } = roomier;
+        ring::move_over(&mut self.ring, ring);
+    }
+
+    /// Puts items in the place of the gap, which stands behind them then.
+    pub(crate) fn put_all(&mut self, items: Vec<T>)
+    where
+        T: Drop,
+        requires { length items.items ≤ self.old.room }
+        ensures { self.new ≡ gapped (replaced_run self.old.items self.old.gap 0 items.items) (self.old.gap + length items.items) (self.old.room - length items.items) self.old.moved }
+    {
+        let gap = self.gap;
+        self.gap += items.len();
+        ring::put_all(&mut self.ring, gap, items);
     }
 }

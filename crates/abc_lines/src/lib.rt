@@ -1,5 +1,5 @@
-//! Lists with a gap, the lines of a tune book's text, and how a run of them is replaced in two steps: one that needs memory and changes
-//! nothing, and one that needs none and changes the text.
+//! Lists with a gap, the lines of a tune book's text, and how a run of them is replaced in two steps: one that needs
+//! memory and changes nothing, and one that needs none and changes the list.
 #![tactic(auto)]
 
 mod edit_error;
@@ -9,8 +9,10 @@ mod line;
 mod lines;
 mod moves;
 mod ring;
+mod splice_patch;
 
 pub use edit_error::EditError;
 pub use gap_list::GapList;
 pub use limits::{LONGEST_LINE, MOST_LINES, text_limits};
 pub use lines::{LineBuffer, LinePatch};
+pub use splice_patch::SplicePatch;

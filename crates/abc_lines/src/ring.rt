@@ -1,12 +1,13 @@
 //! A list with a gap in a ring of memory: the ring begins with the item behind the gap and ends with the one before it,
 //! so that its free room is the gap, and what moves the gap turns the ring.
 
-ghost use Rattle.std.specs.Prelude.{◌≡◌, ◌+◌, ◌<◌, ◌≤◌, length, option_copied, slice_get, Some};
+ghost use Rattle.std.specs.Prelude.{◌≡◌, ◌+◌, ◌<◌, ◌≤◌, [], ◌++◌, length, option_copied, slice_get, Some};
 ghost use Rattle.std.specs.List.{insert, remove};
 ghost use Rattle.std.specs.VecDeque.{deque_capacity};
-ghost use Rattle.abc_lines.specs.GapList.{in_order};
+ghost use Rattle.abc_lines.specs.GapList.{in_order, replaced_run};
 
 use std::collections::VecDeque;
+use std::mem::replace;
 
 /// The item with `i` others before it.
 pub(crate) fn item<T>(ring: &VecDeque<T>, gap: usize, i: usize) -> Option<&T>
@@ -59,4 +60,53 @@ pub(crate) fn take_next<T>(ring: &mut VecDeque<T>, gap: usize) -> T
 {
     let _ = gap;
     ring.pop_front().unwrap()
+}
+
+/// Drops so many items behind the gap.
+pub(crate) fn drop_next<T: Drop>(ring: &mut VecDeque<T>, gap: usize, count: usize)
+    requires { gap + count ≤ length ring.old.items }
+    ensures items { in_order gap ring.new.items ≡ replaced_run (in_order gap ring.old.items) gap count [] }
+    ensures count { length ring.new.items + count ≡ length ring.old.items }
+    ensures capacity { deque_capacity ring.new ≡ deque_capacity ring.old }
+{
+    let _ = gap;
+    for _dropped in 0..count {
+        drop(ring.pop_front());
+    }
+}
+
+/// Puts items before the gap.
+pub(crate) fn put_all<T: Drop>(ring: &mut VecDeque<T>, gap: usize, items: Vec<T>)
+    requires gap { gap ≤ length ring.old.items }
+    requires room { length ring.old.items + length items.items ≤ deque_capacity ring.old }
+    ensures items { in_order (gap + length items.items) ring.new.items ≡ replaced_run (in_order gap ring.old.items) gap 0 items.items }
+    ensures count { length ring.new.items ≡ length ring.old.items + length items.items }
+    ensures capacity { deque_capacity ring.new ≡ deque_capacity ring.old }
+{
+    let _ = gap;
+    push_all(ring, items);
+}
+
+/// Appends items to a ring.
+fn push_all<T: Drop>(ring: &mut VecDeque<T>, items: Vec<T>)
+    requires { length ring.old.items + length items.items ≤ deque_capacity ring.old }
+    ensures items { ring.new.items ≡ ring.old.items ++ items.items }
+    ensures capacity { deque_capacity ring.new ≡ deque_capacity ring.old }
+{
+    for item in items {
+        ring.push_back_reserved(item);
+    }
+}
+
+/// Moves all items over into an empty ring, which takes the place of theirs.
+pub(crate) fn move_over<T: Drop>(ring: &mut VecDeque<T>, roomier: VecDeque<T>)
+    requires empty { roomier.items ≡ [] }
+    requires room { length ring.old.items ≤ deque_capacity roomier }
+    ensures items { ring.new.items ≡ ring.old.items }
+    ensures capacity { deque_capacity ring.new ≡ deque_capacity roomier }
+{
+    let narrow = replace(ring, roomier);
+    for item in narrow {
+        ring.push_back_reserved(item);
+    }
 }
