@@ -52,7 +52,7 @@ sign_outer opened numbers ms strains (run_to_end run endings inner are) =
 sign_outer opened numbers ms strains (run_to_bar run rest endings bar later inner are stops behind) =
     with_endings opened [] rest (record { numbers = numbers; run = run } ∷ endings) bar later (All-nil (λ m. in_common opened m ≡ true)) (another numbers run endings (Some bar) inner are) stops behind
 
-with_plain : (m : Mark) (strain : Strain) → is_ending m ≡ false → with_mark m strain ≡ record strain { common = m ∷ strain.common }
+pub with_plain : (m : Mark) (strain : Strain) → is_ending m ≡ false → with_mark m strain ≡ record strain { common = m ∷ strain.common }
 with_plain marks.Play strain e = refl
 with_plain (marks.Bar closes opens double) strain e = refl
 with_plain (marks.Ending numbers) strain e = cc

@@ -5,11 +5,15 @@ use Rattle.abc_music.specs.declared.item.Item.TheVariants as items
 use Rattle.abc_repeat.specs.Mark.{names, greatest, greatest_to}
 use Rattle.abc_repeat.specs.Play.{play_of, strain_play}
 use Rattle.abc_repeat.specs.Order.{sections_of}
+use Rattle.abc_repeat.specs.Strain.{strains_of}
 use Rattle.abc_time.specs.Grains.{grains_of_a_tick}
 use Rattle.abc_voices.specs.declared.score.ChangeKind.TheVariants as kinds
 use Rattle.abc_voices.specs.declared.score.Sounding.{Sounding}
 use Rattle.abc_voices.specs.Change.{tempo_of}
 use Rattle.abc_voices.specs.Arrange.{played_sections, set_in, voices_notes, is_uneven, end_of, changes_of}
+use Rattle.abc_voices.specs.Endings.{without_fields, between_endings_in}
+use Rattle.abc_voices.specs.Moved.{moved}
+use Rattle.abc_voices.specs.Play.{marks_of}
 use Rattle.abc_voices.specs.Ties.{heard, tokens_from}
 use Rattle.abc_voices.specs.Track.{everyone}
 use Rattle.std.specs.List.{list_any}
@@ -41,6 +45,25 @@ fields = bar 0 1 false ∷ tone 69 false ∷ bar 0 0 false ∷ items.Ending 1 �
 a_field_moves : set_in own tempo_of (everyone own fields) (everyone own fields) 0 (played_sections own fields) ≡ (record { 0 = 3 }, 1000000) ∷ []
 unfolding play_of strain_play sections_of names greatest greatest_to
 a_field_moves = refl
+
+-- |:A|1B::[Q:1/4=60]|2F||: the bar opens a strain of its own, to which the sign belongs
+abbrev opened : List Item
+opened = bar 0 1 false ∷ tone 69 false ∷ bar 0 0 false ∷ items.Ending 1 ∷ tone 71 false ∷ bar 1 1 false ∷ items.Tempo false (Some 1000000) false ∷ bar 0 0 false ∷ items.Ending 2 ∷ tone 66 false ∷ bar 0 0 true ∷ []
+
+a_field_of_the_next_strain_stays : moved own opened ≡ opened
+a_field_of_the_next_strain_stays = refl
+
+-- A:|[Q:1/4=60]|1B||: the bar is the common part's own
+abbrev common : List Item
+common = tone 69 false ∷ bar 1 0 false ∷ items.Tempo false (Some 1000000) false ∷ bar 0 0 false ∷ items.Ending 1 ∷ tone 71 false ∷ bar 0 0 true ∷ []
+
+a_field_behind_the_common_part_stays : moved own common ≡ common
+a_field_behind_the_common_part_stays = refl
+
+-- |:A|1B:|[Q:1/4=60]|2F||: between the endings stand the bar and what waits
+between_the_endings : between_endings_in (strains_of (marks_of own (without_fields fields)))
+    ≡ false ∷ false ∷ false ∷ false ∷ false ∷ true ∷ true ∷ false ∷ false ∷ false ∷ []
+between_the_endings = refl
 
 -- P:A V:1 C- V:2 EEE P:B V:1 C
 abbrev voices : List Item

@@ -1,4 +1,5 @@
 pub mod Cuts
+pub mod Endings
 pub mod Examples
 pub mod Fitting
 pub mod Given

@@ -2,6 +2,7 @@ pub mod Along
 pub mod Arrange
 pub mod Change
 pub mod Conduct
+pub mod Endings
 pub mod Fields
 pub mod Limits
 pub mod Linked

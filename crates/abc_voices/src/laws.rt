@@ -1,5 +1,6 @@
 //! Laws of the layout: what a tune is laid out by is what ABC says.
 
+ghost use Rattle.abc_voices.specs.Endings.{MovesByStrains};
 ghost use Rattle.abc_voices.specs.Ties.{PlaysChains, VoicesPlayChains};
 ghost use Rattle.abc_voices.specs.Voices.{AreOfVoices};
 
@@ -16,4 +17,11 @@ pub fn voices_by_looking_back()
 pub fn ties_in_play()
     ensures play { PlaysChains }
     ensures voices { VoicesPlayChains }
+{}
+
+/// Of the fields of tempo, meter and key those that stand between a bar that ended an ending and the sign of the
+/// strain's next ending are played with that one, and no other field is moved.
+#[tactic(auto, using(crate::proofs::Endings::moves_by_strains))]
+pub fn fields_before_endings()
+    ensures { MovesByStrains }
 {}

@@ -31,7 +31,7 @@ mod voice;
 pub use abc_music::MOST_VOICES;
 pub use arranged::{Arranged, BuildFault};
 pub use conduct::conductor;
-pub use laws::{ties_in_play, voices_by_looking_back};
+pub use laws::{fields_before_endings, ties_in_play, voices_by_looking_back};
 pub use layout::arrange;
 pub use limits::{LONGEST_TITLE, MOST_CHANGES, MOST_NOTES, is_within_limits, score_limits};
 pub use notes::put_notes;
