@@ -1,29 +1,25 @@
 -- The score of the stages of a tune is that of the tune.
 use Rattle.std.proofs.Common.{◌≡◌, ℕ, ◌+◌, ◌-◌, ◌<◌, ◌≤◌, Bool, true, false, cond, List, [], ◌∷◌, ◌++◌, length, map, drop, get_or, Option, Some, None, refl, sym, ap, subst, ◌∙◌, arith, append-nil, length-drop}
-use Rattle.std.proofs.lemmas.Bool.{lt-ltb, le-ltb}
 use Rattle.std.proofs.lemmas.Grind.{common_steps}
 use Rattle.std.proofs.lemmas.List.{drop_more, length-map}
 use Rattle.std.proofs.lemmas.List.Folds.{flat_map-map}
 use Rattle.std.proofs.lemmas.List.Sums.{sum_by_from}
 use Rattle.std.proofs.lemmas.Option.{slice_get-map, slice_get-get_or, slice_get_past}
 use Rattle.std.specs.Borrow.{Bor}
-use Rattle.std.specs.Prelude.{◌||◌, not, nat_lt, pos, bytes_eq, All, slice_get, filter_map, sum_by, option_map}
+use Rattle.std.specs.Prelude.{◌||◌, pos, bytes_eq, All, slice_get, filter_map, sum_by, option_map}
 use Rattle.std.specs.List.{list_any, flat_map}
 use Rattle.abc_music.specs.declared.item.Item.{Item}
 use Rattle.abc_music.specs.declared.item.Item.TheVariants as items
 use Rattle.abc_fields.specs.declared.meter.Meter.TheVariants as meters
 use Rattle.abc_time.specs.Grains.{grains_of_the_latest_end}
 use Rattle.abc_music.specs.Item.{IsItem}
-use Rattle.abc_repeat.specs.declared.order.TheConstants.{MOST_SECTIONS}
-use Rattle.abc_repeat.specs.declared.play.TheConstants.{MOST_PLACES}
 use Rattle.abc_repeat.specs.Order.{sections_of, has_unknown}
-use Rattle.abc_voices.specs.Limits.{is_within_limits}
 use Rattle.abc_voices.specs.Section.{letters, sections}
 use Rattle.abc_voices.specs.declared.score.Score.{Score}
 use Rattle.abc_voices.specs.declared.stage.Part.{Part}
 use Rattle.abc_voices.specs.declared.stage.Stage.{Stage}
 use Rattle.abc_voices.specs.Along.{IsStage, length_along, steps_of, notes_along, voices_along, set_by_all, set_by_one, parts_differ, is_stage_uneven, first_place, changes_along, end_along, score_along}
-use Rattle.abc_voices.specs.Arrange.{play_in, longest, played_sections, voice_notes, all_notes, set_in, first_of, differ, is_uneven, voices_notes, last_off, end_of, changes_of, score_of, or_else, usual_tempo, arranged_of, sections_played, places_played, is_too_long}
+use Rattle.abc_voices.specs.Arrange.{play_in, longest, played_sections, voice_notes, all_notes, set_in, first_of, differ, is_uneven, voices_notes, last_off, end_of, changes_of, score_of, or_else, usual_tempo, arranged_of}
 use Rattle.abc_voices.specs.Change.{tempo_of, meter_of, key_of, set_from}
 use Rattle.abc_voices.specs.Linked.{notes_from}
 use Rattle.abc_voices.specs.Opening.{tempo_past, meter_past, key_past, order_past, past_all}
@@ -248,55 +244,6 @@ score_is tune stages first count is p q =
 pub uneven_is : (tune : List (Bor Item)) (stages : List Stage) → AreOf tune stages
     → list_any is_stage_uneven stages ≡ list_any (is_uneven there (everyone there tune)) (played_sections there tune)
 uneven_is tune stages is = ap (list_any is_stage_uneven) is ∙ uneven_of (everyone there tune) (played_sections there tune)
-
--- one of four tests
-second : (x y z w : Bool) → y ≡ true → (x || y || z || w) ≡ true
-second true y z w h = refl
-second false y z w h = ap (λ b. b || z || w) h
-
-third : (x y z w : Bool) → z ≡ true → (x || y || z || w) ≡ true
-third true y z w h = refl
-third false true z w h = refl
-third false false z w h = ap (λ b. b || w) h
-
-fourth : (x y z w : Bool) → w ≡ true → (x || y || z || w) ≡ true
-fourth true y z w h = refl
-fourth false true z w h = refl
-fourth false false true w h = refl
-fourth false false false w h = h
-
--- a tune with too many sections, too many places, too late an end, or a score that no file holds
-pub long_by_sections : (tune : List (Bor Item)) → MOST_SECTIONS < sections_played there tune → is_too_long there tune ≡ true
-unfolding is_too_long
-long_by_sections tune h =
-    ap (λ b. b || nat_lt MOST_PLACES (places_played there tune) || nat_lt grains_of_the_latest_end (end_of there tune) || not (is_within_limits (score_of there tune))) (lt-ltb MOST_SECTIONS (sections_played there tune) h)
-
-pub long_by_places : (tune : List (Bor Item)) → MOST_PLACES < places_played there tune → is_too_long there tune ≡ true
-unfolding is_too_long
-long_by_places tune h =
-    second (nat_lt MOST_SECTIONS (sections_played there tune)) (nat_lt MOST_PLACES (places_played there tune)) (nat_lt grains_of_the_latest_end (end_of there tune)) (not (is_within_limits (score_of there tune)))
-    (lt-ltb MOST_PLACES (places_played there tune) h)
-
-pub long_by_end : (tune : List (Bor Item)) → grains_of_the_latest_end < end_of there tune → is_too_long there tune ≡ true
-unfolding is_too_long
-long_by_end tune h =
-    third (nat_lt MOST_SECTIONS (sections_played there tune)) (nat_lt MOST_PLACES (places_played there tune)) (nat_lt grains_of_the_latest_end (end_of there tune)) (not (is_within_limits (score_of there tune)))
-    (lt-ltb grains_of_the_latest_end (end_of there tune) h)
-
-pub long_by_score : (tune : List (Bor Item)) (score : Score) → score ≡ score_of there tune → is_within_limits score ≡ false → is_too_long there tune ≡ true
-unfolding is_too_long
-long_by_score tune score is h =
-    fourth (nat_lt MOST_SECTIONS (sections_played there tune)) (nat_lt MOST_PLACES (places_played there tune)) (nat_lt grains_of_the_latest_end (end_of there tune)) (not (is_within_limits (score_of there tune)))
-    (ap not (ap is_within_limits (sym is) ∙ h))
-
-pub short_enough : (tune : List (Bor Item)) (score : Score) → sections_played there tune ≤ MOST_SECTIONS → places_played there tune ≤ MOST_PLACES
-    → end_of there tune ≤ grains_of_the_latest_end → score ≡ score_of there tune → is_within_limits score ≡ true → is_too_long there tune ≡ false
-unfolding is_too_long
-short_enough tune score a b e is h =
-    ap (λ x. x || nat_lt MOST_PLACES (places_played there tune) || nat_lt grains_of_the_latest_end (end_of there tune) || not (is_within_limits (score_of there tune))) (le-ltb MOST_SECTIONS (sections_played there tune) a)
-    ∙ ap (λ x. x || nat_lt grains_of_the_latest_end (end_of there tune) || not (is_within_limits (score_of there tune))) (le-ltb MOST_PLACES (places_played there tune) b)
-    ∙ ap (λ x. x || not (is_within_limits (score_of there tune))) (le-ltb grains_of_the_latest_end (end_of there tune) e)
-    ∙ ap not (ap is_within_limits (sym is) ∙ h)
 
 pub unknown_is : (tune : List (Bor Item)) → (arranged_of there tune).unknown ≡ has_unknown (past_all there order_past None tune) (letters there tune)
 unfolding arranged_of

@@ -10,6 +10,7 @@ pub mod Placed
 pub mod Staged
 pub mod Steady
 pub mod Straight
+pub mod TooLong
 pub mod Within
 pub mod Voices
 pub mod Ties

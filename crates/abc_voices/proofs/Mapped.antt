@@ -24,7 +24,8 @@ use Rattle.abc_repeat.specs.Play.{play_of}
 use Rattle.abc_voices.specs.Arrange.{play_in, size_in, length_in, longest, played_sections, voice_notes, all_notes, set_in, plays_time, takes_time, last_off, differ, is_uneven, total, voices_notes, end_of, changes_of, score_of, arranged_of, or_else, usual_tempo, first_of, sections_played, places_played, is_too_long}
 use Rattle.abc_voices.specs.Change.{tempo_of, meter_of, key_of, set_from, at_moment}
 use Rattle.abc_voices.specs.Conduct.{conductor}
-use Rattle.abc_voices.specs.Limits.{is_within_limits}
+use Rattle.abc_music.specs.declared.item.TheConstants.{MOST_VOICES}
+use Rattle.abc_voices.specs.declared.limits.TheConstants.{LONGEST_TITLE}
 use Rattle.abc_voices.specs.Linked.{Notes, notes_from, before}
 use Rattle.abc_voices.specs.Moved.{moved, moved_from, set_down, waits, region_past}
 use Rattle.abc_voices.specs.declared.moved.Region.{Region}
@@ -458,18 +459,16 @@ places_played_mapped item_of tune =
     ∙ ap (λ voices. sum_by (λ section. sum_by (size_in own section) voices) (played_sections own (map item_of tune))) (everyone_mapped item_of tune)
 
 -- whether one of the limits is passed
-abbrev past_limits : ℕ → ℕ → ℕ → Score → Bool
-past_limits sections places end score =
-    nat_lt MOST_SECTIONS sections || nat_lt MOST_PLACES places || nat_lt grains_of_the_latest_end end || not (is_within_limits score)
-
-past_limits_same : (sections sections2 places places2 end end2 : ℕ) (score score2 : Score)
-    → sections ≡ sections2 → places ≡ places2 → end ≡ end2 → score ≡ score2 → past_limits sections places end score ≡ past_limits sections2 places2 end2 score2
-past_limits_same sections sections2 places places2 end end2 score score2 p q r s =
-    ap (λ n. past_limits n places end score) p ∙ ap (λ n. past_limits sections2 n end score) q
-    ∙ ap (λ n. past_limits sections2 places2 n score) r ∙ ap (past_limits sections2 places2 end2) s
+abbrev past_limits : ℕ → ℕ → ℕ → ℕ → ℕ → Bool
+past_limits sections places end voices title =
+    nat_lt MOST_SECTIONS sections || nat_lt MOST_PLACES places || nat_lt grains_of_the_latest_end end || nat_lt MOST_VOICES voices || nat_lt LONGEST_TITLE title
 
 -- a tune is too long where that of its items is
 pub is_too_long_mapped : {A : Type 0} (item_of : A → Item) (tune : List A) → is_too_long item_of tune ≡ is_too_long (λ item. item) (map item_of tune)
 unfolding is_too_long
 is_too_long_mapped item_of tune =
-    past_limits_same _ _ _ _ _ _ _ _ (sections_played_mapped item_of tune) (places_played_mapped item_of tune) (end_mapped item_of tune) (score_mapped item_of tune)
+    ap (λ n. past_limits n (places_played item_of tune) (end_of item_of tune) (length (tracks item_of tune)) (length (title_of item_of tune))) (sections_played_mapped item_of tune)
+    ∙ ap (λ n. past_limits (sections_played own (map item_of tune)) n (end_of item_of tune) (length (tracks item_of tune)) (length (title_of item_of tune))) (places_played_mapped item_of tune)
+    ∙ ap (λ n. past_limits (sections_played own (map item_of tune)) (places_played own (map item_of tune)) n (length (tracks item_of tune)) (length (title_of item_of tune))) (end_mapped item_of tune)
+    ∙ ap (λ names. past_limits (sections_played own (map item_of tune)) (places_played own (map item_of tune)) (end_of own (map item_of tune)) (length names) (length (title_of item_of tune))) (tracks_mapped item_of tune)
+    ∙ ap (λ title. past_limits (sections_played own (map item_of tune)) (places_played own (map item_of tune)) (end_of own (map item_of tune)) (length (tracks own (map item_of tune))) (length title)) (title_mapped item_of tune)

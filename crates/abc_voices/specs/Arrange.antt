@@ -3,6 +3,7 @@ use Rattle.std.specs.Prelude.{ℕ, pos, ◌+◌, max, nat_lt, Bool, true, false,
 use Rattle.std.specs.List.{list_any, flat_map}
 use Rattle.abc_music.specs.declared.item.Item.{Item}
 use Rattle.abc_music.specs.declared.item.Item.TheVariants as items
+use Rattle.abc_music.specs.declared.item.TheConstants.{MOST_VOICES}
 use Rattle.abc_music.specs.Item.{Items}
 use Rattle.abc_fields.specs.declared.meter.Meter.TheVariants as meters
 use Rattle.abc_repeat.specs.declared.order.TheConstants.{MOST_SECTIONS}
@@ -11,11 +12,11 @@ use Rattle.abc_repeat.specs.Order.{sections_of, has_unknown}
 use Rattle.abc_time.specs.declared.grains.Grains.{Grains}
 use Rattle.abc_time.specs.Grains.{grains_of_the_latest_end}
 use Rattle.abc_voices.specs.declared.arranged.Arranged.{Arranged}
+use Rattle.abc_voices.specs.declared.limits.TheConstants.{LONGEST_TITLE}
 use Rattle.abc_voices.specs.declared.score.Score.{Score}
 use Rattle.abc_voices.specs.declared.score.Sounding.{Sounding}
 use Rattle.abc_voices.specs.Change.{tempo_of, meter_of, key_of, set_from}
 use Rattle.abc_voices.specs.Conduct.{conductor}
-use Rattle.abc_voices.specs.Limits.{is_within_limits}
 use Rattle.abc_voices.specs.Linked.{Notes, notes_from}
 use Rattle.abc_voices.specs.Moved.{moved}
 use Rattle.abc_voices.specs.Opening.{tempo_past, meter_past, key_past, order_past, past_all, title_of}
@@ -149,12 +150,12 @@ abbrev pub places_played : {A : Type 0} → (A → Item) → List A → ℕ
 places_played item_of tune =
     sum_by (λ section. sum_by (size_in item_of section) (everyone item_of tune)) (played_sections item_of tune)
 
--- Whether a tune is too long: too many sections, too many places, a moment too late, or a score that no file
--- can hold. Our own.
+-- Whether a tune is too long: a limit is passed, of sections, of places, of time, of voices, or of a title. Our own.
 unfoldable pub is_too_long : {A : Type 0} → (A → Item) → List A → Bool
 is_too_long item_of tune =
     nat_lt MOST_SECTIONS (sections_played item_of tune) || nat_lt MOST_PLACES (places_played item_of tune)
-    || nat_lt grains_of_the_latest_end (end_of item_of tune) || not (is_within_limits (score_of item_of tune))
+    || nat_lt grains_of_the_latest_end (end_of item_of tune) || nat_lt MOST_VOICES (length (tracks item_of tune))
+    || nat_lt LONGEST_TITLE (length (title_of item_of tune))
 
 -- What cells give, one after another.
 abbrev pub items_in : List Items → List Item

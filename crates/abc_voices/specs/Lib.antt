@@ -15,5 +15,6 @@ pub mod Stage
 pub mod Stages
 pub mod Step
 pub mod Ties
+pub mod TooLong
 pub mod Track
 pub mod Voices

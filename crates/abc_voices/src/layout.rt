@@ -21,7 +21,7 @@ use crate::along::{is_uneven, length_along};
 use crate::arranged::{Arranged, BuildFault};
 use crate::fields::fields;
 use crate::laid::score_along;
-use crate::limits::is_within_limits;
+use crate::limits::are_voices_and_title_within;
 use crate::opening::order_of;
 use crate::score::Score;
 use crate::section::{letters, opening_voice, sections};
@@ -190,7 +190,7 @@ fn within_limits(
 {
     match laid_out(alloc, tune, given, played) {
         Ok((score, uneven)) => {
-            if is_within_limits(&score) {
+            if are_voices_and_title_within(&score) {
                 Ok(Arranged {
                     score,
                     uneven,

@@ -38,7 +38,7 @@ pub use notes::put_notes;
 pub use opening::{opening_key, opening_meter, opening_tempo, order_of, title_of};
 pub use play::{duration, played};
 pub use score::{Change, ChangeKind, Score, Sounding};
-pub use score_laws::scores_fit;
+pub use score_laws::{scores_fit, too_long_by_a_limit};
 pub use section::{Section, letters, part, sections};
 pub use settle::settled;
 pub use timing::{last_off, plays_time};

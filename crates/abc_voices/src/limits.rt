@@ -1,5 +1,5 @@
 //! The limits within which a file can hold a score.
-ghost use Rattle.std.specs.Prelude.{◌≡◌, ◌≤◌, ◌↔◌, ◌-◌, ◌^◌, nat_le, All, IsTrue};
+ghost use Rattle.std.specs.Prelude.{◌≡◌, ◌≤◌, ◌↔◌, ◌-◌, ◌^◌, ◌&&◌, nat_le, length, All, IsTrue};
 ghost use Rattle.abc_music.specs.declared.item.TheConstants.{HIGHEST_KEY, MOST_NOTES as MOST_TONES, MOST_VOICES};
 ghost use Rattle.abc_time.specs.Grains.{grains_of_the_latest_end};
 ghost use Rattle.std.specs.List.{list_all};
@@ -55,6 +55,13 @@ fn are_counts_within(score: &Score) -> bool
         && score.title.len() <= LONGEST_TITLE
         && score.conductor.len() <= MOST_CHANGES
         && score.voices.len() <= MOST_VOICES
+}
+
+/// Whether each voice of a score may have a track, and its title stands in a line.
+pub(crate) fn are_voices_and_title_within(score: &Score) -> bool
+    ensures { result ≡ (nat_le (length score.now.voices) MOST_VOICES && nat_le (length score.now.title) LONGEST_TITLE) }
+{
+    score.voices.len() <= MOST_VOICES && score.title.len() <= LONGEST_TITLE
 }
 
 /// Whether a tune may end then.

@@ -10,6 +10,7 @@ ghost use Rattle.abc_voices.specs.Arrange.{end_of, places_played, score_of};
 ghost use Rattle.abc_voices.specs.Limits.{is_within_limits};
 ghost use Rattle.abc_voices.specs.declared.limits.TheConstants.{LONGEST_TITLE};
 ghost use Rattle.abc_voices.specs.Opening.{title_of};
+ghost use Rattle.abc_voices.specs.TooLong.{IsTooLongByALimit};
 ghost use Rattle.abc_voices.specs.Track.{tracks};
 
 /// A file can hold the score of each tune that plays no more places than may be, ends in time, has no more
@@ -22,4 +23,10 @@ pub fn scores_fit()
         → length (tracks (λ item. item) tune) ≤ MOST_VOICES
         → length (title_of (λ item. item) tune) ≤ LONGEST_TITLE
         → is_within_limits (score_of (λ item. item) tune) ≡ true }
+{}
+
+/// A tune is too long exactly where it passes a limit: of sections, of places, of time, of voices, or of a title.
+#[tactic(auto, using(crate::proofs::TooLong::by_a_limit))]
+pub fn too_long_by_a_limit()
+    ensures { IsTooLongByALimit }
 {}

@@ -3,7 +3,9 @@ use Rattle.abc_music.specs.Item.{IsItem}
 use Rattle.abc_repeat.specs.declared.order.TheConstants.{MOST_SECTIONS}
 use Rattle.abc_voices.specs.declared.arranged.BuildFault.TheVariants.{TooLong}
 use Rattle.abc_voices.proofs.Given.{items_given, played_given, unknown_given}
-use Rattle.abc_voices.proofs.Layouts.{unknown_is, long_by_sections}
+use Rattle.abc_voices.specs.TooLong.{of_sections}
+use Rattle.abc_voices.proofs.Layouts.{unknown_is}
+use Rattle.abc_voices.proofs.TooLong.{long_by}
 use Rattle.abc_voices.proofs.layout.arranged.Goals as goal
 
 pub order_played-requires : goal.order_played-requires
@@ -27,7 +29,7 @@ returns-in-Ok-clause-unknown c = λ unknown e.
 pub returns-in-Err-clause-too_long : goal.returns-in-Err-clause-too_long
 returns-in-Err-clause-too_long c = λ unknown e.
     let same : c.in-Err.why ≡ TooLong unknown = cc in
-    long_by_sections c.args.tune.now (subst (λ (n : ℕ). MOST_SECTIONS < n) (ap length (played_given c.args.tune.now c.args.given.now c.requires.given)) (c.in-Err.ensures.too_long unknown (ap Err same)))
+    long_by (λ step. step.now) c.args.tune.now (of_sections (subst (λ (n : ℕ). MOST_SECTIONS < n) (ap length (played_given c.args.tune.now c.args.given.now c.requires.given)) (c.in-Err.ensures.too_long unknown (ap Err same))))
 
 pub returns-in-Err-clause-unknown : goal.returns-in-Err-clause-unknown
 returns-in-Err-clause-unknown c = λ unknown e.
