@@ -4,8 +4,8 @@ ghost use Rattle.std.specs.Prelude.{◌≡◌, option_copied};
 ghost use Rattle.abc_bars.specs.Step.{stepped};
 ghost use Rattle.abc_tune.specs.Abc.{rules_of_abc, number_of, title_of, first_value};
 
-use crate::built::{Built, build};
-use crate::compiler::Compiler;
+use crate::built::build;
+use abc_compiler::{Built, Compiler};
 use abc_bars::{BarFold, Defaults, Entry, Item, Items};
 use abc_fields::FaultCode;
 use abc_fold::{Fold, Work};

@@ -10,23 +10,13 @@ ghost use Rattle.abc_voices.specs.Limits.{IsWithinLimits};
 ghost use Rattle.smf_bytes.specs.File.{file_bytes};
 
 use crate::whole_faults::faults_with;
-use abc_fields::FaultCode;
+use abc_compiler::Built;
 use abc_fold::Work;
 use abc_music::Items;
 use abc_text::Sequence;
 use abc_voices::{Arranged, BuildFault, arrange};
 use smf_bytes::file_of;
 use std::alloc::{AllocError, Global};
-
-/// The file of a tune, and its faults as a whole.
-#[derive(Debug, Drop)]
-pub struct Built {
-    /// The bytes of the MIDI file; None exactly where the tune is too long for one.
-    pub bytes: Option<Sequence<u8>>,
-    /// The codes of its faults in the order of their numbers, each once; they stand at the beginning of
-    /// the tune's first line.
-    pub faults: Sequence<FaultCode>,
-}
 
 /// A tune with a file.
 fn with_file(alloc: Global, cells: &[Items], arranged: &Arranged) -> Result<Built, AllocError>

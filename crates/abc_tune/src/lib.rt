@@ -3,9 +3,8 @@
 
 mod abc;
 mod built;
-mod compiler;
 mod whole_faults;
 
 pub use abc::Abc;
-pub use built::{Built, build};
-pub use compiler::Compiler;
+pub use abc_compiler::{Built, Compiler};
+pub use built::build;

@@ -1,18 +1,20 @@
 //! What a session asks of the compiler of its tunes.
 
 ghost use Rattle.std.specs.Prelude.{◌≡◌, IfOk, option_copied};
+ghost use Rattle.abc_compiler.specs.Lawful.{AreLawful};
+ghost use Rattle.abc_fold.specs.Steps.{steps_of};
 ghost use Rattle.abc_fold.specs.Work.{raised};
 ghost use Rattle.abc_tunebook.specs.Rules.{Rules};
 
 use crate::built::Built;
 use abc_fields::FaultCode;
-use abc_fold::Fold;
+use abc_fold::Resumable;
 use abc_scan::LineClass;
 use std::alloc::{AllocError, Global};
 
 /// A compiler of tunes: what the lines of a text are, the cells of a line, the fold over them, and the
 /// file of a tune. Each call gives what one of the compiler's own definitions gives.
-pub trait Compiler: Fold + Drop {
+pub trait Compiler: Resumable + Drop {
     /// What a file header sets for all tunes.
     type Defaults: Drop;
 
@@ -69,4 +71,7 @@ pub trait Compiler: Fold + Drop {
         ensures bytes { IfOk result (λ built. built.bytes ≡ (rules self.now).bytes items.now) }
         ensures faults { IfOk result (λ built. built.faults ≡ (rules self.now).build_faults items.now) }
         ensures counted { Self.Work.counts work.new ≡ record (Self.Work.counts work.old) { built = raised (Self.Work.counts work.old).built 1 } };
+
+    // The definitions are such as a session can rely on.
+    ghost lawful: { (compiler : Self) → AreLawful (steps_of (Self.next compiler) (Self.gives compiler) (Self.alike compiler)) (rules compiler) };
 }
