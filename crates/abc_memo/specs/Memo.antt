@@ -1,0 +1,30 @@
+-- Which items are those of a key, and what a memo remembers. Our own.
+use Rattle.std.specs.Prelude.{◌≡◌, true, List, Contains, Some}
+use Rattle.std.specs.List.{list_all, flat_map}
+use Rattle.abc_compiler.specs.declared.built.Built.{Built}
+use Rattle.abc_fold.specs.Steps.{Steps, items_from}
+use Rattle.abc_lines.specs.Text.{Text, is_line}
+use Rattle.abc_memo.specs.Bytes.{bytes_of_lines}
+use Rattle.abc_memo.specs.declared.key.TuneKey.{TuneKey}
+use Rattle.abc_tunebook.specs.Rules.{Rules}
+
+-- The items are those of the cells of lines within the limits, which the key has as bytes, in the state in which a tune
+-- begins behind a file header that sets what the key has.
+pub record AreItemsOf {State Cell Items Defaults : Type 0} (steps : Steps State Cell Items) (rules : Rules State Cell Items Defaults) (key : TuneKey Defaults) (given : List Items) : Type 0 where
+  pub header : State
+  pub lines : Text
+  pub own_defaults : rules.defaults header ≡ key.defaults
+  pub limits : list_all is_line lines ≡ true
+  pub own_bytes : bytes_of_lines rules.class lines ≡ key.bytes
+  pub own_items : given ≡ items_from steps (rules.tune (Some header)) (flat_map rules.cells lines)
+
+-- What was built is what the compiler's definitions say of the items of the key.
+pub record IsBuiltOf {State Cell Items Defaults : Type 0} (steps : Steps State Cell Items) (rules : Rules State Cell Items Defaults) (key : TuneKey Defaults) (built : Built) : Type 0 where
+  pub items : List Items
+  pub of_key : AreItemsOf steps rules key items
+  pub bytes : built.bytes ≡ rules.bytes items
+  pub faults : built.faults ≡ rules.build_faults items
+
+-- All that is remembered is what the compiler's definitions say of its key.
+abbrev pub Remembers : {State Cell Items Defaults : Type 0} → Steps State Cell Items → Rules State Cell Items Defaults → List (TuneKey Defaults × Built) → Type 0
+Remembers {Defaults = Defaults} steps rules entries = (entry : TuneKey Defaults × Built) → Contains entries entry → IsBuiltOf steps rules entry.0 entry.1

@@ -1,0 +1,8 @@
+//! What was built of the tunes that were asked for last.
+#![tactic(auto)]
+
+mod key;
+mod memo;
+
+pub use key::{TuneKey, put_line};
+pub use memo::TuneMemo;
