@@ -1,6 +1,6 @@
 //! What a session asks of the compiler of its tunes.
 
-ghost use Rattle.std.specs.Prelude.{◌≡◌, IfOk, option_copied};
+ghost use Rattle.std.specs.Prelude.{◌≡◌, IfOk, IsTrue, option_copied};
 ghost use Rattle.abc_compiler.specs.Lawful.{AreLawful};
 ghost use Rattle.abc_fold.specs.Steps.{steps_of};
 ghost use Rattle.abc_fold.specs.Work.{raised};
@@ -16,7 +16,7 @@ use std::alloc::{AllocError, Global};
 /// file of a tune. Each call gives what one of the compiler's own definitions gives.
 pub trait Compiler: Resumable + Drop {
     /// What a file header sets for all tunes.
-    type Defaults: Drop;
+    type Defaults: Drop + Eq;
 
     // The compiler's definitions.
     ghost rules: { Self → Rules Self.State Self.Cell Self.Items Self.Defaults };
@@ -74,4 +74,7 @@ pub trait Compiler: Resumable + Drop {
 
     // The definitions are such as a session can rely on.
     ghost lawful: { (compiler : Self) → AreLawful (steps_of (Self.next compiler) (Self.gives compiler) (Self.alike compiler)) (rules compiler) };
+
+    // What file headers set is equal as code compares it only where contracts see the same of it.
+    ghost told_apart: { (a b : Self.Defaults) → IsTrue (Self.Defaults.eq a b) → a ≡ b };
 }
