@@ -13,6 +13,7 @@ pub mod Header
 pub mod LookBack
 pub mod Opening
 pub mod Reference
+pub mod SameDefaults
 pub mod SameEntry
 pub mod Step
 pub mod Voices

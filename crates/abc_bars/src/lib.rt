@@ -12,6 +12,7 @@ mod cell;
 mod cell_laws;
 mod defaults;
 mod entry;
+mod equal_defaults;
 mod field_fault;
 mod field_kind;
 mod file_header;

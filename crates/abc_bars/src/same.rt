@@ -73,7 +73,7 @@ fn same_tempo(tempo: Option<TuneTempo>, other: Option<TuneTempo>) -> bool
 
 impl Defaults {
     /// Whether the same values are set.
-    fn same(&self, other: &Defaults) -> bool
+    pub(crate) fn same(&self, other: &Defaults) -> bool
         ensures { IsTrue result ↔ (self.now ≡ other.now) }
     {
         same_meter(self.meter, other.meter)
