@@ -1,16 +1,21 @@
 -- When a splice is refused, and how many lines it leaves.
-use Rattle.std.proofs.Common.{◌≡◌, ℕ, ◌+◌, ◌-◌, ◌<◌, ◌≤◌, true, false, List, [], ◌∷◌, ◌++◌, length, get_or, take, drop, ◌&&◌, Ok, Err, sym, ap, ◌∙◌, arith}
+use Rattle.std.proofs.Common.{◌≡◌, ℕ, ◌+◌, ◌<◌, ◌≤◌, true, false, List, [], ◌∷◌, ◌++◌, length, get_or, take, drop, ◌&&◌, Some, None, Ok, Err, sym, ap, ◌∙◌, arith}
 use Rattle.std.specs.Global.{Vec}
-use Rattle.std.specs.List.{list_all}
+use Rattle.std.specs.Borrow.{Bor}
+use Rattle.std.specs.List.{list_all, slice_get}
 use Rattle.std.proofs.lemmas.Bool.Decides.{nat_tests}
 use Rattle.std.proofs.lemmas.Grind.{common_steps}
-use Rattle.std.proofs.lemmas.List.{take_more, map-append, length-map}
+use Rattle.std.proofs.lemmas.Option.{gets, slice_get_within, get_or_from_slice_get}
+use Rattle.std.proofs.lemmas.List.{take_more, map-append, map_push, length-map}
 use Rattle.std.proofs.lemmas.List.Elements.{All-take, All-drop}
 use Rattle.std.proofs.lemmas.List.Folds.{list_all-append}
 use Rattle.std.proofs.lemmas.List.Sums.{AllPass-from_list_all, list_all-from_AllPass}
 use Rattle.abc_lines.specs.declared.limits.TheConstants.{MOST_LINES}
 use Rattle.abc_lines.specs.declared.edit_error.EditError.TheVariants.{BadRange, BadLine, TooLarge}
-use Rattle.abc_lines.specs.Text.{Text, IsText, Splice, lines_of, is_line, spliced}
+use Rattle.abc_lines.specs.GapList.{Gapped, replaced_run}
+use Rattle.abc_lines.specs.Lines.{Lines, held_by}
+use Rattle.abc_lines.specs.ListSplice.{after_splice}
+use Rattle.abc_lines.specs.Text.{Text, IsText, Splice, lines_of, seen_lines, is_line, splice_from, spliced}
 use Rattle.abc_lines.specs.Edits.{replaced}
 
 -- one more line has been copied
@@ -63,15 +68,26 @@ IsText-spliced text s is good few = record {
   lines = joined (take s.at text ++ s.lines) (drop (s.at + s.removed) text) (joined (take s.at text) s.lines (front_good s.at text is.lines) good) (rest_good (s.at + s.removed) text is.lines);
 }
 
--- what stands before, what comes and what stands behind, one after another, are the spliced text
-pub spliced-appended : (text : Text) (s : Splice) (front new back t₀ t₁ t₂ t₃ : Text) → front ≡ take s.at text → new ≡ s.lines → back ≡ drop (s.at + s.removed) text
-    → t₀ ≡ [] → t₁ ≡ t₀ ++ front → t₂ ≡ t₁ ++ new → t₃ ≡ t₂ ++ back → t₃ ≡ spliced text s
-unfolding spliced
-spliced-appended text s front new back t₀ t₁ t₂ t₃ is_front is_new is_back none before among behind =
-    let first : t₁ ≡ take s.at text = before ∙ ap (λ t. t ++ front) none ∙ is_front in
-    let second : t₂ ≡ take s.at text ++ s.lines = among ∙ ap (λ t. t ++ new) first ∙ ap (λ t. take s.at text ++ t) is_new in
-    behind ∙ ap (λ t. t ++ back) second ∙ ap (λ t. take s.at text ++ s.lines ++ t) is_back
+-- a splice of a text is one of its list
+pub spliced-list : (list after : Gapped (List ℕ)) (held : Lines) (at removed : ℕ) (lines : List (Vec ℕ)) (copies : Text) → held_by list ≡ held → copies ≡ lines_of lines
+    → after ≡ after_splice list at removed copies → spliced held.text (splice_from at removed lines) ≡ after.items
+unfolding spliced after_splice
+spliced-list list after held at removed lines copies holds copied made =
+    ap (λ text. replaced_run text at removed (lines_of lines)) (sym (ap (λ (h : Lines). h.text) holds))
+    ∙ ap (replaced_run list.items at removed) (sym copied)
+    ∙ ap (λ (g : Gapped (List ℕ)). g.items) (sym made)
 
--- the rest of a list from a place on, as a slice takes it
-pub take-drop-rest : (n : ℕ) (lines : Text) → take (length lines - n) (drop n lines) ≡ drop n lines
-take-drop-rest n lines = grind (arith, common_steps)
+-- one more line has been borrowed
+pub seen_more : (text : Text) (i : ℕ) (before after : List (Bor (List ℕ))) (line : Bor (List ℕ)) → Some line.now ≡ slice_get text i → seen_lines before ≡ take i text → after ≡ before ++ line ∷ []
+    → seen_lines after ≡ take (i + 1) text
+seen_more text i before after line here so_far pushed =
+    let within : i < length text = slice_get_within text i line.now (sym here) in
+    let item : get_or text i line.now ≡ line.now = get_or_from_slice_get text i line.now line.now (sym here) in
+    ap seen_lines pushed ∙ map_push (λ (l : Bor (List ℕ)). l.now) before line
+    ∙ ap (λ t. t ++ line.now ∷ []) so_far
+    ∙ ap (λ x. take i text ++ x ∷ []) (sym item)
+    ∙ sym (take_more text i line.now within)
+
+-- there is a line at each place of a text
+pub none_within : (text : Text) (i : ℕ) → i < length text → None ≡ slice_get text i → (xs ys : Text) → xs ≡ ys
+none_within text i within none xs ys = grind (arith, common_steps, gets)

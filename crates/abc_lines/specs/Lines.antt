@@ -1,35 +1,26 @@
--- What contracts see of a text with room, and of a splice that has been prepared.
-use Rattle.std.specs.Prelude.{◌≡◌, ℕ, ◌+◌, ◌≤◌, List, [], length, Option, Some, None, vec_capacity}
-use Rattle.std.specs.Global.{Vec}
-use Rattle.abc_lines.specs.Text.{Text, IsText, spliced}
+-- What contracts see of a text with a gap, and of a splice that has been prepared.
+use Rattle.std.specs.Prelude.{ℕ, List}
+use Rattle.abc_lines.specs.GapList.{Gapped}
+use Rattle.abc_lines.specs.ListSplice.{Patched}
+use Rattle.abc_lines.specs.Text.{Text}
 
--- A text, and for how many lines there is room.
+-- A text, how many of its lines stand before the gap, for how many more there is room, and how many places the gap has
+-- moved.
 pub record Lines : Type 0 where
   pub text : Text
+  pub gap : ℕ
   pub room : ℕ
+  pub moved : ℕ
 
 -- What a list of lines holds.
-abbrev pub held_by : Vec (List ℕ) → Lines
-held_by lines = record { text = lines.items; room = vec_capacity lines }
+abbrev pub held_by : Gapped (List ℕ) → Lines
+held_by list = record { text = list.items; gap = list.gap; room = list.room; moved = list.moved }
 
--- A text before a splice, its room included, and the text after it.
+-- A text before a splice, with its gap and room, and the text after it.
 pub record Prepared : Type 0 where
   pub on : Lines
   pub after : Text
 
--- The splice of a text that leaves out so many lines behind the first few and puts lines in their place.
-abbrev pub prepared : Lines → ℕ → ℕ → Text → Prepared
-prepared on at removed lines =
-    record { on = on; after = spliced on.text (record { at = at; removed = removed; lines = lines }) }
-
--- So many lines fit: in the text's own room, or in an empty list that takes its place.
-abbrev pub HasRoom : ℕ → Lines → Option (Vec (List ℕ)) → Type 0
-HasRoom count on None = count ≤ on.room
-HasRoom count on (Some wider) =
-    (wider.items ≡ []) × (length on.text ≤ vec_capacity wider) × (count ≤ vec_capacity wider)
-
--- What a prepared splice keeps: its lines lie in the text, the text after it is one, and there is room for that.
-pub record IsReady (on : Lines) (at removed : ℕ) (lines : Text) (wider : Option (Vec (List ℕ))) : Type 0 where
-  pub inside : at + removed ≤ length on.text
-  pub limits : IsText (prepared on at removed lines).after
-  pub fits : HasRoom (length (prepared on at removed lines).after) on wider
+-- The splice of a text that a splice of its list is.
+abbrev pub prepared : Patched (List ℕ) → Prepared
+prepared splice = record { on = held_by splice.on; after = splice.after.items }

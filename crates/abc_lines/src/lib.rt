@@ -7,7 +7,6 @@ mod gap_list;
 mod limits;
 mod line;
 mod lines;
-mod moves;
 mod ring;
 mod splice_patch;
 

@@ -1,10 +1,12 @@
 //! The lines of a text.
 
-ghost use Rattle.std.specs.Prelude.{◌≡◌, ◌++◌, IfOk, OnOk};
+ghost use Rattle.std.specs.Prelude.{◌≡◌, IfOk};
 ghost use Rattle.std.specs.List.{list_all};
 ghost use Rattle.abc_lines.specs.Text.{is_line, lines_of, seen_lines};
 
+use crate::gap_list::GapList;
 use crate::limits::LONGEST_LINE;
+use crate::splice_patch::SplicePatch;
 use abc_text::Sequence;
 use std::alloc::{AllocError, Global};
 
@@ -36,15 +38,21 @@ pub(crate) fn copies(alloc: Global, lines: &[Vec<u8>]) -> Result<Vec<Line>, Allo
     Ok(copies)
 }
 
-/// Appends the bytes of lines, borrowed where they lie.
-pub(crate) fn append_borrowed<'a>(
-    text: &mut Vec<&'a [u8]>,
-    lines: &'a [Line],
-) -> Result<(), AllocError>
-    ensures { OnOk result (seen_lines text.new.items ≡ seen_lines text.old.items ++ lines.now) }
+/// The bytes of the lines that there would be after a splice, borrowed where they lie.
+pub(crate) fn borrowed_after<'a>(
+    alloc: Global,
+    splice: &'a SplicePatch<Line>,
+    lines: &'a GapList<Line>,
+) -> Result<Vec<&'a [u8]>, AllocError>
+    requires { splice.now.on ≡ lines.now }
+    ensures { IfOk result (λ after. seen_lines after.items ≡ splice.now.after.items) }
 {
-    for line in lines {
-        text.push(line.as_slice())?;
+    let count = splice.len(lines);
+    let mut after = Vec::with_capacity(alloc, count)?;
+    for i in 0..count {
+        if let Some(line) = splice.get(lines, i) {
+            after.push(line.as_slice())?;
+        }
     }
-    Ok(())
+    Ok(after)
 }

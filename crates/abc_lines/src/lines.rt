@@ -3,20 +3,19 @@
 ghost use Rattle.std.specs.Prelude.{◌≡◌, ◌+◌, ◌≤◌, [], IfOk, IsOk, IfErr, Ok, Err, option_copied, slice_get, length};
 ghost use Rattle.abc_lines.specs.Text.{IsText, splice_from, spliced, seen_lines};
 ghost use Rattle.abc_lines.specs.Edits.{replaced, Refuses};
-ghost use Rattle.abc_lines.specs.Lines.{IsReady, held_by, prepared};
 
 use crate::edit_error::EditError;
+use crate::gap_list::GapList;
 use crate::limits::MOST_LINES;
-use crate::line::{Line, append_borrowed, are_lines, copies};
-use crate::moves::{move_into, replace_run};
-use abc_text::Seen;
+use crate::line::{Line, are_lines, borrowed_after, copies};
+use crate::splice_patch::SplicePatch;
 use std::alloc::{AllocError, Global};
 use std::marker::Model;
 
-/// The lines of a text. Contracts see the list of them, and for how many there is room.
+/// The lines of a text, with a gap where it was last changed. Contracts see the list of them, the gap and the room.
 #[derive(Drop)]
 pub struct LineBuffer {
-    lines: Vec<Line>,
+    lines: GapList<Line>,
 }
 
 impl Model for LineBuffer {
@@ -34,21 +33,18 @@ impl Model for LineBuffer {
 /// It must be spent, by `commit` of its text or by `drop_patch`. Contracts see the text that it was prepared on and
 /// the one that it makes.
 pub struct LinePatch {
-    on: Seen<LineBuffer>,
-    at: usize,
-    removed: usize,
-    lines: Vec<Line>,
-    wider: Option<Vec<Line>>,
+    splice: SplicePatch<Line>,
 }
 
 impl Model for LinePatch {
-    ghost use Rattle.abc_lines.specs.Lines.{Prepared, IsReady, prepared};
+    ghost use Rattle.abc_lines.specs.Text.{IsText};
+    ghost use Rattle.abc_lines.specs.Lines.{Prepared, prepared};
 
     ghost Value = { Prepared };
 
-    ghost view = { λ p. prepared p.on.value p.at p.removed p.lines.items };
+    ghost view = { λ p. prepared p.splice };
 
-    ghost invariant = { λ p. IsReady p.on.value p.at p.removed p.lines.items p.wider };
+    ghost invariant = { λ p. IsText p.splice.after.items };
 }
 
 impl LineBuffer {
@@ -58,13 +54,13 @@ impl LineBuffer {
         ensures succeeds { IsOk result }
     {
         Ok(LineBuffer {
-            lines: Vec::new(alloc),
+            lines: GapList::with_room(alloc, 0)?,
         })
     }
 
     /// The allocator that the lines are from.
     pub fn allocator(&self) -> Global {
-        *self.lines.allocator()
+        self.lines.allocator()
     }
 
     /// How many lines there are.
@@ -79,7 +75,10 @@ impl LineBuffer {
     pub fn line(&self, i: usize) -> Option<&[u8]>
         ensures { option_copied result ≡ slice_get self.now.text i }
     {
-        self.lines.get(i).map(|line| line.as_slice())
+        match self.lines.get(i) {
+            Some(line) => Some(line.as_slice()),
+            None => None,
+        }
     }
 
     /// Prepares to leave out the `removed` lines that follow the first `at`, and to put copies of `lines` in their
@@ -96,27 +95,15 @@ impl LineBuffer {
         ensures limits { IfOk result (λ patch. IsText patch.after) }
         ensures refused { IfErr result (λ e. Refuses e (replaced self.now.text (splice_from at removed lines.now))) }
     {
-        let count = self.count_after(at, removed, lines)?;
+        self.judge(at, removed, lines)?;
         let alloc = self.allocator();
-        let wider = if count <= self.lines.capacity() {
-            None
-        } else {
-            Some(Vec::with_capacity(alloc, MOST_LINES.min(2 * count))?)
-        };
         let lines = copies(alloc, lines)?;
-        Ok(LinePatch {
-            on: Seen::of(self),
-            at,
-            removed,
-            lines,
-            wider,
-        })
+        let splice = self.lines.splice_prepare(alloc, at, removed, lines)?;
+        Ok(LinePatch { splice })
     }
 
-    /// How many lines the text would have, or the first reason why there is none.
-    fn count_after(&self, at: usize, removed: usize, lines: &[Vec<u8>]) -> Result<usize, EditError>
-        ensures count { let s = splice_from at removed lines.now in
-            IfOk result (λ count. count ≡ length (spliced self.now.text s)) }
+    /// Whether the lines may be spliced in, or the first reason why they may not.
+    fn judge(&self, at: usize, removed: usize, lines: &[Vec<u8>]) -> Result<(), EditError>
         ensures inside { IfOk result (λ _. at + removed ≤ length self.now.text) }
         ensures limits { let s = splice_from at removed lines.now in
             IfOk result (λ _. IsText (spliced self.now.text s)) }
@@ -136,7 +123,7 @@ impl LineBuffer {
         if lines.len() > MOST_LINES - kept {
             return Err(EditError::TooLarge);
         }
-        Ok(kept + lines.len())
+        Ok(())
     }
 
     /// Puts a prepared text in place, without memory. The patch belongs to the text as it is now.
@@ -144,32 +131,9 @@ impl LineBuffer {
         requires { patch.on ≡ self.old }
         ensures { self.new.text ≡ patch.after }
     {
-        let LinePatch {
-            on: _,
-            at,
-            removed,
-            lines,
-            wider,
-        } = patch;
-        put_in_place(&mut self.lines, wider, at, removed, lines);
+        let LinePatch { splice } = patch;
+        self.lines.commit(splice);
     }
-}
-
-/// Makes a prepared splice of lines, in a list with more room where theirs has too little.
-fn put_in_place(
-    lines: &mut Vec<Line>,
-    wider: Option<Vec<Line>>,
-    at: usize,
-    removed: usize,
-    new: Vec<Line>,
-)
-    requires { IsReady (held_by lines.old) at removed new.items wider }
-    ensures { lines.new.items ≡ (prepared (held_by lines.old) at removed new.items).after }
-{
-    if let Some(wider) = wider {
-        move_into(lines, wider);
-    }
-    replace_run(lines, at, removed, new);
 }
 
 impl LinePatch {
@@ -178,22 +142,12 @@ impl LinePatch {
         requires { self.now.on ≡ lines.now }
         ensures { IfOk result (λ after. seen_lines after.items ≡ self.now.after) }
     {
-        let count = lines.len() - self.removed + self.lines.len();
-        let mut after = Vec::with_capacity(lines.allocator(), count)?;
-        append_borrowed(&mut after, &lines.lines[..self.at])?;
-        append_borrowed(&mut after, &self.lines)?;
-        append_borrowed(&mut after, &lines.lines[self.at + self.removed..])?;
-        Ok(after)
+        borrowed_after(lines.allocator(), &self.splice, &lines.lines)
     }
 
     /// Gives the patch up.
     pub fn drop_patch(self) {
-        let LinePatch {
-            on: _,
-            at: _,
-            removed: _,
-            lines: _,
-            wider: _,
-        } = self;
+        let LinePatch { splice } = self;
+        splice.drop_patch();
     }
 }

@@ -3,7 +3,7 @@ use Rattle.std.specs.List.{list_all}
 use Rattle.abc_lines.specs.Text.{splice_from, is_line, lines_of, spliced}
 use Rattle.abc_lines.specs.declared.limits.TheConstants.{MOST_LINES}
 use Rattle.abc_lines.proofs.Splices.{IsText-spliced, length-spliced, length-lines_of, replaced-outside, replaced-bad, replaced-large, replaced-inside}
-use Rattle.abc_lines.proofs.lines.LineBuffer.count_after.Goals as goal
+use Rattle.abc_lines.proofs.lines.LineBuffer.judge.Goals as goal
 
 pub returns-then-at-count-clause-refused : goal.returns-then-at-count-clause-refused
 returns-then-at-count-clause-refused c = replaced-outside c.args.self.now.text (splice_from c.args.at c.args.removed c.args.lines.now) (omega arith)
@@ -22,11 +22,6 @@ returns-then-lines-kept-clause-refused c =
 
 few : (c : goal.Else-lines-kept) → length (spliced c.args.self.now.text (splice_from c.args.at c.args.removed c.args.lines.now)) ≤ MOST_LINES
 few c =
-    let inside : c.args.at + c.args.removed ≤ length c.args.self.now.text = omega arith in
-    omega (arith, length-spliced c.args.self.now.text (splice_from c.args.at c.args.removed c.args.lines.now) inside, length-lines_of c.args.lines.now)
-
-pub returns-clause-count : goal.returns-clause-count
-returns-clause-count c =
     let inside : c.args.at + c.args.removed ≤ length c.args.self.now.text = omega arith in
     omega (arith, length-spliced c.args.self.now.text (splice_from c.args.at c.args.removed c.args.lines.now) inside, length-lines_of c.args.lines.now)
 
