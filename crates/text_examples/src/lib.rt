@@ -4,6 +4,8 @@
 //! the rules in `docs/profile.md`; each example says where it is not our own.
 #![tactic(auto)]
 
+#[cfg(test)]
+mod bar_chains;
 pub mod chains;
 pub mod definitions;
 pub mod folds;
