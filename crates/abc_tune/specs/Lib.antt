@@ -1,3 +1,4 @@
 pub mod Abc
 pub mod Built
+pub mod Lawful
 pub mod WholeFaults

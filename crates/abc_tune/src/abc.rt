@@ -2,13 +2,15 @@
 
 ghost use Rattle.std.specs.Prelude.{◌≡◌, option_copied};
 ghost use Rattle.abc_bars.specs.Step.{stepped};
+ghost use Rattle.abc_bars.specs.SameEntry.{same_entry, bars_resumable};
 ghost use Rattle.abc_tune.specs.Abc.{rules_of_abc, number_of, title_of, first_value};
+ghost use Rattle.abc_tune.specs.Lawful.{abc_lawful, abc_told_apart};
 
 use crate::built::build;
-use abc_compiler::{Built, Compiler};
 use abc_bars::{BarFold, Defaults, Entry, Item, Items};
+use abc_compiler::{Built, Compiler};
 use abc_fields::FaultCode;
-use abc_fold::{Fold, Work};
+use abc_fold::{Fold, Resumable, Work};
 use abc_scan::{Cell, LineClass, class_of, into_cells, scan};
 use std::alloc::{AllocError, Global};
 
@@ -40,6 +42,28 @@ impl Fold for Abc {
     }
 }
 
+impl Resumable for Abc {
+    ghost alike = { λ _. same_entry };
+
+    ghost resumable = { λ _. bars_resumable };
+
+    fn same(&self, a: &Entry, b: &Entry) -> bool {
+        BarFold.same(a, b)
+    }
+
+    fn copy_state(&self, alloc: Global, state: &Entry) -> Result<Entry, AllocError> {
+        BarFold.copy_state(alloc, state)
+    }
+
+    fn copy_cell(&self, alloc: Global, cell: &Cell) -> Result<Cell, AllocError> {
+        BarFold.copy_cell(alloc, cell)
+    }
+
+    fn copy_items(&self, alloc: Global, items: &Items) -> Result<Items, AllocError> {
+        BarFold.copy_items(alloc, items)
+    }
+}
+
 /// The first reference number among items.
 fn number_among(items: &[Item]) -> Option<u32>
     ensures { result ≡ first_value number_of items.now }
@@ -68,6 +92,10 @@ impl Compiler for Abc {
     type Defaults = Defaults;
 
     ghost rules = { λ _. rules_of_abc };
+
+    ghost lawful = { λ _. abc_lawful };
+
+    ghost told_apart = { abc_told_apart };
 
     fn class(&self, line: &[u8]) -> LineClass {
         class_of(line)

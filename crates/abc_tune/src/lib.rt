@@ -7,4 +7,5 @@ mod whole_faults;
 
 pub use abc::Abc;
 pub use abc_compiler::{Built, Compiler};
+pub use abc_memo::{TuneKey, TuneMemo, put_line};
 pub use built::build;
