@@ -3,7 +3,7 @@ use Rattle.std.proofs.Common.{◌≡◌, ℕ, suc, ◌+◌, ◌≤◌, cond, Boo
 use Rattle.std.proofs.lemmas.List.Sums.{sum_by-append, sum_by-cons}
 use Rattle.abc_lines.specs.Text.{Text, Splice, spliced}
 use Rattle.abc_tunebook.specs.Tune.{lines_in}
-use Rattle.abc_rework.specs.Steps.{Steps}
+use Rattle.abc_fold.specs.Steps.{Steps}
 use Rattle.abc_rework.specs.Laid.{Laid, laid_in, Chain, chains_of, LiesInOrder}
 use Rattle.abc_rework.specs.Entered.{Spot, spot_at, state_behind, entered_in_line, entered_along, entered_of}
 use Rattle.abc_rework.specs.Fresh.{is_fresh_after, is_fresh, fresh_in}

@@ -4,7 +4,7 @@ use Rattle.std.proofs.lemmas.Bool.{eq-eqb, ne_eqb, and_left, and_right}
 use Rattle.std.proofs.lemmas.List.{map-append}
 use Rattle.abc_lines.specs.Text.{Text}
 use Rattle.abc_tunebook.specs.Tune.{lines_in}
-use Rattle.abc_rework.specs.Steps.{Steps}
+use Rattle.abc_fold.specs.Steps.{Steps}
 use Rattle.abc_rework.specs.Laid.{Chain}
 use Rattle.abc_rework.specs.Entered.{Spot, spot_at, state_behind, entered_in_line, entered_along, entered_of}
 use Rattle.abc_rework.specs.Pasts.{Past, past_of, pasts_in_line, pasts_along, flat_option, past_at}

@@ -9,7 +9,7 @@ use Rattle.abc_rework.proofs.Words.{chains_lie}
 use Rattle.abc_rework.proofs.Counting.{edits_count, fresh_of_chain}
 use Rattle.std.proofs.lemmas.Bool.{cases_Bool}
 use Rattle.abc_lines.specs.Text.{Text, Splice, spliced}
-use Rattle.abc_rework.specs.Steps.{Steps, IsAlike, IsResumable}
+use Rattle.abc_fold.specs.Steps.{Steps, IsAlike, IsResumable}
 use Rattle.abc_rework.specs.Laid.{laid_in, Laid, Chain, chains_of, LiesInOrder}
 use Rattle.abc_rework.specs.Entered.{Spot, entered_of}
 use Rattle.abc_rework.specs.Fresh.{carried, is_fresh_after}

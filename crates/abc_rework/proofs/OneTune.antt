@@ -3,7 +3,7 @@ use Rattle.std.proofs.Common.{◌≡◌, ℕ, zero, suc, ◌+◌, ◌<◌, ◌==
 use Rattle.std.specs.List.{list_any}
 use Rattle.std.proofs.lemmas.Bool.{ne_eqb, and_left}
 use Rattle.abc_book.specs.declared.block.Block.{Block}
-use Rattle.abc_rework.specs.Steps.{Steps}
+use Rattle.abc_fold.specs.Steps.{Steps}
 use Rattle.abc_rework.specs.Laid.{Laid, chain_at, tune_chains}
 use Rattle.abc_rework.specs.Entered.{entered_of}
 use Rattle.abc_rework.specs.Pasts.{Past}

@@ -4,7 +4,7 @@ use Rattle.std.proofs.lemmas.List.{map-append, length-map, length-take, length-a
 use Rattle.std.proofs.lemmas.Option.{slice_get-map}
 use Rattle.abc_lines.specs.Text.{Text, spliced}
 use Rattle.abc_tunebook.specs.Tune.{lines_in}
-use Rattle.abc_rework.specs.Steps.{Steps}
+use Rattle.abc_fold.specs.Steps.{Steps}
 use Rattle.abc_rework.specs.Laid.{Chain, chains_of, ChainsRise}
 use Rattle.abc_rework.specs.Entered.{Spot, state_behind, entered_in_line, entered_along, entered_of}
 use Rattle.abc_rework.specs.Fresh.{carried}

@@ -6,7 +6,7 @@ use Rattle.std.proofs.lemmas.List.{map-append, length-map}
 use Rattle.abc_lines.specs.Text.{Text, Splice, spliced}
 use Rattle.abc_tunebook.specs.Tune.{lines_in}
 use Rattle.abc_book.specs.declared.block.Block.{Block}
-use Rattle.abc_rework.specs.Steps.{Steps}
+use Rattle.abc_fold.specs.Steps.{Steps}
 use Rattle.abc_rework.specs.Laid.{Laid, laid_in, Chain, header_chain, tune_chains, chains_of, LiesInOrder}
 use Rattle.abc_rework.specs.Entered.{Spot, state_behind, entered_in_line, entered_along, entered_of}
 use Rattle.abc_rework.specs.Fresh.{carried, is_line, is_carried_from, are_carried_from, is_untouched}

@@ -4,7 +4,7 @@ use Rattle.std.proofs.lemmas.Bool.{cases_Bool, eq-eqb, ne_eqb, and_from, and_lef
 use Rattle.std.proofs.lemmas.List.{length-take}
 use Rattle.abc_lines.specs.Text.{Text}
 use Rattle.abc_tunebook.specs.Tune.{lines_in}
-use Rattle.abc_rework.specs.Steps.{Steps}
+use Rattle.abc_fold.specs.Steps.{Steps}
 use Rattle.abc_rework.specs.Laid.{Chain, ChainsRise}
 use Rattle.abc_rework.specs.Entered.{state_behind}
 use Rattle.abc_rework.proofs.Full.{Full, full_at, full_line, full_along, full_of, is_at}

@@ -4,7 +4,7 @@ use Rattle.std.proofs.lemmas.Bool.{cases_lt, lt-ltb, le-ltb}
 use Rattle.std.proofs.lemmas.List.{length-take, length-drop, length-map}
 use Rattle.abc_lines.specs.Text.{Text, Splice}
 use Rattle.abc_tunebook.specs.Tune.{lines_in}
-use Rattle.abc_rework.specs.Steps.{Steps}
+use Rattle.abc_fold.specs.Steps.{Steps}
 use Rattle.abc_rework.specs.Laid.{Laid, Chain, chains_of, ChainsRise, LiesInOrder}
 use Rattle.abc_rework.specs.Entered.{Spot, state_behind, stands_at, entered_at}
 use Rattle.abc_rework.specs.Fresh.{carried}

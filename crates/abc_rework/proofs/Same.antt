@@ -5,7 +5,7 @@ use Rattle.std.proofs.lemmas.List.{length-take, map-append}
 use Rattle.abc_lines.specs.Text.{Text, Splice, spliced}
 use Rattle.abc_tunebook.specs.Placed.{Placed, placed_at, things, cells_from, items_along}
 use Rattle.abc_tunebook.specs.Tune.{lines_in}
-use Rattle.abc_rework.specs.Steps.{Steps, IsResumable}
+use Rattle.abc_fold.specs.Steps.{Steps, IsResumable}
 use Rattle.abc_rework.specs.Laid.{Chain}
 use Rattle.abc_rework.specs.Entered.{Spot, state_behind, entered_in_line, entered_along, entered_of}
 use Rattle.abc_rework.specs.Fresh.{carried, is_line, is_carried_from, are_carried_from}

@@ -7,7 +7,7 @@ use Rattle.std.proofs.lemmas.List.Sums.{sum_by-cons}
 use Rattle.std.proofs.lemmas.Option.{slice_get-map}
 use Rattle.abc_lines.specs.Text.{Text, Splice, spliced}
 use Rattle.abc_tunebook.specs.Tune.{lines_in}
-use Rattle.abc_rework.specs.Steps.{Steps, IsResumable}
+use Rattle.abc_fold.specs.Steps.{Steps, IsResumable}
 use Rattle.abc_rework.specs.Laid.{Laid, Chain, header_chain, tune_chains, chains_of, LiesInOrder}
 use Rattle.abc_rework.specs.Entered.{Spot, spot_at, state_behind, entered_in_line, entered_along, entered_of, entered_at}
 use Rattle.abc_rework.specs.Fresh.{carried, entered_before, is_fresh_after, is_fresh, is_line, is_carried_from, are_carried_from}

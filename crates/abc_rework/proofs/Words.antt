@@ -13,7 +13,7 @@ use Rattle.abc_book.specs.declared.block.BlockKind.{BlockKind}
 use Rattle.abc_book.specs.declared.block.BlockKind.TheVariants.{FileHeader, Tune, Free}
 use Rattle.abc_tunebook.specs.Book.{blocks_in, header_in, is_file_header, is_tune, opening_of, tunes_in}
 use Rattle.abc_tunebook.specs.Placed.{Placed, placed_at, cells_from, items_along}
-use Rattle.abc_rework.specs.Steps.{Steps}
+use Rattle.abc_fold.specs.Steps.{Steps}
 use Rattle.abc_rework.specs.Laid.{header_chain, Chain, tune_chains, chains_of, ChainsRise}
 use Rattle.abc_rework.specs.Entered.{Spot, state_behind, entered_in_line, entered_along, entered_of, stands_at}
 use Rattle.abc_rework.specs.Laws.{ChainsLie, EnteredAreItems, NthOfLine}

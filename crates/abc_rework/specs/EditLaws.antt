@@ -11,7 +11,7 @@ use Rattle.abc_rework.specs.Kept.{AreKept, Held, StandFor, cells_of, held_over, 
 use Rattle.abc_rework.specs.Laid.{Chain, Laid, LiesInOrder, chains_of, laid_in, tune_chains}
 use Rattle.abc_rework.specs.Pasts.{Past, fresh_of, pasts}
 use Rattle.abc_rework.specs.Pieces.{pieces_of}
-use Rattle.abc_rework.specs.Steps.{IsAlike, IsResumable, Steps}
+use Rattle.abc_fold.specs.Steps.{IsAlike, IsResumable, Steps}
 
 -- The cells of a chain are those that its lines have in the book.
 abbrev pub CellsAreThings : Type 0 → Type 0 → Type 0

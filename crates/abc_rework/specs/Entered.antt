@@ -5,7 +5,7 @@ use Rattle.std.specs.Option.{option_map}
 use Rattle.abc_lines.specs.Text.{Text}
 use Rattle.abc_tunebook.specs.Tune.{lines_in}
 use Rattle.abc_rework.specs.Laid.{Chain, Laid, chains_of}
-use Rattle.abc_rework.specs.Steps.{Steps}
+use Rattle.abc_fold.specs.Steps.{Steps}
 
 -- A cell: its line and its place in the line, both counted from 0, and the state in which it is entered.
 pub record Spot (State : Type 0) : Type 0 where

@@ -6,7 +6,7 @@ use Rattle.abc_lines.specs.Text.{Splice, Text, spliced}
 use Rattle.abc_tunebook.specs.Rules.{Rules}
 use Rattle.abc_rework.specs.Entered.{Spot, entered_at, entered_in, entered_of}
 use Rattle.abc_rework.specs.Laid.{Laid, laid_in, tune_chains}
-use Rattle.abc_rework.specs.Steps.{Steps}
+use Rattle.abc_fold.specs.Steps.{Steps}
 
 -- The line of the old text that a line of the new one is, if it is none of those that came.
 abbrev pub carried : Splice → ℕ → Option ℕ

@@ -11,7 +11,7 @@ use Rattle.abc_rework.specs.Laid.{Chain, Laid, chains_of}
 use Rattle.abc_rework.specs.Origins.{address_of}
 use Rattle.abc_rework.specs.Pasts.{Past, first_past, pasts, rest}
 use Rattle.abc_rework.specs.Pieces.{pieces_of}
-use Rattle.abc_rework.specs.Steps.{IsAlike, Steps}
+use Rattle.abc_fold.specs.Steps.{IsAlike, Steps}
 
 -- The cells of a chain.
 abbrev pub cells_of : {State Cell : Type 0} → (List ℕ → List Cell) → Text → Chain State → List Cell

@@ -12,7 +12,7 @@ use Rattle.abc_rework.specs.Laid.{Chain, Laid, LiesInOrder, chains_of, laid_in, 
 use Rattle.abc_rework.specs.Origins.{address_of, addresses_beside, origins}
 use Rattle.abc_rework.specs.Pasts.{Past, entered_past, fresh_of, past_at, pasts, row_at, rows_of}
 use Rattle.abc_rework.specs.Pieces.{are_of_one, are_of_tune, have_lines_of, is_untouched_by}
-use Rattle.abc_rework.specs.Steps.{Steps}
+use Rattle.abc_fold.specs.Steps.{Steps}
 
 -- The file header and the tunes of every text follow one another within it.
 abbrev pub ChainsLie : Type 0 → Type 0 → Type 0 → Type 0 → Type 0

@@ -1,4 +1,3 @@
-pub mod Steps
 pub mod Laid
 pub mod Entered
 pub mod Fresh

@@ -6,7 +6,7 @@ use Rattle.abc_tunebook.specs.Tune.{lines_in}
 use Rattle.abc_rework.specs.Entered.{state_behind}
 use Rattle.abc_rework.specs.Fresh.{is_fresh_after}
 use Rattle.abc_rework.specs.Laid.{Chain, Laid, chains_of}
-use Rattle.abc_rework.specs.Steps.{Steps}
+use Rattle.abc_fold.specs.Steps.{Steps}
 
 -- A cell of the old text: which cell of which chain it is, and the state in which it was entered.
 pub record Past (State : Type 0) : Type 0 where

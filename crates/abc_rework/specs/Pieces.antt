@@ -8,7 +8,7 @@ use Rattle.abc_rework.specs.Entered.{Spot, entered_of}
 use Rattle.abc_rework.specs.Fresh.{carried, is_line}
 use Rattle.abc_rework.specs.Laid.{Chain, Laid, chain_at, tune_chains}
 use Rattle.abc_rework.specs.Pasts.{Past, first_past, first_row, fresh_of, rest}
-use Rattle.abc_rework.specs.Steps.{Steps}
+use Rattle.abc_fold.specs.Steps.{Steps}
 
 -- The pasts of the cells of a line.
 abbrev pub pasts_beside : {State Cell : Type 0} → List Cell → List (Option (Past State)) → List (Option (Past State))

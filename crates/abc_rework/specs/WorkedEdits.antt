@@ -9,7 +9,7 @@ use Rattle.abc_scan.specs.declared.class.LineClass.{LineClass}
 use Rattle.abc_scan.specs.declared.class.LineClass.TheVariants.{Blank, Comment, Field, Music}
 use Rattle.abc_tunebook.specs.Rules.{Rules}
 use Rattle.abc_rework.specs.Fresh.{fresh_after, touched_after}
-use Rattle.abc_rework.specs.Steps.{Steps}
+use Rattle.abc_fold.specs.Steps.{Steps}
 
 -- The byte `0`.
 abbrev pub unset : ℕ
