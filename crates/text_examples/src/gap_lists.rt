@@ -66,3 +66,78 @@ fn each_item_of_a_list_is_dropped_once(rt: HostRuntime) {
     drop(list);
     assert_eq!(rt; drops.get(), 3);
 }
+
+/// So many items that count up when they are dropped.
+fn several(alloc: Global, drops: &Cell<u32>, count: usize) -> Result<Vec<Told<'_>>, AllocError> {
+    let mut told = Vec::new(alloc);
+    for _ in 0..count {
+        told.push(Told { drops })?;
+    }
+    Ok(told)
+}
+
+#[test]
+fn each_item_of_a_splice_is_dropped_once(rt: HostRuntime) {
+    let alloc = rt.alloc();
+    let drops = Cell::new(0);
+    let mut list = GapList::with_room(alloc, 2).expect(&rt, "there is memory");
+    list.insert(0, Told { drops: &drops });
+    list.insert(0, Told { drops: &drops });
+    let three = several(alloc, &drops, 3).expect(&rt, "there is memory");
+    assert!(rt; list.len() == 2);
+    let patch = list
+        .splice_prepare(alloc, 1, 1, three)
+        .expect(&rt, "there is memory");
+    assert_eq!(rt; drops.get(), 0);
+    // all move over into a list with twice as many places as items
+    list.commit(patch);
+    assert_eq!(rt; drops.get(), 1);
+    assert_eq!(rt; list.room(), 4);
+    assert!(rt; list.len() == 4);
+    let one = several(alloc, &drops, 1).expect(&rt, "there is memory");
+    let patch = list
+        .splice_prepare(alloc, 0, 2, one)
+        .expect(&rt, "there is memory");
+    list.commit(patch);
+    assert_eq!(rt; drops.get(), 3);
+    assert_eq!(rt; list.gap(), 1);
+    assert!(rt; list.len() == 3);
+    let two = several(alloc, &drops, 2).expect(&rt, "there is memory");
+    let patch = list
+        .splice_prepare(alloc, 3, 0, two)
+        .expect(&rt, "there is memory");
+    patch.drop_patch();
+    assert_eq!(rt; drops.get(), 5);
+    drop(list);
+    assert_eq!(rt; drops.get(), 8);
+}
+
+#[test]
+fn a_patch_lends_what_the_list_would_have(rt: HostRuntime) {
+    let alloc = rt.alloc();
+    let mut list = GapList::with_room(alloc, 3).expect(&rt, "there is memory");
+    list.insert(0, 7);
+    list.insert(0, 8);
+    list.insert(1, 9);
+    assert!(rt; list.len() == 3);
+    let new = vec![in alloc; 1, 2, 3].expect(&rt, "there is memory");
+    let patch = list
+        .splice_prepare(alloc, 1, 1, new)
+        .expect(&rt, "there is memory");
+    assert_eq!(rt; patch.len(&list), 5);
+    assert_eq!(rt; patch.get(&list, 0).copied(), Some(8));
+    assert_eq!(rt; patch.get(&list, 2).copied(), Some(2));
+    assert_eq!(rt; patch.get(&list, 4).copied(), Some(7));
+    assert_eq!(rt; patch.get(&list, 5).copied(), None);
+    list.commit(patch);
+    assert_eq!(rt;
+        items(alloc, &list)
+            .expect(&rt, "there is memory")
+            .as_slice(),
+        &[8, 1, 2, 3, 7][..]
+    );
+    assert_eq!(rt; list.gap(), 4);
+    assert_eq!(rt; list.room(), 5);
+    // one place for the second item, and one for the splice
+    assert_eq!(rt; list.moved(), 2);
+}
