@@ -9,6 +9,7 @@ pub mod Placed
 pub mod Places
 pub mod Step
 pub mod Tied
+pub mod Ties
 pub mod Tokens
 pub mod TunePlaces
 pub mod Tuplets

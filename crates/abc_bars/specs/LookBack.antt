@@ -8,5 +8,6 @@ pub mod Element
 pub mod Header
 pub mod Heard
 pub mod Place
+pub mod Ties
 pub mod TunePlaces
 pub mod Voice

@@ -1,0 +1,265 @@
+-- Loose ties are those that have no note or chord directly before them, and tied notes are those of the last time token.
+use Rattle.std.proofs.Common.{◌≡◌, ◌∙◌, ℕ, Bool, true, false, ◌||◌, cond, List, [], ◌∷◌, ◌++◌, map, Option, Some, None, slice_range, refl, sym, ap, append-nil, append_assoc}
+use Rattle.std.specs.Prelude.{All, filter}
+use Rattle.std.specs.Option.{ok_or}
+use Rattle.std.proofs.lemmas.List.Elements.{All-head, All-tail, filter-append}
+use Rattle.abc_fields.specs.declared.fault.FaultCode.{FaultCode}
+use Rattle.abc_fields.specs.declared.fault.FaultCode.TheVariants.{BadBroken, BadKey, BadLength, BadMeter, BadTempo, BadUnit, BadVoice, KeyRange, LooseTie, TempoRange}
+use Rattle.abc_fields.specs.declared.key.Key.{Key}
+use Rattle.abc_fields.specs.declared.meter.Meter.{Meter}
+use Rattle.abc_fields.specs.declared.meter.Meter.TheVariants.{Free, Of}
+use Rattle.abc_fields.specs.declared.tempo.Tempo.{Tempo}
+use Rattle.abc_fields.specs.declared.voice.Voice.{Voice}
+use Rattle.abc_fields.specs.Key.{key_in}
+use Rattle.abc_fields.specs.Meter.{symbol_or_fraction}
+use Rattle.abc_fields.specs.Tempo.{tempo_in, tempo_of}
+use Rattle.abc_fields.specs.Unit.{unit_in}
+use Rattle.abc_fields.specs.Voice.{voice_in, voice_of}
+use Rattle.abc_scan.specs.declared.field.Field.{Field}
+use Rattle.abc_scan.specs.declared.note.Note.{Note}
+use Rattle.abc_scan.specs.declared.spanned.Spanned.{Spanned}
+use Rattle.abc_scan.specs.declared.token.TokenKind.{TokenKind}
+use Rattle.abc_scan.specs.declared.token.TokenKind.TheVariants as kinds
+use Rattle.abc_time.specs.declared.grains.Grains.{Grains}
+use Rattle.abc_time.specs.declared.ratio.Ratio.{Ratio}
+use Rattle.abc_bars.specs.declared.body.Body.{Body}
+use Rattle.abc_bars.specs.declared.cell.Given.{Given}
+use Rattle.abc_bars.specs.declared.defaults.Defaults.{Defaults}
+use Rattle.abc_bars.specs.declared.field_kind.FieldKind.{FieldKind}
+use Rattle.abc_bars.specs.declared.field_kind.FieldKind.TheVariants as fields
+use Rattle.abc_music.specs.declared.item.Item.{Item}
+use Rattle.abc_music.specs.declared.settings.Settings.{Settings}
+use Rattle.abc_music.specs.declared.tied.TiedNote.{TiedNote}
+use Rattle.abc_music.specs.BarRest.{bar_rest_length, bars_of, or_one_bar}
+use Rattle.abc_music.specs.Broken.{factors_of, has_note, is_bad_mark, is_time_token}
+use Rattle.abc_music.specs.LooseTies.{is_loose_tie}
+use Rattle.abc_music.specs.Sound.{fault_if}
+use Rattle.abc_music.specs.Tuplet.{opened, tuplet_by}
+use Rattle.abc_music.proofs.LooseTies.{ties_behind_notes}
+use Rattle.abc_bars.specs.Body.{here, made_current, mentioned}
+use Rattle.abc_bars.specs.BodyFields.{accepted, faulty, kind_given, meter_by, key_by, part_by, part_of, tempo_by, unit_by, voice_by, voice_made}
+use Rattle.abc_bars.specs.Cell.{mentioned_by_chord, nothing_given, tie_ahead, with_ending, with_fault, with_fault_if, with_item, with_kind, with_some_fault, with_token}
+use Rattle.abc_music.specs.Column.{column_of}
+use Rattle.abc_bars.specs.FieldKind.{kind_of}
+use Rattle.abc_music.specs.TempoItem.{is_out}
+use Rattle.abc_bars.specs.LookBack.Cells.{looked_back}
+use Rattle.abc_bars.specs.LookBack.Element.{Element}
+use Rattle.abc_bars.specs.LookBack.Heard.{held_at}
+use Rattle.abc_bars.specs.LookBack.Place.{given_in_body, opening_at}
+use Rattle.abc_bars.specs.LookBack.Ties.{IsTimeBefore, is_behind_note, loose_from, loose_in, loose_ties, tied_in_chord, tied_notes}
+use Rattle.abc_bars.specs.LookBack.Voice.{alteration_at, as_tied, counted_notes, settings_at, tied_among, tied_at, tied_said}
+
+-- the loose ties among faults
+abbrev Ties : List (ℕ × FaultCode) → List (ℕ × FaultCode)
+Ties faults = filter is_loose_tie faults
+
+more : (faults others l : List (ℕ × FaultCode)) → Ties others ≡ l → Ties (faults ++ others) ≡ Ties faults ++ l
+more faults others l is = filter-append is_loose_tie faults others ∙ ap (λ f. Ties faults ++ f) is
+
+none-more : (faults : List (ℕ × FaultCode)) → Ties faults ≡ Ties faults ++ []
+none-more faults = sym (append-nil _)
+
+none-if : (b : Bool) (column : ℕ) → Ties (fault_if b column BadLength) ≡ []
+none-if true column = refl
+none-if false column = refl
+
+none-of-note : (refused silent : Bool) (column : ℕ) → Ties (fault_if refused column BadLength ++ fault_if silent column KeyRange) ≡ []
+none-of-note true true column = refl
+none-of-note true false column = refl
+none-of-note false true column = refl
+none-of-note false false column = refl
+
+-- No field has a loose tie.
+of-meter : (body : Body) (place : ℕ) (o : Option Meter) → Ties (meter_by body place (ok_or o BadMeter)).faults ≡ []
+of-meter body place (Some meter) = refl
+of-meter body place None = refl
+
+of-unit : (body : Body) (place : ℕ) (o : Option Ratio) → Ties (unit_by body place (ok_or o BadUnit)).faults ≡ []
+of-unit body place (Some unit) = refl
+of-unit body place None = refl
+
+of-key : (body : Body) (place : ℕ) (o : Option Key) → Ties (key_by body place (ok_or o BadKey)).faults ≡ []
+of-key body place (Some key) = refl
+of-key body place None = refl
+
+of-part : (body : Body) (place : ℕ) (part : Option ℕ) → Ties (part_by body place part).faults ≡ []
+of-part body place (Some letter) = refl
+of-part body place None = refl
+
+of-out : (body : Body) (place : ℕ) (b : Bool) (item : Item) → Ties (cond b (faulty body place item TempoRange) (accepted body item)).faults ≡ []
+of-out body place true item = refl
+of-out body place false item = refl
+
+of-tempo : (body : Body) (place : ℕ) (o : Option Tempo) → Ties (tempo_by body place (ok_or o BadTempo)).faults ≡ []
+of-tempo body place (Some tempo) = of-out body place (is_out (here body).unit tempo) _
+of-tempo body place None = refl
+
+of-made : (body : Body) (place : ℕ) (name : List ℕ) (made : Option Body) → Ties (voice_made body place name made).faults ≡ []
+of-made body place name (Some made) = refl
+of-made body place name None = refl
+
+of-voice : (body : Body) (place : ℕ) (value : List ℕ) (o : Option Voice) → Ties (voice_by body place value (ok_or o BadVoice)).faults ≡ []
+of-voice body place value (Some voice) =
+    let name : List ℕ = slice_range value voice.from voice.to in
+    of-made body place name (made_current body name voice.shift)
+of-voice body place value None = refl
+
+of-field : (body : Body) (place : ℕ) (kind : FieldKind) (value : List ℕ) → Ties (kind_given body kind value place).faults ≡ []
+unfolding tempo_of voice_of
+of-field body place fields.Meter value = of-meter body place (symbol_or_fraction value)
+of-field body place fields.UnitLength value = of-unit body place (unit_in value)
+of-field body place fields.Key value = of-key body place (key_in value)
+of-field body place fields.Parts value = of-part body place (part_of value)
+of-field body place fields.Voice value = of-voice body place value (voice_in value)
+of-field body place fields.Tempo value = of-tempo body place (tempo_in value)
+of-field body place fields.Reference value = refl
+of-field body place fields.Title value = refl
+of-field body place fields.Other value = refl
+
+of-bar-rest-by : (given : Given) (place num den : ℕ) (o : Option Grains) (item : Item) → Ties (with_some_fault (with_item given item) place (or_one_bar num den o).1).items.faults ≡ Ties given.items.faults
+of-bar-rest-by given place num den None item = more given.items.faults _ [] refl ∙ append-nil _
+of-bar-rest-by given place num den (Some length) item = refl
+
+of-bar-rest : (given : Given) (place : ℕ) (meter : Meter) (bars : Option ℕ) (item : Item) → Ties (with_some_fault (with_item given item) place (bar_rest_length meter bars).1).items.faults ≡ Ties given.items.faults
+of-bar-rest given place Free bars item = more given.items.faults _ [] refl ∙ append-nil _
+of-bar-rest given place (Of num den) None item = refl
+of-bar-rest given place (Of num den) (Some n) item = of-bar-rest-by given place num den (bars_of num den n) item
+
+of-tuplet : (given : Given) (place : ℕ) (old new : Option (ℕ × ℕ × ℕ)) → Ties (with_some_fault given place (opened old new).1).items.faults ≡ Ties given.items.faults
+of-tuplet given place old None = more given.items.faults _ [] refl ∙ append-nil _
+of-tuplet given place None (Some new) = refl
+of-tuplet given place (Some old) (Some new) = more given.items.faults _ [] refl ∙ append-nil _
+
+of-ending : (given : Given) (place : ℕ) (passes : Option ℕ) → Ties (with_ending given place passes).items.faults ≡ Ties given.items.faults
+of-ending given place None = more given.items.faults _ [] refl ∙ append-nil _
+of-ending given place (Some passes) = refl
+
+of-broken : (given : Given) (place : ℕ) (b : Bool) → Ties (with_fault_if given b place BadBroken).items.faults ≡ Ties given.items.faults
+of-broken given place true = more given.items.faults _ [] refl ∙ append-nil _
+of-broken given place false = refl
+
+of-tie : (given : Given) (place : ℕ) (b : Bool)
+    → Ties (cond b given (with_fault given place LooseTie)).items.faults ≡ Ties given.items.faults ++ cond b [] ((column_of place, LooseTie) ∷ [])
+of-tie given place true = none-more given.items.faults
+of-tie given place false = more given.items.faults _ _ refl
+
+-- The loose ties that a token adds, where this stands directly before it.
+of-kind : (given : Given) (before : Option TokenKind) (place : ℕ) (kind : TokenKind) (ahead : List (Spanned TokenKind)) → given.after_note ≡ is_behind_note before
+    → Ties (with_kind given place kind ahead).items.faults ≡ Ties given.items.faults ++ loose_in before place kind
+of-kind given before place (kinds.Note note) ahead e = more given.items.faults _ [] (none-of-note _ _ _)
+of-kind given before place (kinds.Rest length) ahead e = more given.items.faults _ [] (none-if _ _)
+of-kind given before place (kinds.BarRest bars) ahead e =
+    let body : Body = mentioned given.body in
+    of-bar-rest (record given { body = body }) place (here body).meter bars _ ∙ none-more given.items.faults
+of-kind given before place (kinds.Chord chord) ahead e =
+    let body : Body = mentioned_by_chord (has_note chord.parts) given.body in
+    more given.items.faults _ _ (ties_behind_notes (here body) (factors_of given.behind ahead) place chord (tie_ahead ahead))
+of-kind given before place (kinds.InlineField field) ahead e = more given.items.faults _ [] (of-field given.body place (kind_of field.letter) field.value)
+of-kind given before place (kinds.Field field) ahead e = more given.items.faults _ [] (of-field given.body place (kind_of field.letter) field.value)
+of-kind given before place (kinds.Bar bar) ahead e = none-more given.items.faults
+of-kind given before place (kinds.Tuplet mark) ahead e =
+    of-tuplet _ place (here given.body).tuplet (tuplet_by (here given.body).meter mark) ∙ none-more given.items.faults
+of-kind given before place (kinds.Ending passes) ahead e = of-ending given place passes ∙ none-more given.items.faults
+of-kind given before place (kinds.Broken mark) ahead e = of-broken given place (is_bad_mark given.behind ahead) ∙ none-more given.items.faults
+of-kind given before place kinds.Tie ahead e =
+    of-tie given place given.after_note ∙ ap (λ b. Ties given.items.faults ++ cond b [] ((column_of place, LooseTie) ∷ [])) e
+of-kind given before place kinds.Blank ahead e = none-more given.items.faults
+of-kind given before place kinds.NoEffect ahead e = none-more given.items.faults
+of-kind given before place kinds.Unclosed ahead e = more given.items.faults _ [] refl
+of-kind given before place kinds.BadByte ahead e = more given.items.faults _ [] refl
+
+from-here : (opening : Body) (elements : List Element) (before : Option TokenKind) (given : Given) (cell : List (Spanned TokenKind)) → given.after_note ≡ is_behind_note before
+    → Ties (looked_back opening elements given cell).items.faults ≡ Ties given.items.faults ++ loose_from before cell
+from-here opening elements before given [] e = none-more given.items.faults
+from-here opening elements before given (token ∷ ahead) e =
+    let start : Given = record given { body = held_at opening elements } in
+    from-here opening (record { kind = token.kind; tied = tie_ahead ahead } ∷ elements) (Some token.kind) (with_token start token ahead) ahead refl
+    ∙ ap (λ l. l ++ loose_from (Some token.kind) ahead) (of-kind start before token.from token.kind ahead e)
+    ∙ append_assoc (Ties given.items.faults) (loose_in before token.from token.kind) (loose_from (Some token.kind) ahead)
+
+pub ties_loose : (values : Defaults) (fields : List Field) (key : Key) (before : List Element) (cell : List (Spanned TokenKind))
+    → filter is_loose_tie (given_in_body values fields key before cell).faults ≡ loose_ties cell
+ties_loose values fields key before cell =
+    let opening : Body = opening_at values fields key in
+    from-here opening before None (nothing_given opening) cell refl
+
+-- A token that takes no time leaves the tied notes.
+pub passed-over : (opening : Settings) (tied : List TiedNote) (before : List Element) (kind : TokenKind) (follows : Bool) → is_time_token kind ≡ false → tied_said opening tied before kind follows ≡ tied
+passed-over opening tied before (kinds.Note note) true e = cc
+passed-over opening tied before (kinds.Note note) false e = cc
+passed-over opening tied before (kinds.Rest length) follows e = cc
+passed-over opening tied before (kinds.BarRest bars) follows e = refl
+passed-over opening tied before (kinds.Chord chord) follows e = rw e refl
+passed-over opening tied before (kinds.InlineField field) follows e = refl
+passed-over opening tied before (kinds.Field field) follows e = refl
+passed-over opening tied before (kinds.Bar bar) follows e = refl
+passed-over opening tied before (kinds.Tuplet mark) follows e = refl
+passed-over opening tied before (kinds.Ending passes) follows e = refl
+passed-over opening tied before (kinds.Broken mark) follows e = refl
+passed-over opening tied before kinds.Tie follows e = refl
+passed-over opening tied before kinds.Blank follows e = refl
+passed-over opening tied before kinds.NoEffect follows e = refl
+passed-over opening tied before kinds.Unclosed follows e = refl
+passed-over opening tied before kinds.BadByte follows e = refl
+
+-- A note from which a tie leads on, as it was altered at its place.
+abbrev pub altered : Settings → List Element → List Note × Note → TiedNote
+altered opening before tied = as_tied tied.1 (alteration_at opening (tied_at opening before) before tied.0 tied.1)
+
+one-of : (opening : Settings) (before : List Element) (b : Bool) (x : List Note × Note) (xs : List TiedNote) (ys : List (List Note × Note)) → xs ≡ map (altered opening before) ys
+    → cond b (altered opening before x ∷ xs) xs ≡ map (altered opening before) (cond b (x ∷ ys) ys)
+one-of opening before true x xs ys e = ap (λ l. altered opening before x ∷ l) e
+one-of opening before false x xs ys e = e
+
+in-chord : (opening : Settings) (before : List Element) (follows : Bool) (earlier : List Note) (notes : List (Note × Bool))
+    → tied_among opening (tied_at opening before) before follows earlier notes ≡ map (altered opening before) (tied_in_chord follows earlier notes)
+in-chord opening before follows earlier [] = refl
+in-chord opening before follows earlier (note ∷ later) =
+    one-of opening before (follows || note.1) (earlier, note.0) _ _ (in-chord opening before follows (note.0 ∷ earlier) later)
+
+-- A time token leaves the notes from which a tie leads on.
+pub left-by : (opening : Settings) (before : List Element) (kind : TokenKind) (follows : Bool) → is_time_token kind ≡ true
+    → tied_said opening (tied_at opening before) before kind follows ≡ map (altered opening before) (tied_notes kind follows)
+left-by opening before (kinds.Note note) true e = refl
+left-by opening before (kinds.Note note) false e = refl
+left-by opening before (kinds.Rest length) follows e = refl
+left-by opening before (kinds.BarRest bars) follows e = cc
+left-by opening before (kinds.Chord chord) follows e = rw e (in-chord opening before follows [] (counted_notes chord))
+left-by opening before (kinds.InlineField field) follows e = cc
+left-by opening before (kinds.Field field) follows e = cc
+left-by opening before (kinds.Bar bar) follows e = cc
+left-by opening before (kinds.Tuplet mark) follows e = cc
+left-by opening before (kinds.Ending passes) follows e = cc
+left-by opening before (kinds.Broken mark) follows e = cc
+left-by opening before kinds.Tie follows e = cc
+left-by opening before kinds.Blank follows e = cc
+left-by opening before kinds.NoEffect follows e = cc
+left-by opening before kinds.Unclosed follows e = cc
+left-by opening before kinds.BadByte follows e = cc
+
+-- No time token.
+abbrev pub Passed : Element → Type 0
+Passed other = is_time_token other.kind ≡ false
+
+pub tied-behind : (opening : Settings) (nearer rest : List Element) → All Passed nearer → tied_at opening (nearer ++ rest) ≡ tied_at opening rest
+tied-behind opening [] rest none = refl
+tied-behind opening (other ∷ nearer) rest none =
+    passed-over opening (tied_at opening (nearer ++ rest)) (nearer ++ rest) other.kind other.tied (All-head Passed other nearer none)
+    ∙ tied-behind opening nearer rest (All-tail Passed other nearer none)
+
+pub tied-last : (opening : Settings) (before earlier : List Element) (token : Element) → IsTimeBefore before token earlier
+    → tied_at opening before ≡ map (altered opening earlier) (tied_notes token.kind token.tied)
+tied-last opening before earlier token is =
+    ap (tied_at opening) is.split ∙ tied-behind opening is.nearer (token ∷ earlier) is.none ∙ left-by opening earlier token.kind token.tied is.time
+
+pub tied-none : (opening : Settings) (before : List Element) → All Passed before → tied_at opening before ≡ []
+tied-none opening before none = ap (tied_at opening) (sym (append-nil before)) ∙ tied-behind opening before [] none
+
+pub ties_lead : (opening : Settings) (before earlier : List Element) (token : Element) → IsTimeBefore before token earlier
+    → (settings_at opening before).tied ≡ map (altered opening earlier) (tied_notes token.kind token.tied)
+unfolding settings_at
+ties_lead opening before earlier token is = tied-last opening before earlier token is
+
+pub no_ties_lead : (opening : Settings) (before : List Element) → All Passed before → (settings_at opening before).tied ≡ []
+unfolding settings_at
+no_ties_lead opening before none = tied-none opening before none

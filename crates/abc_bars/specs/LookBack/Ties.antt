@@ -1,0 +1,63 @@
+-- Which ties of a cell are loose, and from which notes of a voice a tie leads on. ABC 2.1 section 4.11.
+use Rattle.std.specs.Prelude.{◌≡◌, ℕ, ◌+◌, Bool, true, false, ◌||◌, if◌then◌else◌, List, [], ◌∷◌, ◌++◌, map, filter, All, Option, Some, None}
+use Rattle.abc_fields.specs.declared.fault.FaultCode.{FaultCode}
+use Rattle.abc_fields.specs.declared.fault.FaultCode.TheVariants.{LooseTie}
+use Rattle.abc_scan.specs.declared.chord.Chord.{Chord}
+use Rattle.abc_scan.specs.declared.note.Note.{Note}
+use Rattle.abc_scan.specs.declared.spanned.Spanned.{Spanned}
+use Rattle.abc_scan.specs.declared.token.TokenKind.{TokenKind}
+use Rattle.abc_scan.specs.declared.token.TokenKind.TheVariants as kinds
+use Rattle.abc_music.specs.Broken.{is_time_token}
+use Rattle.abc_music.specs.Column.{column_of}
+use Rattle.abc_music.specs.LooseTies.{is_loose, with_before}
+use Rattle.abc_bars.specs.Cell.{may_be_tied}
+use Rattle.abc_bars.specs.LookBack.Element.{Element}
+use Rattle.abc_bars.specs.LookBack.Voice.{counted_notes}
+
+-- Whether what stands directly before a token in its cell, if anything does, is a note or a chord.
+abbrev pub is_behind_note : Option TokenKind → Bool
+is_behind_note None = false
+is_behind_note (Some kind) = may_be_tied kind
+
+-- The loose ties inside a chord at a place of its line: those that have no note directly before them.
+abbrev pub loose_inside : ℕ → Chord → List (ℕ × FaultCode)
+loose_inside from chord = map (λ pair. (column_of (from + pair.1.from), LooseTie)) (filter is_loose (with_before chord.parts))
+
+-- The loose ties of a token at a place of its line, by what stands directly before it: a tie is loose where no note
+-- or chord stands there, one without notes among them; a chord has those inside it. That nothing may stand between
+-- is our own.
+abbrev pub loose_in : Option TokenKind → ℕ → TokenKind → List (ℕ × FaultCode)
+loose_in before from kinds.Tie = if is_behind_note before then [] else (column_of from, LooseTie) ∷ []
+loose_in before from (kinds.Chord chord) = loose_inside from chord
+loose_in before from _ = []
+
+-- The loose ties of tokens, of which the first has this directly before it.
+abbrev pub loose_from : Option TokenKind → List (Spanned TokenKind) → List (ℕ × FaultCode)
+loose_from before [] = []
+loose_from before (token ∷ ahead) = loose_in before token.from token.kind ++ loose_from (Some token.kind) ahead
+
+-- The loose ties of a cell.
+abbrev pub loose_ties : List (Spanned TokenKind) → List (ℕ × FaultCode)
+loose_ties cell = loose_from None cell
+
+-- The last time token before a place of a voice, a note, a rest or a chord with a note, and what stands before it.
+pub record IsTimeBefore (before : List Element) (token : Element) (earlier : List Element) : Type 0 where
+  pub nearer : List Element
+  pub split : before ≡ nearer ++ token ∷ earlier
+  pub time : is_time_token token.kind ≡ true
+  pub none : All (λ other. is_time_token other.kind ≡ false) nearer
+
+-- The notes of a chord from which a tie leads on, each with those of its notes that stand before it, newest first:
+-- a tie directly follows the note, or the chord.
+abbrev pub tied_in_chord : Bool → List Note → List (Note × Bool) → List (List Note × Note)
+tied_in_chord follows earlier [] = []
+tied_in_chord follows earlier (note ∷ later) =
+    if follows || note.1 then (earlier, note.0) ∷ tied_in_chord follows (note.0 ∷ earlier) later
+    else tied_in_chord follows (note.0 ∷ earlier) later
+
+-- The notes of a token from which a tie leads on, where one directly follows the token or not: of a chord those among
+-- its first sixteen, of a rest none.
+abbrev pub tied_notes : TokenKind → Bool → List (List Note × Note)
+tied_notes (kinds.Note note) follows = if follows then ([], note) ∷ [] else []
+tied_notes (kinds.Chord chord) follows = tied_in_chord follows [] (counted_notes chord)
+tied_notes _ follows = []
