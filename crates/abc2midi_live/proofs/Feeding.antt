@@ -11,15 +11,15 @@ use Rattle.abc_fold.specs.Work.{raised}
 use Rattle.abc_publish.specs.Publisher.{Directory}
 use Rattle.abc2midi_live.specs.Cut.{IsCut}
 use Rattle.abc2midi_live.specs.Machine.{Future, telling, IsClean, Answers, ahead}
-use Rattle.abc2midi_live.specs.Outcome.{Ends, Outlets, outlets, Serves, Tells, BrokenOff, Unserved, Ended, Turn, Leaves, read_counts, Reads, Failed, read_faults}
-use Rattle.abc2midi_live.specs.Storing.{StoreAnswer, Follows}
+use Rattle.abc2midi_live.specs.Outcome.{Ends, Outlets, outlets, Serves, Tells, TellsFirst, BrokenOff, Unserved, Ended, Turn, Leaves, read_counts, Reads, Failed, read_faults}
+use Rattle.abc2midi_live.specs.Storing.{StoreAnswer, StoreSeen, Follows, IsAsked}
 use Rattle.abc2midi_live.specs.Told.{Told, told, behind, nothing_more}
 use Rattle.abc2midi_live.specs.Transcript.{input_lines, most_kept}
 use Rattle.abc2midi_live.specs.declared.fault.RunFault.{RunFault}
 use Rattle.abc2midi_live.specs.declared.fault.RunFault.TheVariants.{Read, Write, Memory}
 use Rattle.abc2midi_live.proofs.Counts.{raised_none, raised_twice}
 use Rattle.abc2midi_live.proofs.InputLines.{input_lines-line, input_lines-kept, input_lines-begun, input_lines-last, input_lines-nil}
-use Rattle.abc2midi_live.proofs.Storing.{follows_none, follows_both}
+use Rattle.abc2midi_live.proofs.Storing.{follows_none, follows_both, asked_none}
 use Rattle.abc2midi_live.proofs.Told.{behind_none, answers_both, answers_none, ended_with, continued_with}
 
 abbrev OfLines : Type 0
@@ -167,17 +167,30 @@ fed_all before mid after d e piece rest line old new fed is says =
     (serves_both before mid after d e e fed.front line old new new true fed.served ([], [], Appends-nil new.output, says, follows_none new.store e))
 
 -- memory is short
-pub fed_broken : (before mid : Ahead) (d e : Directory) (piece rest : List ℕ) (old w : Outlets) (new : Option (List ℕ)) → Fed before mid d e piece rest old w → Keeps w.output new
-    → mid false [] [] ≡ Some (told [] e) → BrokenOff before piece old.output new Memory
-fed_broken before mid d e piece rest old w new fed kept none =
-    let all = tells_all before mid d e fed.front old w fed.served none in
-    (fed.front, rest, all.0, all.1, fed.split, all.2, Appends-kept old.output w.output new all.1.text all.3 kept)
+pub fed_broken : (before mid : Ahead) (d e : Directory) (piece rest : List ℕ) (old w new : Outlets) → Fed before mid d e piece rest old w → Keeps w.output new.output
+    → IsAsked w.store new.store e → mid false [] [] ≡ Some (told [] e) → BrokenOff d before piece old new Memory
+fed_broken before mid d e piece rest old w new fed kept asked none =
+    let text = fed.served.0 in
+    let stored = fed.served.1 in (
+      fed.front,
+      rest,
+      fed.split,
+      subst (λ p. TellsFirst d (before false p) old new) (append-nil fed.front) (
+        stored ++ [],
+        told (text ++ []) e,
+        w.store,
+        continued_with before mid e fed.front stored [] text (told [] e) false [] fed.served.3 none,
+        Appends-trans old.output w.output new.output text [] fed.served.2 (Appends-kept w.output w.output new.output [] (Appends-nil w.output) kept),
+        follows_both old.store w.store w.store stored [] d e e fed.served.4 (follows_none w.store e),
+        asked,
+      ),
+    )
 
 -- a line that a piece ends is served, or a fault comes
 pub serve_line : (r : Result Bool RunFault) (before before' after : OfLines) (d d' e : Directory) (begun piece line begun' : List ℕ) (old new : Outlets) → before' ≡ before → d' ≡ d → IsClean begun → IsClean piece
     → line ≡ take most_kept (begun ++ piece) → begun' ≡ []
-    → MatchResult r (Served before' after d' e line old new) (Unserved old.output new.output)
-    → MatchResult r (Serves d (telling (ahead before begun) (ahead after begun') e) (piece ++ 10 ∷ []) old new) (Unserved old.output new.output)
+    → MatchResult r (Served before' after d' e line old new) (Unserved d' old new)
+    → MatchResult r (Serves d (telling (ahead before begun) (ahead after begun') e) (piece ++ 10 ∷ []) old new) (Unserved d old new)
 serve_line (Ok goes_on) before before' after d d' e begun piece line begun' old new same same' clean clean_piece is none (text, stored, wrote, says, follows) = (
   text,
   stored,
@@ -185,7 +198,7 @@ serve_line (Ok goes_on) before before' after d d' e begun piece line begun' old 
   line_ended before after e begun piece line begun' stored text goes_on clean clean_piece is none (subst (λ f. Answers (telling f after e) (line ∷ []) stored text goes_on) same says),
   subst (λ d. Follows old.store new.store stored d e) same' follows,
 )
-serve_line (Err fault) before before' after d d' e begun piece line begun' old new same same' clean clean_piece is none h = h
+serve_line (Err fault) before before' after d d' e begun piece line begun' old new same same' clean clean_piece is none h = subst (λ d. Unserved d old new fault) same' h
 
 -- the last line is served: what is then told is what is told behind the line that has begun
 last_line : (before before' : OfLines) (d d' : Directory) (begun line : List ℕ) (old new : Outlets) → before' ≡ before → d' ≡ d → line ≡ begun → IsClean begun → 0 < length begun → length begun ≤ most_kept
@@ -226,27 +239,27 @@ cut_none text front None c e = c.joined
 cut_none text front (Some b) c e = cc
 
 -- a fault while a line is served breaks the piece off
-pub fed_fault : (before mid : Ahead) (d e : Directory) (piece rest : List ℕ) (old w : Outlets) (new : Option (List ℕ)) (fault : RunFault) → Fed before mid d e piece rest old w → Unserved w.output new fault
-    → mid false [] [] ≡ Some (told [] e) → BrokenOff before piece old.output new fault
+pub fed_fault : (before mid : Ahead) (d e : Directory) (piece rest : List ℕ) (old w new : Outlets) (fault : RunFault) → Fed before mid d e piece rest old w → Unserved e w new fault
+    → mid false [] [] ≡ Some (told [] e) → BrokenOff d before piece old new fault
 fed_fault before mid d e piece rest old w new Read fed h none = h
 fed_fault before mid d e piece rest old w new Write fed h none = tt
-fed_fault before mid d e piece rest old w new Memory fed h none = fed_broken before mid d e piece rest old w new fed h none
+fed_fault before mid d e piece rest old w new Memory fed h none = fed_broken before mid d e piece rest old w new fed h.0 h.1 none
 
 -- where nothing has come of a last line, the last words are written
 pub finish_none : (r : Result (Unit {0}) RunFault) (future : OfLines) (d : Directory) (begun words : List ℕ) (old : Outlets) (new : Option (List ℕ)) → length begun ≤ 0 → future true [] [] ≡ Some (told words d)
     → MatchResult r (λ _. Appends old.output new words) (λ fault. fault ≡ Write)
-    → MatchResult r (λ _. Tells d (ahead future begun true []) old (outlets new old.store)) (Unserved old.output new)
+    → MatchResult r (λ _. Tells d (ahead future begun true []) old (outlets new old.store)) (Unserved d old (outlets new old.store))
 finish_none (Ok x) future d begun words old new none e said = ([], told words d, none_ahead future begun [] none ∙ e, said, follows_none old.store d)
-finish_none (Err fault) future d begun words old new none e said = subst (Unserved old.output new) (sym said) tt
+finish_none (Err fault) future d begun words old new none e said = subst (Unserved d old (outlets new old.store)) (sym said) tt
 
 -- else they are written behind the answer to the last line
 pub finish_said : (r : Result (Unit {0}) RunFault) (before before' after : OfLines) (d d' e : Directory) (begun line words : List ℕ) (old w : Outlets) (new : Option (List ℕ)) → before' ≡ before → d' ≡ d → line ≡ begun → IsClean begun → 0 < length begun → length begun ≤ most_kept
     → Served before' after d' e line old w true → after true [] [] ≡ Some (told words e)
     → MatchResult r (λ _. Appends w.output new words) (λ fault. fault ≡ Write)
-    → MatchResult r (λ _. Tells d (ahead before begun true []) old (outlets new w.store)) (Unserved old.output new)
+    → MatchResult r (λ _. Tells d (ahead before begun true []) old (outlets new w.store)) (Unserved d old (outlets new w.store))
 finish_said (Ok x) before before' after d d' e begun line words old w new same same' is clean some short served are said =
     last_said before before' after d d' e begun line words old w new same same' is clean some short served are said
-finish_said (Err fault) before before' after d d' e begun line words old w new same same' is clean some short served are said = subst (Unserved old.output new) (sym said) tt
+finish_said (Err fault) before before' after d d' e begun line words old w new same same' is clean some short served are said = subst (Unserved d old (outlets new w.store)) (sym said) tt
 
 -- a test of whether anything has come
 pub is_empty : (begun : List ℕ) (len : ℕ) → len ≡ length begun → (len == 0) ≡ true → length begun ≤ 0
@@ -314,14 +327,19 @@ heard_left before mid d e input left left' old w new Read h (taken, took, tells)
   tells_behind before mid d e h.taken false taken old w new h.served tells,
 )
 heard_left before mid d e input left left' old w new Write h l = tt
-heard_left before mid d e input left left' old w new Memory h (front, behind, stored, t, took, is, wrote) = (
+heard_left before mid d e input left left' old w new Memory h (front, behind, took, (stored, t, between, is, wrote, follows, asked)) = (
   h.taken ++ front,
   behind,
-  h.served.1 ++ stored,
-  told (h.served.0 ++ t.text) t.directory,
   subst (Consumes input left') (sym (append_assoc h.taken front behind)) (Consumes-trans input left left' h.taken (front ++ behind) h.took took),
-  continued_with before mid e h.taken h.served.1 stored h.served.0 t false front h.served.3 is,
-  Appends-trans old.output w.output new.output h.served.0 t.text h.served.2 wrote,
+  (
+    h.served.1 ++ stored,
+    told (h.served.0 ++ t.text) t.directory,
+    between,
+    continued_with before mid e h.taken h.served.1 stored h.served.0 t false front h.served.3 is,
+    Appends-trans old.output w.output new.output h.served.0 t.text h.served.2 wrote,
+    follows_both old.store w.store between h.served.1 stored d e t.directory h.served.4 follows,
+    asked,
+  ),
 )
 
 -- so many reads were made
@@ -352,7 +370,7 @@ all_told future piece t (Some bytes) (Some rest) old new took wrote says = (ap f
 
 -- a piece was fed
 pub turn_fed : (r : Result Bool RunFault) (before after : Ahead) (d e : Directory) (piece : List ℕ) (input left : Option (List ℕ)) (old new : Outlets) → 0 < length piece → Consumes input left piece
-    → MatchResult r (Serves d (telling before after e) piece old new) (BrokenOff before piece old.output new.output)
+    → MatchResult r (Serves d (telling before after e) piece old new) (BrokenOff d before piece old new)
     → MatchResult r (Turn d (telling before after e) (at input old) (at left new)) (Leaves d (before false) (at input old) (at left new))
 turn_fed (Ok true) before after d e piece input left old new some took served = (piece, some, took, served)
 turn_fed (Ok false) before after d e piece input left old new some took (text, stored, wrote, says, follows) = (
@@ -363,8 +381,8 @@ turn_fed (Ok false) before after d e piece input left old new some took (text, s
 )
 turn_fed (Err Read) before after d e piece input left old new some took h = absurd h
 turn_fed (Err Write) before after d e piece input left old new some took h = tt
-turn_fed (Err Memory) before after d e piece input left old new some took (front, back, stored, t, split, is, wrote) =
-    (front, back, stored, t, subst (Consumes input left) split took, is, wrote)
+turn_fed (Err Memory) before after d e piece input left old new some took (front, back, split, first) =
+    (front, back, subst (Consumes input left) split took, first)
 
 -- the end of the input came
 end_told : (future : List ℕ → Option Told) (t : Told) (input left old new : Option (List ℕ)) → Consumes input left [] → IsAtEnd left → Appends old new t.text → future [] ≡ Some t
@@ -377,11 +395,16 @@ pub turn_ended : (before : Ahead) (d : Directory) (input left : Option (List ℕ
 turn_ended before d input left old new took end (stored, t, is, wrote, follows) =
     (stored, t, follows, end_told (λ bytes. before true bytes stored) t input left old.output new.output took end wrote is)
 
-pub turn_unserved : (before : Ahead) (d : Directory) (input left : Option (List ℕ)) (old new : Outlets) (fault : RunFault) → Consumes input left [] → before false [] [] ≡ Some (told [] d) → Unserved old.output new.output fault
+pub turn_unserved : (before : Ahead) (d : Directory) (input left : Option (List ℕ)) (old new : Outlets) (fault : RunFault) → Consumes input left [] → before false [] [] ≡ Some (told [] d) → Unserved d old new fault
     → Leaves d (before false) (at input old) (at left new) fault
 turn_unserved before d input left old new Read took none h = absurd h
 turn_unserved before d input left old new Write took none h = tt
-turn_unserved before d input left old new Memory took none h = ([], [], [], told [] d, took, none, Appends-kept old.output old.output new.output [] (Appends-nil old.output) h)
+turn_unserved before d input left old new Memory took none h = (
+  [],
+  [],
+  took,
+  ([], told [] d, old.store, none, Appends-kept old.output old.output new.output [] (Appends-nil old.output) h.0, follows_none old.store d, h.1),
+)
 
 -- nothing was read
 pub nothing_read : (count : ℕ) (buffer : List ℕ) (input left : Option (List ℕ)) → count ≤ 0 → Consumes input left (take count buffer) → Consumes input left []

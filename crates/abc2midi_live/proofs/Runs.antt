@@ -9,12 +9,12 @@ use Rattle.abc_lines.specs.Edits.{edited, insertion}
 use Rattle.abc_publish.specs.Publisher.{Directory}
 use Rattle.abc2midi_live.specs.Transcript.{book_lines, input_lines, requests, answered, answers, edit_answer, no_directory, transcript, transcript_so_far}
 use Rattle.abc2midi_live.specs.Dialogue.{Begun, awaited, Opens}
-use Rattle.abc2midi_live.specs.Outcome.{Ends, Outlets, outlets, Completes, Ended, Leaves, LeavesRun, Unserved}
+use Rattle.abc2midi_live.specs.Outcome.{Ends, Outlets, outlets, Completes, Ended, Leaves, LeavesRun, Unopened}
 use Rattle.abc2midi_live.specs.Storing.{StoreAnswer, StoreSeen, Follows}
 use Rattle.abc2midi_live.specs.Told.{holding, Told, told, behind}
 use Rattle.abc2midi_live.specs.declared.fault.RunFault.{RunFault}
 use Rattle.abc2midi_live.specs.declared.fault.RunFault.TheVariants.{Read, Write, Memory}
-use Rattle.abc2midi_live.proofs.Storing.{mirrors_first}
+use Rattle.abc2midi_live.proofs.Storing.{mirrors_first, follows_none, asked_none}
 use Rattle.abc2midi_live.proofs.Told.{behind_none}
 
 -- before any command, where there is no tune book
@@ -96,14 +96,19 @@ module _ (book : Option (List ℕ)) (text : List ℕ) (session : Text) (director
     ),
   )
   told_fault Write input left old new mid wrote h = tt
-  told_fault Memory input left old new mid wrote (front, behind_it, stored, t, took, is, wrote') = inl (
+  told_fault Memory input left old new mid wrote (front, behind_it, took, (stored, t, between, is, wrote', follows, asked)) = inl (
     front,
     behind_it,
-    stored,
-    told (text ++ t.text) t.directory,
     took,
-    sym (so_far front stored) ∙ ap (behind text) is,
-    Appends-trans old.output mid new.output text t.text wrote wrote',
+    (
+      stored,
+      told (text ++ t.text) t.directory,
+      between,
+      sym (so_far front stored) ∙ ap (behind text) is,
+      Appends-trans old.output mid new.output text t.text wrote wrote',
+      from_empty old.store between stored t.directory follows,
+      asked,
+    ),
   )
 
   -- what is written, from the answer to the tune book on
@@ -119,13 +124,26 @@ unfolding transcript_so_far input_lines requests answers
 transcript_so_far-nil = refl
 
 -- a run that has no memory to begin with
-not_begun : (book input : Option (List ℕ)) (old new : Outlets) → Keeps old.output new.output → LeavesRun book (transcript_so_far book) (at input old) (at input new) Memory
-not_begun None input old new kept =
-    inl ([], [], [], told [] no_directory, Consumes-nil input, transcript_so_far-nil, Appends-kept old.output old.output new.output [] (Appends-nil old.output) kept)
-not_begun (Some bytes) input old new kept = inr (refl, Keeps-refl input, kept)
+not_begun : (book input : Option (List ℕ)) (old : Outlets) (new : Option (List ℕ)) → Keeps old.output new → LeavesRun book (transcript_so_far book) (at input old) (at input (outlets new old.store)) Memory
+not_begun None input old new kept = inl (
+  [],
+  [],
+  Consumes-nil input,
+  (
+    [],
+    told [] no_directory,
+    old.store,
+    transcript_so_far-nil,
+    Appends-kept old.output old.output new [] (Appends-nil old.output) kept,
+    follows_none old.store no_directory,
+    asked_none old.store no_directory,
+  ),
+)
+not_begun (Some bytes) input old new kept = inr (refl, Keeps-refl input, kept, refl)
 
 -- a run that cannot answer the tune book
-pub not_opened : (fault : RunFault) (book input : Option (List ℕ)) (old new : Outlets) → Unserved old.output new.output fault → LeavesRun book (transcript_so_far book) (at input old) (at input new) fault
+pub not_opened : (fault : RunFault) (book input : Option (List ℕ)) (old : Outlets) (new : Option (List ℕ)) → Unopened old.output new fault
+    → LeavesRun book (transcript_so_far book) (at input old) (at input (outlets new old.store)) fault
 not_opened Read book input old new h = absurd h
 not_opened Write book input old new h = tt
 not_opened Memory book input old new h = not_begun book input old new h

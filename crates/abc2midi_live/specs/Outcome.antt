@@ -3,7 +3,7 @@ use Rattle.std.specs.Prelude.{◌≡◌, ℕ, ◌<◌, ◌≤◌, Bool, true, fa
 use Rattle.std.specs.Io.KnownBytes.{Appends, Consumes, Keeps}
 use Rattle.abc_publish.specs.Publisher.{Directory}
 use Rattle.abc2midi_live.specs.Machine.{Answers, Future, Telling}
-use Rattle.abc2midi_live.specs.Storing.{Follows, HasNoFiles, MirrorsWhereTold, StoreAnswer, StoreSeen, faults_among}
+use Rattle.abc2midi_live.specs.Storing.{Follows, HasNoFiles, IsAsked, MirrorsWhereTold, StoreAnswer, StoreSeen, faults_among}
 use Rattle.abc2midi_live.specs.Told.{Told}
 use Rattle.abc2midi_live.specs.Transcript.{no_directory}
 use Rattle.abc_fold.specs.Work.{raised}
@@ -18,12 +18,6 @@ write_faults (Err Read) = 0
 write_faults (Err Write) = 1
 write_faults (Err Memory) = 0
 
--- What a fault leaves where a line is served: want of memory comes before anything is written of its answer.
-abbrev pub Unserved : Option (List ℕ) → Option (List ℕ) → RunFault → Type 0
-Unserved old new Read = ⊥
-Unserved old new Write = ⊤
-Unserved old new Memory = Keeps old new
-
 -- What is seen of a writer and of a store: the bytes written, where they are told, and the store.
 pub record Outlets : Type 0 where
   pub output : Option (List ℕ)
@@ -31,6 +25,19 @@ pub record Outlets : Type 0 where
 
 abbrev pub outlets : Option (List ℕ) → StoreSeen → Outlets
 outlets output store = record { output = output; store = store }
+
+-- What a fault leaves where a tune book is taken: want of memory comes before anything is written of its answer.
+abbrev pub Unopened : Option (List ℕ) → Option (List ℕ) → RunFault → Type 0
+Unopened old new Read = ⊥
+Unopened old new Write = ⊤
+Unopened old new Memory = Keeps old new
+
+-- What a fault leaves where a line is served: want of memory comes before anything is written of its answer, and the
+-- store may have been asked for some of what the line asks for. Of what the directory was known to hold before it.
+abbrev pub Unserved : Directory → Outlets → Outlets → RunFault → Type 0
+Unserved before old new Read = ⊥
+Unserved before old new Write = ⊤
+Unserved before old new Memory = Keeps old.output new.output × IsAsked old.store new.store before
 
 -- A piece is served: a text is written and the store gives answers, which are what is told to the piece. Of what the
 -- directory was known to hold before it.
@@ -45,12 +52,19 @@ Tells before answered old new =
     (stored : List StoreAnswer) × (told : Told) × (answered stored ≡ Some told) × Appends old.output new.output told.text
     × Follows old.store new.store stored before told.directory
 
+-- What is told for answers of a store is written, and these are the answers that it gave first; it may have been asked
+-- for more since, of which nothing is written.
+abbrev pub TellsFirst : Directory → (List StoreAnswer → Option Told) → Outlets → Outlets → Type 0
+TellsFirst before answered old new =
+    (stored : List StoreAnswer) × (told : Told) × (between : StoreSeen) × (answered stored ≡ Some told) × Appends old.output new.output told.text
+    × Follows old.store between stored before told.directory × IsAsked between new.store told.directory
+
 -- What a fault leaves where a piece of the input is served: for want of memory the answers to a front of it.
-abbrev pub BrokenOff : Future ℕ → List ℕ → Option (List ℕ) → Option (List ℕ) → RunFault → Type 0
-BrokenOff before piece old new Read = ⊥
-BrokenOff before piece old new Write = ⊤
-BrokenOff before piece old new Memory =
-    (front : List ℕ) × (back : List ℕ) × (stored : List StoreAnswer) × (told : Told) × (piece ≡ front ++ back) × (before false front stored ≡ Some told) × Appends old new told.text
+abbrev pub BrokenOff : Directory → Future ℕ → List ℕ → Outlets → Outlets → RunFault → Type 0
+BrokenOff before future piece old new Read = ⊥
+BrokenOff before future piece old new Write = ⊤
+BrokenOff before future piece old new Memory =
+    (front : List ℕ) × (back : List ℕ) × (piece ≡ front ++ back) × TellsFirst before (future false front) old new
 
 -- The ends of a run, where they are told: what the reader has to give, what the writer holds, and what is seen of the
 -- store.
@@ -70,16 +84,16 @@ Leaves before answered old new Read = (taken : List ℕ) × Consumes old.input n
 Leaves before answered old new Write = ⊤
 -- the answers to the commands before the one in hand
 Leaves before answered old new Memory =
-    (front : List ℕ) × (behind : List ℕ) × (stored : List StoreAnswer) × (told : Told) × Consumes old.input new.input (front ++ behind)
-    × (answered front stored ≡ Some told) × Appends old.out.output new.out.output told.text
+    (front : List ℕ) × (behind : List ℕ) × Consumes old.input new.input (front ++ behind) × TellsFirst before (answered front) old.out new.out
 
 -- What a fault leaves of a run that a tune book came before. The book counts as a command: for want of memory its
--- answer may not come, and then nothing is read or written.
+-- answer may not come, and then nothing is read or written, and the store is not called.
 abbrev pub LeavesRun : Option (List ℕ) → (List ℕ → List StoreAnswer → Option Told) → Ends → Ends → RunFault → Type 0
 LeavesRun book answered old new Read = Leaves no_directory answered old new Read
 LeavesRun book answered old new Write = ⊤
 LeavesRun book answered old new Memory =
-    Leaves no_directory answered old new Memory ⊎ (IsSome book × Keeps old.input new.input × Keeps old.out.output new.out.output)
+    Leaves no_directory answered old new Memory
+    ⊎ (IsSome book × Keeps old.input new.input × Keeps old.out.output new.out.output × (new.out.store ≡ old.out.store))
 
 -- All of an input is answered, where it is told; what the store gave are answers that a directory follows from, in
 -- any case.

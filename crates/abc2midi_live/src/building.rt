@@ -4,7 +4,7 @@ ghost use Rattle.std.specs.Prelude.{◌≡◌, string_bytes, ℕ, ◌<◌, ◌^�
 ghost use Rattle.abc_publish.specs.Publisher.{ended, maps_of, with_entry, Directory};
 ghost use Rattle.abc_publish.specs.declared.slot.Stored.TheVariants.{Unknown};
 ghost use Rattle.abc2midi_live.specs.Building.{answer_line, answer_of, entry_behind, Builds, IsIdle, Stores};
-ghost use Rattle.abc2midi_live.specs.Storing.{file_name, store_seen, Follows, StoreAnswer};
+ghost use Rattle.abc2midi_live.specs.Storing.{file_name, store_seen, Follows, IsAsked, StoreAnswer};
 
 use crate::answer::{put_failed, put_stored};
 use crate::streams::{Store, StoreFault};
@@ -49,6 +49,7 @@ fn store_file<S: Store>(
     ensures store { IfOk result (λ stored. (directory : Directory)
         → Follows (store_seen (S.failures store.old) (S.calls store.old) (S.contents store.old)) (store_seen (S.failures store.new) (S.calls store.new) (S.contents store.new))
         (answer_of stored ∷ []) directory (with_entry directory job.now.number (entry_behind (answer_of stored) job.now.bytes))) }
+    ensures asked { OnErr result ((directory : Directory) → IsAsked (store_seen (S.failures store.old) (S.calls store.old) (S.contents store.old)) (store_seen (S.failures store.new) (S.calls store.new) (S.contents store.new)) directory) }
 {
     let number = job.number();
     let bytes = job.bytes();
@@ -76,6 +77,7 @@ fn carry_out<S: Store>(
     ensures err { OnErr result (maps_of publisher.new ≡ ended (maps_of publisher.old) job.number (Some Unknown)) }
     ensures store { IfOk result (λ stored. Follows (store_seen (S.failures store.old) (S.calls store.old) (S.contents store.old)) (store_seen (S.failures store.new) (S.calls store.new) (S.contents store.new))
         (answer_of stored ∷ []) (maps_of publisher.old).directory (maps_of publisher.new).directory) }
+    ensures asked { OnErr result ((directory : Directory) → IsAsked (store_seen (S.failures store.old) (S.calls store.old) (S.contents store.old)) (store_seen (S.failures store.new) (S.calls store.new) (S.contents store.new)) directory) }
     ensures jobs { (maps_of publisher.new).jobs ≡ with_entry (maps_of publisher.old).jobs job.number None }
 {
     let stored = store_file(alloc, &job, store, text);
@@ -102,6 +104,7 @@ fn store_next<S: Store>(
         × Stores session.now.text (maps_of publisher.old).directory (Some from) now told (maps_of publisher.new).directory next
         × Follows (store_seen (S.failures store.old) (S.calls store.old) (S.contents store.old)) (store_seen (S.failures store.new) (S.calls store.new) (S.contents store.new))
         now (maps_of publisher.old).directory (maps_of publisher.new).directory) }
+    ensures asked { OnErr result (IsAsked (store_seen (S.failures store.old) (S.calls store.old) (S.contents store.old)) (store_seen (S.failures store.new) (S.calls store.new) (S.contents store.new)) (maps_of publisher.old).directory) }
     ensures onward { IfOk result (λ next. IfSome next (λ n. (from < n) × (n < 2 ^ 32))) }
     ensures idle { IsIdle (maps_of publisher.new) }
 {
@@ -129,6 +132,7 @@ pub fn build<S: Store>(
         × Builds session.now.text (maps_of publisher.old).directory now text.items (maps_of publisher.new).directory
         × Follows (store_seen (S.failures store.old) (S.calls store.old) (S.contents store.old)) (store_seen (S.failures store.new) (S.calls store.new) (S.contents store.new))
         now (maps_of publisher.old).directory (maps_of publisher.new).directory) }
+    ensures asked { OnErr result (IsAsked (store_seen (S.failures store.old) (S.calls store.old) (S.contents store.old)) (store_seen (S.failures store.new) (S.calls store.new) (S.contents store.new)) (maps_of publisher.old).directory) }
     ensures idle { IsIdle (maps_of publisher.new) }
 {
     let mut text = Vec::new(alloc);

@@ -1,6 +1,6 @@
 //! Commands, each with the lines that belong to it, carried out on a session and on the store of its files.
 
-ghost use Rattle.std.specs.Prelude.{◌≡◌, ◌<◌, ◌≤◌, nat_le, false, ℕ, Bool, List, Option, None, [], length, IfOk, IsErr, OnOk};
+ghost use Rattle.std.specs.Prelude.{◌≡◌, ◌<◌, ◌≤◌, nat_le, false, ℕ, Bool, List, Option, None, [], length, IfOk, IsErr, OnErr, OnOk};
 ghost use Rattle.std.specs.Result.{result_unwrap_or};
 ghost use Rattle.abc2midi_live.specs.Command.{line_count};
 ghost use Rattle.abc_lines.specs.Text.{text_of};
@@ -8,7 +8,7 @@ ghost use Rattle.abc_lines.specs.Edits.{edited, insertion};
 ghost use Rattle.abc_live.specs.Edit.{splice_of};
 ghost use Rattle.abc_publish.specs.Publisher.{maps_of};
 ghost use Rattle.abc2midi_live.specs.Building.{IsIdle};
-ghost use Rattle.abc2midi_live.specs.Storing.{store_seen, Follows, StoreAnswer};
+ghost use Rattle.abc2midi_live.specs.Storing.{store_seen, Follows, IsAsked, StoreAnswer};
 ghost use Rattle.abc2midi_live.specs.Told.{holding};
 ghost use Rattle.abc2midi_live.specs.Transcript.{book_lines, edit_answer, no_directory, request_of};
 ghost use Rattle.abc2midi_live.specs.Dialogue.{Responds, Proceeds, is_taken};
@@ -96,6 +96,7 @@ impl Dialogue {
         ensures reply { let before = (maps_of self.old.publisher).directory in let after = (maps_of self.new.publisher).directory in IfOk result (λ reply. (stored : List StoreAnswer)
             × Responds (holding self.old.session.text before) (holding self.new.session.text after) (request_of command (text_of lines)) stored reply
             × Follows (store_seen (S.failures store.old) (S.calls store.old) (S.contents store.old)) (store_seen (S.failures store.new) (S.calls store.new) (S.contents store.new)) stored before after) }
+        ensures asked { OnErr result (IsAsked (store_seen (S.failures store.old) (S.calls store.old) (S.contents store.old)) (store_seen (S.failures store.new) (S.calls store.new) (S.contents store.new)) (maps_of self.old.publisher).directory) }
         ensures gathering { self.new.gathering ≡ self.old.gathering }
         ensures uncounted { OnOk result (is_taken self.old.session.text (request_of command (text_of lines)) ≡ false → work.new ≡ work.old) }
     {
@@ -146,6 +147,7 @@ impl Dialogue {
     ) -> Result<Reply, AllocError>
         requires idle { self.old.gathering ≡ None }
         requires few { length lines.items ≤ line_count command }
+        ensures asked { OnErr result (IsAsked (store_seen (S.failures store.old) (S.calls store.old) (S.contents store.old)) (store_seen (S.failures store.new) (S.calls store.new) (S.contents store.new)) (maps_of self.old.publisher).directory) }
         ensures reply { let before = (maps_of self.old.publisher).directory in let after = (maps_of self.new.publisher).directory in IfOk result (λ reply. (stored : List StoreAnswer)
             × Proceeds (holding self.old.session.text before) command (text_of lines) (holding self.new.session.text after) (begun_of self.new.gathering) stored reply
             × Follows (store_seen (S.failures store.old) (S.calls store.old) (S.contents store.old)) (store_seen (S.failures store.new) (S.calls store.new) (S.contents store.new)) stored before after) }

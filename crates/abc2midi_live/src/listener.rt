@@ -34,7 +34,7 @@ fn serve<M: Machine, W: Sink, S: Store>(
         (Serves (M.directory machine.old) (telling (M.future machine.old) (M.future machine.new) (M.directory machine.new)) (line.items ∷ [])
         (outlets (W.contents writer.old) (store_seen (S.failures store.old) (S.calls store.old) (S.contents store.old)))
         (outlets (W.contents writer.new) (store_seen (S.failures store.new) (S.calls store.new) (S.contents store.new))))
-        (Unserved (W.contents writer.old) (W.contents writer.new)) }
+        (Unserved (M.directory machine.old) (outlets (W.contents writer.old) (store_seen (S.failures store.old) (S.calls store.old) (S.contents store.old))) (outlets (W.contents writer.new) (store_seen (S.failures store.new) (S.calls store.new) (S.contents store.new)))) }
     ensures fails { W.failures writer.new ≡ raised (W.failures writer.old) (write_faults result) }
     ensures uncounted { OnOk result (M.costs machine.old line.items ≡ false → work.new ≡ work.old) }
 {
@@ -123,7 +123,7 @@ impl<M: Machine> Listener<M> {
             (piece.now ++ line_feed ∷ [])
             (outlets (W.contents writer.old) (store_seen (S.failures store.old) (S.calls store.old) (S.contents store.old)))
             (outlets (W.contents writer.new) (store_seen (S.failures store.new) (S.calls store.new) (S.contents store.new))))
-            (Unserved (W.contents writer.old) (W.contents writer.new)) }
+            (Unserved (M.directory self.old.machine) (outlets (W.contents writer.old) (store_seen (S.failures store.old) (S.calls store.old) (S.contents store.old))) (outlets (W.contents writer.new) (store_seen (S.failures store.new) (S.calls store.new) (S.contents store.new)))) }
         ensures fails { W.failures writer.new ≡ raised (W.failures writer.old) (write_faults result) }
     {
         self.keep(piece)?;
@@ -147,8 +147,8 @@ impl<M: Machine> Listener<M> {
             piece.now
             (outlets (W.contents writer.old) (store_seen (S.failures store.old) (S.calls store.old) (S.contents store.old)))
             (outlets (W.contents writer.new) (store_seen (S.failures store.new) (S.calls store.new) (S.contents store.new))))
-            (BrokenOff (ahead (M.future self.old.machine) self.old.begun.items) piece.now
-            (W.contents writer.old) (W.contents writer.new)) }
+            (BrokenOff (M.directory self.old.machine) (ahead (M.future self.old.machine) self.old.begun.items) piece.now
+            (outlets (W.contents writer.old) (store_seen (S.failures store.old) (S.calls store.old) (S.contents store.old))) (outlets (W.contents writer.new) (store_seen (S.failures store.new) (S.calls store.new) (S.contents store.new)))) }
         ensures fails { W.failures writer.new ≡ raised (W.failures writer.old) (write_faults result) }
     {
         let mut rest = piece;
@@ -180,7 +180,7 @@ impl<M: Machine> Listener<M> {
             (λ _. Tells (M.directory self.old.machine) (ahead (M.future self.old.machine) self.old.begun.items true [])
             (outlets (W.contents writer.old) (store_seen (S.failures store.old) (S.calls store.old) (S.contents store.old)))
             (outlets (W.contents writer.new) (store_seen (S.failures store.new) (S.calls store.new) (S.contents store.new))))
-            (Unserved (W.contents writer.old) (W.contents writer.new)) }
+            (Unserved (M.directory self.old.machine) (outlets (W.contents writer.old) (store_seen (S.failures store.old) (S.calls store.old) (S.contents store.old))) (outlets (W.contents writer.new) (store_seen (S.failures store.new) (S.calls store.new) (S.contents store.new)))) }
         ensures fails { W.failures writer.new ≡ raised (W.failures writer.old) (write_faults result) }
     {
         if self.begun.is_empty() {

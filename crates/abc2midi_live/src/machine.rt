@@ -1,9 +1,9 @@
 //! What takes the lines of an input one after another, and answers some of them.
 
-ghost use Rattle.std.specs.Prelude.{◌≡◌, Bool, true, false, Some, List, ℕ, [], IfOk, OnOk};
+ghost use Rattle.std.specs.Prelude.{◌≡◌, Bool, true, false, Some, List, ℕ, [], IfOk, OnErr, OnOk};
 ghost use Rattle.abc_publish.specs.Publisher.{Directory};
 ghost use Rattle.abc2midi_live.specs.Machine.{Future, Replies, telling};
-ghost use Rattle.abc2midi_live.specs.Storing.{Follows, StoreAnswer, store_seen};
+ghost use Rattle.abc2midi_live.specs.Storing.{Follows, IsAsked, StoreAnswer, store_seen};
 ghost use Rattle.abc2midi_live.specs.Told.{told};
 
 use crate::streams::Store;
@@ -44,6 +44,7 @@ pub trait Machine {
             × Replies (telling (future self.old) (future self.new) (directory self.new)) line.items stored reply
             × Follows (store_seen (S.failures store.old) (S.calls store.old) (S.contents store.old)) (store_seen (S.failures store.new) (S.calls store.new) (S.contents store.new))
             stored (directory self.old) (directory self.new)) }
+        ensures asked { OnErr result (IsAsked (store_seen (S.failures store.old) (S.calls store.old) (S.contents store.old)) (store_seen (S.failures store.new) (S.calls store.new) (S.contents store.new)) (directory self.old)) }
         ensures uncounted { OnOk result (costs self.old line.items ≡ false → work.new ≡ work.old) };
 
     /// What it tells where no more lines come.

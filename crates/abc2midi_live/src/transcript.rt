@@ -2,7 +2,7 @@
 
 ghost use Rattle.std.specs.Prelude.{◌≡◌, ◌≤◌, ℕ, List, IfOk, MatchResult, option_copied};
 ghost use Rattle.std.specs.Io.KnownBytes.{Appends};
-ghost use Rattle.abc2midi_live.specs.Outcome.{write_faults, ends, read_counts, Completes, LeavesRun, Reads, Unserved};
+ghost use Rattle.abc2midi_live.specs.Outcome.{write_faults, ends, read_counts, Completes, LeavesRun, Reads, Unopened};
 ghost use Rattle.abc_fold.specs.Work.{raised};
 ghost use Rattle.abc_publish.specs.Publisher.{maps_of};
 ghost use Rattle.abc2midi_live.specs.Dialogue.{Opens};
@@ -32,7 +32,7 @@ fn opened<W: Sink>(
     ensures answer { MatchResult result
         (λ d. (text : List ℕ) × Appends (W.contents writer.old) (W.contents writer.new) text
         × Opens (option_copied book.entry) text (holding d.session.text (maps_of d.publisher).directory) (begun_of d.gathering))
-        (Unserved (W.contents writer.old) (W.contents writer.new)) }
+        (Unopened (W.contents writer.old) (W.contents writer.new)) }
     ensures directory { IfOk result (λ d. (maps_of d.publisher).directory ≡ no_directory) }
     ensures fails { W.failures writer.new ≡ raised (W.failures writer.old) (write_faults result) }
 {

@@ -1,8 +1,9 @@
 use Rattle.std.proofs.Common.{ℕ, List, Some, sym, subst, arith}
 use Rattle.abc_publish.specs.Publisher.{maps_of}
 use Rattle.abc2midi_live.specs.Answer.{end_line}
-use Rattle.abc2midi_live.specs.Storing.{store_seen}
+use Rattle.abc2midi_live.specs.Storing.{store_seen, IsAsked}
 use Rattle.abc2midi_live.proofs.Pending.{StoresSoFar, so_far_none, so_far_more, so_far_all, left_fewer, left_small}
+use Rattle.abc2midi_live.proofs.Storing.{asked_more, on_err}
 use Rattle.abc2midi_live.proofs.building.build.Goals as goal
 
 pub loop-next-init : goal.loop-next-init
@@ -43,3 +44,15 @@ returns-in_err-extend_from_slice-clause-idle g c = c.loop-next.invariant.idle
 
 pub returns-in_err-next-clause-idle : goal.returns-in_err-next-clause-idle
 returns-in_err-next-clause-idle g c = c.store_next.ensures.idle
+
+pub returns-in_err-next-clause-asked : goal.returns-in_err-next-clause-asked
+returns-in_err-next-clause-asked g c =
+    let failures = g.S.Store.failures in
+    let calls = g.S.Store.calls in
+    let contents = g.S.Store.contents in
+    let old = store_seen (failures c.args.store.now) (calls c.args.store.now) (contents c.args.store.now) in
+    let mid = store_seen (failures c.loop-next.store) (calls c.loop-next.store) (contents c.loop-next.store) in
+    let new = store_seen (failures c.store_next.new.store) (calls c.store_next.new.store) (contents c.store_next.new.store) in
+    let before = (maps_of c.args.publisher.now).directory in
+    on_err c.from_residual.result (IsAsked old new before)
+    (asked_more old mid new c.loop-next.invariant.stored.0 before (maps_of c.loop-next.publisher).directory c.loop-next.invariant.stored.2 c.in_err-next.ensures.asked)

@@ -4,6 +4,7 @@ use Rattle.abc_tunebook.specs.Files.{file_at}
 use Rattle.abc2midi_live.specs.Book.{files_of}
 use Rattle.abc2midi_live.specs.Building.{IsIdle}
 use Rattle.abc2midi_live.proofs.Pending.{IsBehind, at_none, at_some, next_none, next_done, next_fault, idle_again, under_way, onward}
+use Rattle.abc2midi_live.proofs.Storing.{asked_none, on_err}
 use Rattle.abc2midi_live.proofs.building.store_next.Goals as goal
 
 pub returns-in_default-clause-stored : goal.returns-in_default-clause-stored
@@ -68,3 +69,6 @@ pub returns-else-branch-clause-idle : goal.returns-else-branch-clause-idle
 returns-else-branch-clause-idle g c =
     let taken : maps_of c.take_from.new.self ≡ begun (maps_of c.args.publisher.now) c.in-Some.job.number c.in-Some.job.bytes = at_some c.in_ok-job.field-0 c.in-Some.job _ _ c.in-Some.is c.in_ok-job.ensures.after in
     idle_again (maps_of c.args.publisher.now) (maps_of c.take_from.new.self) (maps_of c.carry_out.new.publisher) c.in-Some.job.number c.in-Some.job.bytes c.requires taken c.carry_out.ensures.jobs
+
+pub returns-in_err-job-clause-asked : goal.returns-in_err-job-clause-asked
+returns-in_err-job-clause-asked g c = on_err c.from_residual.result _ (asked_none _ _)

@@ -18,7 +18,7 @@ returns-in_err-dialogue-clause-transcript g c =
     let old = outlets (g.W.Sink.contents c.args.writer.now) (store_seen (g.S.Store.failures c.args.store.now) (g.S.Store.calls c.args.store.now) (g.S.Store.contents c.args.store.now)) in
     let new = outlets (g.W.Sink.contents c.opened.new.writer) old.store in
     fault_exit c.from_residual.result _ (LeavesRun book (transcript_so_far book) (ends input old.output old.store) (ends input new.output old.store)) c.in_err-dialogue.field-0.0 c.from_residual.ensures
-    (not_opened c.in_err-dialogue.field-0.0 book input old new c.in_err-dialogue.ensures.answer)
+    (not_opened c.in_err-dialogue.field-0.0 book input old new.output c.in_err-dialogue.ensures.answer)
 
 pub returns-in_err-dialogue-clause-calls : goal.returns-in_err-dialogue-clause-calls
 returns-in_err-dialogue-clause-calls g c = (0, omega arith, sym (raised_none _))

@@ -10,6 +10,7 @@ use Rattle.abc2midi_live.specs.Transcript.{request_of}
 use Rattle.abc2midi_live.specs.Dialogue.{awaited, is_taken, request_with, Says}
 use Rattle.abc2midi_live.specs.Gathering.{begun_of, gathering_few}
 use Rattle.abc2midi_live.proofs.Requests.{replies, awaited_line, awaited_command, text_of-push, few_lines}
+use Rattle.abc2midi_live.proofs.Storing.{asked_none, on_err}
 use Rattle.abc2midi_live.proofs.dialogue.DialogueMachine.take_line.Goals as goal
 
 pub returns-in_ok-push-in-Some-clause-reply : goal.returns-in_ok-push-in-Some-clause-reply
@@ -66,3 +67,6 @@ returns-in-None-clause-uncounted x c =
     subst (λ b. OnOk reply (is_taken text (request_with (begun_of b) line) ≡ false → same)) c.in-None.ensures.value
     (subst (λ command. OnOk reply (is_taken text (request_of command []) ≡ false → same)) (c.of.ensures ∙ ap command_of c.deref.ensures.value)
     (subst (λ ls. OnOk reply (is_taken text (request_of c.of.result ls) ≡ false → same)) (ap (map (λ l. l.items)) c.new-lines.ensures.items) c.proceed-in-None.ensures.uncounted))
+
+pub returns-in_err-push-in-Some-clause-asked : goal.returns-in_err-push-in-Some-clause-asked
+returns-in_err-push-in-Some-clause-asked x c = on_err c.from_residual.result _ (asked_none _ (maps_of c.args.self.now.publisher).directory)

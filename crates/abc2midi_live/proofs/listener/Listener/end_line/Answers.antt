@@ -1,7 +1,10 @@
 use Rattle.std.proofs.Common.{ap, ◌∙◌}
-use Rattle.abc2midi_live.specs.Outcome.{outlets}
+use Rattle.std.proofs.KnownBytes.{Keeps-refl}
+use Rattle.abc2midi_live.specs.Outcome.{outlets, Unserved}
 use Rattle.abc2midi_live.specs.Storing.{store_seen}
-use Rattle.abc2midi_live.proofs.Feeding.{serve_line}
+use Rattle.abc2midi_live.specs.declared.fault.RunFault.TheVariants.{Memory}
+use Rattle.abc2midi_live.proofs.Feeding.{fault_exit, serve_line}
+use Rattle.abc2midi_live.proofs.Storing.{asked_none}
 use Rattle.abc2midi_live.proofs.listener.Listener.end_line.Goals as goal
 
 pub returns-clause-answer : goal.returns-clause-answer
@@ -12,3 +15,9 @@ returns-clause-answer g c =
     (outlets (g.W.Sink.contents c.args.writer.now) (store_seen (g.S.Store.failures c.args.store.now) (g.S.Store.calls c.args.store.now) (g.S.Store.contents c.args.store.now)))
     (outlets (g.W.Sink.contents c.serve.new.writer) (store_seen (g.S.Store.failures c.serve.new.store) (g.S.Store.calls c.serve.new.store) (g.S.Store.contents c.serve.new.store)))
     (ap g.M.Machine.future same) (ap g.M.Machine.directory same) before.whole c.requires (c.take_begun-line.ensures.line ∙ c.in_ok-keep.ensures.begun) c.take_begun-line.ensures.begun c.serve.ensures.answer
+
+pub returns-in_err-keep-clause-answer : goal.returns-in_err-keep-clause-answer
+returns-in_err-keep-clause-answer g c =
+    let d = g.M.Machine.directory c.args.self.now.machine in
+    let old = outlets (g.W.Sink.contents c.args.writer.now) (store_seen (g.S.Store.failures c.args.store.now) (g.S.Store.calls c.args.store.now) (g.S.Store.contents c.args.store.now)) in
+    fault_exit c.from_residual.result _ (Unserved d old old) Memory c.from_residual.ensures (Keeps-refl old.output, asked_none old.store d)

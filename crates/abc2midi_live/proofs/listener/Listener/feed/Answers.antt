@@ -7,6 +7,7 @@ use Rattle.abc2midi_live.specs.Outcome.{BrokenOff, Serves, outlets}
 use Rattle.abc2midi_live.specs.Storing.{store_seen}
 use Rattle.abc2midi_live.specs.declared.fault.RunFault.TheVariants.{Memory}
 use Rattle.abc2midi_live.proofs.Feeding.{Fed, fed_none, fed_more, fed_end, fed_all, fed_broken, fed_fault, nothing_ahead, piece_kept, fault_exit, cut_some, cut_none}
+use Rattle.abc2midi_live.proofs.Storing.{asked_none}
 use Rattle.abc2midi_live.proofs.listener.Listener.feed.Goals as goal
 
 pub lines-init : goal.lines-init
@@ -27,8 +28,9 @@ returns-in_err-end_line-in_default-Some-clause-answer g c =
     let start = ahead (g.M.Machine.future c.args.self.now.machine) c.args.self.now.begun.items in
     let from = g.M.Machine.directory c.args.self.now.machine in
     let first = outlets (g.W.Sink.contents c.args.writer.now) (store_seen (g.S.Store.failures c.args.store.now) (g.S.Store.calls c.args.store.now) (g.S.Store.contents c.args.store.now)) in
-    fault_exit c.from_residual.result _ (BrokenOff start c.args.piece.now first.output (g.W.Sink.contents c.end_line.new.writer)) c.in_err-end_line-in_default-Some.field-0.0 c.from_residual.ensures
-    (fed_fault start (ahead (g.M.Machine.future now.machine) now.begun.items) from d c.args.piece.now c.lines.rest.now first out (g.W.Sink.contents c.end_line.new.writer) c.in_err-end_line-in_default-Some.field-0.0 c.lines.invariant.fed c.in_err-end_line-in_default-Some.ensures.answer
+    let new = outlets (g.W.Sink.contents c.end_line.new.writer) (store_seen (g.S.Store.failures c.end_line.new.store) (g.S.Store.calls c.end_line.new.store) (g.S.Store.contents c.end_line.new.store)) in
+    fault_exit c.from_residual.result _ (BrokenOff from start c.args.piece.now first new) c.in_err-end_line-in_default-Some.field-0.0 c.from_residual.ensures
+    (fed_fault start (ahead (g.M.Machine.future now.machine) now.begun.items) from d c.args.piece.now c.lines.rest.now first out new c.in_err-end_line-in_default-Some.field-0.0 c.lines.invariant.fed c.in_err-end_line-in_default-Some.ensures.answer
     (nothing_ahead (g.M.Machine.future now.machine) d now.begun.items now.whole (g.met.M.Machine.waits now.machine)))
 
 pub returns-then-not-branch-clause-answer : goal.returns-then-not-branch-clause-answer
@@ -78,8 +80,8 @@ returns-in_err-keep-in_default-None-clause-answer g c =
     let start = ahead (g.M.Machine.future c.args.self.now.machine) c.args.self.now.begun.items in
     let from = g.M.Machine.directory c.args.self.now.machine in
     let first = outlets (g.W.Sink.contents c.args.writer.now) (store_seen (g.S.Store.failures c.args.store.now) (g.S.Store.calls c.args.store.now) (g.S.Store.contents c.args.store.now)) in
-    fault_exit c.from_residual-in_err-keep-in_default-None.result _ (BrokenOff start c.args.piece.now first.output out.output) Memory c.from_residual-in_err-keep-in_default-None.ensures
-    (fed_broken start (ahead (g.M.Machine.future now.machine) now.begun.items) from d c.args.piece.now c.lines.rest.now first out out.output c.lines.invariant.fed (Keeps-refl _)
+    fault_exit c.from_residual-in_err-keep-in_default-None.result _ (BrokenOff from start c.args.piece.now first out) Memory c.from_residual-in_err-keep-in_default-None.ensures
+    (fed_broken start (ahead (g.M.Machine.future now.machine) now.begun.items) from d c.args.piece.now c.lines.rest.now first out out c.lines.invariant.fed (Keeps-refl _) (asked_none out.store d)
     (nothing_ahead (g.M.Machine.future now.machine) d now.begun.items now.whole (g.met.M.Machine.waits now.machine)))
 
 pub returns-in_default-None-clause-answer : goal.returns-in_default-None-clause-answer
