@@ -1,0 +1,27 @@
+-- What is kept of the lines of a text beside their bytes. Our own.
+use Rattle.std.specs.Prelude.{◌≡◌, ℕ, ◌≤◌, List, Option, None}
+use Rattle.abc_fold.specs.Work.{Counters, raised}
+use Rattle.abc_rework.specs.Origins.{Origin}
+use Rattle.abc_scan.specs.declared.class.LineClass.{LineClass}
+use Rattle.abc_tunebook.specs.Rules.{Rules}
+
+-- What a line is, its cells, and which chain holds them from which place on, if one does.
+pub record Row (Cell : Type 0) : Type 0 where
+  pub class : LineClass
+  pub cells : List Cell
+  pub origin : Option Origin
+
+-- A line that has been read, and that no chain holds.
+abbrev pub new_row : {State Cell Items Defaults : Type 0} → Rules State Cell Items Defaults → List ℕ → Row Cell
+new_row rules line = record { class = rules.class line; cells = rules.cells line; origin = None }
+
+-- The same line with another origin.
+abbrev pub placed : {Cell : Type 0} → Option Origin → Row Cell → Row Cell
+placed origin row = record { class = row.class; cells = row.cells; origin = origin }
+
+-- The lines scanned have risen by k at most, and the other two counters have not.
+pub record IsScannedUpTo (k : ℕ) (before after : Counters) : Type 0 where
+  pub folded : after.folded ≡ before.folded
+  pub built : after.built ≡ before.built
+  pub least : before.scanned ≤ after.scanned
+  pub most : after.scanned ≤ raised before.scanned k
