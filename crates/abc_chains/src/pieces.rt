@@ -1,0 +1,85 @@
+//! The pieces that the chain of a block is made from.
+
+ghost use Rattle.std.specs.Prelude.{◌≡◌, ◌<◌, ◌++◌, All, IfOk, OnOk, Some, length, slice_get};
+ghost use Rattle.abc_chains.specs.Holding.{IsCarried, IsFolded, LiesWithin, address_from, cells_over, entries_at, held_in, helds_in, helds_of, helds_over};
+ghost use Rattle.abc_fold.specs.Piece.{IsKept, cell_of, cells_of};
+ghost use Rattle.abc_fold.specs.Steps.{steps_of};
+ghost use Rattle.abc_rework.specs.Kept.{held_at};
+
+use crate::row::Row;
+use abc_book::Block;
+use abc_fold::{Chain, Fold, Piece, Resumable};
+use std::alloc::{AllocError, Global};
+
+/// The piece of the cell of a line with `k` others before it: what an old chain keeps of it, or a new one.
+fn piece_at<F: Resumable>(
+    alloc: Global,
+    fold: &F,
+    chains: &[Chain<F>],
+    row: &Row<F::Cell>,
+    k: usize,
+) -> Result<Piece<F>, AllocError>
+    requires inside { k < length row.now.cells }
+    requires carried { IsCarried chains.now row.now }
+    requires folded { All (IsFolded (steps_of (F.next fold.now) (F.gives fold.now) (F.alike fold.now))) chains.now }
+    ensures cell { IfOk result (λ piece. slice_get row.now.cells k ≡ Some (cell_of piece)) }
+    ensures held { IfOk result (λ piece. held_in piece ≡ held_at (entries_at chains.now) (address_from k row.now.origin)) }
+    ensures kept { IfOk result (λ piece. IsKept (steps_of (F.next fold.now) (F.gives fold.now) (F.alike fold.now)) piece) }
+{
+    match &row.origin {
+        None => {
+            let cell = fold.copy_cell(alloc, &row.cells.get().as_slice()[k])?;
+            Ok(Piece::New(cell))
+        }
+        Some(origin) => {
+            let chain = &chains[origin.source];
+            let count = chain.len();
+            chain.kept(origin.first + k)
+        }
+    }
+}
+
+/// Appends the pieces of a line.
+fn append_row<F: Resumable>(
+    alloc: Global,
+    fold: &F,
+    chains: &[Chain<F>],
+    row: &Row<F::Cell>,
+    pieces: &mut Vec<Piece<F>>,
+) -> Result<(), AllocError>
+    requires carried { IsCarried chains.now row.now }
+    requires folded { All (IsFolded (steps_of (F.next fold.now) (F.gives fold.now) (F.alike fold.now))) chains.now }
+    requires kept { All (IsKept (steps_of (F.next fold.now) (F.gives fold.now) (F.alike fold.now))) pieces.old.items }
+    ensures cells { OnOk result (cells_of pieces.new.items ≡ cells_of pieces.old.items ++ row.now.cells) }
+    ensures helds { OnOk result (helds_in pieces.new.items ≡ helds_in pieces.old.items ++ helds_of chains.now row.now) }
+    ensures kept { All (IsKept (steps_of (F.next fold.now) (F.gives fold.now) (F.alike fold.now))) pieces.new.items }
+{
+    let count = row.cells().len();
+    for k in 0..count {
+        let piece = piece_at(alloc, fold, chains, row, k)?;
+        pieces.push(piece)?;
+    }
+    Ok(())
+}
+
+/// The pieces of the cells of a block.
+pub(crate) fn pieces_of<F: Resumable>(
+    alloc: Global,
+    fold: &F,
+    chains: &[Chain<F>],
+    rows: &[Row<F::Cell>],
+    block: &Block,
+) -> Result<Vec<Piece<F>>, AllocError>
+    requires carried { All (IsCarried chains.now) rows.now }
+    requires folded { All (IsFolded (steps_of (F.next fold.now) (F.gives fold.now) (F.alike fold.now))) chains.now }
+    requires within { LiesWithin (length rows.now) block.now }
+    ensures cells { IfOk result (λ pieces. cells_of pieces.items ≡ cells_over rows.now block.now) }
+    ensures helds { IfOk result (λ pieces. helds_in pieces.items ≡ helds_over chains.now rows.now block.now) }
+    ensures kept { IfOk result (λ pieces. All (IsKept (steps_of (F.next fold.now) (F.gives fold.now) (F.alike fold.now))) pieces.items) }
+{
+    let mut pieces = Vec::new(alloc);
+    for i in block.from..block.to {
+        append_row(alloc, fold, chains, &rows[i], &mut pieces)?;
+    }
+    Ok(pieces)
+}
