@@ -1,5 +1,5 @@
 -- The pieces of a line, and what they hold.
-use Rattle.std.proofs.Common.{◌≡◌, ℕ, zero, suc, ◌+◌, ◌-◌, ◌<◌, ◌≤◌, List, [], ◌∷◌, ◌++◌, map, Option, Some, None, Result, Ok, Err, IfOk, slice_get, length, take, drop, get_or, refl, sym, ◌∙◌, ap, subst, arith, add-one, append_assoc, zero-add}
+use Rattle.std.proofs.Common.{◌≡◌, ℕ, zero, suc, ◌+◌, ◌-◌, ◌<◌, ◌≤◌, List, [], ◌∷◌, ◌++◌, map, Option, Some, None, Result, Ok, Err, IfOk, slice_get, length, take, drop, get_or, refl, sym, ◌∙◌, ap, subst, arith, add-one, append_assoc, zero-add, ⊎_elim}
 use Rattle.std.proofs.lemmas.List.{take_more, map-append}
 use Rattle.std.proofs.lemmas.Option.{slice_get_within, get_or_from_slice_get}
 use Rattle.std.proofs.lemmas.Grind.{flat_map-append}
@@ -7,12 +7,13 @@ use Rattle.std.proofs.lemmas.List.Concat.{flat_map-cons}
 use Rattle.std.specs.List.{flat_map}
 use Rattle.abc_fold.specs.declared.piece.Piece.{Piece}
 use Rattle.abc_fold.specs.declared.piece.Piece.TheVariants.{New, Kept}
-use Rattle.abc_fold.specs.Chain.{Chained, Folds, IsKeptAt}
-use Rattle.abc_fold.specs.Piece.{cell_of, cells_of}
+use Rattle.abc_fold.specs.Chain.{Chained, Folds, IsKeptAt, no_cells}
+use Rattle.abc_fold.specs.Piece.{IsKept, cell_of, cells_of}
+use Rattle.abc_fold.specs.Steps.{Steps}
 use Rattle.abc_fold.proofs.Kept.{kept_cell, one_more}
 use Rattle.abc_rework.specs.Origins.{Origin, addresses, numbered}
 use Rattle.abc_rework.specs.Kept.{Held, held_at, both_held}
-use Rattle.abc_chains.specs.Holding.{IsHeldAt, address_from, cells_at, entries_at, held_in, helds_in, helds_at}
+use Rattle.abc_chains.specs.Holding.{IsFolded, IsHeldAt, address_from, cells_at, entries_at, held_in, helds_in, helds_at}
 
 pub some_at : {X : Type 0} (xs : List X) (k : ℕ) → k < length xs → (x : X) × (slice_get xs k ≡ Some x)
 some_at [] k h = absurd (omega arith)
@@ -153,3 +154,12 @@ over_next g xs from i x order e =
         nil : {A : Type 0} (as' : List A) → as' ++ [] ≡ as'
         nil [] = refl
         nil (a ∷ as') = ap (λ l. a ∷ l) (nil as')
+
+-- A piece of a chain that is a fold.
+pub kept_there : {F State Cell Items Work E : Type 0} (steps : Steps State Cell Items) (chain : Chained State Cell Items) (i : ℕ) (result : Result (Piece F State Cell Items Work) E)
+    → IsFolded steps chain → i < length chain.cells → ((opening : State) → Folds steps opening chain → IfOk result (λ piece. IsKept steps piece))
+    → IfOk result (λ piece. IsKept steps piece)
+kept_there {State = State} {Cell = Cell} {Items = Items} steps chain i result folded inside each = ⊎_elim
+    (λ (e : chain ≡ no_cells). let count = ap (λ (c : Chained State Cell Items). length c.cells) e in absurd (let h : ⊥ = omega (arith, inside, count) in h))
+    (λ (own : (opening : State) × Folds steps opening chain). each own.0 own.1)
+    folded

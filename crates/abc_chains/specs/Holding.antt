@@ -1,10 +1,10 @@
 -- What old chains hold of the cells of lines, and the chain of a block. Our own.
-use Rattle.std.specs.Prelude.{◌≡◌, ℕ, zero, suc, ◌+◌, ◌-◌, ◌<◌, ◌≤◌, List, [], ◌∷◌, map, take, drop, length, slice_get, Option, Some, None}
+use Rattle.std.specs.Prelude.{◌≡◌, ◌⊎◌, ℕ, zero, suc, ◌+◌, ◌-◌, ◌<◌, ◌≤◌, List, [], ◌∷◌, map, take, drop, length, slice_get, Option, Some, None}
 use Rattle.std.specs.List.{flat_map}
 use Rattle.abc_book.specs.declared.block.Block.{Block}
 use Rattle.abc_fold.specs.declared.piece.Piece.{Piece}
 use Rattle.abc_fold.specs.declared.piece.Piece.TheVariants.{New, Kept}
-use Rattle.abc_fold.specs.Chain.{Chained, Folds}
+use Rattle.abc_fold.specs.Chain.{Chained, Folds, no_cells}
 use Rattle.abc_fold.specs.Steps.{Steps}
 use Rattle.abc_rework.specs.Kept.{Held, held_at, steps_over}
 use Rattle.abc_rework.specs.Origins.{Origin, addresses}
@@ -30,9 +30,9 @@ cells_at [] k = []
 cells_at (chain ∷ chains) zero = chain.cells
 cells_at (chain ∷ chains) (suc k) = cells_at chains k
 
--- A chain is a fold from some state.
+-- A chain has no cells and no states, or is a fold from some state.
 abbrev pub IsFolded : {State Cell Items : Type 0} → Steps State Cell Items → Chained State Cell Items → Type 0
-IsFolded {State = State} steps chain = (opening : State) × Folds steps opening chain
+IsFolded {State = State} steps chain = (chain ≡ no_cells) ⊎ ((opening : State) × Folds steps opening chain)
 
 -- Where the old chains hold cells of a line, they are these.
 abbrev pub IsHeldAt : {State Cell Items : Type 0} → List (Chained State Cell Items) → List Cell → Option Origin → Type 0

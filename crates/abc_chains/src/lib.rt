@@ -1,7 +1,10 @@
 //! A text with its file header and tunes folded: what is kept of them from edit to edit.
 #![tactic(auto)]
 
+mod blocks;
+mod folded;
 mod pieces;
 mod row;
+mod settle;
 
 pub use row::{Origin, Row, read};

@@ -3,7 +3,7 @@ use Rattle.std.proofs.lemmas.Option.{slice_get_read}
 use Rattle.abc_fold.specs.Steps.{steps_of}
 use Rattle.abc_chains.specs.Holding.{IsFolded}
 use Rattle.abc_chains.specs.Rows.{Row}
-use Rattle.abc_chains.proofs.Carried.{source_there, place_there, place_within, own_cell, own_held}
+use Rattle.abc_chains.proofs.Carried.{source_there, place_there, place_within, kept_there, own_cell, own_held}
 use Rattle.abc_chains.proofs.pieces.piece_at.Goals as goal
 
 pub offset_bounds-chains-origin-inside : goal.offset_bounds-chains-origin-inside
@@ -45,4 +45,6 @@ returns-in-Some-clause-kept g c =
     let steps = steps_of (g.F.Fold.next c.args.fold.now) (g.F.Fold.gives c.args.fold.now) (g.F.Resumable.alike c.args.fold.now) in
     let there = source_there c.args.chains.now c.args.row.now.cells c.args.row.now.origin c.in-Some.origin c.origin.inside.source c.origin.inside.first c.args.k (ap (λ (l : Row g.row.F-Cell.Denot). l.origin) (sym c.row.view_is) ∙ c.in-Some.is) (sym c.origin.view_is) c.requires.carried c.requires.inside in
     let own : IsFolded steps c.index-chains-origin.result = subst (IsFolded steps) (sym c.index-chains-origin.is) (c.requires.folded c.origin.inside.source c.index-chains-origin.result there) in
-    c.kept.ensures.resumable steps own.0 (g.met.F.Resumable.resumable c.args.fold.now) own.1
+    kept_there steps c.index-chains-origin.result (c.origin.inside.first + c.args.k) c.kept.result own
+    (place_within c.args.chains.now c.args.row.now.cells c.args.row.now.origin c.in-Some.origin c.origin.inside.source c.origin.inside.first c.args.k c.index-chains-origin.result (ap (λ (l : Row g.row.F-Cell.Denot). l.origin) (sym c.row.view_is) ∙ c.in-Some.is) (sym c.origin.view_is) c.requires.carried c.requires.inside c.index-chains-origin.is)
+    (λ opening folds. c.kept.ensures.resumable steps opening (g.met.F.Resumable.resumable c.args.fold.now) folds)

@@ -1,0 +1,140 @@
+//! The chains of the file header and the tunes of a text.
+
+ghost use Rattle.std.specs.Prelude.{◌≡◌, ◌+◌, ◌≤◌, All, IfOk, IfSome, length, map};
+ghost use Rattle.std.specs.List.{AllZip, sum_by};
+ghost use Rattle.abc_book.specs.Block.{blocks_of};
+ghost use Rattle.abc_chains.specs.Holding.{IsCarried, IsChain, IsFolded, LiesWithin, class_in, origin_in, steps_taken};
+ghost use Rattle.abc_chains.specs.Keeping.{AreChains, AreRead, IsHeader, behind_chain, header_steps};
+ghost use Rattle.abc_fold.specs.Steps.{steps_of};
+ghost use Rattle.abc_fold.specs.Work.{IsRaisedUpTo};
+ghost use Rattle.abc_lines.specs.Text.{Splice, Text, spliced};
+ghost use Rattle.abc_rework.specs.Fresh.{fresh_after};
+ghost use Rattle.abc_rework.specs.Laid.{laid_in};
+ghost use Rattle.abc_rework.specs.Origins.{origins};
+ghost use Rattle.abc_tunebook.specs.Book.{blocks_in};
+
+use crate::blocks::{header_in, tunes_in};
+use crate::pieces::pieces_of;
+use crate::row::Row;
+use abc_book::Block;
+use abc_compiler::Compiler;
+use abc_fold::{Chain, Counts, Fold, Resumable};
+use std::alloc::{AllocError, Global};
+
+/// The chain of a block, begun in this state.
+fn chain_of<F: Resumable>(
+    alloc: Global,
+    fold: &F,
+    opening: &F::State,
+    old: &[Chain<F>],
+    rows: &[Row<F::Cell>],
+    block: &Block,
+    work: &mut F::Work,
+) -> Result<Chain<F>, AllocError>
+    requires carried { All (IsCarried old.now) rows.now }
+    requires folded { All (IsFolded (steps_of (F.next fold.now) (F.gives fold.now) (F.alike fold.now))) old.now }
+    requires within { LiesWithin (length rows.now) block.now }
+    ensures chain { IfOk result (λ chain. IsChain (steps_of (F.next fold.now) (F.gives fold.now) (F.alike fold.now)) opening.now rows.now chain block.now) }
+    ensures counted { IsRaisedUpTo (steps_taken (steps_of (F.next fold.now) (F.gives fold.now) (F.alike fold.now)) opening.now old.now rows.now block.now) (F.Work.counts work.old) (F.Work.counts work.new) }
+{
+    let pieces = pieces_of(alloc, fold, old, rows, block)?;
+    let mut chain = Chain::new(alloc)?;
+    let patch = chain.prepare(fold, opening, &pieces, work)?;
+    chain.commit(patch);
+    Ok(chain)
+}
+
+/// The chains of tunes, each begun in this state.
+fn tune_chains<F: Resumable>(
+    alloc: Global,
+    fold: &F,
+    opening: &F::State,
+    old: &[Chain<F>],
+    rows: &[Row<F::Cell>],
+    blocks: &[Block],
+    work: &mut F::Work,
+) -> Result<Vec<Chain<F>>, AllocError>
+    requires carried { All (IsCarried old.now) rows.now }
+    requires folded { All (IsFolded (steps_of (F.next fold.now) (F.gives fold.now) (F.alike fold.now))) old.now }
+    requires within { All (LiesWithin (length rows.now)) blocks.now }
+    ensures chains { IfOk result (λ chains. AllZip (IsChain (steps_of (F.next fold.now) (F.gives fold.now) (F.alike fold.now)) opening.now rows.now) chains.items blocks.now) }
+    ensures counted { IsRaisedUpTo (sum_by (steps_taken (steps_of (F.next fold.now) (F.gives fold.now) (F.alike fold.now)) opening.now old.now rows.now) blocks.now) (F.Work.counts work.old) (F.Work.counts work.new) }
+{
+    let mut chains = Vec::new(alloc);
+    for block in blocks {
+        let chain = chain_of(alloc, fold, opening, old, rows, block, work)?;
+        chains.push(chain)?;
+    }
+    Ok(chains)
+}
+
+/// The chain of the file header; where there is none, one without cells and states.
+fn header_chain<C: Compiler>(
+    alloc: Global,
+    compiler: &C,
+    old: &[Chain<C>],
+    rows: &[Row<C::Cell>],
+    header: Option<Block>,
+    work: &mut C::Work,
+) -> Result<Chain<C>, AllocError>
+    requires carried { All (IsCarried old.now) rows.now }
+    requires folded { All (IsFolded (steps_of (C.next compiler.now) (C.gives compiler.now) (C.alike compiler.now))) old.now }
+    requires within { IfSome header (LiesWithin (length rows.now)) }
+    ensures chain { IfOk result (λ chain. IsHeader (steps_of (C.next compiler.now) (C.gives compiler.now) (C.alike compiler.now)) (C.rules compiler.now).header rows.now chain header) }
+    ensures counted { IsRaisedUpTo (header_steps (steps_of (C.next compiler.now) (C.gives compiler.now) (C.alike compiler.now)) (C.rules compiler.now).header old.now rows.now header) (C.Work.counts work.old) (C.Work.counts work.new) }
+{
+    match header {
+        None => Chain::new(alloc),
+        Some(block) => {
+            let first = compiler.header(alloc);
+            chain_of(alloc, compiler, &first, old, rows, &block, work)
+        }
+    }
+}
+
+/// The state in which the tunes begin, by the chain of the file header.
+fn opening_behind<C: Compiler>(
+    alloc: Global,
+    compiler: &C,
+    header: Option<Block>,
+    chain: &Chain<C>,
+) -> C::State
+    ensures { result ≡ (C.rules compiler.now).tune (behind_chain header chain.now) }
+{
+    let after = match header {
+        None => None,
+        Some(_) => chain.entry(chain.len()),
+    };
+    compiler.tune(alloc, after)
+}
+
+/// The chains of a text with these rows and blocks, the file header's first, and then the tunes'. Each step is one of
+/// a fresh cell.
+pub(crate) fn chains_of<C: Compiler>(
+    alloc: Global,
+    compiler: &C,
+    old: &[Chain<C>],
+    rows: &[Row<C::Cell>],
+    blocks: &[Block],
+    work: &mut C::Work,
+) -> Result<Vec<Chain<C>>, AllocError>
+    requires carried { All (IsCarried old.now) rows.now }
+    requires folded { All (IsFolded (steps_of (C.next compiler.now) (C.gives compiler.now) (C.alike compiler.now))) old.now }
+    requires blocks { blocks.now ≡ blocks_of (map class_in rows.now) }
+    ensures chains { (text : Text) → AreRead (C.rules compiler.now) text rows.now →
+        IfOk result (λ chains. AreChains (steps_of (C.next compiler.now) (C.gives compiler.now) (C.alike compiler.now)) (C.rules compiler.now) text chains.items) }
+    ensures counted { let steps = steps_of (C.next compiler.now) (C.gives compiler.now) (C.alike compiler.now) in let rules = C.rules compiler.now in
+        (text : Text) (s : Splice) → s.at + s.removed ≤ length text → AreChains steps rules text old.now
+        → AreRead rules (spliced text s) rows.now → map origin_in rows.now ≡ origins rules.cells (laid_in steps rules text) s
+        → IsRaisedUpTo (fresh_after steps rules text s) (C.Work.counts work.old) (C.Work.counts work.new) }
+{
+    let header = header_in(blocks);
+    let first = header_chain(alloc, compiler, old, rows, header, work)?;
+    let opening = opening_behind(alloc, compiler, header, &first);
+    let tunes = tunes_in(alloc, blocks)?;
+    let mut others = tune_chains(alloc, compiler, &opening, old, rows, &tunes, work)?;
+    let mut chains = Vec::new(alloc);
+    chains.push(first)?;
+    chains.append(&mut others)?;
+    Ok(chains)
+}
