@@ -5,3 +5,6 @@ pub mod Meaning
 pub mod Opening
 pub mod Rising
 pub mod Joining
+pub mod Costs
+pub mod Edits
+pub mod Settled

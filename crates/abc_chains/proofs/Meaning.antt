@@ -151,7 +151,9 @@ all_steps : {State Cell Items : Type 0} (steps : Steps State Cell Items) (read :
     → map cells_in rows ≡ map read (spliced laid.text s) → map origin_in rows ≡ origins read laid s → IsAlike steps own opening
     → header_steps steps first old rows header + sum_by (steps_taken steps own old rows) blocks ≡ sum_by (fresh_of steps read (spliced laid.text s) (pasts steps read laid s)) (header_chain first header ++ tune_chains 1 opening blocks)
 all_steps steps read laid s old rows first own opening None blocks laws lies inside kept cells from alike =
-    tunes_steps steps read laid s old rows 1 own opening blocks laws lies inside kept cells from alike
+    let taken : ℕ = sum_by (steps_taken steps own old rows) blocks in
+    let none : 0 + taken ≡ taken = omega arith in
+    none ∙ tunes_steps steps read laid s old rows 1 own opening blocks laws lies inside kept cells from alike
 all_steps steps read laid s old rows first own opening (Some block) blocks laws lies inside kept cells from alike =
     let fresh = fresh_of steps read (spliced laid.text s) (pasts steps read laid s) in
     (λ i. block_steps steps read laid s old rows 0 first first block laws lies inside kept cells from (laws.reflexive first) i

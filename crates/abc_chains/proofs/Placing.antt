@@ -92,7 +92,7 @@ settle_end rows whole made made1 blocks at i k e last done =
     let all : between rows at (length rows) ≡ drop at rows = take_whole (length rows - at) (drop at rows) (omega (arith, length-drop at rows)) in
     last ∙ (ap (λ l. made ++ map (placed None) l) all ∙ (ap (λ l. made ++ placed_from rows at k l) (sym none) ∙ e))
 
-get_same : {A : Type 0} (xs : List A) (i : ℕ) (d x : A) → i < length xs → get_or xs i d ≡ get_or xs i x
+pub get_same : {A : Type 0} (xs : List A) (i : ℕ) (d x : A) → i < length xs → get_or xs i d ≡ get_or xs i x
 get_same [] i d x h = absurd (omega arith)
 get_same (a ∷ xs) zero d x h = refl
 get_same (a ∷ xs) (suc i) d x h = get_same xs i d x (omega arith)

@@ -14,7 +14,7 @@ pub record IsScanning (before now : Counters) (k most : ℕ) : Type 0 where
   pub least : before.scanned ≤ now.scanned
   pub bound : raised now.scanned k ≤ raised before.scanned most
 
-raised_more : (count more k : ℕ) → count ≤ more → raised count k ≤ raised more k
+pub raised_more : (count more k : ℕ) → count ≤ more → raised count k ≤ raised more k
 unfolding raised
 raised_more count more k h = omega arith
 
