@@ -1,0 +1,43 @@
+-- What the items of a tune give, wherever its lines stand, and what they give where they stand. Our own.
+use Rattle.std.specs.Prelude.{◌≡◌, ℕ, ◌+◌, List, [], ◌∷◌, ◌++◌, length, map, take, drop, Option, Some, IfSome, slice_get}
+use Rattle.abc_fold.specs.Chain.{Chained}
+use Rattle.abc_outputs.specs.declared.output.Output.{Output}
+use Rattle.abc_tunebook.specs.Placed.{Placed, placed_at}
+use Rattle.abc_tunebook.specs.Rules.{Rules}
+use Rattle.abc_tunebook.specs.Tune.{fault_of_tune, faults_along, first_of}
+use Rattle.abc_tunebook.specs.declared.tune.Tune.{Tune}
+
+-- What the items of a tune give: the first number and title that are there count.
+abbrev pub output_of : {State Cell Items Defaults : Type 0} → Rules State Cell Items Defaults → List Items → Output
+output_of rules items = record {
+  number = first_of rules.number 0 items;
+  title = first_of rules.title [] items;
+  bytes = rules.bytes items;
+  codes = rules.build_faults items;
+}
+
+-- What the chain of a tune gives.
+abbrev pub output_in : {State Cell Items Defaults : Type 0} → Rules State Cell Items Defaults → Chained State Cell Items → Output
+output_in rules chain = output_of rules chain.items
+
+-- Things of lines that follow one another, the first with this number, by how many of them each line has.
+abbrev pub placed_from : {A : Type 0} → ℕ → List ℕ → List A → List (Placed A)
+placed_from line [] all = []
+placed_from line (count ∷ counts) all = map (placed_at line) (take count all) ++ placed_from (line + 1) counts (drop count all)
+
+-- How many cells each line has.
+abbrev pub counts_of : {Cell : Type 0} → (List ℕ → List Cell) → List (List ℕ) → List ℕ
+counts_of read lines = map (λ line. length (read line)) lines
+
+-- A tune whose first line has this number, by what its items give wherever they stand, and by the lines of its items.
+abbrev pub tune_at : {State Cell Items Defaults : Type 0} → Rules State Cell Items Defaults → ℕ → Output → List (Placed Items) → Tune
+tune_at rules line output items = record {
+  number = output.number;
+  title = output.title;
+  bytes = output.bytes;
+  faults = map (fault_of_tune line) output.codes ++ faults_along rules.faults items;
+}
+
+-- A tune that takes over what an old one gives has its items.
+abbrev pub TakesOver : {State Cell Items Defaults : Type 0} → Rules State Cell Items Defaults → List Output → Chained State Cell Items → Option ℕ → Type 0
+TakesOver rules outputs chain taken = IfSome taken (λ old. slice_get outputs old ≡ Some (output_in rules chain))

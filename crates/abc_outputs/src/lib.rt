@@ -1,0 +1,11 @@
+//! What the tunes of a text give to its book, from chains that keep the items of their cells: made by a compiler, or
+//! taken over from a tune of the text before that has the same items.
+#![tactic(auto)]
+
+mod faults;
+mod output;
+mod outputs;
+
+pub use faults::put_of_lines;
+pub use output::Output;
+pub use outputs::outputs_of;

@@ -1,0 +1,130 @@
+//! What a tune gives, wherever its lines stand.
+
+ghost use Rattle.std.specs.Prelude.{◌≡◌, ◌+◌, ◌≤◌, [], IfOk, length, option_copied};
+ghost use Rattle.std.specs.List.{sum_by};
+ghost use Rattle.abc_outputs.specs.Built.{IsBuiltUpTo};
+ghost use Rattle.abc_outputs.specs.Output.{output_in, placed_from, tune_at};
+ghost use Rattle.abc_tunebook.specs.Tune.{first_of};
+
+use crate::faults::{put_of_lines, put_of_tune};
+use abc_compiler::Compiler;
+use abc_fields::FaultCode;
+use abc_fold::{Chain, Counts};
+use abc_text::Sequence;
+use abc_tunebook::Tune;
+use std::alloc::{AllocError, Global};
+
+/// What a tune gives to the book wherever its lines stand: all but the faults of its cells.
+#[derive(Debug, Drop)]
+pub struct Output {
+    /// The reference number, 0 where the tune has none.
+    pub number: u32,
+    /// The title's bytes, empty where the tune has none.
+    pub title: Sequence<u8>,
+    /// The bytes of its MIDI file; None where the tune is too long for one.
+    pub bytes: Option<Sequence<u8>>,
+    /// The codes of its faults as a whole.
+    pub codes: Sequence<FaultCode>,
+}
+
+impl Output {
+    /// What the items of a chain give. The compiler builds at most one tune.
+    pub fn of<C: Compiler>(
+        compiler: &C,
+        alloc: Global,
+        chain: &Chain<C>,
+        work: &mut C::Work,
+    ) -> Result<Output, AllocError>
+        ensures value { IfOk result (λ output. output ≡ output_in (C.rules compiler.now) chain.now) }
+        ensures counted { IsBuiltUpTo 1 (C.Work.counts work.old) (C.Work.counts work.new) }
+    {
+        let items = copied_items(compiler, alloc, chain)?;
+        let built = compiler.build(alloc, &items, work)?;
+        let title = Sequence::from_slice(alloc, title_of(compiler, &items))?;
+        Ok(Output {
+            number: number_of(compiler, &items),
+            title,
+            bytes: built.bytes,
+            codes: built.faults,
+        })
+    }
+
+    /// The tune of a chain whose first line has this number, by how many of its cells each line has.
+    pub fn tune_at<C: Compiler>(
+        &self,
+        compiler: &C,
+        alloc: Global,
+        chain: &Chain<C>,
+        line: u32,
+        counts: &[usize],
+    ) -> Result<Tune, AllocError>
+        requires few { line + length counts.now ≤ u32.MAX }
+        requires shape { length chain.now.items ≡ length chain.now.cells }
+        requires inside { sum_by (λ count. count) counts.now ≤ length chain.now.cells }
+        ensures { IfOk result (λ tune. tune ≡ tune_at (C.rules compiler.now) line self.now (placed_from line counts.now chain.now.items)) }
+    {
+        let mut faults = Vec::new(alloc);
+        put_of_tune(&mut faults, line, self.codes.as_slice())?;
+        put_of_lines(compiler, &mut faults, chain, line, counts)?;
+        let title = Sequence::from_slice(alloc, self.title.as_slice())?;
+        let bytes = copied_bytes(alloc, &self.bytes)?;
+        Ok(Tune {
+            number: self.number,
+            title,
+            bytes,
+            faults: Sequence::from(faults),
+        })
+    }
+}
+
+/// A copy of a file's bytes, where there are any.
+fn copied_bytes(
+    alloc: Global,
+    bytes: &Option<Sequence<u8>>,
+) -> Result<Option<Sequence<u8>>, AllocError>
+    ensures { IfOk result (λ copy. copy ≡ bytes.now) }
+{
+    match bytes {
+        Some(bytes) => Ok(Some(Sequence::from_slice(alloc, bytes.as_slice())?)),
+        None => Ok(None),
+    }
+}
+
+/// Copies of the items of a chain.
+fn copied_items<C: Compiler>(
+    compiler: &C,
+    alloc: Global,
+    chain: &Chain<C>,
+) -> Result<Vec<C::Items>, AllocError>
+    ensures { IfOk result (λ copies. copies.items ≡ chain.now.items) }
+{
+    let mut copies = Vec::with_capacity(alloc, chain.len())?;
+    while let Some(items) = chain.items(copies.len()) {
+        copies.push(compiler.copy_items(alloc, items)?)?;
+    }
+    Ok(copies)
+}
+
+/// The reference number of the first cell that gives one, 0 where none does.
+fn number_of<C: Compiler>(compiler: &C, items: &[C::Items]) -> u32
+    ensures { result ≡ first_of (C.rules compiler.now).number 0 items.now }
+{
+    for one in items {
+        if let Some(number) = compiler.number(one) {
+            return number;
+        }
+    }
+    0
+}
+
+/// The title of the first cell that gives one, empty where none does.
+fn title_of<'a, C: Compiler>(compiler: &C, items: &'a [C::Items]) -> &'a [u8]
+    ensures { result.now ≡ first_of (C.rules compiler.now).title [] items.now }
+{
+    for one in items {
+        if let Some(title) = compiler.title(one) {
+            return title;
+        }
+    }
+    &[]
+}
