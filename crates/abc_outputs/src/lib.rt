@@ -3,9 +3,13 @@
 #![tactic(auto)]
 
 mod faults;
+mod laws;
 mod output;
 mod outputs;
+mod tunes;
 
 pub use faults::put_of_lines;
+pub use laws::{cells_follow, tunes_follow};
 pub use output::Output;
 pub use outputs::outputs_of;
+pub use tunes::{header_faults_by, tunes_by};

@@ -8,7 +8,7 @@ loop-at-preserved g c =
     let rf = (g.C.Compiler.rules c.args.compiler.now).faults in
     let count = get_or c.args.counts.now c.loop-at.at 0 in
     let split = lines_on rf c.args.chain.now.items (c.args.first + c.loop-at.at) (c.args.first + (c.loop-at.at + 1)) c.loop-at.from (c.loop-at.from + count) count
-        (drop (c.loop-at.at + 1) c.args.counts.now) (drop c.loop-at.at c.args.counts.now) (one_count c.args.counts.now c.loop-at.at c.loop-at-test.true) refl (omega arith) in
+    (drop (c.loop-at.at + 1) c.args.counts.now) (drop c.loop-at.at c.args.counts.now) (one_count c.args.counts.now c.loop-at.at c.loop-at-test.true) refl (omega arith) in
     let sums = sum_by-drop_more (λ (count : ℕ). count) c.args.counts.now c.loop-at.at 0 c.loop-at-test.true in
     record {
       put = put_more c.loop-at.faults.items _ _ _ _ _ c.in_ok-put_of_line.ensures split c.loop-at.invariant.put;
