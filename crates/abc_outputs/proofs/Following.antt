@@ -1,6 +1,9 @@
 -- What a chain gives, placed in the lines of its cells, is what the definitions give along them.
-use Rattle.std.proofs.Common.{◌≡◌, ℕ, suc, ◌+◌, ◌-◌, ◌≤◌, List, [], ◌∷◌, ◌++◌, length, take, drop, map, flat_map, Some, refl, sym, ap, ◌∙◌, arith, length-append}
+use Rattle.std.proofs.Common.{◌≡◌, ℕ, suc, ◌+◌, ◌-◌, ◌≤◌, List, [], ◌∷◌, ◌++◌, length, take, drop, map, flat_map, Option, Some, None, refl, sym, ap, ◌∙◌, arith, length-append}
 use Rattle.std.specs.List.{AllZip, sum_by}
+use Rattle.std.specs.Prelude.{All, IfSome}
+use Rattle.std.proofs.lemmas.List.Elements.{All-head, All-tail}
+use Rattle.abc_outputs.proofs.Blocks.{header_within, text_blocks_within, tunes_lie_within}
 use Rattle.std.proofs.lemmas.List.{drop-map, length-map, map-append, take-map}
 use Rattle.std.proofs.Math.Seq.{take-append_seam, drop-append_seam}
 use Rattle.std.proofs.lemmas.List.Sums.{sum_by-cons}
@@ -9,8 +12,8 @@ use Rattle.abc_fold.specs.Chain.{Chained}
 use Rattle.abc_fold.specs.Steps.{Steps, items_from}
 use Rattle.abc_lines.specs.Text.{Text}
 use Rattle.abc_outputs.specs.Output.{counts_of, output_of, placed_from, tune_at}
-use Rattle.abc_outputs.specs.Tunes.{HasCells, IsFoldOf, counts_in, tune_by, tunes_by, header_faults_by}
-use Rattle.abc_tunebook.specs.Book.{header_faults}
+use Rattle.abc_outputs.specs.Tunes.{AreFoldsOf, HasCells, IsFoldOf, LiesWithin, counts_in, given_by_chains, tune_by, tunes_by, header_faults_by}
+use Rattle.abc_tunebook.specs.Book.{blocks_in, book_from, book_of, given_of, header_faults, header_in, opening_of, tunes_in}
 use Rattle.abc_tunebook.specs.Placed.{Placed, cells_from, items_along, placed_at, things}
 use Rattle.abc_tunebook.specs.Rules.{Rules}
 use Rattle.abc_tunebook.specs.Tune.{faults_along, lines_in, tune_from, tune_of}
@@ -144,3 +147,37 @@ module _ {State Cell Items : Type 0} (steps : Steps State Cell Items) where
     pub header_follows : (text : Text) (chain : Chained State Cell Items) (block : Block) → IsFoldOf steps rules.cells rules.header text chain block
         → header_faults_by rules (counts_of rules.cells text) chain (Some block) ≡ header_faults steps.next steps.gives rules text (Some block)
     header_follows text chain block is = ap (faults_along rules.faults) (placed_there rules.cells rules.header text chain block is (block.from + 1))
+
+    -- the chains of a text have the cells of its lines
+    zipped_cells : (opening : State) (text : Text) (chains : List (Chained State Cell Items)) (blocks : List Block) → All (LiesWithin (length text)) blocks
+        → AllZip (IsFoldOf steps rules.cells opening text) chains blocks → AllZip (HasCells (counts_of rules.cells text)) chains blocks
+    zipped_cells opening text [] [] within all = tt
+    zipped_cells opening text [] (block ∷ blocks) within all = absurd all
+    zipped_cells opening text (chain ∷ chains) [] within all = absurd all
+    zipped_cells opening text (chain ∷ chains) (block ∷ blocks) within all =
+        let own = All-head (LiesWithin (length text)) block blocks within in
+        (has_cells rules.cells opening text chain block all.0 own.0 own.1, zipped_cells opening text chains blocks (All-tail (LiesWithin (length text)) block blocks within) all.1)
+
+    module _ (text : Text) (header : Chained State Cell Items) (chains : List (Chained State Cell Items)) (are : AreFoldsOf steps rules text header chains) where
+      first_cells : (block : Option Block) → IfSome block (LiesWithin (length text)) → IfSome block (IsFoldOf steps rules.cells rules.header text header) → IfSome block (HasCells (counts_of rules.cells text) header)
+      first_cells None within is = tt
+      first_cells (Some block) within is = has_cells rules.cells rules.header text header block is within.0 within.1
+
+      pub all_cells : IfSome (header_in (blocks_in rules text)) (HasCells (counts_of rules.cells text) header) × AllZip (HasCells (counts_of rules.cells text)) chains (tunes_in (blocks_in rules text))
+      all_cells =
+          let all = text_blocks_within rules.class text in (
+            first_cells (header_in (blocks_in rules text)) (header_within (length text) (blocks_in rules text) all) are.first,
+            zipped_cells (opening_of steps.next rules text (blocks_in rules text)) text chains (tunes_in (blocks_in rules text)) (tunes_lie_within (length text) (blocks_in rules text) (tunes_in (blocks_in rules text)) all refl) are.tunes,
+          )
+
+      first_faults : (block : Option Block) → IfSome block (IsFoldOf steps rules.cells rules.header text header)
+          → header_faults_by rules (counts_of rules.cells text) header block ≡ header_faults steps.next steps.gives rules text block
+      first_faults None is = refl
+      first_faults (Some block) is = header_follows text header block is
+
+      pub book_follows : book_from (given_by_chains rules (counts_of rules.cells text) header chains (header_in (blocks_in rules text)) (tunes_in (blocks_in rules text))) ≡ book_of steps.next steps.gives rules text
+      unfolding book_of
+      book_follows =
+          let blocks = blocks_in rules text in
+          ap (λ faults. book_from (given_of faults (tunes_by rules (counts_of rules.cells text) chains (tunes_in blocks)))) (first_faults (header_in blocks) are.first)
+          ∙ ap (λ tunes. book_from (given_of (header_faults steps.next steps.gives rules text (header_in blocks)) tunes)) (tunes_follow (opening_of steps.next rules text blocks) text chains (tunes_in blocks) are.tunes)

@@ -1,3 +1,4 @@
 pub mod Built
 pub mod Output
+pub mod Taken
 pub mod Tunes

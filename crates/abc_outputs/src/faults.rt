@@ -53,7 +53,7 @@ fn put_of_line<C: Compiler>(
 
 /// Puts the faults of the cells of a chain behind others, by how many of its cells each line has: the first of these
 /// lines has this number.
-pub fn put_of_lines<C: Compiler>(
+pub(crate) fn put_of_lines<C: Compiler>(
     compiler: &C,
     faults: &mut Vec<Fault>,
     chain: &Chain<C>,

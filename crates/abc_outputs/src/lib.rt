@@ -2,14 +2,14 @@
 //! taken over from a tune of the text before that has the same items.
 #![tactic(auto)]
 
+mod book;
 mod faults;
 mod laws;
 mod output;
 mod outputs;
 mod tunes;
 
-pub use faults::put_of_lines;
-pub use laws::{cells_follow, tunes_follow};
+pub use book::{FoldedText, book_by};
+pub use laws::{book_follows, cells_follow, taken_suffice, tunes_follow};
 pub use output::Output;
 pub use outputs::outputs_of;
-pub use tunes::{header_faults_by, tunes_by};

@@ -33,7 +33,7 @@ fn tune_by<C: Compiler>(
 }
 
 /// The tunes of blocks, of what the chain of each gives, by how many cells each line of the text has.
-pub fn tunes_by<C: Compiler>(
+pub(crate) fn tunes_by<C: Compiler>(
     compiler: &C,
     alloc: Global,
     chains: &[Chain<C>],
@@ -55,7 +55,7 @@ pub fn tunes_by<C: Compiler>(
 }
 
 /// The faults of a file header, if there is one, of what its chain gives, by how many cells each line of the text has.
-pub fn header_faults_by<C: Compiler>(
+pub(crate) fn header_faults_by<C: Compiler>(
     compiler: &C,
     alloc: Global,
     chain: &Chain<C>,
