@@ -3,6 +3,7 @@ pub mod Along
 pub mod ByName
 pub mod Cells
 pub mod Heard
+pub mod Keys
 pub mod Known
 pub mod Named
 pub mod Placed

@@ -7,6 +7,7 @@ pub mod Defaults
 pub mod Element
 pub mod Header
 pub mod Heard
+pub mod Keys
 pub mod Place
 pub mod Ties
 pub mod TunePlaces

@@ -37,7 +37,7 @@ AreBehind before accidentals earlier =
     (letter : Letter) → written_on accidentals letter ≡ option_or (newest_written letter earlier) (accidental_at letter before)
 
 -- One note more, and it is so behind it.
-behind-own : (before : List Element) (accidentals : Accidentals) (earlier : List Note) (note : Note)
+pub behind-own : (before : List Element) (accidentals : Accidentals) (earlier : List Note) (note : Note)
     → AreBehind before accidentals earlier → AreBehind before (with_own accidentals note) (note ∷ earlier)
 behind-own before accidentals earlier note h letter =
     written_on-with_own accidentals note letter
@@ -55,7 +55,7 @@ alteration-at opening before accidentals earlier note h =
     (ap (λ (w : Option ℤ). unwrap_or w rest) (h note.letter)
     ∙ unwrap_or-or (newest_written note.letter earlier) (accidental_at note.letter before) rest)
 
-either : (b : Bool) (x y : Inside) (P : Inside → Type 0) → P x → P y → P (cond b x y)
+pub either : (b : Bool) (x y : Inside) (P : Inside → Type 0) → P x → P y → P (cond b x y)
 either true x y P p q = p
 either false x y P p q = q
 
@@ -64,13 +64,13 @@ tied-step : (b : Bool) (xs : List TiedNote) (x y : TiedNote) (rest : List TiedNo
 tied-step true xs x y rest e = append_assoc xs (x ∷ []) rest ∙ ap (λ (z : TiedNote). xs ++ (z ∷ rest)) e
 tied-step false xs x y rest e = refl
 
-room-left : (n m : ℕ) → n + suc m ≡ MOST_NOTES → nat_lt n MOST_NOTES ≡ true
+pub room-left : (n m : ℕ) → n + suc m ≡ MOST_NOTES → nat_lt n MOST_NOTES ≡ true
 room-left n m h = grind (arith, nat_tests)
 
-no-room : (n : ℕ) → n + 0 ≡ MOST_NOTES → nat_lt n MOST_NOTES ≡ false
+pub no-room : (n : ℕ) → n + 0 ≡ MOST_NOTES → nat_lt n MOST_NOTES ≡ false
 no-room n h = grind (arith, nat_tests)
 
-one-more : (xs : List Tone) (x : Tone) (room : ℕ) → length xs + suc room ≡ MOST_NOTES → length (xs ++ x ∷ []) + room ≡ MOST_NOTES
+pub one-more : (xs : List Tone) (x : Tone) (room : ℕ) → length xs + suc room ≡ MOST_NOTES → length (xs ++ x ∷ []) + room ≡ MOST_NOTES
 one-more xs x room h = simp length-append (omega arith)
 
 module _ (opening : Settings) (before : List Element) (broken : List Ratio) (outside : Outside) where

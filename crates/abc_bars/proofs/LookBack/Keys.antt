@@ -1,0 +1,416 @@
+-- What alters a note at a place is what looking back finds, and its key is that of its pitch as it is altered so.
+use Rattle.std.proofs.Common.{◌≡◌, ◌∙◌, ℕ, suc, zero, ◌+◌, ℤ, Bool, true, false, ◌||◌, cond, List, [], ◌∷◌, ◌++◌, length, map, take, Option, Some, None, unwrap_or, refl, sym, ap, subst, append-nil, append_assoc}
+use Rattle.std.specs.Prelude.{All}
+use Rattle.std.specs.Option.{option_or}
+use Rattle.std.proofs.lemmas.List.{map-append}
+use Rattle.std.proofs.lemmas.List.Elements.{All-cons, All-head, All-map, All-nil, All-same, All-tail}
+use Rattle.abc_fields.specs.declared.fault.FaultCode.{FaultCode}
+use Rattle.abc_fields.specs.declared.fault.FaultCode.TheVariants.{BadByte, BigChord, LooseTie}
+use Rattle.abc_fields.specs.declared.key.Key.{Key}
+use Rattle.abc_fields.specs.Signature.{alteration as signature_alteration}
+use Rattle.abc_scan.specs.declared.chord.Chord.{Chord}
+use Rattle.abc_scan.specs.declared.field.Field.{Field}
+use Rattle.abc_scan.specs.declared.note.Note.{Note}
+use Rattle.abc_scan.specs.declared.parts.ChordPartKind.{ChordPartKind}
+use Rattle.abc_scan.specs.declared.parts.ChordPartKind.TheVariants as parts
+use Rattle.abc_scan.specs.declared.spanned.Spanned.{Spanned}
+use Rattle.abc_scan.specs.declared.token.TokenKind.{TokenKind}
+use Rattle.abc_scan.specs.declared.token.TokenKind.TheVariants as kinds
+use Rattle.abc_text.specs.declared.letter.Letter.{Letter}
+use Rattle.abc_time.specs.declared.ratio.Ratio.{Ratio}
+use Rattle.abc_bars.specs.declared.body.Body.{Body}
+use Rattle.abc_bars.specs.declared.body.Current.{Current}
+use Rattle.abc_bars.specs.declared.body.Current.TheVariants.{Unnamed, At}
+use Rattle.abc_bars.specs.declared.cell.Given.{Given}
+use Rattle.abc_bars.specs.declared.defaults.Defaults.{Defaults}
+use Rattle.abc_music.specs.declared.accidentals.Accidentals.{Accidentals}
+use Rattle.abc_music.specs.declared.chords.Outside.{Outside}
+use Rattle.abc_music.specs.declared.item.Item.{Item}
+use Rattle.abc_music.specs.declared.item.Item.TheVariants as items
+use Rattle.abc_music.specs.declared.item.TheConstants.{MOST_NOTES}
+use Rattle.abc_music.specs.declared.settings.Settings.{Settings}
+use Rattle.abc_music.specs.declared.sound.Inside.{Inside}
+use Rattle.abc_music.specs.declared.tied.TiedNote.{TiedNote}
+use Rattle.abc_music.specs.Accidentals.{written_on}
+use Rattle.abc_music.specs.Alteration.{alteration_of, with_own}
+use Rattle.abc_music.specs.Broken.{factors_of, has_note, is_time_token}
+use Rattle.abc_music.specs.Chords.{inside_from, inside_of, tie_follows, with_dropped, with_fault as with_part_fault}
+use Rattle.abc_music.specs.Column.{column_of}
+use Rattle.abc_music.specs.NoteKeys.{IsAltered, IsSame}
+use Rattle.abc_music.specs.Pitch.{midi_key, pitch_of}
+use Rattle.abc_music.specs.Sound.{no_notes, with_note as with_sounding}
+use Rattle.abc_music.specs.TimeTokens.{chord_by, first_length}
+use Rattle.abc_music.proofs.NoteKeys.{altered_by}
+use Rattle.abc_bars.specs.Body.{here, mentioned}
+use Rattle.abc_bars.specs.BodyFields.{field_given}
+use Rattle.abc_bars.specs.Cell.{is_tie_token, mentioned_by_chord, nothing_given, tie_ahead, with_ending, with_fault, with_fault_if, with_kind, with_some_fault, with_token}
+use Rattle.abc_bars.specs.LookBack.Cells.{behind_tokens, looked_back}
+use Rattle.abc_bars.specs.LookBack.Element.{Element}
+use Rattle.abc_bars.specs.LookBack.Heard.{held_at}
+use Rattle.abc_bars.specs.LookBack.Keys.{AreWrittenAlike, ChordsHaveKeys, GivesTones, IsAlteredAt, IsLastInBar, IsNoneAmong, IsNoneInBar, NotesHaveKeys, Standing, heard_of, key_at, keys_from, standing}
+use Rattle.abc_bars.specs.LookBack.Place.{opening_at}
+use Rattle.abc_bars.specs.LookBack.Ties.{IsTimeBefore, tied_notes}
+use Rattle.abc_bars.specs.LookBack.Voice.{accidental_at, accidental_said, accidentals_at, alteration_at, counted_notes, newest_written, notes_among, settings_at, shift_at, signature_at, tied_at, written_by}
+use Rattle.abc_bars.proofs.LookBack.Named.{here_found}
+use Rattle.abc_bars.proofs.LookBack.Tied.{AreBehind, alteration-at, behind-none, behind-own, either, no-room, one-more, room-left}
+use Rattle.abc_bars.proofs.LookBack.Ties.{Passed, altered, left-by, passed-over, tied-last}
+
+-- The accidentals behind notes of a chord, newest first.
+abbrev behind_notes : List Element → List Note → Accidentals
+behind_notes before [] = accidentals_at before
+behind_notes before (note ∷ earlier) = with_own (behind_notes before earlier) note
+
+are-behind : (before : List Element) (earlier : List Note) → AreBehind before (behind_notes before earlier) earlier
+are-behind before [] = behind-none before
+are-behind before (note ∷ earlier) = behind-own before (behind_notes before earlier) earlier note (are-behind before earlier)
+
+-- The last accidental among notes is the one that is found.
+last-among : (letter : Letter) (nearer further : List Note) (note : Note) (by : ℤ) → written_by letter note ≡ Some by → All (λ other. written_by letter other ≡ None) nearer
+    → newest_written letter (nearer ++ note ∷ further) ≡ Some by
+last-among letter [] further note by e none = ap (λ o. option_or o (newest_written letter further)) e
+last-among letter (first ∷ nearer) further note by e none =
+    ap (λ o. option_or o (newest_written letter (nearer ++ note ∷ further))) (All-head (λ other. written_by letter other ≡ None) first nearer none)
+    ∙ last-among letter nearer further note by e (All-tail (λ other. written_by letter other ≡ None) first nearer none)
+
+none-among : (letter : Letter) (notes : List Note) → IsNoneAmong letter notes → newest_written letter notes ≡ None
+none-among letter [] none = refl
+none-among letter (first ∷ notes) none =
+    ap (λ o. option_or o (newest_written letter notes)) (All-head (λ other. written_by letter other ≡ None) first notes none)
+    ∙ none-among letter notes (All-tail (λ other. written_by letter other ≡ None) first notes none)
+
+-- A token that says nothing of a letter.
+abbrev Silent : Letter → Element → Type 0
+Silent letter other = accidental_said letter other.kind ≡ None
+
+last-in-bar : (letter : Letter) (nearer further : List Element) (token : Element) (by : ℤ) → accidental_said letter token.kind ≡ Some (Some by) → All (Silent letter) nearer
+    → accidental_at letter (nearer ++ token ∷ further) ≡ Some by
+unfolding accidental_at
+last-in-bar letter [] further token by e none = ap (λ o. unwrap_or o (accidental_at letter further)) e
+last-in-bar letter (first ∷ nearer) further token by e none =
+    ap (λ o. unwrap_or o (accidental_at letter (nearer ++ token ∷ further))) (All-head (Silent letter) first nearer none)
+    ∙ last-in-bar letter nearer further token by e (All-tail (Silent letter) first nearer none)
+
+in-bar-by : (letter : Letter) (element : Element) (before : List Element) (by : ℤ) (said : Option (Option ℤ)) → accidental_said letter element.kind ≡ said
+    → unwrap_or said (accidental_at letter before) ≡ Some by → (accidental_at letter before ≡ Some by → IsLastInBar letter before by) → IsLastInBar letter (element ∷ before) by
+in-bar-by letter element before by None says e h =
+    let is = h e in
+    record {
+      nearer = element ∷ is.nearer;
+      token = is.token;
+      further = is.further;
+      split = ap (λ l. element ∷ l) is.split;
+      writes = is.writes;
+      none = All-cons (Silent letter) element is.nearer says is.none;
+    }
+in-bar-by letter element before by (Some said) says e h =
+    record { nearer = []; token = element; further = before; split = refl; writes = says ∙ ap Some e; none = All-nil (Silent letter) }
+
+-- What is found stands in the bar.
+in-bar-of : (letter : Letter) (before : List Element) (by : ℤ) → accidental_at letter before ≡ Some by → IsLastInBar letter before by
+unfolding accidental_at
+in-bar-of letter [] by e = cc
+in-bar-of letter (element ∷ before) by e = in-bar-by letter element before by (accidental_said letter element.kind) refl e (in-bar-of letter before by)
+
+none-in-bar : (letter : Letter) (before : List Element) (found : Option ℤ) → accidental_at letter before ≡ found → IsNoneInBar letter before → accidental_at letter before ≡ None
+none-in-bar letter before None e none = e
+none-in-bar letter before (Some by) e none = absurd (none by (in-bar-of letter before by e))
+
+-- A tied note is not alike.
+abbrev Apart : Note → TiedNote → Type 0
+Apart note tied = ¬ IsSame note tied
+
+apart-by : (opening : Settings) (note : Note) (element : Element) (before : List Element) (time : Bool) → is_time_token element.kind ≡ time
+    → ((token : Element) (further : List Element) → IsTimeBefore (element ∷ before) token further → All (λ other. ¬ AreWrittenAlike note other.1) (tied_notes token.kind token.tied))
+    → (((token : Element) (further : List Element) → IsTimeBefore before token further → All (λ other. ¬ AreWrittenAlike note other.1) (tied_notes token.kind token.tied)) → All (Apart note) (tied_at opening before))
+    → All (Apart note) (tied_at opening (element ∷ before))
+apart-by opening note element before true is h rest =
+    All-same (Apart note) (tied_at opening (element ∷ before)) (map (altered opening before) (tied_notes element.kind element.tied)) (left-by opening before element.kind element.tied is)
+    (All-map (Apart note) (altered opening before) (tied_notes element.kind element.tied)
+    (h element before (record { nearer = []; split = refl; time = is; none = All-nil Passed })))
+apart-by opening note element before false is h rest =
+    All-same (Apart note) (tied_at opening (element ∷ before)) (tied_at opening before) (passed-over opening (tied_at opening before) before element.kind element.tied is)
+    (rest (λ token further t. h token further (record {
+      nearer = element ∷ t.nearer;
+      split = ap (λ l. element ∷ l) t.split;
+      time = t.time;
+      none = All-cons Passed element t.nearer is t.none;
+    })))
+
+all-apart : (opening : Settings) (note : Note) (before : List Element)
+    → ((token : Element) (further : List Element) → IsTimeBefore before token further → All (λ other. ¬ AreWrittenAlike note other.1) (tied_notes token.kind token.tied))
+    → All (Apart note) (tied_at opening before)
+all-apart opening note [] h = All-nil (Apart note)
+all-apart opening note (element ∷ before) h = apart-by opening note element before (is_time_token element.kind) refl h (all-apart opening note before)
+
+module _ (opening : Settings) (before : List Element) (earlier : List Note) (note : Note) where
+  abbrev accidentals : Accidentals
+  accidentals = behind_notes before earlier
+
+  found : IsAltered (settings_at opening before) accidentals note (alteration_of (settings_at opening before) accidentals note)
+  found = altered_by (settings_at opening before) accidentals note
+
+  is-altered : alteration_of (settings_at opening before) accidentals note ≡ alteration_at opening (tied_at opening before) before earlier note
+  is-altered = alteration-at opening before accidentals earlier note (are-behind before earlier)
+
+  written-is : written_on accidentals note.letter ≡ option_or (newest_written note.letter earlier) (accidental_at note.letter before)
+  written-is = are-behind before earlier note.letter
+
+  written-before : IsNoneAmong note.letter earlier → written_on accidentals note.letter ≡ accidental_at note.letter before
+  written-before none = written-is ∙ ap (λ o. option_or o (accidental_at note.letter before)) (none-among note.letter earlier none)
+
+  not-written : IsNoneAmong note.letter earlier → IsNoneInBar note.letter before → written_on accidentals note.letter ≡ None
+  not-written none out = written-before none ∙ none-in-bar note.letter before (accidental_at note.letter before) refl out
+
+  tied-is : (settings_at opening before).tied ≡ tied_at opening before
+  unfolding settings_at
+  tied-is = refl
+
+  signature-is : (settings_at opening before).signature ≡ signature_at opening.signature before
+  unfolding settings_at
+  signature-is = refl
+
+  pub by-rule : IsAlteredAt (record { opening = opening; before = before }) earlier note
+  by-rule = record {
+    own = λ accidental e. sym is-altered ∙ found.own accidental e;
+    in_chord = λ by e last.
+        sym is-altered ∙ found.written by e
+        (written-is ∙ ap (λ o. option_or o (accidental_at note.letter before)) (ap (newest_written note.letter) last.split ∙ last-among note.letter last.nearer last.further last.note by last.writes last.none));
+    in_bar = λ by e none last.
+        sym is-altered ∙ found.written by e
+        (written-before none ∙ ap (accidental_at note.letter) last.split ∙ last-in-bar note.letter last.nearer last.further last.token by last.writes last.none);
+    tied = λ token further front back last e none out time is alike apart.
+        sym is-altered
+        ∙ found.tied (map (altered opening further) front) (map (altered opening further) back) (altered opening further last) e (not-written none out)
+        (tied-is ∙ tied-last opening before further token time ∙ ap (map (altered opening further)) is ∙ map-append (altered opening further) front (last ∷ back))
+        alike (All-map (Apart note) (altered opening further) back apart);
+    signature = λ e none out h.
+        sym is-altered
+        ∙ found.signature e (not-written none out) (All-same (Apart note) (settings_at opening before).tied (tied_at opening before) tied-is (all-apart opening note before h))
+        ∙ ap (λ s. signature_alteration s note.letter) signature-is;
+  }
+
+pub altered_by_rule : (at : Standing) (earlier : List Note) (note : Note) → IsAlteredAt at earlier note
+altered_by_rule at earlier note = by-rule at.opening at.before earlier note
+
+same-shift : (opening : Settings) (before : List Element) → (settings_at opening before).shift ≡ shift_at opening.shift before
+unfolding settings_at
+same-shift opening before = refl
+
+module _ (opening : Settings) (before : List Element) (broken : List Ratio) (outside : Outside) where
+  abbrev here_at : Standing
+  here_at = record { opening = opening; before = before }
+
+  key-is : (accidentals : Accidentals) (earlier : List Note) (note : Note) → AreBehind before accidentals earlier
+      → midi_key (pitch_of (settings_at opening before).shift note (alteration_of (settings_at opening before) accidentals note)) ≡ key_at here_at earlier note
+  key-is accidentals earlier note h = λ i. midi_key (pitch_of (same-shift opening before i) note (alteration-at opening before accidentals earlier note h i))
+
+  -- The tones of some parts of a chord, where so many more of its notes count.
+  abbrev Sounds : List (Spanned ChordPartKind) → ℕ → Inside → Inside → List Note → Type 0
+  Sounds rest room start inside earlier =
+      map heard_of (inside_from (settings_at opening before) broken outside rest start).tones
+      ≡ map heard_of inside.tones ++ keys_from here_at outside.tied earlier (take room (notes_among rest))
+
+  step : (kind : ChordPartKind) (from to : ℕ) (rest : List (Spanned ChordPartKind))
+      → ((room : ℕ) (inside : Inside) (earlier : List Note) → length inside.tones + room ≡ MOST_NOTES → AreBehind before inside.accidentals earlier → Sounds rest room inside inside earlier)
+      → (room : ℕ) (inside : Inside) (earlier : List Note)
+      → length inside.tones + room ≡ MOST_NOTES → AreBehind before inside.accidentals earlier
+      → Sounds (record { kind = kind; from = from; to = to } ∷ rest) room inside inside earlier
+  step (parts.Note note) from to rest ih zero inside earlier size h =
+      let column : ℕ = column_of (outside.from + from) in
+      let settings : Settings = settings_at opening before in
+      let full : Inside = with_sounding settings broken (Some outside.length) column note (outside.tied || tie_follows rest) inside in
+      let P : Inside → Type 0 = λ i. Sounds rest 0 (record i { after_note = true }) inside earlier in
+      let Q : Bool → Type 0 = λ b. P (cond b full (with_dropped column inside)) in
+      subst Q (sym (no-room (length inside.tones) size))
+      (either inside.big inside (record (with_part_fault column BigChord inside) { big = true }) P
+      (ih 0 (record inside { after_note = true }) earlier size h)
+      (ih 0 (record (with_part_fault column BigChord inside) { big = true; after_note = true }) earlier size h))
+  step (parts.Note note) from to rest ih (suc room) inside earlier size h =
+      let column : ℕ = column_of (outside.from + from) in
+      let settings : Settings = settings_at opening before in
+      let tied : Bool = outside.tied || tie_follows rest in
+      let full : Inside = with_sounding settings broken (Some outside.length) column note tied inside in
+      let later : List (Option ℕ × Bool) = keys_from here_at outside.tied (note ∷ earlier) (take room (notes_among rest)) in
+      let Q : Bool → Type 0 = λ b.
+      map heard_of (inside_from settings broken outside rest (record (cond b full (with_dropped column inside)) { after_note = true })).tones
+      ≡ map heard_of inside.tones ++ ((key_at here_at earlier note, tied) ∷ later) in
+      let r : Sounds rest room (record full { after_note = true }) full (note ∷ earlier) =
+      ih room (record full { after_note = true }) (note ∷ earlier) (one-more inside.tones _ room size)
+      (behind-own before inside.accidentals earlier note h) in
+      subst Q (sym (room-left (length inside.tones) room size))
+      (r
+      ∙ ap (λ l. l ++ later) (map-append heard_of inside.tones _)
+      ∙ append_assoc (map heard_of inside.tones) _ later
+      ∙ ap (λ k. map heard_of inside.tones ++ ((k, tied) ∷ later)) (key-is inside.accidentals earlier note h))
+  step parts.Tie from to rest ih room inside earlier size h =
+      let column : ℕ = column_of (outside.from + from) in
+      let P : Inside → Type 0 = λ i. Sounds rest room (record i { after_note = false }) inside earlier in
+      either inside.after_note inside (with_part_fault column LooseTie inside) P
+      (ih room (record inside { after_note = false }) earlier size h)
+      (ih room (record (with_part_fault column LooseTie inside) { after_note = false }) earlier size h)
+  step parts.NoEffect from to rest ih room inside earlier size h = ih room (record inside { after_note = false }) earlier size h
+  step parts.BadByte from to rest ih room inside earlier size h =
+      ih room (record (with_part_fault (column_of (outside.from + from)) BadByte inside) { after_note = false }) earlier size h
+
+  sounds : (rest : List (Spanned ChordPartKind)) (room : ℕ) (inside : Inside) (earlier : List Note)
+      → length inside.tones + room ≡ MOST_NOTES → AreBehind before inside.accidentals earlier → Sounds rest room inside inside earlier
+  sounds [] zero inside earlier size h = sym (append-nil (map heard_of inside.tones))
+  sounds [] (suc room) inside earlier size h = sym (append-nil (map heard_of inside.tones))
+  sounds (part ∷ rest) room inside earlier size h = step part.kind part.from part.to rest (sounds rest) room inside earlier size h
+
+-- The tones of a chord.
+chord-sounds : (at : Standing) (broken : List Ratio) (outside : Outside) (chord : Chord)
+    → map heard_of (inside_of (settings_at at.opening at.before) broken outside chord.parts).tones ≡ keys_from at outside.tied [] (counted_notes chord)
+unfolding settings_at counted_notes
+chord-sounds at broken outside chord =
+    sounds at.opening at.before broken outside chord.parts MOST_NOTES (no_notes (settings_at at.opening at.before)) [] refl (behind-none at.before)
+
+same-accidentals : (opening : Settings) (before : List Element) → (settings_at opening before).accidentals ≡ accidentals_at before
+unfolding settings_at
+same-accidentals opening before = refl
+
+note-key : (at : Standing) (note : Note)
+    → midi_key (pitch_of (settings_at at.opening at.before).shift note (alteration_of (settings_at at.opening at.before) (settings_at at.opening at.before).accidentals note)) ≡ key_at at [] note
+note-key at note =
+    ap (λ accidentals. midi_key (pitch_of (settings_at at.opening at.before).shift note (alteration_of (settings_at at.opening at.before) accidentals note))) (same-accidentals at.opening at.before)
+    ∙ (λ i. midi_key (pitch_of (same-shift at.opening at.before i) note (alteration-at at.opening at.before (accidentals_at at.before) [] note (behind-none at.before) i)))
+
+-- What stands before a token that is no tie, whatever follows it.
+tie-next : (front ahead : List (Spanned TokenKind)) (token : Spanned TokenKind) → is_tie_token token.kind ≡ false → tie_ahead (front ++ token ∷ ahead) ≡ tie_ahead front
+tie-next [] ahead token e = e
+tie-next (first ∷ front) ahead token e = refl
+
+split-back : (opening : Body) (before : List Element) (given : Given) (front ahead : List (Spanned TokenKind)) (token : Spanned TokenKind) → is_tie_token token.kind ≡ false
+    → (start : Given) × (looked_back opening before given (front ++ token ∷ ahead) ≡ looked_back opening (behind_tokens front before) start (token ∷ ahead))
+split-back opening before given [] ahead token e = (given, refl)
+split-back opening before given (first ∷ front) ahead token e =
+    let next : Given = with_token (record given { body = held_at opening before }) first (front ++ token ∷ ahead) in
+    let follows : Bool = tie_ahead (front ++ token ∷ ahead) in
+    let rest = split-back opening (record { kind = first.kind; tied = follows } ∷ before) next front ahead token e in (
+      rest.0,
+      rest.1 ∙ ap (λ b. looked_back opening (behind_tokens front (record { kind = first.kind; tied = b } ∷ before)) rest.0 (token ∷ ahead)) (tie-next front ahead token e),
+    )
+
+-- The items of a token come behind those before it.
+fault-items : (given : Given) (place : ℕ) (code : Option FaultCode) → (with_some_fault given place code).items.items ≡ given.items.items
+fault-items given place None = refl
+fault-items given place (Some code) = refl
+
+fault-if-items : (given : Given) (b : Bool) (place : ℕ) (code : FaultCode) → (with_fault_if given b place code).items.items ≡ given.items.items
+fault-if-items given true place code = refl
+fault-if-items given false place code = refl
+
+tie-items : (given : Given) (b : Bool) (place : ℕ) (code : FaultCode) → (cond b given (with_fault given place code)).items.items ≡ given.items.items
+tie-items given true place code = refl
+tie-items given false place code = refl
+
+ending-items : (given : Given) (place : ℕ) (passes : Option ℕ) → (more : List Item) × ((with_ending given place passes).items.items ≡ given.items.items ++ more)
+ending-items given place None = ([], sym (append-nil _))
+ending-items given place (Some passes) = (_, refl)
+
+adds : (given : Given) (place : ℕ) (kind : TokenKind) (ahead : List (Spanned TokenKind)) → (more : List Item) × ((with_kind given place kind ahead).items.items ≡ given.items.items ++ more)
+adds given place (kinds.Note note) ahead = (_, refl)
+adds given place (kinds.Rest length) ahead = (_, refl)
+adds given place (kinds.BarRest bars) ahead = (_, fault-items _ place _)
+adds given place (kinds.Chord chord) ahead = (_, refl)
+adds given place (kinds.InlineField field) ahead = ((field_given given.body field.letter field.value place).items, refl)
+adds given place (kinds.Field field) ahead = ((field_given given.body field.letter field.value place).items, refl)
+adds given place (kinds.Bar bar) ahead = (_, refl)
+adds given place (kinds.Tuplet mark) ahead = ([], fault-items _ place _ ∙ sym (append-nil _))
+adds given place (kinds.Ending passes) ahead = ending-items given place passes
+adds given place (kinds.Broken mark) ahead = ([], fault-if-items given _ place _ ∙ sym (append-nil _))
+adds given place kinds.Tie ahead = ([], tie-items given given.after_note place LooseTie ∙ sym (append-nil _))
+adds given place kinds.Blank ahead = ([], sym (append-nil _))
+adds given place kinds.NoEffect ahead = ([], sym (append-nil _))
+adds given place kinds.Unclosed ahead = ([], sym (append-nil _))
+adds given place kinds.BadByte ahead = ([], sym (append-nil _))
+
+goes-on : (opening : Body) (before : List Element) (given : Given) (cell : List (Spanned TokenKind))
+    → (more : List Item) × ((looked_back opening before given cell).items.items ≡ given.items.items ++ more)
+goes-on opening before given [] = ([], sym (append-nil _))
+goes-on opening before given (token ∷ ahead) =
+    let start : Given = record given { body = held_at opening before } in
+    let first = adds start token.from token.kind ahead in
+    let rest = goes-on opening (record { kind = token.kind; tied = tie_ahead ahead } ∷ before) (with_token start token ahead) ahead in
+    (first.0 ++ rest.0, rest.1 ∙ ap (λ l. l ++ rest.0) first.1 ∙ append_assoc given.items.items first.0 rest.0)
+
+-- A token that gives tones gives them behind whatever stands before it.
+module _ (opening : Body) (before : List Element) (front ahead : List (Spanned TokenKind)) (token : Spanned TokenKind) (no_tie : is_tie_token token.kind ≡ false)
+    (keys : List (Option ℕ × Bool))
+    (gives : (start : Given) → GivesTones (with_kind (record start { body = held_at opening (behind_tokens front before) }) token.from token.kind ahead).items.items keys) where
+  between : GivesTones (looked_back opening before (nothing_given opening) (front ++ token ∷ ahead)).items.items keys
+  between =
+      let start = split-back opening before (nothing_given opening) front ahead token no_tie in
+      let g = gives start.0 in
+      let rest = goes-on opening (record { kind = token.kind; tied = tie_ahead ahead } ∷ behind_tokens front before)
+      (with_token (record start.0 { body = held_at opening (behind_tokens front before) }) token ahead) ahead in (
+        g.0,
+        g.1,
+        g.2,
+        g.3 ++ rest.0,
+        ap (λ (given : Given). given.items.items) start.1 ∙ rest.1 ∙ ap (λ l. l ++ rest.0) g.4 ∙ append_assoc g.0 _ rest.0,
+        g.5,
+      )
+
+mentioned-in : (body : Body) (current : Current) → here (mentioned (record body { current = current })) ≡ here (record body { current = current })
+mentioned-in body (Unnamed settings) = refl
+mentioned-in body (At place) = refl
+
+-- What holds for the current voice where a token mentions it.
+here-is : (values : Defaults) (fields : List Field) (key : Key) (before : List Element)
+    → here (mentioned (held_at (opening_at values fields key) before)) ≡ settings_at (standing values fields key before).opening (standing values fields key before).before
+here-is values fields key before =
+    let body : Body = held_at (opening_at values fields key) before in
+    mentioned-in body body.current ∙ here_found values fields key before
+
+note-gives : (values : Defaults) (fields : List Field) (key : Key) (before : List Element) (start : Given) (place : ℕ) (note : Note) (ahead : List (Spanned TokenKind))
+    → GivesTones (with_kind (record start { body = held_at (opening_at values fields key) before }) place (kinds.Note note) ahead).items.items
+    ((key_at (standing values fields key before) [] note, tie_ahead ahead) ∷ [])
+note-gives values fields key before start place note ahead =
+    let at : Standing = standing values fields key before in
+    let outside : Outside = record { length = note.length; tied = tie_ahead ahead; from = place } in
+    let body : Body = mentioned (held_at (opening_at values fields key) before) in (
+      start.items.items,
+      _,
+      _,
+      [],
+      refl,
+      ap (λ (s : Settings). (midi_key (pitch_of s.shift note (alteration_of s s.accidentals note)), tie_ahead ahead) ∷ []) (here-is values fields key before)
+          ∙ ap (λ k. (k, tie_ahead ahead) ∷ []) (note-key at note),
+    )
+
+chord-items : (b : Bool) (settings : Settings) (place : ℕ) (inside : Inside) → b ≡ true
+    → (chord_by b settings place inside).items ≡ items.Tone inside.tones (first_length inside.tones) ∷ []
+chord-items true settings place inside e = refl
+chord-items false settings place inside e = cc
+
+chord-gives : (values : Defaults) (fields : List Field) (key : Key) (before : List Element) (start : Given) (place : ℕ) (chord : Chord) (ahead : List (Spanned TokenKind)) → has_note chord.parts ≡ true
+    → GivesTones (with_kind (record start { body = held_at (opening_at values fields key) before }) place (kinds.Chord chord) ahead).items.items
+    (keys_from (standing values fields key before) (tie_ahead ahead) [] (counted_notes chord))
+chord-gives values fields key before start place chord ahead e =
+    let at : Standing = standing values fields key before in
+    let outside : Outside = record { length = chord.length; tied = tie_ahead ahead; from = place } in
+    let held : Body = held_at (opening_at values fields key) before in
+    let body : Body = mentioned_by_chord (has_note chord.parts) held in
+    let broken : List Ratio = factors_of start.behind ahead in
+    let inside : Inside = inside_of (here body) broken outside chord.parts in (
+      start.items.items,
+      inside.tones,
+      first_length inside.tones,
+      [],
+      ap (λ l. start.items.items ++ l) (chord-items (has_note chord.parts) (here body) place inside e),
+      ap (λ (s : Settings). map heard_of (inside_of s broken outside chord.parts).tones) (ap (λ b. here (mentioned_by_chord b held)) e ∙ here-is values fields key before)
+          ∙ chord-sounds at broken outside chord,
+    )
+
+pub notes_have_keys : NotesHaveKeys
+notes_have_keys values fields key before front ahead note from to =
+    let opening : Body = opening_at values fields key in
+    between opening before front ahead (record { kind = kinds.Note note; from = from; to = to }) refl _
+    (λ start. note-gives values fields key (behind_tokens front before) start from note ahead)
+
+pub chords_have_keys : ChordsHaveKeys
+chords_have_keys values fields key before front ahead chord from to some =
+    let opening : Body = opening_at values fields key in
+    between opening before front ahead (record { kind = kinds.Chord chord; from = from; to = to }) refl _
+    (λ start. chord-gives values fields key (behind_tokens front before) start from chord ahead some)

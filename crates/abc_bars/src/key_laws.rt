@@ -1,0 +1,21 @@
+//! Laws of the keys that notes sound at the places of a tune.
+
+ghost use Rattle.abc_scan.specs.declared.note.Note.{Note};
+ghost use Rattle.std.specs.Prelude.{List};
+ghost use Rattle.abc_bars.specs.LookBack.Keys.{ChordsHaveKeys, IsAlteredAt, NotesHaveKeys, Standing};
+
+/// What alters a note at a place of its voice: its own accidental; else the last one on its letter among the notes of
+/// its chord before it; else the last one on its letter since the voice's last bar line, K: or accepted P:; else what
+/// altered the last tied note of its letter and octave in the voice's preceding note, chord or rest, at its own place;
+/// else the signature.
+pub fn alterations_of_notes()
+    ensures { (at : Standing) (earlier : List Note) (note : Note) → IsAlteredAt at earlier note }
+{}
+
+/// What a cell of music gives, wherever it stands: each of its notes sounds the key of its pitch, altered so by what
+/// stands before it in its voice, and shifted by what was last said of its voice; the first sixteen of a chord likewise,
+/// each behind those before it. A tone is tied where a tie directly follows its note or its chord.
+pub fn keys_at_places()
+    ensures notes { NotesHaveKeys }
+    ensures chords { ChordsHaveKeys }
+{}
