@@ -2,6 +2,7 @@ pub mod Acting
 pub mod AddedNotes
 pub mod Alike
 pub mod BarCounts
+pub mod ChordFaults
 pub mod ChordNotes
 pub mod ChordTones
 pub mod Factors

@@ -3,6 +3,7 @@ pub mod Acting
 pub mod Alteration
 pub mod BarRest
 pub mod Broken
+pub mod ChordFaults
 pub mod ChordNotes
 pub mod Chords
 pub mod Column
