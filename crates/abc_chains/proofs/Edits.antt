@@ -1,5 +1,5 @@
 -- What an edit keeps of rows.
-use Rattle.std.proofs.Common.{◌≡◌, ℕ, zero, suc, ◌+◌, ◌-◌, ◌<◌, ◌≤◌, Bool, true, false, List, [], ◌∷◌, ◌++◌, map, Option, Some, None, Ok, Err, All, length, take, drop, get_or, refl, sym, ◌∙◌, ap, subst, arith, append_assoc, ⊎_elim}
+use Rattle.std.proofs.Common.{◌≡◌, ℕ, zero, suc, ◌+◌, ◌-◌, ◌<◌, ◌≤◌, Bool, true, false, List, [], ◌∷◌, ◌++◌, map, Option, Some, None, Ok, Err, All, length, take, drop, get_or, refl, sym, ◌∙◌, ap, subst, arith, append_assoc, ⊎_elim, inl, inr}
 use Rattle.std.proofs.lemmas.Bool.{cases_Bool, cases_lt}
 use Rattle.std.proofs.lemmas.List.{map-append, drop-map, take-map}
 use Rattle.std.proofs.lemmas.List.Elements.{All-cons, All-nil, All-take, All-drop}
@@ -24,12 +24,12 @@ pub accepted : (text : Text) (s : Splice) (after : Text) → replaced text s ≡
 accepted text s after e = ⊎_elim
     (λ (out : length text < s.at + s.removed). let bad = replaced-outside text s out in absurd (cc (bad, e)))
     (λ (inside : s.at + s.removed ≤ length text). ⊎_elim
-        (λ (good : list_all is_line s.lines ≡ true). ⊎_elim
-            (λ (large : MOST_LINES < length (spliced text s)). let bad = replaced-large text s inside good large in absurd (cc (bad, e)))
-            (λ (small : length (spliced text s) ≤ MOST_LINES). let own = replaced-inside text s inside good small in (inside, cc (own, e)))
-            (cases_lt MOST_LINES (length (spliced text s))))
-        (λ (wrong : list_all is_line s.lines ≡ false). let bad = replaced-bad text s inside wrong in absurd (cc (bad, e)))
-        (cases_Bool (list_all is_line s.lines)))
+    (λ (good : list_all is_line s.lines ≡ true). ⊎_elim
+    (λ (large : MOST_LINES < length (spliced text s)). let bad = replaced-large text s inside good large in absurd (cc (bad, e)))
+    (λ (small : length (spliced text s) ≤ MOST_LINES). let own = replaced-inside text s inside good small in (inside, cc (own, e)))
+    (cases_lt MOST_LINES (length (spliced text s))))
+    (λ (wrong : list_all is_line s.lines ≡ false). let bad = replaced-bad text s inside wrong in absurd (cc (bad, e)))
+    (cases_Bool (list_all is_line s.lines)))
     (cases_lt (length text) (s.at + s.removed))
 
 -- Rows of which some are replaced.

@@ -19,9 +19,9 @@ same_test : {State Cell Items : Type 0} (steps : Steps State Cell Items) (laws :
 same_test steps laws e a b h = ⊎_elim
     (λ (p : steps.alike e a ≡ true). p ∙ sym (laws.transitive e a b p h))
     (λ (p : steps.alike e a ≡ false). ⊎_elim
-        (λ (q : steps.alike e b ≡ true). laws.transitive e b a q (laws.symmetric a b h) ∙ sym q)
-        (λ (q : steps.alike e b ≡ false). p ∙ sym q)
-        (cases_Bool (steps.alike e b)))
+    (λ (q : steps.alike e b ≡ true). laws.transitive e b a q (laws.symmetric a b h) ∙ sym q)
+    (λ (q : steps.alike e b ≡ false). p ∙ sym q)
+    (cases_Bool (steps.alike e b)))
     (cases_Bool (steps.alike e a))
 
 -- What is counted where a chain is prepared is what the steps over cells and held states are.
@@ -36,13 +36,13 @@ steps_are_over {F = F} {State = State} {Cell = Cell} {Items = Items} {Work = Wor
     let others : (k : ℕ) (d : Piece F State Cell Items Work) → k < length pieces → IsKept steps (get_or pieces k d) = λ k d l. kept (suc k) d (omega arith) in
     ⊎_elim
     (λ (e : steps.alike entered b ≡ true).
-        let first : steps.alike entered a ≡ true = same_test steps laws entered a b h ∙ e in
-        let back = laws.symmetric entered a first in
-        let next = laws.transitive (steps.next a cell) (steps.next entered cell) left (laws.alike_states a entered cell back) (laws.symmetric left (steps.next entered cell) own.behind_alike) in
-        simp (e, first, zero-add) (steps_are_over steps laws (steps.next a cell) left pieces next others))
+    let first : steps.alike entered a ≡ true = same_test steps laws entered a b h ∙ e in
+    let back = laws.symmetric entered a first in
+    let next = laws.transitive (steps.next a cell) (steps.next entered cell) left (laws.alike_states a entered cell back) (laws.symmetric left (steps.next entered cell) own.behind_alike) in
+    simp (e, first, zero-add) (steps_are_over steps laws (steps.next a cell) left pieces next others))
     (λ (e : steps.alike entered b ≡ false).
-        let first : steps.alike entered a ≡ false = same_test steps laws entered a b h ∙ e in
-        simp (e, first) (ap (λ n. 1 + n) (steps_are_over steps laws (steps.next a cell) (steps.next b cell) pieces (laws.alike_states a b cell h) others)))
+    let first : steps.alike entered a ≡ false = same_test steps laws entered a b h ∙ e in
+    simp (e, first) (ap (λ n. 1 + n) (steps_are_over steps laws (steps.next a cell) (steps.next b cell) pieces (laws.alike_states a b cell h) others)))
     (cases_Bool (steps.alike entered b))
 
 -- The steps of the pieces of a block.

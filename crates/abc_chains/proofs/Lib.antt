@@ -8,3 +8,4 @@ pub mod Joining
 pub mod Costs
 pub mod Edits
 pub mod Settled
+pub mod Working

@@ -86,7 +86,7 @@ helds_walk {State = State} {Cell = Cell} read hold (suc n) (row ∷ rows) (bytes
     let here : map address_of past ≡ addresses row.origin row.cells = cc in
     let others : map (λ row. map address_of row) pasts ≡ map (λ (r : Row Cell). addresses r.origin r.cells) rows = cc in
     let count : length past ≡ length (read bytes) =
-        sym (length-over address_of past) ∙ (ap length here ∙ (length-addresses row.origin row.cells ∙ ap length own_cells)) in
+    sym (length-over address_of past) ∙ (ap length here ∙ (length-addresses row.origin row.cells ∙ ap length own_cells)) in
     let own : map (λ piece. hold (address_of piece)) past ≡ map hold (addresses row.origin row.cells) = sym (map-over hold address_of past) ∙ ap (map hold) here in
     let tail = pasts_over read (take n text) pasts in
     map-append (λ piece. hold (address_of piece)) (pasts_beside (read bytes) past) tail
@@ -117,7 +117,7 @@ block_helds {State = State} {Cell = Cell} steps read laid s old rows source open
     let all = pasts steps read laid s in
     let by : List (Option (Past State)) → List (Option (ℕ × ℕ)) = λ row. map address_of row in
     let dropped : map by (drop block.from all) ≡ map (λ (r : Row Cell). addresses r.origin r.cells) (drop block.from rows) =
-        sym (drop-map by block.from all) ∙ (ap (drop block.from) (addresses_are steps read laid s rows lies inside cells from) ∙ drop-map (λ (r : Row Cell). addresses r.origin r.cells) block.from rows) in
+    sym (drop-map by block.from all) ∙ (ap (drop block.from) (addresses_are steps read laid s rows lies inside cells from) ∙ drop-map (λ (r : Row Cell). addresses r.origin r.cells) block.from rows) in
     sym (helds_walk read (held_at (entries_at old)) (block.to - block.from) (drop block.from rows) (drop block.from text) (drop block.from all) (read_drop read block.from rows text cells) dropped)
 
 -- The steps over a block are the fresh cells of its chain.

@@ -87,6 +87,7 @@ pub chains_made : {State Cell Items Defaults : Type 0} (steps : Steps State Cell
     → IsHeader steps rules.header rows chain (header_in blocks) → AllZip (IsChain steps own rows) chains (tunes_in blocks)
     → AreChains steps rules text (chain ∷ chains)
 chains_made steps rules text rows blocks chain own chains laws read are alike first made =
-    let same : blocks ≡ blocks_in rules text = are ∙ ap blocks_of read.classes in
-    (subst (λ (b : List Block). IsHeaderOf steps rules.cells rules.header text chain (header_in b)) same (header_made steps rules.cells rules.header text rows chain (header_in blocks) laws read.cells first),
-    subst (λ (b : List Block). AllZip (IsChainOf steps rules.cells (opening_of steps.next rules text (blocks_in rules text)) text) chains (tunes_in b)) same (tunes_made steps rules.cells own (opening_of steps.next rules text (blocks_in rules text)) text rows chains (tunes_in blocks) laws alike read.cells made))
+    let same : blocks ≡ blocks_in rules text = are ∙ ap blocks_of read.classes in (
+      subst (λ (b : List Block). IsHeaderOf steps rules.cells rules.header text chain (header_in b)) same (header_made steps rules.cells rules.header text rows chain (header_in blocks) laws read.cells first),
+      subst (λ (b : List Block). AllZip (IsChainOf steps rules.cells (opening_of steps.next rules text (blocks_in rules text)) text) chains (tunes_in b)) same (tunes_made steps rules.cells own (opening_of steps.next rules text (blocks_in rules text)) text rows chains (tunes_in blocks) laws alike read.cells made),
+    )

@@ -43,7 +43,7 @@ block_next source first old made rows from i row e count order inside is =
     let here : first ≡ 0 + cell_count (between rows from i) = omega (arith, count) in
     ap (λ l. l ++ own ∷ []) e ∙ (append_assoc old (placed_along source 0 (between rows from i)) (own ∷ [])
     ∙ ap (λ l. old ++ l) (sym (ap (placed_along source 0) (one_more rows from i row order (slice_get_read rows (length rows) i row refl inside is))
-        ∙ (along_next source 0 (between rows from i) row ∙ ap (λ n. placed_along source 0 (between rows from i) ++ placed (Some (record { source = source; first = n })) row ∷ []) (sym here)))))
+    ∙ (along_next source 0 (between rows from i) row ∙ ap (λ n. placed_along source 0 (between rows from i) ++ placed (Some (record { source = source; first = n })) row ∷ []) (sym here)))))
 
 pub count_next : {Cell : Type 0} (rows : List (Row Cell)) (from i : ℕ) (row : Row Cell) (first count : ℕ) → first ≡ cell_count (between rows from i) → count ≡ length row.cells → from ≤ i → i < length rows → row ≡ get_or rows i row → first + count ≡ cell_count (between rows from (i + 1))
 count_next rows from i row first count e c order inside is =

@@ -106,9 +106,10 @@ settled_carried : {State Cell Items Defaults : Type 0} (steps : Steps State Cell
     → map cells_in rows ≡ map rules.cells text → AreChains steps rules text chains → All (IsCarried chains) (placed_from rows 0 0 (places_of (blocks_in rules text)))
 settled_carried steps rules text rows [] e own = absurd own
 settled_carried steps rules text rows (chain ∷ chains) e own =
-    from_carried (chain ∷ chains) (chain ∷ chains) rows 0 0 (places_of (blocks_in rules text)) (λ k. (let n : 0 + k ≡ k = omega arith in ap (cells_at (chain ∷ chains)) n))
-    (header_cells steps rules.cells rules.header text rows chain (header_in (blocks_in rules text)) e own.0,
-    tune_cells steps rules.cells (opening_of steps.next rules text (blocks_in rules text)) text rows chains (tunes_in (blocks_in rules text)) e own.1)
+    from_carried (chain ∷ chains) (chain ∷ chains) rows 0 0 (places_of (blocks_in rules text)) (λ k. (let n : 0 + k ≡ k = omega arith in ap (cells_at (chain ∷ chains)) n)) (
+      header_cells steps rules.cells rules.header text rows chain (header_in (blocks_in rules text)) e own.0,
+      tune_cells steps rules.cells (opening_of steps.next rules text (blocks_in rules text)) text rows chains (tunes_in (blocks_in rules text)) e own.1,
+    )
 
 -- origins
 
@@ -138,7 +139,7 @@ from_origins read opening rows text at source (block ∷ blocks) e =
     let b = between rows block.from block.to in
     let tail = placed_from rows block.to (source + 1) blocks in
     let own : map origin_in (placed_along source 0 b) ≡ origins_along read source 0 (take (block.to - block.from) (drop block.from text)) =
-        along_origins read source 0 b (take (block.to - block.from) (drop block.from text)) (between_read read rows text block.from block.to e) in
+    along_origins read source 0 b (take (block.to - block.from) (drop block.from text)) (between_read read rows text block.from block.to e) in
     let free : map origin_in (map (placed None) a) ≡ no_origins (take (block.from - at) (drop at text)) = free_origins read a (take (block.from - at) (drop at text)) (between_read read rows text at block.from e) in
     map-append origin_in (map (placed None) a) (placed_along source 0 b ++ tail)
     ∙ ((λ i. free i ++ map-append origin_in (placed_along source 0 b) tail i)

@@ -59,10 +59,7 @@ pub(crate) fn tunes_in(alloc: Global, blocks: &[Block]) -> Result<Vec<Block>, Al
 }
 
 /// The blocks of a text with these rows.
-pub(crate) fn blocks_of<K: Drop>(
-    alloc: Global,
-    rows: &[Row<K>],
-) -> Result<Vec<Block>, AllocError>
+pub(crate) fn blocks_of<K: Drop>(alloc: Global, rows: &[Row<K>]) -> Result<Vec<Block>, AllocError>
     ensures { IfOk result (λ blocks. blocks.items ≡ blocks_of (map class_in rows.now)) }
 {
     let mut classes: Vec<LineClass> = Vec::with_capacity(alloc, rows.len())?;

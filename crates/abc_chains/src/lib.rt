@@ -6,5 +6,7 @@ mod folded;
 mod pieces;
 mod row;
 mod settle;
+mod text;
 
 pub use row::{Origin, Row, read};
+pub use text::{KeptPatch, KeptText};

@@ -1,0 +1,73 @@
+-- What an edit costs, and the text with no lines.
+use Rattle.std.proofs.Common.{◌≡◌, ℕ, ◌≤◌, List, [], ◌∷◌, map, Option, None, All, refl, sym, ◌∙◌, ap, subst, arith}
+use Rattle.std.proofs.lemmas.List.Elements.{All-nil}
+use Rattle.abc_book.specs.Block.{blocks_of}
+use Rattle.abc_book.specs.declared.block.Block.{Block}
+use Rattle.abc_book.proofs.OnePass.{one_pass}
+use Rattle.abc_fold.specs.Chain.{Chained, no_cells}
+use Rattle.abc_fold.specs.Steps.{Steps}
+use Rattle.abc_fold.specs.Work.{Counters, IsRaisedUpTo, raised}
+use Rattle.abc_fold.proofs.Raised.{raised-least}
+use Rattle.abc_lines.specs.Text.{Text}
+use Rattle.abc_rework.specs.Laid.{Laid, laid_in}
+use Rattle.abc_rework.specs.Origins.{Origin, origins_of}
+use Rattle.abc_tunebook.specs.Book.{blocks_in, header_in, opening_of, tunes_in}
+use Rattle.abc_tunebook.specs.Rules.{Rules}
+use Rattle.abc_chains.specs.Holding.{IsCarried, origin_in}
+use Rattle.abc_chains.specs.Keeping.{AreChains, AreRead, IsChainOf, IsHeaderOf}
+use Rattle.abc_chains.specs.Rows.{IsScannedUpTo, Row}
+use Rattle.abc_chains.specs.Standing.{IsWorkUpTo, Stands}
+use Rattle.std.specs.List.{AllZip}
+
+pub no_work : (lines steps : ℕ) (before : Counters) → IsWorkUpTo lines steps before before
+no_work lines steps before = record {
+  built = refl;
+  least_scanned = omega arith;
+  most_scanned = raised-least before.scanned lines;
+  least_folded = omega arith;
+  most_folded = raised-least before.folded steps;
+}
+
+-- Where lines have been scanned and no steps folded.
+pub early_work : (lines steps : ℕ) (before after : Counters) → IsScannedUpTo lines before after → IsWorkUpTo lines steps before after
+early_work lines steps before after scan = record {
+  built = scan.built;
+  least_scanned = scan.least;
+  most_scanned = scan.most;
+  least_folded = let same = scan.folded in omega (arith, same);
+  most_folded = let same = scan.folded in let least = raised-least before.folded steps in omega (arith, same, least);
+}
+
+-- Where steps have been folded too.
+pub late_work : (lines steps : ℕ) (before now after : Counters) → IsScannedUpTo lines before now → IsRaisedUpTo steps now after → IsWorkUpTo lines steps before after
+late_work lines steps before now after scan raise = record {
+  built = raise.built ∙ scan.built;
+  least_scanned = let same = raise.scanned in let least = scan.least in omega (arith, same, least);
+  most_scanned = let same = raise.scanned in let most = scan.most in omega (arith, same, most);
+  least_folded = let same = scan.folded in let least = raise.least in omega (arith, same, least);
+  most_folded = subst (λ n. after.folded ≤ raised n steps) scan.folded raise.most;
+}
+
+empty_chains : {State Cell Items Defaults : Type 0} (steps : Steps State Cell Items) (rules : Rules State Cell Items Defaults) (blocks : List Block) → blocks ≡ []
+    → IsHeaderOf steps rules.cells rules.header [] no_cells (header_in blocks) × AllZip (IsChainOf steps rules.cells (opening_of steps.next rules [] blocks) []) [] (tunes_in blocks)
+empty_chains steps rules [] e = (refl, tt)
+empty_chains steps rules (block ∷ blocks) e = absurd (cc)
+
+empty_origins : {State Cell Items Defaults : Type 0} (steps : Steps State Cell Items) (rules : Rules State Cell Items Defaults) (blocks : List Block) → blocks ≡ []
+    → [] ≡ origins_of rules.cells (let laid : Laid State = record { text = []; header = header_in blocks; tunes = tunes_in blocks; first = rules.header; opening = opening_of steps.next rules [] blocks } in laid)
+empty_origins steps rules [] e = refl
+empty_origins steps rules (block ∷ blocks) e = absurd (cc)
+
+-- What is kept of the text with no lines.
+pub empty_stands : {State Cell Items Defaults : Type 0} (steps : Steps State Cell Items) (rules : Rules State Cell Items Defaults) (text : Text) (rows : List (Row Cell)) (blocks : List Block) (chains : List (Chained State Cell Items))
+    → text ≡ [] → rows ≡ [] → blocks ≡ [] → chains ≡ no_cells ∷ [] → Stands steps rules text rows blocks chains
+empty_stands {State = State} {Cell = Cell} {Items = Items} steps rules text rows blocks chains t r b c =
+    let none : blocks_in rules [] ≡ [] = one_pass [] in
+    let all : Stands steps rules [] [] [] (no_cells ∷ []) = record {
+      read = record { classes = refl; cells = refl };
+      blocks_are = sym none;
+      chains_are = empty_chains steps rules (blocks_in rules []) none;
+      carried = All-nil (IsCarried {State = State} {Cell = Cell} {Items = Items} (no_cells ∷ []));
+      origins_are = empty_origins steps rules (blocks_in rules []) none;
+    } in
+    rw (t, r, b, c) all
