@@ -1,5 +1,5 @@
 -- What an edit keeps of rows.
-use Rattle.std.proofs.Common.{◌≡◌, ℕ, zero, suc, ◌+◌, ◌-◌, ◌<◌, ◌≤◌, Bool, true, false, List, [], ◌∷◌, ◌++◌, map, Option, Some, None, Ok, Err, All, length, take, drop, get_or, refl, sym, ◌∙◌, ap, subst, arith, append_assoc, ⊎_elim, inl, inr}
+use Rattle.std.proofs.Common.{◌≡◌, ℕ, suc, ◌+◌, ◌<◌, ◌≤◌, true, false, List, [], ◌∷◌, ◌++◌, map, Option, Some, None, Ok, All, length, take, drop, refl, sym, ◌∙◌, ap, arith, append_assoc, ⊎_elim, inl, inr}
 use Rattle.std.proofs.lemmas.Bool.{cases_Bool, cases_lt}
 use Rattle.std.proofs.lemmas.List.{map-append, drop-map, take-map}
 use Rattle.std.proofs.lemmas.List.Elements.{All-cons, All-nil, All-take, All-drop}
@@ -12,7 +12,7 @@ use Rattle.abc_lines.specs.Edits.{replaced}
 use Rattle.abc_lines.specs.Text.{Splice, Text, is_line, spliced}
 use Rattle.abc_lines.proofs.Splices.{replaced-bad, replaced-inside, replaced-large, replaced-outside}
 use Rattle.abc_rework.specs.Laid.{laid_in}
-use Rattle.abc_rework.specs.Origins.{Origin, no_origins, origins, origins_of}
+use Rattle.abc_rework.specs.Origins.{no_origins, origins, origins_of}
 use Rattle.abc_tunebook.specs.Book.{blocks_in, header_in, opening_of, tunes_in}
 use Rattle.abc_tunebook.specs.Rules.{Rules}
 use Rattle.abc_chains.specs.Holding.{IsCarried, IsFolded, cells_in, class_in, origin_in}

@@ -1,5 +1,5 @@
 -- The steps of pieces are those along cells and what is held of them.
-use Rattle.std.proofs.Common.{◌≡◌, ℕ, zero, suc, ◌+◌, ◌<◌, true, false, List, [], ◌∷◌, ◌++◌, length, take, drop, get_or, refl, sym, ◌∙◌, ap, subst, ⊎_elim, arith, add-one, zero-add}
+use Rattle.std.proofs.Common.{◌≡◌, ℕ, suc, ◌+◌, ◌<◌, true, false, List, [], ◌∷◌, ◌++◌, length, take, drop, get_or, refl, sym, ◌∙◌, ap, subst, ⊎_elim, arith, add-one, zero-add}
 use Rattle.std.proofs.lemmas.Bool.{cases_Bool}
 use Rattle.std.proofs.lemmas.List.{take_more}
 use Rattle.std.proofs.lemmas.List.Sums.{sum_by-cons}
@@ -9,10 +9,10 @@ use Rattle.abc_book.specs.declared.block.Block.{Block}
 use Rattle.abc_fold.specs.declared.piece.Piece.{Piece}
 use Rattle.abc_fold.specs.declared.piece.Piece.TheVariants.{New, Kept}
 use Rattle.abc_fold.specs.Chain.{Chained}
-use Rattle.abc_fold.specs.Piece.{IsKept, cell_of, cells_of, steps_needed}
+use Rattle.abc_fold.specs.Piece.{IsKept, cells_of, steps_needed}
 use Rattle.abc_fold.specs.Steps.{Steps, IsAlike, IsResumable}
 use Rattle.abc_rework.specs.Kept.{steps_over}
-use Rattle.abc_chains.specs.Holding.{cells_over, held_in, helds_in, helds_over, steps_taken}
+use Rattle.abc_chains.specs.Holding.{cells_over, helds_in, helds_over, steps_taken}
 use Rattle.abc_chains.specs.Rows.{Row}
 
 same_test : {State Cell Items : Type 0} (steps : Steps State Cell Items) (laws : IsResumable steps) (e a b : State) → IsAlike steps a b → steps.alike e a ≡ steps.alike e b

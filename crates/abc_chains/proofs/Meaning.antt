@@ -1,18 +1,18 @@
 -- The steps over the blocks of a new text are its fresh cells.
-use Rattle.std.proofs.Common.{◌≡◌, ℕ, zero, suc, ◌+◌, ◌-◌, ◌<◌, ◌≤◌, List, [], ◌∷◌, ◌++◌, map, Option, Some, None, length, take, drop, get_or, All, Contains, refl, sym, ◌∙◌, ap, subst, arith, add-one}
+use Rattle.std.proofs.Common.{◌≡◌, ℕ, zero, suc, ◌+◌, ◌-◌, ◌<◌, ◌≤◌, List, [], ◌∷◌, ◌++◌, map, Option, Some, None, length, take, drop, get_or, Contains, refl, sym, ◌∙◌, ap, subst, arith}
 use Rattle.std.proofs.lemmas.List.{drop-map, map-append}
 use Rattle.std.proofs.lemmas.List.Sums.{sum_by-cons}
 use Rattle.std.specs.List.{flat_map, AllZip, sum_by}
 use Rattle.abc_book.specs.declared.block.Block.{Block}
-use Rattle.abc_fold.specs.Chain.{Chained, Folds}
-use Rattle.abc_fold.specs.Steps.{Steps, AreAlike, IsAlike, IsResumable, states_from}
+use Rattle.abc_fold.specs.Chain.{Chained}
+use Rattle.abc_fold.specs.Steps.{Steps, IsAlike, IsResumable, states_from}
 use Rattle.abc_lines.specs.Text.{Splice, Text, spliced}
 use Rattle.abc_rework.specs.Fresh.{fresh_after}
 use Rattle.abc_rework.specs.Kept.{AreKept, Held, held_at, steps_over, states_over, states_of}
 use Rattle.abc_rework.specs.Kept.{cells_of as chain_cells}
-use Rattle.abc_rework.specs.Laid.{Chain, Laid, LiesInOrder, chain_at, chains_of, header_chain, laid_in, tune_chains}
+use Rattle.abc_rework.specs.Laid.{Chain, Laid, LiesInOrder, chain_at, header_chain, laid_in, tune_chains}
 use Rattle.abc_rework.specs.Origins.{Origin, addresses, address_of, addresses_beside, numbered, origins}
-use Rattle.abc_rework.specs.Pasts.{Past, fresh_of, pasts, first_past, first_row, rest}
+use Rattle.abc_rework.specs.Pasts.{Past, fresh_of, pasts}
 use Rattle.abc_rework.specs.Pieces.{pieces_of, pasts_beside, pasts_over}
 use Rattle.abc_rework.proofs.Counting.{edits_count}
 use Rattle.abc_rework.proofs.Kept.{helds_stand}
@@ -22,7 +22,7 @@ use Rattle.abc_rework.proofs.Words.{chains_lie}
 use Rattle.abc_tunebook.specs.Book.{blocks_in, header_in, opening_of, tunes_in}
 use Rattle.abc_tunebook.specs.Rules.{Rules}
 use Rattle.abc_tunebook.specs.Tune.{lines_in}
-use Rattle.abc_chains.specs.Holding.{cells_in, cells_over, entries_at, helds_of, helds_over, origin_in, rows_in, steps_taken}
+use Rattle.abc_chains.specs.Holding.{cells_in, cells_over, entries_at, helds_over, origin_in, steps_taken}
 use Rattle.abc_chains.specs.Keeping.{AreChains, AreRead, IsChainOf, IsHeaderOf, header_steps}
 use Rattle.abc_chains.specs.Rows.{Row}
 

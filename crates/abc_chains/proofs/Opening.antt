@@ -1,11 +1,11 @@
 -- The states in which chains begin.
-use Rattle.std.proofs.Common.{◌≡◌, ℕ, zero, suc, ◌+◌, ◌≤◌, List, [], ◌∷◌, map, Option, Some, None, slice_get, length, refl, sym, ◌∙◌, ap, subst}
-use Rattle.std.specs.List.{flat_map, AllZip}
+use Rattle.std.proofs.Common.{◌≡◌, ℕ, List, [], ◌∷◌, map, Option, Some, None, slice_get, length, refl, sym, ◌∙◌, ap, subst}
+use Rattle.std.specs.List.{AllZip}
 use Rattle.abc_book.specs.Block.{blocks_of}
 use Rattle.abc_book.specs.declared.block.Block.{Block}
 use Rattle.abc_compiler.specs.Lawful.{AreLawful}
 use Rattle.abc_fold.specs.Chain.{Chained, Folds}
-use Rattle.abc_fold.specs.Steps.{Steps, AreAlike, IsAlike, IsResumable, items_from, states_from}
+use Rattle.abc_fold.specs.Steps.{Steps, AreAlike, IsAlike, IsResumable, states_from}
 use Rattle.abc_fold.proofs.Alike.{alike_states, equal_items, other_tail}
 use Rattle.abc_lines.specs.Text.{Text}
 use Rattle.abc_rework.specs.Laid.{chain_at}
@@ -13,9 +13,8 @@ use Rattle.abc_rework.proofs.Same.{cells_are_things}
 use Rattle.abc_tunebook.specs.Book.{behind_header, blocks_in, header_in, opening_of, tunes_in}
 use Rattle.abc_tunebook.specs.Placed.{Placed, state_along, things}
 use Rattle.abc_tunebook.specs.Rules.{Rules}
-use Rattle.abc_tunebook.specs.Tune.{lines_in}
 use Rattle.abc_tunebook.specs.Tune.{cells_in as placed_in}
-use Rattle.abc_chains.specs.Holding.{IsChain, IsFolded, cells_in, class_in}
+use Rattle.abc_chains.specs.Holding.{IsChain, cells_in, class_in}
 use Rattle.abc_chains.specs.Keeping.{AreChains, AreRead, IsChainOf, IsHeader, IsHeaderOf, behind_chain}
 use Rattle.abc_chains.specs.Rows.{Row}
 use Rattle.abc_chains.proofs.Meaning.{block_cells}

@@ -1,5 +1,5 @@
 -- Where the chains of a text lie.
-use Rattle.std.proofs.Common.{◌≡◌, ℕ, zero, suc, ◌+◌, ◌<◌, ◌≤◌, Bool, true, false, List, [], ◌∷◌, map, Option, Some, None, All, IfSome, length, refl, sym, ◌∙◌, ap, subst, arith, ⊎_elim}
+use Rattle.std.proofs.Common.{◌≡◌, ℕ, ◌<◌, ◌≤◌, true, false, List, [], ◌∷◌, map, Option, Some, None, All, IfSome, length, refl, sym, subst, arith, ⊎_elim}
 use Rattle.std.proofs.lemmas.Bool.{cases_Bool}
 use Rattle.std.proofs.lemmas.List.Elements.{All-cons, All-nil}
 use Rattle.abc_book.specs.Block.{blocks_of}
@@ -8,7 +8,6 @@ use Rattle.abc_book.specs.declared.block.Block.{Block}
 use Rattle.abc_book.specs.declared.block.BlockKind.{BlockKind}
 use Rattle.abc_book.specs.declared.block.BlockKind.TheVariants as kinds
 use Rattle.abc_book.proofs.Rising.{blocks_rise}
-use Rattle.abc_scan.specs.declared.class.LineClass.{LineClass}
 use Rattle.abc_tunebook.specs.Book.{header_in, is_file_header, is_tune, tunes_in}
 use Rattle.abc_chains.specs.Holding.{LiesWithin, class_in}
 use Rattle.abc_chains.specs.Keeping.{header_place, places_of}

@@ -1,15 +1,15 @@
 -- What stands behind an edit, once origins are made.
-use Rattle.std.proofs.Common.{◌≡◌, ℕ, zero, suc, ◌+◌, ◌-◌, ◌<◌, ◌≤◌, List, [], ◌∷◌, ◌++◌, map, Option, Some, None, All, length, take, drop, slice_get, refl, sym, ◌∙◌, ap, subst, arith, append_assoc, add-one, take-append-drop, drop-drop, length-append}
-use Rattle.std.proofs.lemmas.List.{map-append, drop-map, take-map}
+use Rattle.std.proofs.Common.{◌≡◌, ℕ, zero, suc, ◌+◌, ◌-◌, ◌<◌, ◌≤◌, List, [], ◌∷◌, ◌++◌, map, Option, Some, None, All, length, take, drop, slice_get, refl, sym, ◌∙◌, ap, subst, arith, append_assoc, take-append-drop, drop-drop, length-append}
+use Rattle.std.proofs.lemmas.List.{map-append, take-map}
 use Rattle.std.proofs.lemmas.List.Elements.{All-cons, All-nil}
 use Rattle.std.specs.List.{flat_map, AllZip}
 use Rattle.abc_book.specs.Block.{blocks_of}
 use Rattle.abc_book.specs.declared.block.Block.{Block}
-use Rattle.abc_fold.specs.Chain.{Chained, no_cells}
+use Rattle.abc_fold.specs.Chain.{Chained}
 use Rattle.abc_fold.specs.Steps.{Steps}
 use Rattle.abc_lines.specs.Text.{Text}
-use Rattle.abc_rework.specs.Laid.{Chain, chain_at, chains_of, header_chain, laid_in, tune_chains}
-use Rattle.abc_rework.specs.Origins.{Origin, no_origins, origin_at, origins_along, origins_from, origins_of}
+use Rattle.abc_rework.specs.Laid.{header_chain, tune_chains}
+use Rattle.abc_rework.specs.Origins.{no_origins, origin_at, origins_along, origins_from}
 use Rattle.abc_tunebook.specs.Book.{blocks_in, header_in, opening_of, tunes_in}
 use Rattle.abc_tunebook.specs.Rules.{Rules}
 use Rattle.abc_chains.specs.Holding.{IsCarried, cells_at, cells_in, cells_over, class_in, origin_in}

@@ -1,7 +1,6 @@
 -- What an edit costs, and the text with no lines.
-use Rattle.std.proofs.Common.{◌≡◌, ℕ, ◌≤◌, List, [], ◌∷◌, map, Option, None, All, refl, sym, ◌∙◌, ap, subst, arith}
+use Rattle.std.proofs.Common.{◌≡◌, ℕ, ◌≤◌, List, [], ◌∷◌, refl, sym, ◌∙◌, subst, arith}
 use Rattle.std.proofs.lemmas.List.Elements.{All-nil}
-use Rattle.abc_book.specs.Block.{blocks_of}
 use Rattle.abc_book.specs.declared.block.Block.{Block}
 use Rattle.abc_book.proofs.OnePass.{one_pass}
 use Rattle.abc_fold.specs.Chain.{Chained, no_cells}
@@ -9,12 +8,12 @@ use Rattle.abc_fold.specs.Steps.{Steps}
 use Rattle.abc_fold.specs.Work.{Counters, IsRaisedUpTo, raised}
 use Rattle.abc_fold.proofs.Raised.{raised-least}
 use Rattle.abc_lines.specs.Text.{Text}
-use Rattle.abc_rework.specs.Laid.{Laid, laid_in}
-use Rattle.abc_rework.specs.Origins.{Origin, origins_of}
+use Rattle.abc_rework.specs.Laid.{Laid}
+use Rattle.abc_rework.specs.Origins.{origins_of}
 use Rattle.abc_tunebook.specs.Book.{blocks_in, header_in, opening_of, tunes_in}
 use Rattle.abc_tunebook.specs.Rules.{Rules}
-use Rattle.abc_chains.specs.Holding.{IsCarried, origin_in}
-use Rattle.abc_chains.specs.Keeping.{AreChains, AreRead, IsChainOf, IsHeaderOf}
+use Rattle.abc_chains.specs.Holding.{IsCarried}
+use Rattle.abc_chains.specs.Keeping.{IsChainOf, IsHeaderOf}
 use Rattle.abc_chains.specs.Rows.{IsScannedUpTo, Row}
 use Rattle.abc_chains.specs.Standing.{IsWorkUpTo, Stands}
 use Rattle.std.specs.List.{AllZip}

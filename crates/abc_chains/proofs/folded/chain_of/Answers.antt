@@ -1,4 +1,4 @@
-use Rattle.std.proofs.Common.{rules, ◌≡◌, ap, ◌∙◌, subst}
+use Rattle.std.proofs.Common.{ap, ◌∙◌, subst}
 use Rattle.abc_fold.specs.Piece.{steps_needed}
 use Rattle.abc_fold.specs.Steps.{steps_of}
 use Rattle.abc_fold.specs.Work.{IsRaisedUpTo}

@@ -1,5 +1,5 @@
-use Rattle.std.proofs.Common.{rules, ◌≡◌, ◌+◌, drop, get_or, ap, sym, ◌∙◌, subst}
-use Rattle.std.specs.List.{AllZip, sum_by}
+use Rattle.std.proofs.Common.{◌≡◌, ◌+◌, drop, get_or, subst}
+use Rattle.std.specs.List.{sum_by}
 use Rattle.abc_book.specs.declared.block.BlockKind.TheVariants.{FileHeader}
 use Rattle.abc_fold.specs.Steps.{steps_of}
 use Rattle.abc_fold.proofs.Folding.{IsWithin, within_more, within_raised}

@@ -1,4 +1,4 @@
-use Rattle.std.proofs.Common.{◌≡◌, take, drop}
+use Rattle.std.proofs.Common.{take, drop}
 use Rattle.std.specs.List.{AllZip, sum_by}
 use Rattle.abc_fold.specs.Steps.{steps_of}
 use Rattle.abc_fold.proofs.Folding.{IsWithin}

@@ -1,4 +1,3 @@
-use Rattle.std.proofs.Common.{rules, ◌≡◌, ◌++◌, All, []}
 use Rattle.std.proofs.lemmas.List.Elements.{All-push}
 use Rattle.abc_fold.specs.Piece.{IsKept}
 use Rattle.abc_fold.specs.Steps.{steps_of}

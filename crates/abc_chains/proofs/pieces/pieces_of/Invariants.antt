@@ -1,4 +1,4 @@
-use Rattle.std.proofs.Common.{◌≡◌, ◌++◌, ◌-◌, ◌≤◌, All, take, drop}
+use Rattle.std.proofs.Common.{◌≡◌, ◌-◌, All, take, drop}
 use Rattle.std.specs.List.{flat_map}
 use Rattle.abc_fold.specs.Piece.{IsKept, cells_of}
 use Rattle.abc_fold.specs.Steps.{steps_of}

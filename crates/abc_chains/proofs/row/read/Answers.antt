@@ -1,4 +1,3 @@
-use Rattle.std.proofs.Common.{◌∙◌, ap}
 use Rattle.abc_chains.specs.Rows.{new_row}
 use Rattle.abc_chains.proofs.Scanning.{rows_next, scanning_done, scanning_more}
 use Rattle.abc_chains.proofs.row.read.Goals as goal

@@ -1,4 +1,4 @@
-use Rattle.std.proofs.Common.{rules, ◌≡◌, ◌≤◌, ◌<◌, ◌+◌, length, arith, ap, sym, ◌∙◌}
+use Rattle.std.proofs.Common.{rules, ◌≡◌, ◌<◌, ◌+◌, length, arith, ap, ◌∙◌}
 use Rattle.abc_chains.proofs.Placing.{block_next, count_next}
 use Rattle.abc_chains.proofs.settle.append_block.Goals as goal
 

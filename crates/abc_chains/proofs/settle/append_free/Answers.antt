@@ -1,4 +1,4 @@
-use Rattle.std.proofs.Common.{rules, ◌≡◌, ◌≤◌, ◌<◌, length, arith}
+use Rattle.std.proofs.Common.{◌<◌, length, arith}
 use Rattle.abc_chains.proofs.Placing.{free_next}
 use Rattle.abc_chains.proofs.settle.append_free.Goals as goal
 

@@ -1,4 +1,4 @@
-use Rattle.std.proofs.Common.{rules, ◌≡◌, ◌≤◌, ◌<◌, ◌+◌, length, arith}
+use Rattle.std.proofs.Common.{length}
 use Rattle.abc_book.specs.declared.block.BlockKind.TheVariants.{FileHeader}
 use Rattle.abc_chains.proofs.Placing.{rise_index}
 use Rattle.abc_chains.proofs.settle.settled.Goals as goal

@@ -1,4 +1,4 @@
-use Rattle.std.proofs.Common.{rules, ◌≡◌, ◌≤◌, ◌<◌, length, arith}
+use Rattle.std.proofs.Common.{◌<◌, length, arith}
 use Rattle.abc_chains.proofs.Placing.{part_next}
 use Rattle.abc_chains.proofs.text.append_rows.Goals as goal
 

@@ -1,12 +1,12 @@
-use Rattle.std.proofs.Common.{rules, ◌≡◌, ◌+◌, ◌≤◌, ◌++◌, All, List, drop, length, map, take, refl, ap, sym, ◌∙◌, subst}
+use Rattle.std.proofs.Common.{◌≡◌, ◌+◌, ◌≤◌, ◌++◌, List, drop, length, map, take, ap, sym, ◌∙◌, subst}
 use Rattle.abc_book.specs.Block.{blocks_of}
-use Rattle.abc_chains.specs.Holding.{IsCarried, class_in, origin_in}
+use Rattle.abc_chains.specs.Holding.{class_in, origin_in}
 use Rattle.abc_chains.specs.Keeping.{AreChains, AreRead, places_of}
 use Rattle.abc_chains.specs.Placing.{placed_from}
 use Rattle.abc_chains.specs.Rows.{Row}
 use Rattle.abc_chains.specs.Standing.{IsWorkUpTo, Keeping, Stands}
 use Rattle.abc_fold.specs.Steps.{steps_of}
-use Rattle.abc_lines.specs.Text.{Splice, splice_from, spliced}
+use Rattle.abc_lines.specs.Text.{splice_from, spliced}
 use Rattle.abc_rework.specs.Fresh.{fresh_after}
 use Rattle.abc_rework.specs.Laid.{laid_in}
 use Rattle.abc_rework.specs.Origins.{origins}

@@ -1,4 +1,4 @@
-use Rattle.std.proofs.Common.{rules, ◌≡◌, [], ◌∷◌, refl}
+use Rattle.std.proofs.Common.{◌≡◌, [], ◌∷◌, refl}
 use Rattle.abc_fold.specs.Chain.{no_cells}
 use Rattle.abc_fold.specs.Steps.{steps_of}
 use Rattle.abc_chains.proofs.Working.{empty_stands}
