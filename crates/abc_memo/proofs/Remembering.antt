@@ -1,17 +1,16 @@
 -- What is remembered of a key is what is built of its items.
-use Rattle.std.proofs.Common.{◌≡◌, ℕ, Bool, true, false, ◌&&◌, ◌⊎◌, inl, inr, List, Contains, Option, Some, None, refl, sym, ap, subst, ⊎_elim, ◌∙◌}
+use Rattle.std.proofs.Common.{◌≡◌, Bool, true, ◌&&◌, ◌⊎◌, inr, List, Contains, Some, sym, ap, subst, ⊎_elim, ◌∙◌}
 use Rattle.std.specs.Prelude.{IsTrue, nat_eq}
 use Rattle.std.specs.Cmp.Lexicographic.{pointwise, same_text}
 use Rattle.std.specs.List.{flat_map}
 use Rattle.std.specs.Map.{lookup}
 use Rattle.std.proofs.lemmas.Bool.{and_parts}
-use Rattle.lru.specs.LruCache.{LruCache, lru_cache, promoted, put_entries}
+use Rattle.lru.specs.LruCache.{lru_cache, promoted, put_entries}
 use Rattle.lru.proofs.CallerLemmas.{Contains-lookup, Contains-promoted, Contains-put_entries}
 use Rattle.abc_compiler.specs.declared.built.Built.{Built}
 use Rattle.abc_compiler.specs.Lawful.{AreLawful}
 use Rattle.abc_fold.specs.Steps.{Steps, IsResumable, items_from}
 use Rattle.abc_fold.proofs.Alike.{equal_items}
-use Rattle.abc_scan.specs.declared.class.LineClass.TheVariants.{Comment}
 use Rattle.abc_tunebook.specs.Rules.{Rules}
 use Rattle.abc_memo.specs.declared.key.TuneKey.{TuneKey}
 use Rattle.abc_memo.specs.Memo.{AreItemsOf, IsBuiltOf, Remembers}

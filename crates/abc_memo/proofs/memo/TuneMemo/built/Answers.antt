@@ -1,4 +1,4 @@
-use Rattle.std.proofs.Common.{◌≡◌, sym, ap, ◌∙◌}
+use Rattle.std.proofs.Common.{sym, ap, ◌∙◌}
 use Rattle.abc_fold.specs.Steps.{steps_of}
 use Rattle.abc_memo.proofs.Remembering.{found_bytes, found_faults, after_asking, after_keeping}
 use Rattle.abc_memo.proofs.memo.TuneMemo.built.Goals as goal
