@@ -1,3 +1,5 @@
 pub mod Held
+pub mod Marked
 pub mod Toy
+pub mod ToyLaws
 pub mod Values

@@ -1,13 +1,14 @@
 //! A compiler of a toy language.
 
-ghost use Rattle.std.specs.Prelude.{◌≡◌, ◌++◌, IfOk, OnOk, option_copied};
+ghost use Rattle.std.specs.Prelude.{◌≡◌, ◌++◌, ◌==◌, IfOk, OnOk, option_copied};
 ghost use Rattle.std.specs.List.{flat_map};
 ghost use Rattle.abc_scan.specs.Class.{class_of};
 ghost use Rattle.abc_tunebook.specs.Files.{file_at};
 ghost use Rattle.live_examples.specs.Toy.{begins_with, bytes_of_class, cells_of, first_of_value, is_long, next_byte, played, toy_book, toy_rules, value_of};
+ghost use Rattle.live_examples.specs.ToyLaws.{toy_lawful, toy_resumable, toy_told_apart};
 
 use abc_fields::FaultCode;
-use abc_fold::{Fold, Work};
+use abc_fold::{Fold, Resumable, Work};
 use abc_live::LiveSession;
 use abc_scan::{LineClass, class_of};
 use abc_text::Sequence;
@@ -100,6 +101,32 @@ impl Fold for Toy {
     }
 }
 
+impl Resumable for Toy {
+    ghost alike = { λ _ a b. a == b };
+
+    ghost resumable = { λ _. toy_resumable };
+
+    fn same(&self, a: &u8, b: &u8) -> bool {
+        *a == *b
+    }
+
+    fn copy_state(&self, _alloc: Global, byte: &u8) -> Result<u8, AllocError> {
+        Ok(*byte)
+    }
+
+    fn copy_cell(&self, alloc: Global, line: &Sequence<u8>) -> Result<Sequence<u8>, AllocError> {
+        Sequence::from_slice(alloc, line.as_slice())
+    }
+
+    fn copy_items(&self, alloc: Global, one: &Played) -> Result<Played, AllocError> {
+        let line = Sequence::from_slice(alloc, one.line.as_slice())?;
+        Ok(Played {
+            byte: one.byte,
+            line,
+        })
+    }
+}
+
 /// The cells of a line.
 fn cells_of(alloc: Global, line: &[u8]) -> Result<Vec<Sequence<u8>>, AllocError>
     ensures { IfOk result (λ cells. cells.items ≡ cells_of line.now) }
@@ -159,6 +186,10 @@ impl Compiler for Toy {
     type Defaults = u8;
 
     ghost rules = { λ _. toy_rules };
+
+    ghost lawful = { λ _. toy_lawful };
+
+    ghost told_apart = { toy_told_apart };
 
     fn class(&self, line: &[u8]) -> LineClass {
         class_of(line)

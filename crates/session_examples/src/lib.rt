@@ -1,11 +1,14 @@
 //! The tests of the session, the publisher and the run: each calls public functions with ample memory, whose results no
 //! clause promises. `sessions` has a session, and one over a compiler of its own, `publishing` and `orders` a publisher
-//! on a session that is edited, `runs` streams and stores that fail, `readers` a reader that fails once. What commands
-//! can show stands in `tests/transcripts`. Expected values are worked by hand from the rules in `docs/program.md`.
+//! on a session that is edited, `runs` streams and stores that fail, `readers` a reader that fails once, `memos` a memo
+//! of tunes in the toy language. What commands can show stands in `tests/transcripts`. Expected values are worked by hand
+//! from the rules in `docs/program.md`.
 #![tactic(auto)]
 
 #[cfg(test)]
 mod account;
+#[cfg(test)]
+mod memos;
 #[cfg(test)]
 mod orders;
 #[cfg(test)]
