@@ -16,6 +16,7 @@ use abc_tunebook::Book;
 use std::alloc::{AllocError, Global};
 
 /// The chains of a text and where they lie: that of its file header, if there is one, and those of its tunes.
+#[derive(Drop)]
 pub struct FoldedText<'a, C: Compiler> {
     /// Where the file header lies.
     pub header: Option<Block>,
