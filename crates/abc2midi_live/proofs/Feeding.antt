@@ -12,14 +12,14 @@ use Rattle.abc_publish.specs.Publisher.{Directory}
 use Rattle.abc2midi_live.specs.Cut.{IsCut}
 use Rattle.abc2midi_live.specs.Machine.{Future, telling, IsClean, Answers, ahead}
 use Rattle.abc2midi_live.specs.Outcome.{Ends, Outlets, outlets, Serves, Tells, TellsFirst, BrokenOff, Unserved, Ended, Turn, Leaves, read_counts, Reads, Failed, read_faults}
-use Rattle.abc2midi_live.specs.Storing.{StoreAnswer, StoreSeen, Follows, IsAsked}
+use Rattle.abc2midi_live.specs.Storing.{StoreAnswer, Follows, IsAsked}
 use Rattle.abc2midi_live.specs.Told.{Told, told, behind, nothing_more}
 use Rattle.abc2midi_live.specs.Transcript.{input_lines, most_kept}
 use Rattle.abc2midi_live.specs.declared.fault.RunFault.{RunFault}
 use Rattle.abc2midi_live.specs.declared.fault.RunFault.TheVariants.{Read, Write, Memory}
 use Rattle.abc2midi_live.proofs.Counts.{raised_none, raised_twice}
 use Rattle.abc2midi_live.proofs.InputLines.{input_lines-line, input_lines-kept, input_lines-begun, input_lines-last, input_lines-nil}
-use Rattle.abc2midi_live.proofs.Storing.{follows_none, follows_both, asked_none}
+use Rattle.abc2midi_live.proofs.Storing.{follows_none, follows_both}
 use Rattle.abc2midi_live.proofs.Told.{behind_none, answers_both, answers_none, ended_with, continued_with}
 
 abbrev OfLines : Type 0
