@@ -1,4 +1,6 @@
 pub mod Edits
 pub mod ListSplices
+pub mod PlacesLent
+pub mod PlacesSteps
 pub mod Rings
 pub mod Splices

@@ -3,4 +3,5 @@ pub mod Edits
 pub mod GapList
 pub mod Lines
 pub mod ListSplice
+pub mod Places
 pub mod Text

@@ -9,6 +9,7 @@ mod line;
 mod lines;
 mod ring;
 mod splice_patch;
+mod places;
 
 pub use edit_error::EditError;
 pub use gap_list::GapList;
