@@ -1,4 +1,5 @@
 pub mod Edits
+pub mod GapRow
 pub mod ListSplices
 pub mod PlacesLent
 pub mod PlacesSteps

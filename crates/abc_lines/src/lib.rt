@@ -4,6 +4,7 @@
 
 mod edit_error;
 mod gap_list;
+mod gap_row;
 mod limits;
 mod line;
 mod lines;

@@ -1,0 +1,116 @@
+//! A list in one block of memory, with a gap of empty places in it: items come and go at the gap, which moves.
+
+ghost use Rattle.std.specs.Prelude.{◌≡◌, ◌+◌, ◌-◌, ◌<◌, ◌≤◌, [], Some, IfOk, option_copied, slice_get};
+ghost use Rattle.std.specs.List.{insert, remove};
+ghost use Rattle.abc_lines.specs.GapRow.{IsGapped, Becomes, items_of};
+
+use crate::places::{Claim, Places, allocate, deallocate};
+use std::alloc::{AllocError, Global};
+use std_alloc::room::may_hold;
+
+/// A list of `size` items in a block of `capacity` places, with all the empty places behind the first `at` items.
+/// It can't be let go, but for `destroy_empty`.
+pub(crate) struct GapRow<T> {
+    places: Places<T>,
+    claim: Claim<T, Global>,
+    alloc: Global,
+    capacity: usize,
+    size: usize,
+    at: usize,
+}
+
+impl<T> GapRow<T> {
+    /// An empty list with room for so many items.
+    pub(crate) fn with_room(alloc: Global, room: usize) -> Result<GapRow<T>, AllocError>
+        ensures { IfOk result (λ row. IsGapped row × (items_of row ≡ []) × (row.size ≡ 0) × (row.capacity ≡ room)) }
+    {
+        if !may_hold::<T>(room) {
+            return Err(AllocError);
+        }
+        let (places, claim) = allocate(&alloc, room)?;
+        Ok(GapRow {
+            places,
+            claim,
+            alloc,
+            capacity: room,
+            size: 0,
+            at: 0,
+        })
+    }
+
+    /// The item with `index` items before it.
+    pub(crate) fn get(&self, index: usize) -> Option<&T>
+        requires { IsGapped self.now }
+        ensures { option_copied result ≡ slice_get (items_of self.now) index }
+    {
+        if self.size <= index {
+            return None;
+        }
+        if index < self.at {
+            return Some(self.places.get(index));
+        }
+        Some(self.places.get(index + (self.capacity - self.size)))
+    }
+
+    /// Moves the item before the gap behind it.
+    pub(crate) fn step_back(&mut self)
+        requires gapped { IsGapped self.old }
+        requires before { 0 < self.old.at }
+        ensures { Becomes self.old self.new (items_of self.old) (self.old.at - 1) self.old.size }
+    {
+        let from = self.at - 1;
+        let item = self.places.read(from);
+        self.places.write(from + (self.capacity - self.size), item);
+        self.at = from;
+    }
+
+    /// Moves the item behind the gap before it.
+    pub(crate) fn step_on(&mut self)
+        requires gapped { IsGapped self.old }
+        requires behind { self.old.at < self.old.size }
+        ensures { Becomes self.old self.new (items_of self.old) (self.old.at + 1) self.old.size }
+    {
+        let item = self.places.read(self.at + (self.capacity - self.size));
+        self.places.write(self.at, item);
+        self.at += 1;
+    }
+
+    /// Puts an item into the gap, behind the items that stand before it.
+    pub(crate) fn put(&mut self, item: T)
+        requires gapped { IsGapped self.old }
+        requires room { self.old.size < self.old.capacity }
+        ensures { Becomes self.old self.new (insert (items_of self.old) self.old.at item) (self.old.at + 1) (self.old.size + 1) }
+    {
+        self.places.write(self.at, item);
+        self.at += 1;
+        self.size += 1;
+    }
+
+    /// Takes the item behind the gap.
+    pub(crate) fn take_next(&mut self) -> T
+        requires gapped { IsGapped self.old }
+        requires behind { self.old.at < self.old.size }
+        ensures taken { slice_get (items_of self.old) self.old.at ≡ Some result }
+        ensures left { Becomes self.old self.new (remove (items_of self.old) self.old.at) self.old.at (self.old.size - 1) }
+    {
+        let item = self.places.read(self.at + (self.capacity - self.size));
+        self.size -= 1;
+        item
+    }
+
+    /// Gives the memory of an empty list back.
+    pub(crate) fn destroy_empty(self)
+        requires gapped { IsGapped self }
+        requires empty { self.size ≡ 0 }
+    {
+        let GapRow {
+            places,
+            claim,
+            alloc,
+            capacity,
+            size: _,
+            at: _,
+        } = self;
+        deallocate(&alloc, places, capacity, claim);
+    }
+}
