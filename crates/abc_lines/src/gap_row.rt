@@ -75,6 +75,30 @@ impl<T> GapRow<T> {
         self.at += 1;
     }
 
+    /// Moves the gap to where so many items stand before it.
+    pub(crate) fn move_gap(&mut self, index: usize)
+        requires gapped { IsGapped self.old }
+        requires within { index ≤ self.old.size }
+        ensures { Becomes self.old self.new (items_of self.old) index self.old.size }
+    {
+        while index < self.at {
+            self.step_back();
+        }
+        self.follow_gap(index);
+    }
+
+    /// Moves the gap on to where so many items stand before it.
+    fn follow_gap(&mut self, index: usize)
+        requires gapped { IsGapped self.old }
+        requires before { self.old.at ≤ index }
+        requires within { index ≤ self.old.size }
+        ensures { Becomes self.old self.new (items_of self.old) index self.old.size }
+    {
+        while self.at < index {
+            self.step_on();
+        }
+    }
+
     /// Puts an item into the gap, behind the items that stand before it.
     pub(crate) fn put(&mut self, item: T)
         requires gapped { IsGapped self.old }
