@@ -8,9 +8,9 @@ mod gap_row;
 mod limits;
 mod line;
 mod lines;
+mod places;
 mod ring;
 mod splice_patch;
-mod places;
 
 pub use edit_error::EditError;
 pub use gap_list::GapList;
