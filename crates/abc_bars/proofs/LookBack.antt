@@ -5,6 +5,7 @@ pub mod Cells
 pub mod Heard
 pub mod Keys
 pub mod Known
+pub mod Lengths
 pub mod Named
 pub mod Placed
 pub mod Places

@@ -8,6 +8,7 @@ pub mod Element
 pub mod Header
 pub mod Heard
 pub mod Keys
+pub mod Lengths
 pub mod Place
 pub mod Ties
 pub mod TunePlaces

@@ -276,7 +276,7 @@ note-key at note =
     ∙ (λ i. midi_key (pitch_of (same-shift at.opening at.before i) note (alteration-at at.opening at.before (accidentals_at at.before) [] note (behind-none at.before) i)))
 
 -- What stands before a token that is no tie, whatever follows it.
-tie-next : (front ahead : List (Spanned TokenKind)) (token : Spanned TokenKind) → is_tie_token token.kind ≡ false → tie_ahead (front ++ token ∷ ahead) ≡ tie_ahead front
+pub tie-next : (front ahead : List (Spanned TokenKind)) (token : Spanned TokenKind) → is_tie_token token.kind ≡ false → tie_ahead (front ++ token ∷ ahead) ≡ tie_ahead front
 tie-next [] ahead token e = e
 tie-next (first ∷ front) ahead token e = refl
 
@@ -325,7 +325,7 @@ adds given place kinds.NoEffect ahead = ([], sym (append-nil _))
 adds given place kinds.Unclosed ahead = ([], sym (append-nil _))
 adds given place kinds.BadByte ahead = ([], sym (append-nil _))
 
-goes-on : (opening : Body) (before : List Element) (given : Given) (cell : List (Spanned TokenKind))
+pub goes-on : (opening : Body) (before : List Element) (given : Given) (cell : List (Spanned TokenKind))
     → (more : List Item) × ((looked_back opening before given cell).items.items ≡ given.items.items ++ more)
 goes-on opening before given [] = ([], sym (append-nil _))
 goes-on opening before given (token ∷ ahead) =
@@ -357,7 +357,7 @@ mentioned-in body (Unnamed settings) = refl
 mentioned-in body (At place) = refl
 
 -- What holds for the current voice where a token mentions it.
-here-is : (values : Defaults) (fields : List Field) (key : Key) (before : List Element)
+pub here-is : (values : Defaults) (fields : List Field) (key : Key) (before : List Element)
     → here (mentioned (held_at (opening_at values fields key) before)) ≡ settings_at (standing values fields key before).opening (standing values fields key before).before
 here-is values fields key before =
     let body : Body = held_at (opening_at values fields key) before in

@@ -1,0 +1,11 @@
+use Rattle.abc_bars.proofs.LookBack.Lengths.{chords_last_there, notes_last_there, rests_last_there}
+use Rattle.abc_bars.proofs.length_laws.lengths_at_places.Goals as goal
+
+pub returns-clause-notes : goal.returns-clause-notes
+returns-clause-notes c = notes_last_there
+
+pub returns-clause-rests : goal.returns-clause-rests
+returns-clause-rests c = rests_last_there
+
+pub returns-clause-chords : goal.returns-clause-chords
+returns-clause-chords c = chords_last_there
