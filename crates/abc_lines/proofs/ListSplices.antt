@@ -1,5 +1,5 @@
 -- What a splice of a list leaves, step by step and item by item.
-use Rattle.std.proofs.Common.{◌≡◌, ℕ, ◌+◌, ◌-◌, ◌*◌, ◌<◌, ◌≤◌, true, false, if◌then◌else◌, nat_le, List, [], ◌++◌, length, take, drop, None, sym, ap, ◌∙◌, subst, arith}
+use Rattle.std.proofs.Common.{◌≡◌, ℕ, ◌+◌, ◌-◌, ◌*◌, ◌<◌, ◌≤◌, true, false, if◌then◌else◌, nat_le, List, [], ◌++◌, length, take, drop, None, refl, sym, ap, ◌∙◌, subst, arith}
 use Rattle.std.specs.List.{slice_get}
 use Rattle.std.proofs.lemmas.Bool.Decides.{nat_tests}
 use Rattle.std.proofs.lemmas.Grind.{common_steps}
@@ -7,7 +7,9 @@ use Rattle.std.proofs.lemmas.Option.{gets}
 use Rattle.std.proofs.lemmas.List.{append-nil, take_at, drop_at, length-take-le}
 use Rattle.abc_lines.specs.GapList.{Gapped, gapped, distance, tallied, replaced_run}
 use Rattle.abc_lines.specs.ListSplice.{Patched, after_splice, count_after, places, places_for, patched}
-use Rattle.abc_lines.proofs.Rings.{gapped_alike}
+
+pub gapped_alike : {X : Type 0} (xs ys : List X) (gap moved m n : ℕ) → xs ≡ ys → m ≡ n → gapped xs gap m moved ≡ gapped ys gap n moved
+gapped_alike xs ys gap moved m n same alike = rw same (rw alike refl)
 
 pub length-replaced_run : {X : Type 0} (xs : List X) (at removed : ℕ) (new : List X) → at + removed ≤ length xs
     → length (replaced_run xs at removed new) ≡ length xs - removed + length new

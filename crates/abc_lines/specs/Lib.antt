@@ -1,3 +1,4 @@
+pub mod Block
 pub mod EditError
 pub mod Edits
 pub mod GapList

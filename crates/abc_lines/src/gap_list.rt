@@ -2,32 +2,28 @@
 
 ghost use Rattle.std.specs.Prelude.{◌≡◌, ◌+◌, ◌-◌, ◌<◌, ◌≤◌, ◌^◌, [], length, IfOk, IsOk, option_copied, slice_get, Some};
 ghost use Rattle.std.specs.List.{insert, remove};
+ghost use Rattle.abc_lines.specs.Block.{placed};
 ghost use Rattle.abc_lines.specs.GapList.{gapped, distance, tallied, replaced_run};
 
-use crate::ring;
+use crate::block::Block;
 use std::alloc::{AllocError, Global};
-use std::collections::VecDeque;
 use std::marker::Model;
+use std::mem::replace;
 
 /// Items in order with spare room among them, the gap. It takes its memory once, and each item moves as often as the
 /// gap passes over it. Contracts see the items, the place of the gap, the room and how many places the gap has moved.
-#[derive(Drop)]
 pub struct GapList<T> {
-    ring: VecDeque<T>,
-    gap: usize,
+    block: Block<T>,
+    alloc: Global,
     moved: u64,
 }
 
 impl<T> Model for GapList<T> {
-    ghost use Rattle.std.specs.Prelude.{◌-◌, length};
-    ghost use Rattle.std.specs.VecDeque.{deque_capacity};
-    ghost use Rattle.abc_lines.specs.GapList.{Gapped, IsRing, gapped, in_order};
+    ghost use Rattle.abc_lines.specs.GapList.{Gapped, gapped};
 
     ghost Value = { Gapped T };
 
-    ghost view = { λ l. gapped (in_order l.gap l.ring.items) l.gap (deque_capacity l.ring - length l.ring.items) l.moved };
-
-    ghost invariant = { λ l. IsRing l.gap l.ring.items (deque_capacity l.ring) };
+    ghost view = { λ l. gapped l.block.items l.block.gap l.block.room l.moved };
 }
 
 impl<T> GapList<T> {
@@ -37,15 +33,15 @@ impl<T> GapList<T> {
         ensures succeeds { room ≡ 0 → IsOk result }
     {
         Ok(GapList {
-            ring: VecDeque::with_capacity(alloc, room)?,
-            gap: 0,
+            block: Block::with_room(alloc, room)?,
+            alloc,
             moved: 0,
         })
     }
 
     /// The allocator that the list is from.
     pub fn allocator(&self) -> Global {
-        *self.ring.allocator()
+        self.alloc
     }
 
     /// How many items there are.
@@ -54,21 +50,21 @@ impl<T> GapList<T> {
         ensures small { length self.now.items + self.now.room < 2 ^ 63 }
         ensures inside { self.now.gap ≤ length self.now.items }
     {
-        self.ring.len()
+        self.block.len()
     }
 
     /// How many more items there is room for.
     pub fn room(&self) -> usize
         ensures { result ≡ self.now.room }
     {
-        self.ring.capacity() - self.ring.len()
+        self.block.room()
     }
 
     /// How many items stand before the gap.
     pub fn gap(&self) -> usize
         ensures { result ≡ self.now.gap }
     {
-        self.gap
+        self.block.gap()
     }
 
     /// How many places the gap has moved in all, up to the greatest number that the type has.
@@ -82,7 +78,7 @@ impl<T> GapList<T> {
     pub fn get(&self, i: usize) -> Option<&T>
         ensures { option_copied result ≡ slice_get self.now.items i }
     {
-        ring::item(&self.ring, self.gap, i)
+        self.block.get(i)
     }
 
     /// Puts an item before the one with `i` others before it, or at the end. The gap stands behind it then.
@@ -92,8 +88,7 @@ impl<T> GapList<T> {
         ensures { self.new ≡ gapped (insert self.old.items i item) (i + 1) (self.old.room - 1) (tallied self.old.moved (distance self.old.gap i)) }
     {
         self.move_gap(i);
-        ring::put(&mut self.ring, i, item);
-        self.gap = i + 1;
+        self.block.put(item);
     }
 
     /// Takes out the item with `i` others before it. The gap stands in its place then.
@@ -103,7 +98,7 @@ impl<T> GapList<T> {
         ensures list { self.new ≡ gapped (remove self.old.items i) i (self.old.room + 1) (tallied self.old.moved (distance self.old.gap i)) }
     {
         self.move_gap(i);
-        ring::take_next(&mut self.ring, i)
+        self.block.take_next()
     }
 
     /// Moves the gap to a place.
@@ -111,9 +106,9 @@ impl<T> GapList<T> {
         requires { to ≤ length self.old.items }
         ensures { self.new ≡ gapped self.old.items to self.old.room (tallied self.old.moved (distance self.old.gap to)) }
     {
-        ring::turn(&mut self.ring, self.gap, to);
-        self.moved = self.moved.saturating_add(self.gap.abs_diff(to) as u64);
-        self.gap = to;
+        let from = self.block.gap();
+        self.block.move_gap(to);
+        self.moved = self.moved.saturating_add(from.abs_diff(to) as u64);
     }
 
     /// Drops so many items behind a place. The gap stands there then.
@@ -124,23 +119,26 @@ impl<T> GapList<T> {
         ensures { self.new ≡ gapped (replaced_run self.old.items at count []) at (self.old.room + count) (tallied self.old.moved (distance self.old.gap at)) }
     {
         self.move_gap(at);
-        ring::drop_next(&mut self.ring, at, count);
+        for _dropped in 0..count {
+            drop(self.block.take_next());
+        }
     }
 
     /// Moves all items over into an empty list with room for them, which takes the place of theirs.
     pub(crate) fn move_over(&mut self, roomier: GapList<T>)
-    where
-        T: Drop,
         requires empty { roomier.items ≡ [] }
         requires room { length self.old.items ≤ roomier.room }
         ensures { self.new ≡ gapped self.old.items self.old.gap (roomier.room - length self.old.items) self.old.moved }
     {
         let GapList {
-            ring,
-            gap: _,
+            block,
+            alloc: _,
             moved: _,
         } = roomier;
-        ring::move_over(&mut self.ring, ring);
+        let gap = self.block.gap();
+        let wider = moved_into(&mut self.block, block);
+        replace(&mut self.block, wider).end();
+        self.block.move_gap(gap);
     }
 
     /// Puts items in the place of the gap, which stands behind them then.
@@ -150,8 +148,36 @@ impl<T> GapList<T> {
         requires { length items.items ≤ self.old.room }
         ensures { self.new ≡ gapped (replaced_run self.old.items self.old.gap 0 items.items) (self.old.gap + length items.items) (self.old.room - length items.items) self.old.moved }
     {
-        let gap = self.gap;
-        self.gap += items.len();
-        ring::put_all(&mut self.ring, gap, items);
+        for item in items {
+            self.block.put(item);
+        }
+    }
+}
+
+/// Empty places with the items of others, in order and before the gap.
+fn moved_into<T>(from: &mut Block<T>, mut block: Block<T>) -> Block<T>
+    requires empty { block.items ≡ [] }
+    requires room { length from.old.items ≤ block.room }
+    ensures moved { result ≡ placed from.old.items (length from.old.items) (block.room - length from.old.items) }
+    ensures none { from.new.items ≡ [] }
+{
+    from.move_gap(0);
+    block.move_gap(0);
+    while from.len() > 0 {
+        block.put(from.take_next());
+    }
+    block
+}
+
+impl<T: Drop> Drop for GapList<T> {
+    fn drop(mut self) {
+        let count = self.len();
+        self.remove_run(0, count);
+        let GapList {
+            block,
+            alloc: _,
+            moved: _,
+        } = self;
+        block.end();
     }
 }

@@ -1,6 +1,6 @@
 //! A list in one block of memory, with a gap of empty places in it: items come and go at the gap, which moves.
 
-ghost use Rattle.std.specs.Prelude.{◌≡◌, ◌+◌, ◌-◌, ◌<◌, ◌≤◌, [], Some, IfOk, option_copied, slice_get};
+ghost use Rattle.std.specs.Prelude.{◌≡◌, ◌+◌, ◌-◌, ◌<◌, ◌≤◌, ◌^◌, [], length, Some, IfOk, option_copied, slice_get};
 ghost use Rattle.std.specs.List.{insert, remove};
 ghost use Rattle.abc_lines.specs.GapRow.{IsGapped, Becomes, items_of};
 
@@ -36,6 +36,33 @@ impl<T> GapRow<T> {
             size: 0,
             at: 0,
         })
+    }
+
+    /// How many items there are.
+    pub(crate) fn len(&self) -> usize
+        requires { IsGapped self.now }
+        ensures count { result ≡ length (items_of self.now) }
+        ensures inside { self.now.at ≤ result }
+        ensures places { result + (self.now.capacity - self.now.size) < 2 ^ 63 }
+    {
+        self.size
+    }
+
+    /// How many places are empty.
+    pub(crate) fn room(&self) -> usize
+        requires { IsGapped self.now }
+        ensures { result ≡ self.now.capacity - self.now.size }
+    {
+        self.capacity - self.size
+    }
+
+    /// How many items stand before the gap.
+    pub(crate) fn gap(&self) -> usize
+        requires { IsGapped self.now }
+        ensures value { result ≡ self.now.at }
+        ensures inside { self.now.at ≤ length (items_of self.now) }
+    {
+        self.at
     }
 
     /// The item with `index` items before it.
@@ -103,7 +130,8 @@ impl<T> GapRow<T> {
     pub(crate) fn put(&mut self, item: T)
         requires gapped { IsGapped self.old }
         requires room { self.old.size < self.old.capacity }
-        ensures { Becomes self.old self.new (insert (items_of self.old) self.old.at item) (self.old.at + 1) (self.old.size + 1) }
+        ensures put { Becomes self.old self.new (insert (items_of self.old) self.old.at item) (self.old.at + 1) (self.old.size + 1) }
+        ensures inside { self.old.at ≤ length (items_of self.old) }
     {
         self.places.write(self.at, item);
         self.at += 1;

@@ -2,6 +2,7 @@
 //! memory and changes nothing, and one that needs none and changes the list.
 #![tactic(auto)]
 
+mod block;
 mod edit_error;
 mod gap_list;
 mod gap_row;
@@ -9,7 +10,6 @@ mod limits;
 mod line;
 mod lines;
 mod places;
-mod ring;
 mod splice_patch;
 
 pub use edit_error::EditError;

@@ -1,0 +1,6 @@
+use Rattle.std.proofs.Common.{sym}
+use Rattle.abc_lines.proofs.GapRow.{held_count}
+use Rattle.abc_lines.proofs.gap_row.GapRow.len.Goals as goal
+
+pub returns-clause-count : goal.returns-clause-count
+returns-clause-count g c = sym (held_count c.requires)
