@@ -4,19 +4,12 @@
 
 mod abc;
 mod block;
-mod compile;
 mod edit;
-mod fault;
-mod fold;
-mod header;
-mod kept;
-mod placed;
 mod session;
-mod tune;
-mod tunes;
+mod taking;
 
 pub use abc::Session;
 pub use abc_lines::EditError;
 pub use abc_tunebook::{Fault, Report, Title};
 pub use edit::Edit;
-pub use session::LiveSession;
+pub use session::{EditPatch, LiveSession};

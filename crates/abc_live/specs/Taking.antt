@@ -1,0 +1,28 @@
+-- Which tunes of an edited text have the items of an old one: a stand-in for what the kept text is to say. Our own.
+use Rattle.std.specs.Prelude.{◌≡◌, ℕ, true, List, Option, IsSome}
+use Rattle.std.specs.List.{AllZip}
+use Rattle.abc_book.specs.declared.block.Block.{Block}
+use Rattle.abc_chains.specs.Rows.{Row}
+use Rattle.abc_chains.specs.Standing.{Keeping}
+use Rattle.abc_fold.specs.Chain.{Chained}
+use Rattle.abc_fold.specs.Steps.{Steps}
+use Rattle.abc_lines.specs.Text.{Splice, Text, spliced}
+use Rattle.abc_rework.specs.Entered.{entered_of}
+use Rattle.abc_rework.specs.Fresh.{is_untouched}
+use Rattle.abc_rework.specs.Laid.{laid_in, tune_chains}
+use Rattle.abc_tunebook.specs.Rules.{Rules}
+
+-- Each untouched tune of the text behind a splice has the items of an old one.
+abbrev pub TakesUntouched : {State Cell Items Defaults : Type 0} → Steps State Cell Items → Rules State Cell Items Defaults → Text → Splice → List (Option ℕ) → Type 0
+TakesUntouched steps rules text s taken =
+    AllZip (λ tune old. is_untouched steps rules.cells (laid_in steps rules text) s (entered_of steps rules.cells (spliced text s) tune) ≡ true → IsSome old) (tune_chains 1 (laid_in steps rules (spliced text s)).opening (laid_in steps rules (spliced text s)).tunes) taken
+
+-- A kept text, the text that is to take its place, what would be kept of that, and which tunes have the items of old
+-- ones.
+pub record Taking (C State Cell Items : Type 0) : Type 0 where
+  pub on : Keeping C State Cell Items
+  pub text : Text
+  pub rows : List (Row Cell)
+  pub blocks : List Block
+  pub chains : List (Chained State Cell Items)
+  pub taken : List (Option ℕ)

@@ -1,0 +1,4 @@
+pub mod Counting
+pub mod Edit
+pub mod KeptText
+pub mod Session

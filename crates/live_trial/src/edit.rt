@@ -1,0 +1,22 @@
+//! Edits of a text.
+
+/// A change of a range of lines. Lines are counted from 1, and a list of lines may be empty.
+#[derive(Debug, Drop)]
+pub enum Edit {
+    /// Puts lines before line `at`, from 1 to the count of lines plus one.
+    Insert {
+        at: u32,
+        lines: Vec<Vec<u8>>,
+    },
+    /// Puts lines in the place of the lines `from` to `to`.
+    Replace {
+        from: u32,
+        to: u32,
+        lines: Vec<Vec<u8>>,
+    },
+    /// Takes out the lines `from` to `to`.
+    Delete {
+        from: u32,
+        to: u32,
+    },
+}
