@@ -1,3 +1,4 @@
+pub mod Along
+pub mod Blocks
 pub mod Books
-pub mod Costs
-pub mod Parts
+pub mod Reuse

@@ -1,4 +1,4 @@
-pub mod Counting
+pub mod Block
 pub mod Edit
+pub mod Kept
 pub mod Session
-pub mod Taking

@@ -4,12 +4,19 @@
 
 mod abc;
 mod block;
+mod compile;
 mod edit;
+mod fault;
+mod fold;
+mod header;
+mod kept;
+mod placed;
 mod session;
-mod taking;
+mod tune;
+mod tunes;
 
 pub use abc::Session;
 pub use abc_lines::EditError;
 pub use abc_tunebook::{Fault, Report, Title};
 pub use edit::Edit;
-pub use session::{EditPatch, LiveSession};
+pub use session::LiveSession;

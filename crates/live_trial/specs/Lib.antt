@@ -1,4 +1,0 @@
-pub mod Counting
-pub mod Edit
-pub mod KeptText
-pub mod Session
