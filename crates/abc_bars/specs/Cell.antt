@@ -27,21 +27,8 @@ use Rattle.abc_music.specs.Tuplet.{tuplet_opened}
 
 -- Whether a token is a tie.
 abbrev pub is_tie_token : TokenKind → Bool
-is_tie_token (kinds.Note note) = false
-is_tie_token (kinds.Rest length) = false
-is_tie_token (kinds.BarRest bars) = false
-is_tie_token (kinds.Chord chord) = false
-is_tie_token (kinds.InlineField field) = false
-is_tie_token (kinds.Bar bar) = false
-is_tie_token (kinds.Ending passes) = false
-is_tie_token (kinds.Tuplet tuplet) = false
-is_tie_token (kinds.Broken mark) = false
 is_tie_token kinds.Tie = true
-is_tie_token kinds.Blank = false
-is_tie_token kinds.NoEffect = false
-is_tie_token (kinds.Field field) = false
-is_tie_token kinds.Unclosed = false
-is_tie_token kinds.BadByte = false
+is_tie_token _ = false
 
 -- Whether a tie comes first. ABC 2.1 section 4.11; that nothing may stand between is our own.
 abbrev pub tie_ahead : List (Spanned TokenKind) → Bool
@@ -51,20 +38,8 @@ tie_ahead (token ∷ rest) = is_tie_token token.kind
 -- Whether a tie may stand directly behind a token: a note or a chord, even one without notes. Our own.
 abbrev pub may_be_tied : TokenKind → Bool
 may_be_tied (kinds.Note note) = true
-may_be_tied (kinds.Rest length) = false
-may_be_tied (kinds.BarRest bars) = false
 may_be_tied (kinds.Chord chord) = true
-may_be_tied (kinds.InlineField field) = false
-may_be_tied (kinds.Bar bar) = false
-may_be_tied (kinds.Ending passes) = false
-may_be_tied (kinds.Tuplet tuplet) = false
-may_be_tied (kinds.Broken mark) = false
-may_be_tied kinds.Tie = false
-may_be_tied kinds.Blank = false
-may_be_tied kinds.NoEffect = false
-may_be_tied (kinds.Field field) = false
-may_be_tied kinds.Unclosed = false
-may_be_tied kinds.BadByte = false
+may_be_tied _ = false
 
 -- Before the first token of a cell.
 abbrev pub nothing_given : Body → Given

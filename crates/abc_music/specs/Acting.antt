@@ -11,21 +11,11 @@ use Rattle.abc_music.specs.Broken.{is_time_token, behind_from, first_factor, sec
 
 -- Whether no mark reaches over a token: a field, a bar rest, another mark. Our own.
 abbrev pub hinders : TokenKind → Bool
-hinders (kinds.Note note) = false
-hinders (kinds.Rest length) = false
 hinders (kinds.BarRest bars) = true
-hinders (kinds.Chord chord) = false
 hinders (kinds.InlineField field) = true
-hinders (kinds.Bar bar) = false
-hinders (kinds.Ending passes) = false
-hinders (kinds.Tuplet tuplet) = false
 hinders (kinds.Broken mark) = true
-hinders kinds.Tie = false
-hinders kinds.Blank = false
-hinders kinds.NoEffect = false
 hinders (kinds.Field field) = true
-hinders kinds.Unclosed = false
-hinders kinds.BadByte = false
+hinders _ = false
 
 -- A time token stands at a place of a cell.
 abbrev pub IsTimeAt : List (Spanned TokenKind) → ℕ → Type 0

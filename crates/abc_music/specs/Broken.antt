@@ -19,9 +19,7 @@ use Rattle.abc_music.specs.declared.broken.TheConstants.{MOST_MARKS}
 -- Whether a part of a chord is a note.
 abbrev pub is_note_part : ChordPartKind → Bool
 is_note_part (parts.Note note) = true
-is_note_part parts.Tie = false
-is_note_part parts.NoEffect = false
-is_note_part parts.BadByte = false
+is_note_part _ = false
 
 -- Whether a chord has a note.
 abbrev pub has_note : List (Spanned ChordPartKind) → Bool
@@ -31,37 +29,19 @@ has_note inside = list_any (λ part. is_note_part part.kind) inside
 abbrev pub role_of : TokenKind → Role
 role_of (kinds.Note note) = roles.Time
 role_of (kinds.Rest length) = roles.Time
-role_of (kinds.BarRest bars) = roles.Hindrance
 role_of (kinds.Chord chord) = if has_note chord.parts then roles.Time else roles.Silent
-role_of (kinds.InlineField field) = roles.Hindrance
-role_of (kinds.Bar bar) = roles.Silent
-role_of (kinds.Ending passes) = roles.Silent
-role_of (kinds.Tuplet tuplet) = roles.Silent
 role_of (kinds.Broken mark) = roles.Mark mark
-role_of kinds.Tie = roles.Silent
-role_of kinds.Blank = roles.Silent
-role_of kinds.NoEffect = roles.Silent
+role_of (kinds.BarRest bars) = roles.Hindrance
+role_of (kinds.InlineField field) = roles.Hindrance
 role_of (kinds.Field field) = roles.Hindrance
-role_of kinds.Unclosed = roles.Silent
-role_of kinds.BadByte = roles.Silent
+role_of _ = roles.Silent
 
 -- Whether a token is a time token: a note, a rest, or a chord with a note. Our own.
 abbrev pub is_time_token : TokenKind → Bool
 is_time_token (kinds.Note note) = true
 is_time_token (kinds.Rest length) = true
-is_time_token (kinds.BarRest bars) = false
 is_time_token (kinds.Chord chord) = has_note chord.parts
-is_time_token (kinds.InlineField field) = false
-is_time_token (kinds.Bar bar) = false
-is_time_token (kinds.Ending passes) = false
-is_time_token (kinds.Tuplet tuplet) = false
-is_time_token (kinds.Broken mark) = false
-is_time_token kinds.Tie = false
-is_time_token kinds.Blank = false
-is_time_token kinds.NoEffect = false
-is_time_token (kinds.Field field) = false
-is_time_token kinds.Unclosed = false
-is_time_token kinds.BadByte = false
+is_time_token _ = false
 
 -- Behind a time token a mark may act, behind anything else it does not.
 abbrev pub behind_mark : Behind → BrokenRhythm → Behind
