@@ -1,8 +1,10 @@
 pub mod Accidentals
 pub mod Along
 pub mod ByName
+pub mod ByPlace
 pub mod Cells
 pub mod Heard
+pub mod Held
 pub mod Keys
 pub mod Known
 pub mod Lengths

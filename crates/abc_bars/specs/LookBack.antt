@@ -6,7 +6,7 @@ pub mod Cells
 pub mod Defaults
 pub mod Element
 pub mod Header
-pub mod Heard
+pub mod Held
 pub mod Keys
 pub mod Lengths
 pub mod Place

@@ -7,13 +7,13 @@ ghost use Rattle.abc_scan.specs.declared.field.Field.{Field};
 ghost use Rattle.abc_bars.specs.declared.defaults.Defaults.{Defaults};
 ghost use Rattle.abc_music.specs.declared.item.TheConstants.{MOST_VOICES};
 ghost use Rattle.abc_bars.specs.LookBack.Element.{Element};
-ghost use Rattle.abc_bars.specs.LookBack.Heard.{IsPlaced, held_at, roll_of};
+ghost use Rattle.abc_bars.specs.LookBack.Held.{IsPlaced, held_at, roll_of};
 ghost use Rattle.abc_bars.specs.LookBack.Place.{opening_at};
 
 /// The voices at a place of a body, whatever the fields of its header and whatever stands between: no two
 /// have the same name, there are at most fifteen, and the current voice is one of them, or the one without a
 /// name as long as there is none.
-#[tactic(auto, using(crate::proofs::LookBack::Voices::voices_distinct, crate::proofs::LookBack::Voices::voices_few, crate::proofs::LookBack::Voices::current_placed))]
+#[tactic(auto, using(crate::proofs::LookBack::Held::distinct_held, crate::proofs::LookBack::Held::few_held, crate::proofs::LookBack::Held::current_held))]
 pub fn mentioned_voices()
     ensures distinct { (opening : Defaults) (fields : List Field) (key : Key) (before : List Element) →
         IsDistinct bytes_eq (roll_of (held_at (opening_at opening fields key) before)).names }

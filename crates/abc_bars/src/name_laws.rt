@@ -6,7 +6,7 @@ ghost use Rattle.abc_scan.specs.declared.field.Field.{Field};
 ghost use Rattle.abc_bars.specs.Body.{here};
 ghost use Rattle.abc_bars.specs.LookBack.ByName.{naming_at, settings_named};
 ghost use Rattle.abc_bars.specs.LookBack.Element.{Element};
-ghost use Rattle.abc_bars.specs.LookBack.Heard.{held_at, roll_of};
+ghost use Rattle.abc_bars.specs.LookBack.Held.{held_at, roll_of};
 ghost use Rattle.abc_bars.specs.LookBack.Place.{opening_at};
 ghost use Rattle.abc_bars.specs.Voices.{voice_at};
 ghost use Rattle.abc_bars.specs.declared.defaults.Defaults.{Defaults};
@@ -15,7 +15,7 @@ ghost use Rattle.abc_bars.specs.declared.defaults.Defaults.{Defaults};
 /// accepted V:, if it is not one voice too many; else that of the first voice of the header, or none. What holds for
 /// a voice is what its tokens leave of what it opened with: those that stand where it is the current one, each V:
 /// that names it, and each accepted P:.
-#[tactic(auto, using(crate::proofs::LookBack::Named::names_found, crate::proofs::LookBack::Named::voices_found, crate::proofs::LookBack::Named::here_found))]
+#[tactic(auto, using(crate::proofs::LookBack::Held::names_found, crate::proofs::LookBack::Held::voices_found, crate::proofs::LookBack::Held::here_found))]
 pub fn named_voices()
     ensures names { (opening : Defaults) (fields : List Field) (key : Key) (before : List Element) →
         (roll_of (held_at (opening_at opening fields key) before)).names ≡ (naming_at (opening_at opening fields key) before).names }

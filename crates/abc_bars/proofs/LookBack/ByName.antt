@@ -12,7 +12,8 @@ use Rattle.abc_music.specs.declared.item.TheConstants.{MOST_VOICES}
 use Rattle.abc_music.specs.declared.settings.Settings.{Settings}
 use Rattle.abc_bars.specs.LookBack.ByName.{Owner, Named, Everyone, Current, Naming, is_owned_by, naming_behind}
 use Rattle.abc_bars.specs.LookBack.Header.{with_name}
-use Rattle.abc_bars.specs.LookBack.Heard.{Each, Former, First, Hearing, Here, New, Nobody, Roll, first_or, is_current, roll_behind, voice_named, voice_named_by}
+use Rattle.abc_bars.specs.LookBack.Held.{Roll}
+use Rattle.abc_bars.proofs.LookBack.ByPlace.{Each, Former, First, Hearing, Here, New, Nobody, first_or, is_current, roll_behind, voice_named, voice_named_by}
 use Rattle.abc_bars.proofs.NamePlaces.{find_place, place_behind, place_here}
 
 -- A name that is not among names is not that at a place.

@@ -31,7 +31,8 @@ use Rattle.abc_music.specs.Settings.{without_accidentals}
 use Rattle.abc_music.specs.VoiceShift.{with_properties}
 use Rattle.abc_bars.specs.Voices.{with_voice_at}
 use Rattle.abc_bars.specs.LookBack.After.{after_field, in_meter, in_part, in_unit, in_voice}
-use Rattle.abc_bars.specs.LookBack.Heard.{Hearing, IsPlaced, Nobody, Here, Each, Former, New, Music, Roll, held_at, current_by, here_if, each_if, field_hearing, first_or, hearing_of, is_current, music_at, music_behind, roll_of, roll_at, roll_behind, settings_in, unnamed_behind, unnamed_music, voice_named_by, voice_said, voices_by, with_heard}
+use Rattle.abc_bars.specs.LookBack.Held.{IsPlaced, Roll, current_by, roll_of}
+use Rattle.abc_bars.proofs.LookBack.ByPlace.{Hearing, Nobody, Here, Each, Former, New, Music, here_if, each_if, field_hearing, first_or, hearing_of, is_current, music_at, music_behind, roll_at, roll_behind, settings_in, unnamed_behind, unnamed_music, voice_named_by, voice_said, voices_by, with_heard, placed_at}
 use Rattle.abc_bars.specs.LookBack.Element.{Element}
 use Rattle.abc_bars.specs.LookBack.Voice.{settings_at}
 use Rattle.abc_bars.proofs.LookBack.Known.{at-by, each-by, keys-by, length-by, new-by, same-by, set-by}
@@ -95,18 +96,18 @@ held_behind opening before element hearing =
 
 -- What looking back finds is what it finds behind the last element.
 pub behind-last : (opening : Body) (before : List Element) (element : Element)
-    → held_at opening (element ∷ before) ≡ held_behind opening before element (hearing_of (roll_at (roll_of opening) before) element.kind)
-unfolding held_at
+    → placed_at opening (element ∷ before) ≡ held_behind opening before element (hearing_of (roll_at (roll_of opening) before) element.kind)
+unfolding placed_at
 behind-last opening before element = refl
 
 module _ (opening : Body) (before : List Element) (element : Element) (placed : IsPlaced (roll_at (roll_of opening) before).names (roll_at (roll_of opening) before).current) where
-  pub behind-nobody : held_behind opening before element Nobody ≡ held_at opening before
-  unfolding held_at
+  pub behind-nobody : held_behind opening before element Nobody ≡ placed_at opening before
+  unfolding placed_at
   behind-nobody = refl
 
   module _ (change : Settings → Settings) (changes : (m : Music) → settings_in (with_heard element m) ≡ change (settings_in m)) where
-    pub behind-here : held_behind opening before element Here ≡ with_here (held_at opening before) (change (here (held_at opening before)))
-    unfolding held_at
+    pub behind-here : held_behind opening before element Here ≡ with_here (placed_at opening before) (change (here (placed_at opening before)))
+    unfolding placed_at
     behind-here =
         let roll : Roll = roll_at (roll_of opening) before in
         to-current roll.names (λ at. music_at opening at before) (unnamed_music opening before) opening.another element change changes roll.current placed
@@ -123,8 +124,8 @@ module _ (opening : Body) (before : List Element) (element : Element) (placed : 
     mentioning names (Some place) here_is music unnamed another = to-current names music unnamed another element change changes (Some place) here_is
 
     pub behind-mention : held_behind opening before element (first_or (roll_at (roll_of opening) before).current Here)
-        ≡ with_here (mentioned (held_at opening before)) (change (here (mentioned (held_at opening before))))
-    unfolding held_at
+        ≡ with_here (mentioned (placed_at opening before)) (change (here (mentioned (placed_at opening before))))
+    unfolding placed_at
     behind-mention = mentioning (roll_at (roll_of opening) before).names (roll_at (roll_of opening) before).current placed (λ at. music_at opening at before) (unnamed_music opening before) opening.another
 
   -- A bar rest, which mentions its voice and changes nothing else.
@@ -139,8 +140,8 @@ module _ (opening : Body) (before : List Element) (element : Element) (placed : 
         ap (λ (settings : Settings). record { voices = ([], settings) ∷ []; current = At 0; another = another }) (changes unnamed)
     resting names (Some place) music unnamed another = refl
 
-    pub behind-bar-rest : held_behind opening before element (first_or (roll_at (roll_of opening) before).current Nobody) ≡ mentioned (held_at opening before)
-    unfolding held_at
+    pub behind-bar-rest : held_behind opening before element (first_or (roll_at (roll_of opening) before).current Nobody) ≡ mentioned (placed_at opening before)
+    unfolding placed_at
     behind-bar-rest =
         resting (roll_at (roll_of opening) before).names (roll_at (roll_of opening) before).current
         (λ at. music_at opening at before) (unnamed_music opening before) opening.another
@@ -152,8 +153,8 @@ module _ (opening : Body) (before : List Element) (element : Element) (placed : 
     current-each None unnamed = ap Unnamed (changes unnamed)
     current-each (Some place) unnamed = refl
 
-    behind-each : held_behind opening before element Each ≡ after_part (held_at opening before)
-    unfolding held_at
+    behind-each : held_behind opening before element Each ≡ after_part (placed_at opening before)
+    unfolding placed_at
     behind-each =
         let roll : Roll = roll_at (roll_of opening) before in
         λ i. record {
@@ -165,8 +166,8 @@ module _ (opening : Body) (before : List Element) (element : Element) (placed : 
   -- A V: with these properties.
   module _ (said : Shift) (changes : (m : Music) → settings_in (with_heard element m) ≡ record (settings_in m) { shift = with_properties (settings_in m).shift said }) where
     behind-former : (place : ℕ) → place < length (roll_at (roll_of opening) before).names
-        → held_behind opening before element (Former place) ≡ moved_to (held_at opening before) place said
-    unfolding held_at
+        → held_behind opening before element (Former place) ≡ moved_to (placed_at opening before) place said
+    unfolding placed_at
     behind-former place below =
         at-place (roll_at (roll_of opening) before).names (λ at. music_at opening at before) (unnamed_music opening before) opening.another element
         (λ settings. record settings { shift = with_properties settings.shift said }) changes place below (settings_in (unnamed_music opening before))
@@ -180,8 +181,8 @@ module _ (opening : Body) (before : List Element) (element : Element) (placed : 
     if-new fresh false m = refl
 
     behind-new : settings_at opening.another [] ≡ opening.another → (name : List ℕ)
-        → held_behind opening before element (New name) ≡ joined_by (held_at opening before) name said
-    unfolding held_at
+        → held_behind opening before element (New name) ≡ joined_by (placed_at opening before) name said
+    unfolding placed_at
     behind-new fresh name =
         let roll : Roll = roll_at (roll_of opening) before in
         let known : ℕ → Settings = λ at. settings_in (music_at opening at before) in
@@ -207,19 +208,19 @@ module _ (opening : Body) (fresh : settings_at opening.another [] ≡ opening.an
   new-or-nobody : (said : Shift) → ((m : Music) → settings_in (with_heard element m) ≡ record (settings_in m) { shift = with_properties (settings_in m).shift said })
       → (name : List ℕ) (line : ℕ) (b : Bool)
       → held_behind opening before element (cond b (New name) Nobody)
-      ≡ (voice_made (held_at opening before) line name (cond b (Some (joined_by (held_at opening before) name said)) None)).body
+      ≡ (voice_made (placed_at opening before) line name (cond b (Some (joined_by (placed_at opening before) name said)) None)).body
   new-or-nobody said changes name line true = behind-new opening before element placed said changes fresh name
   new-or-nobody said changes name line false = behind-nobody opening before element placed
 
   at-name : (said : Shift) → ((m : Music) → settings_in (with_heard element m) ≡ record (settings_in m) { shift = with_properties (settings_in m).shift said })
       → (name : List ℕ) (line : ℕ) (place : Option ℕ) → IfSome place (λ at. at < length (roll_at (roll_of opening) before).names)
       → held_behind opening before element (voice_named_by (roll_at (roll_of opening) before).names name place)
-      ≡ (voice_made (held_at opening before) line name (made_current_at (held_at opening before) name said place)).body
-  unfolding held_at
+      ≡ (voice_made (placed_at opening before) line name (made_current_at (placed_at opening before) name said place)).body
+  unfolding placed_at
   at-name said changes name line (Some place) below = behind-former opening before element placed said changes place below
   at-name said changes name line None below =
       let names : List (List ℕ) = (roll_at (roll_of opening) before).names in
-      let body : Body = held_at opening before in
+      let body : Body = placed_at opening before in
       new-or-nobody said changes name line (nat_lt (length names) MOST_VOICES)
       ∙ ap (λ (n : ℕ). (voice_made body line name (cond (nat_lt n MOST_VOICES) (Some (joined_by body name said)) None)).body)
       (sym (length-by (λ at. settings_in (music_at opening at before)) names))
@@ -227,51 +228,51 @@ module _ (opening : Body) (fresh : settings_at opening.another [] ≡ opening.an
   at-voice : (value : List ℕ) (line : ℕ) (r : Result Voice FaultCode)
       → ((m : Music) → settings_in (with_heard element m) ≡ in_voice (settings_in m) r)
       → held_behind opening before element (voice_said (roll_at (roll_of opening) before).names value r)
-      ≡ (voice_by (held_at opening before) line value r).body
-  unfolding held_at
+      ≡ (voice_by (placed_at opening before) line value r).body
+  unfolding placed_at
   at-voice value line (Err fault) changes = behind-nobody opening before element placed
   at-voice value line (Ok voice) changes =
       let names : List (List ℕ) = (roll_at (roll_of opening) before).names in
-      let body : Body = held_at opening before in
+      let body : Body = placed_at opening before in
       let name : List ℕ = slice_range value voice.from voice.to in
       at-name voice.shift changes name line (position (bytes_eq name) names) (below-found name names)
       ∙ ap (λ (keys : List (List ℕ)). (voice_made body line name (made_current_at body name voice.shift (position (bytes_eq name) keys))).body)
       (sym (keys-by (λ at. settings_in (music_at opening at before)) names))
 
   at-meter : (line : ℕ) (r : Result Meter FaultCode) → ((m : Music) → settings_in (with_heard element m) ≡ in_meter (settings_in m) r)
-      → held_behind opening before element (here_if (is_some (result_ok r))) ≡ (meter_by (held_at opening before) line r).body
+      → held_behind opening before element (here_if (is_some (result_ok r))) ≡ (meter_by (placed_at opening before) line r).body
   at-meter line (Ok meter) changes = behind-here opening before element placed (λ settings. record settings { meter = meter }) changes
   at-meter line (Err fault) changes = behind-nobody opening before element placed
 
   at-unit : (line : ℕ) (r : Result Ratio FaultCode) → ((m : Music) → settings_in (with_heard element m) ≡ in_unit (settings_in m) r)
-      → held_behind opening before element (here_if (is_some (result_ok r))) ≡ (unit_by (held_at opening before) line r).body
+      → held_behind opening before element (here_if (is_some (result_ok r))) ≡ (unit_by (placed_at opening before) line r).body
   at-unit line (Ok unit) changes = behind-here opening before element placed (λ settings. record settings { unit = unit }) changes
   at-unit line (Err fault) changes = behind-nobody opening before element placed
 
   at-key : (line : ℕ) (r : Result Key FaultCode) → ((m : Music) → settings_in (with_heard element m) ≡ in_key (settings_in m) (key_or_empty r))
-      → held_behind opening before element Here ≡ (key_by (held_at opening before) line r).body
+      → held_behind opening before element Here ≡ (key_by (placed_at opening before) line r).body
   at-key line (Ok key) changes = behind-here opening before element placed (λ settings. in_key settings key) changes
   at-key line (Err fault) changes = behind-here opening before element placed (λ settings. in_key settings (key_or_empty (Err fault))) changes
 
   at-part : (line : ℕ) (part : Option ℕ) → ((m : Music) → settings_in (with_heard element m) ≡ in_part (settings_in m) part)
-      → held_behind opening before element (each_if (is_some part)) ≡ (part_by (held_at opening before) line part).body
+      → held_behind opening before element (each_if (is_some part)) ≡ (part_by (placed_at opening before) line part).body
   at-part line (Some letter) changes = behind-each opening before element placed changes
   at-part line None changes = behind-nobody opening before element placed
 
-  of-tempo : (line : ℕ) (b : Bool) (tempo : Tempo) (item : Item) (code : FaultCode) → held_at opening before ≡ (cond b (faulty (held_at opening before) line item code) (accepted (held_at opening before) item)).body
+  of-tempo : (line : ℕ) (b : Bool) (tempo : Tempo) (item : Item) (code : FaultCode) → placed_at opening before ≡ (cond b (faulty (placed_at opening before) line item code) (accepted (placed_at opening before) item)).body
   of-tempo line true tempo item code = refl
   of-tempo line false tempo item code = refl
 
-  at-tempo : (line : ℕ) (r : Result Tempo FaultCode) → held_behind opening before element Nobody ≡ (tempo_by (held_at opening before) line r).body
+  at-tempo : (line : ℕ) (r : Result Tempo FaultCode) → held_behind opening before element Nobody ≡ (tempo_by (placed_at opening before) line r).body
   at-tempo line (Ok tempo) =
       behind-nobody opening before element placed
-      ∙ of-tempo line (is_out (here (held_at opening before)).unit tempo) tempo (tempo_item false (here (held_at opening before)).unit tempo) TempoRange
+      ∙ of-tempo line (is_out (here (placed_at opening before)).unit tempo) tempo (tempo_item false (here (placed_at opening before)).unit tempo) TempoRange
   at-tempo line (Err fault) = behind-nobody opening before element placed
 
   -- A field of this kind with this value.
   pub at-kind : (line : ℕ) (kind : FieldKind) (value : List ℕ) → ((m : Music) → settings_in (with_heard element m) ≡ after_field (settings_in m) kind value)
       → held_behind opening before element (field_hearing (roll_at (roll_of opening) before).names kind value)
-      ≡ (kind_given (held_at opening before) kind value line).body
+      ≡ (kind_given (placed_at opening before) kind value line).body
   at-kind line fields.Meter value changes = at-meter line (meter_of value) changes
   at-kind line fields.UnitLength value changes = at-unit line (unit_of value) changes
   at-kind line fields.Key value changes = at-key line (key_of value) changes

@@ -46,12 +46,12 @@ use Rattle.abc_bars.specs.BodyFields.{field_given}
 use Rattle.abc_bars.specs.Cell.{is_tie_token, mentioned_by_chord, nothing_given, tie_ahead, with_ending, with_fault, with_fault_if, with_kind, with_some_fault, with_token}
 use Rattle.abc_bars.specs.LookBack.Cells.{behind_tokens, looked_back}
 use Rattle.abc_bars.specs.LookBack.Element.{Element}
-use Rattle.abc_bars.specs.LookBack.Heard.{held_at}
+use Rattle.abc_bars.specs.LookBack.Held.{held_at}
 use Rattle.abc_bars.specs.LookBack.Keys.{AreWrittenAlike, ChordsHaveKeys, GivesTones, IsAlteredAt, IsLastInBar, IsNoneAmong, IsNoneInBar, NotesHaveKeys, Standing, heard_of, key_at, keys_from, standing}
 use Rattle.abc_bars.specs.LookBack.Place.{opening_at}
 use Rattle.abc_bars.specs.LookBack.Ties.{IsTimeBefore, tied_notes}
 use Rattle.abc_bars.specs.LookBack.Voice.{accidental_at, accidental_said, accidentals_at, alteration_at, counted_notes, newest_written, notes_among, settings_at, shift_at, signature_at, tied_at, written_by}
-use Rattle.abc_bars.proofs.LookBack.Named.{here_found}
+use Rattle.abc_bars.proofs.LookBack.Held.{here_found}
 use Rattle.abc_bars.proofs.LookBack.Tied.{AreBehind, alteration-at, behind-none, behind-own, either, no-room, one-more, room-left}
 use Rattle.abc_bars.proofs.LookBack.Ties.{Passed, altered, left-by, passed-over, tied-last}
 

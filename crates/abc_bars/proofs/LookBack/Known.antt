@@ -6,7 +6,7 @@ use Rattle.abc_music.specs.declared.settings.Settings.{Settings}
 use Rattle.abc_bars.specs.Body.{all_without_accidentals}
 use Rattle.abc_music.specs.Settings.{without_accidentals}
 use Rattle.abc_bars.specs.Voices.{voice_at, with_voice_at}
-use Rattle.abc_bars.specs.LookBack.Heard.{voices_by}
+use Rattle.abc_bars.proofs.LookBack.ByPlace.{voices_by}
 
 -- The names are those of the voices.
 pub keys-by : (known : ℕ → Settings) (names : List (List ℕ)) → keys_of (voices_by known names) ≡ names

@@ -1,30 +1,23 @@
 -- Notes, rests and chords last as the rule says at their places, by the marks that act on them in their cell.
-use Rattle.std.proofs.Common.{◌≡◌, ◌∙◌, ℕ, suc, ◌+◌, add-one, Bool, true, false, List, [], ◌∷◌, ◌++◌, length, take, drop, refl, sym, ap, append_assoc}
-use Rattle.abc_fields.specs.declared.key.Key.{Key}
-use Rattle.abc_scan.specs.declared.chord.Chord.{Chord}
-use Rattle.abc_scan.specs.declared.field.Field.{Field}
-use Rattle.abc_scan.specs.declared.length.WrittenLength.{WrittenLength}
-use Rattle.abc_scan.specs.declared.note.Note.{Note}
+use Rattle.std.proofs.Common.{◌≡◌, ◌∙◌, suc, ◌+◌, add-one, Bool, false, List, [], ◌∷◌, ◌++◌, length, take, drop, refl, sym, ap, append_assoc}
 use Rattle.abc_scan.specs.declared.spanned.Spanned.{Spanned}
 use Rattle.abc_scan.specs.declared.token.TokenKind.{TokenKind}
 use Rattle.abc_scan.specs.declared.token.TokenKind.TheVariants as kinds
-use Rattle.abc_time.specs.declared.ratio.Ratio.{Ratio}
 use Rattle.abc_bars.specs.declared.body.Body.{Body}
 use Rattle.abc_bars.specs.declared.cell.Given.{Given}
-use Rattle.abc_bars.specs.declared.defaults.Defaults.{Defaults}
 use Rattle.abc_music.specs.declared.broken.Behind.TheVariants.{Nothing}
 use Rattle.abc_music.specs.declared.item.Item.{Item}
 use Rattle.abc_music.specs.declared.settings.Settings.{Settings}
 use Rattle.abc_music.specs.Broken.{behind_from, factors_of, has_note}
-use Rattle.abc_music.specs.Lasting.{IsPlace, factors_at}
+use Rattle.abc_music.specs.Lasting.{factors_at}
 use Rattle.abc_music.specs.TimeTokens.{chord_played, note_played, rest_played}
 use Rattle.abc_music.proofs.ChordNotes.{chords_sound}
 use Rattle.abc_music.proofs.Lasting.{notes_last, rests_last}
-use Rattle.abc_bars.specs.Body.{here, mentioned}
+use Rattle.abc_bars.specs.Body.{here}
 use Rattle.abc_bars.specs.Cell.{is_tie_token, mentioned_by_chord, nothing_given, tie_ahead, with_kind, with_token}
 use Rattle.abc_bars.specs.LookBack.Cells.{behind_tokens, looked_back}
 use Rattle.abc_bars.specs.LookBack.Element.{Element}
-use Rattle.abc_bars.specs.LookBack.Heard.{held_at}
+use Rattle.abc_bars.specs.LookBack.Held.{held_at}
 use Rattle.abc_bars.specs.LookBack.Lengths.{ChordsLastThere, GivesItem, LastsAsNote, LastsAsRest, NotesLastThere, RestsLastThere, SoundsAsChord, cell_with, held_for}
 use Rattle.abc_bars.specs.LookBack.Place.{opening_at}
 use Rattle.abc_bars.proofs.LookBack.Keys.{goes-on, here-is, tie-next}

@@ -40,7 +40,8 @@ use Rattle.abc_bars.specs.LookBack.AfterBody.{mentions}
 use Rattle.abc_bars.specs.LookBack.ByName.{Owner, Current, Naming, first_name, is_owned_by, naming_at, naming_behind, opening_of, owner_of, owner_of_field, owner_of_part, owner_of_voice, settings_named, tokens_of}
 use Rattle.abc_bars.specs.LookBack.Element.{Element}
 use Rattle.abc_bars.specs.LookBack.Header.{header_at}
-use Rattle.abc_bars.specs.LookBack.Heard.{Each, Former, First, Hearing, Here, Music, New, Nobody, Roll, each_if, field_hearing, hearing_of, held_at, here_if, is_current, music_at, music_behind, place_of_current, roll_at, roll_behind, roll_of, settings_in, unnamed_behind, unnamed_music, voice_said, with_heard}
+use Rattle.abc_bars.specs.LookBack.Held.{Roll, place_of_current, roll_of}
+use Rattle.abc_bars.proofs.LookBack.ByPlace.{Each, Former, First, Hearing, Here, Music, New, Nobody, each_if, field_hearing, hearing_of, here_if, is_current, music_at, music_behind, roll_at, roll_behind, settings_in, unnamed_behind, unnamed_music, voice_said, with_heard, placed_at}
 use Rattle.abc_bars.specs.LookBack.Place.{opening_at}
 use Rattle.abc_bars.specs.LookBack.Voice.{accidental_at, accidentals_at, settings_at}
 use Rattle.abc_bars.proofs.BodyOpenings.{opening_names}
@@ -50,7 +51,7 @@ use Rattle.abc_bars.proofs.LookBack.Heard.{held}
 use Rattle.abc_bars.proofs.LookBack.Known.{at-by}
 use Rattle.abc_bars.proofs.LookBack.Placed.{fresh-another}
 use Rattle.abc_bars.proofs.LookBack.Voice.{settings_behind}
-use Rattle.abc_bars.proofs.LookBack.Voices.{distinct-at, roll-held}
+use Rattle.abc_bars.proofs.LookBack.Voices.{distinct-at}
 use Rattle.abc_bars.proofs.NamePlaces.{find_place}
 
 -- Whether a token that is the current voice's can change what holds for it.
@@ -232,7 +233,7 @@ owned opening element tokens true = settings_behind opening tokens element
 owned opening element tokens false = refl
 
 -- The place of a name among names of which none stands twice.
-found-at : (names : List (List ℕ)) (at : ℕ) (name : List ℕ) → IsDistinct bytes_eq names → slice_get names at ≡ Some name → position (bytes_eq name) names ≡ Some at
+pub found-at : (names : List (List ℕ)) (at : ℕ) (name : List ℕ) → IsDistinct bytes_eq names → slice_get names at ≡ Some name → position (bytes_eq name) names ≡ Some at
 found-at names at name distinct there =
     let self : bytes_eq name name ≡ true = nat_list_eq_equiv.refl name in
     let place = find_place (bytes_eq name) names (any_passes_from_place (bytes_eq name) names at name there self) in
@@ -312,36 +313,27 @@ named-opening header key another [] = (refl, refl)
 named-opening header key another (voice ∷ voices) = refl
 
 module _ (values : Defaults) (fields : List Field) (key : Key) (before : List Element) where
-  found : (let opening = opening_at values fields key in
+  distinct-opening : IsDistinct bytes_eq (keys_of (opening_at values fields key).voices)
+  distinct-opening =
+      subst (IsDistinct bytes_eq) (sym (opening_names (header_at values fields) key ∙ declared_keys fields)) (distinct_names fields)
+
+  -- No voice is mentioned twice.
+  pub distinct-there : IsDistinct bytes_eq (roll_at (roll_of (opening_at values fields key)) before).names
+  distinct-there = distinct-at (roll_of (opening_at values fields key)) distinct-opening before
+
+  pub found : (let opening = opening_at values fields key in
       Agrees (roll_at (roll_of opening) before) (naming_at opening before)
       (λ at. settings_in (music_at opening at before)) (settings_in (unnamed_music opening before)) (λ name. settings_named opening name before) opening.another)
   found =
       let header : Header = header_at values fields in
       let opening : Body = body_from header key in
-      agrees-at opening (fresh-another header key)
-      (subst (IsDistinct bytes_eq) (sym (opening_names header key ∙ declared_keys fields)) (distinct_names fields))
-      (named-opening header key opening.another header.voices) before
-
-  -- The names of the voices that are mentioned.
-  pub names_found : (roll_of (held_at (opening_at values fields key) before)).names ≡ (naming_at (opening_at values fields key) before).names
-  names_found = ap (λ (roll : Roll). roll.names) (roll-held (opening_at values fields key) before) ∙ sym found.names
-
-  -- What holds for the voice of each name.
-  pub voices_found : (at : ℕ) (name : List ℕ) → slice_get (roll_of (held_at (opening_at values fields key) before)).names at ≡ Some name
-      → voice_at (held_at (opening_at values fields key) before).voices at ≡ Some (settings_named (opening_at values fields key) name before)
-  unfolding held_at
-  voices_found at name there =
-      let opening : Body = opening_at values fields key in
-      let names : List (List ℕ) = (roll_at (roll_of opening) before).names in
-      let in_roll : slice_get names at ≡ Some name = ap (λ (roll : Roll). slice_get roll.names at) (sym (roll-held opening before)) ∙ there in
-      at-by (λ at. settings_in (music_at opening at before)) names at (slice_get_within names at name in_roll)
-      ∙ ap Some (found.voices at name in_roll)
+      agrees-at opening (fresh-another header key) distinct-opening (named-opening header key opening.another header.voices) before
 
   -- What holds for the current voice.
-  pub here_found : here (held_at (opening_at values fields key) before)
+  pub here_placed : here (placed_at (opening_at values fields key) before)
       ≡ settings_named (opening_at values fields key) (naming_at (opening_at values fields key) before).current before
-  unfolding held_at
-  here_found =
+  unfolding placed_at
+  here_placed =
       let opening : Body = opening_at values fields key in
       here-by (roll_at (roll_of opening) before).names (roll_at (roll_of opening) before).current (naming_at opening before)
       (λ at. settings_in (music_at opening at before)) (settings_in (unnamed_music opening before)) (λ name. settings_named opening name before) opening.another found

@@ -26,7 +26,8 @@ use Rattle.abc_bars.specs.BodyOpening.{body_from, current_in, opening_another, o
 use Rattle.abc_music.specs.Broken.{has_note}
 use Rattle.abc_bars.specs.FieldKind.{kind_of}
 use Rattle.abc_bars.specs.Voices.{voice_at}
-use Rattle.abc_bars.specs.LookBack.Heard.{Former, Hearing, Here, IsPlaced, New, Nobody, Each, First, Roll, held_at, current_by, each_if, field_hearing, first_or, here_if, hearing_of, roll_of, place_of_current, roll_at, roll_behind, voice_named_by, voice_said, voices_by}
+use Rattle.abc_bars.specs.LookBack.Held.{IsPlaced, Roll, current_by, roll_of, place_of_current}
+use Rattle.abc_bars.proofs.LookBack.ByPlace.{Former, Hearing, Here, New, Nobody, Each, First, each_if, field_hearing, first_or, here_if, hearing_of, roll_at, roll_behind, voice_named_by, voice_said, voices_by, placed_at}
 use Rattle.abc_bars.specs.LookBack.Element.{Element}
 use Rattle.abc_bars.specs.LookBack.Voice.{accidental_at, accidentals_at, meter_at, settings_at, shift_at, signature_at, tuplet_at, unit_at}
 use Rattle.abc_bars.proofs.LookBack.Heard.{below-found}
@@ -148,9 +149,9 @@ pub fresh-another : (header : Header) (key : Key) → settings_at (opening_anoth
 fresh-another header key = fresh-settings header.defaults key no_shift
 
 -- Where a body begins, looking back finds what holds there.
-pub begins : (header : Header) (key : Key) → held_at (body_from header key) [] ≡ body_from header key
-unfolding held_at
-begins header key = λ i. record {
+pub begins_placed : (header : Header) (key : Key) → placed_at (body_from header key) [] ≡ body_from header key
+unfolding placed_at
+begins_placed header key = λ i. record {
   voices = fresh-voices header key (opening_another header key) header.voices i;
   current = fresh-current header.voices (opening_another header key) (fresh-another header key) i;
   another = opening_another header key;

@@ -16,7 +16,7 @@ use Rattle.abc_bars.specs.Defaults.{no_defaults}
 use Rattle.abc_bars.specs.FieldKind.{kind_of}
 use Rattle.abc_bars.specs.Header.{header_given}
 use Rattle.abc_bars.specs.Step.{behind_kind, body_stepped, field_in, file_header_stepped, header_stepped, stepped}
-use Rattle.abc_bars.specs.LookBack.Heard.{held_at}
+use Rattle.abc_bars.specs.LookBack.Held.{held_at}
 use Rattle.abc_bars.specs.LookBack.Cells.{behind_tokens}
 use Rattle.abc_bars.specs.LookBack.Defaults.{defaults_at}
 use Rattle.abc_bars.specs.LookBack.Element.{Element}
@@ -25,7 +25,7 @@ use Rattle.abc_bars.specs.LookBack.Place.{Place, InFileHeader, InHeader, InBody,
 use Rattle.abc_bars.proofs.HeaderLaws.{header_behind}
 use Rattle.abc_bars.proofs.HeaderViews.{defaults_behind}
 use Rattle.abc_bars.proofs.LookBack.Cells.{behind_cell, given_by_cell}
-use Rattle.abc_bars.proofs.LookBack.Placed.{begins}
+use Rattle.abc_bars.proofs.LookBack.Held.{begins}
 
 -- A cell of a file header.
 in-file-header : (before : List Field) (field : Option Field)
@@ -38,7 +38,7 @@ in-body : (opening : Defaults) (before : List Field) (key : Key) (elements : Lis
     → body_stepped (held_at (opening_at opening before key) elements) cell
     ≡ (entries.Body (held_at (opening_at opening before key) (behind_tokens cell elements)), given_in_body opening before key elements cell)
 in-body opening before key elements cell = λ i.
-    (entries.Body (behind_cell (header_at opening before) key elements cell i), given_by_cell (header_at opening before) key elements cell i)
+    (entries.Body (behind_cell opening before key elements cell i), given_by_cell opening before key elements cell i)
 
 -- Behind a field of a header.
 behind-kind : (opening : Defaults) (before : List Field) (field : Field) (kind : FieldKind)
@@ -53,7 +53,7 @@ behind-kind opening before field fields.Voice = ap entries.Header (sym (header_b
 behind-kind opening before field fields.Key =
     let key : Key = key_or_empty (key_of field.value) in
     ap (λ (header : Header). entries.Body (body_from header key)) (sym (header_behind opening before field))
-    ∙ ap entries.Body (sym (begins (header_at opening (field ∷ before)) key))
+    ∙ ap entries.Body (sym (begins opening (field ∷ before) key))
 behind-kind opening before field fields.Other = ap entries.Header (sym (header_behind opening before field))
 
 -- A cell of a header.
@@ -62,7 +62,7 @@ in-header : (opening : Defaults) (before : List Field) (cell : List (Spanned Tok
 in-header opening before cell (Some field) = λ i.
     (behind-kind opening before field (kind_of field.letter) i, given_in_header opening before cell (Some field))
 in-header opening before cell None =
-    ap (λ (body : Body). body_stepped body cell) (sym (begins (header_at opening before) empty_signature))
+    ap (λ (body : Body). body_stepped body cell) (sym (begins opening before empty_signature))
     ∙ in-body opening before empty_signature [] cell
 
 -- A cell gives at a place what looking back says, and the view behind it is that of the place behind it.

@@ -10,7 +10,8 @@ use Rattle.abc_bars.specs.Body.{here, mentioned, with_here}
 use Rattle.abc_bars.specs.BodyOpening.{body_from}
 use Rattle.abc_music.specs.Broken.{has_note}
 use Rattle.abc_bars.specs.FieldKind.{kind_of}
-use Rattle.abc_bars.specs.LookBack.Heard.{Here, IsPlaced, Music, Nobody, Roll, held_at, first_or, hearing_of, roll_of, roll_at, settings_in, voices_by, with_heard}
+use Rattle.abc_bars.specs.LookBack.Held.{IsPlaced, Roll, roll_of}
+use Rattle.abc_bars.proofs.LookBack.ByPlace.{Here, Music, Nobody, first_or, hearing_of, roll_at, settings_in, voices_by, with_heard, placed_at}
 use Rattle.abc_bars.specs.LookBack.Element.{Element}
 use Rattle.abc_bars.specs.LookBack.Voice.{settings_at}
 use Rattle.abc_bars.proofs.LookBack.Heard.{at-kind, behind-bar-rest, behind-here, behind-last, behind-mention, held_behind}
@@ -19,7 +20,7 @@ use Rattle.std.proofs.lemmas.Bool.{cond-true}
 use Rattle.abc_bars.specs.Voices.{with_voice_at}
 use Rattle.abc_bars.specs.LookBack.After.{after}
 use Rattle.abc_bars.specs.LookBack.AfterBody.{body_after, mentioned_if}
-use Rattle.abc_bars.specs.LookBack.Heard.{music_at, unnamed_music}
+use Rattle.abc_bars.proofs.LookBack.ByPlace.{music_at, unnamed_music}
 use Rattle.abc_bars.proofs.LookBack.Heard.{held, lt-true}
 use Rattle.abc_bars.proofs.LookBack.Known.{at-by, length-by, same-by, set-by}
 use Rattle.abc_bars.proofs.LookBack.Placed.{fresh-another, placed-at, placed-opening}
@@ -53,13 +54,13 @@ module _ (opening : Body) (fresh : settings_at opening.another [] ≡ opening.an
     (placed : IsPlaced (roll_of opening).names (roll_of opening).current) where
   chord-by : (before : List Element) (element : Element) (change : Settings → Settings) → ((m : Music) → settings_in (with_heard element m) ≡ change (settings_in m)) → (b : Bool)
       → held_behind opening before element (cond b (first_or (roll_at (roll_of opening) before).current Here) Here)
-      ≡ with_here (mentioned_if b (held_at opening before)) (change (here (mentioned_if b (held_at opening before))))
+      ≡ with_here (mentioned_if b (placed_at opening before)) (change (here (mentioned_if b (placed_at opening before))))
   chord-by before element change changes true = behind-mention opening before element (placed-at (roll_of opening) placed before) change changes
   chord-by before element change changes false = behind-here opening before element (placed-at (roll_of opening) placed before) change changes
 
   silent : (before : List Element) (element : Element)
-      → held_behind opening before element Nobody ≡ with_here (held_at opening before) (here (held_at opening before))
-  unfolding held_at
+      → held_behind opening before element Nobody ≡ with_here (placed_at opening before) (here (placed_at opening before))
+  unfolding placed_at
   silent before element =
       same-here (roll_at (roll_of opening) before).names (roll_at (roll_of opening) before).current (placed-at (roll_of opening) placed before)
       (λ at. settings_in (music_at opening at before)) (settings_in (unnamed_music opening before)) opening.another
@@ -67,8 +68,8 @@ module _ (opening : Body) (fresh : settings_at opening.another [] ≡ opening.an
   -- A bar rest mentions its voice and changes nothing else.
   resting : (before : List Element) (bars : Option ℕ) (tied : Bool)
       → held_behind opening before (record { kind = kinds.BarRest bars; tied = tied }) (first_or (roll_at (roll_of opening) before).current Nobody)
-      ≡ with_here (mentioned (held_at opening before)) (here (mentioned (held_at opening before)))
-  unfolding held_at
+      ≡ with_here (mentioned (placed_at opening before)) (here (mentioned (placed_at opening before)))
+  unfolding placed_at
   resting before bars tied =
       let roll : Roll = roll_at (roll_of opening) before in
       behind-bar-rest opening before (record { kind = kinds.BarRest bars; tied = tied }) (placed-at (roll_of opening) placed before)
@@ -78,7 +79,7 @@ module _ (opening : Body) (fresh : settings_at opening.another [] ≡ opening.an
 
   by-kind : (before : List Element) (kind : TokenKind) (tied : Bool)
       → held_behind opening before (record { kind = kind; tied = tied }) (hearing_of (roll_at (roll_of opening) before) kind)
-      ≡ body_after (held_at opening before) (record { kind = kind; tied = tied })
+      ≡ body_after (placed_at opening before) (record { kind = kind; tied = tied })
   by-kind before (kinds.Note note) tied =
       behind-mention opening before (record { kind = kinds.Note note; tied = tied }) (placed-at (roll_of opening) placed before)
       (λ settings. after settings (record { kind = kinds.Note note; tied = tied })) (λ m. settings_behind m.opening m.before (record { kind = kinds.Note note; tied = tied }))
@@ -111,11 +112,11 @@ module _ (opening : Body) (fresh : settings_at opening.another [] ≡ opening.an
   by-kind before (kinds.BarRest bars) tied = resting before bars tied
 
   -- What looking back finds behind one element more.
-  pub held_behind_element : (before : List Element) (element : Element) → held_at opening (element ∷ before) ≡ body_after (held_at opening before) element
-  held_behind_element before element = behind-last opening before element ∙ by-kind before element.kind element.tied
+  pub placed-behind-element : (before : List Element) (element : Element) → placed_at opening (element ∷ before) ≡ body_after (placed_at opening before) element
+  placed-behind-element before element = behind-last opening before element ∙ by-kind before element.kind element.tied
 
 -- In a body that begins behind a header.
-pub body_behind_element : (header : Header) (key : Key) (before : List Element) (element : Element)
-    → held_at (body_from header key) (element ∷ before) ≡ body_after (held_at (body_from header key) before) element
-body_behind_element header key before element =
-    held_behind_element (body_from header key) (fresh-another header key) (placed-opening header key) before element
+pub placed_behind_element : (header : Header) (key : Key) (before : List Element) (element : Element)
+    → placed_at (body_from header key) (element ∷ before) ≡ body_after (placed_at (body_from header key) before) element
+placed_behind_element header key before element =
+    placed-behind-element (body_from header key) (fresh-another header key) (placed-opening header key) before element

@@ -44,7 +44,7 @@ use Rattle.abc_bars.specs.FieldKind.{kind_of}
 use Rattle.abc_music.specs.TempoItem.{is_out}
 use Rattle.abc_bars.specs.LookBack.Cells.{looked_back}
 use Rattle.abc_bars.specs.LookBack.Element.{Element}
-use Rattle.abc_bars.specs.LookBack.Heard.{held_at}
+use Rattle.abc_bars.specs.LookBack.Held.{held_at}
 use Rattle.abc_bars.specs.LookBack.Place.{given_in_body, opening_at}
 use Rattle.abc_bars.specs.LookBack.Ties.{IsTimeBefore, is_behind_note, loose_from, loose_in, loose_ties, tied_in_chord, tied_notes}
 use Rattle.abc_bars.specs.LookBack.Voice.{alteration_at, as_tied, counted_notes, settings_at, tied_among, tied_at, tied_said}

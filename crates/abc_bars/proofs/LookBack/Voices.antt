@@ -12,7 +12,8 @@ use Rattle.abc_music.specs.declared.settings.Settings.{Settings}
 use Rattle.abc_music.specs.declared.item.TheConstants.{MOST_VOICES}
 use Rattle.abc_bars.specs.LookBack.Element.{Element}
 use Rattle.abc_bars.specs.LookBack.Header.{header_at}
-use Rattle.abc_bars.specs.LookBack.Heard.{Each, Former, First, Hearing, Here, IsPlaced, New, Nobody, Roll, current_by, hearing_of, held_at, music_at, place_of_current, roll_at, roll_behind, roll_of, settings_in, unnamed_music}
+use Rattle.abc_bars.specs.LookBack.Held.{IsPlaced, Roll, current_by, place_of_current, roll_of}
+use Rattle.abc_bars.proofs.LookBack.ByPlace.{Each, Former, First, Hearing, Here, New, Nobody, hearing_of, music_at, roll_at, roll_behind, settings_in, unnamed_music, placed_at}
 use Rattle.abc_bars.specs.LookBack.Place.{opening_at}
 use Rattle.abc_bars.proofs.BodyOpenings.{opening_names}
 use Rattle.abc_bars.proofs.DeclaredVoices.{declared_keys, distinct_names, few_names}
@@ -24,8 +25,8 @@ current-of None unnamed = refl
 current-of (Some place) unnamed = refl
 
 -- The voices that looking back finds in a body are those that are mentioned.
-pub roll-held : (opening : Body) (before : List Element) → roll_of (held_at opening before) ≡ roll_at (roll_of opening) before
-unfolding held_at
+pub roll-held : (opening : Body) (before : List Element) → roll_of (placed_at opening before) ≡ roll_at (roll_of opening) before
+unfolding placed_at
 roll-held opening before = λ i. record {
   names = keys-by (λ at. settings_in (music_at opening at before)) (roll_at (roll_of opening) before).names i;
   current = current-of (roll_at (roll_of opening) before).current (settings_in (unnamed_music opening before)) i;
@@ -70,19 +71,19 @@ opening-keys : (opening : Defaults) (fields : List Field) (key : Key) → keys_o
 opening-keys opening fields key = opening_names (header_at opening fields) key
 
 module _ (opening : Defaults) (fields : List Field) (key : Key) (before : List Element) where
-  pub voices_distinct : IsDistinct bytes_eq (roll_of (held_at (opening_at opening fields key) before)).names
+  pub voices_distinct : IsDistinct bytes_eq (roll_of (placed_at (opening_at opening fields key) before)).names
   voices_distinct =
       subst (λ (roll : Roll). IsDistinct bytes_eq roll.names) (sym (roll-held (opening_at opening fields key) before))
       (distinct-at (roll_of (opening_at opening fields key))
       (subst (IsDistinct bytes_eq) (sym (opening-keys opening fields key ∙ declared_keys fields)) (distinct_names fields)) before)
 
-  pub voices_few : length (roll_of (held_at (opening_at opening fields key) before)).names ≤ MOST_VOICES
+  pub voices_few : length (roll_of (placed_at (opening_at opening fields key) before)).names ≤ MOST_VOICES
   voices_few =
       subst (λ (roll : Roll). length roll.names ≤ MOST_VOICES) (sym (roll-held (opening_at opening fields key) before))
       (few-at (roll_of (opening_at opening fields key))
       (subst (λ (names : List (List ℕ)). length names ≤ MOST_VOICES) (sym (opening-keys opening fields key ∙ declared_keys fields)) (few_names fields)) before)
 
-  pub current_placed : IsPlaced (roll_of (held_at (opening_at opening fields key) before)).names (roll_of (held_at (opening_at opening fields key) before)).current
+  pub current_placed : IsPlaced (roll_of (placed_at (opening_at opening fields key) before)).names (roll_of (placed_at (opening_at opening fields key) before)).current
   current_placed =
       subst (λ (roll : Roll). IsPlaced roll.names roll.current) (sym (roll-held (opening_at opening fields key) before))
       (placed-at (roll_of (opening_at opening fields key)) (placed-opening (header_at opening fields) key) before)

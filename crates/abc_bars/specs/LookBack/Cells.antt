@@ -5,7 +5,7 @@ use Rattle.abc_scan.specs.declared.token.TokenKind.{TokenKind}
 use Rattle.abc_bars.specs.declared.body.Body.{Body}
 use Rattle.abc_bars.specs.declared.cell.Given.{Given}
 use Rattle.abc_bars.specs.Cell.{tie_ahead, with_token}
-use Rattle.abc_bars.specs.LookBack.Heard.{held_at}
+use Rattle.abc_bars.specs.LookBack.Held.{held_at}
 use Rattle.abc_bars.specs.LookBack.Element.{Element}
 
 -- What stands before a place behind tokens of a cell.

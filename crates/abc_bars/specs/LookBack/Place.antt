@@ -20,7 +20,7 @@ use Rattle.abc_bars.specs.FieldKind.{kind_of}
 use Rattle.abc_bars.specs.FileHeader.{file_header_given}
 use Rattle.abc_bars.specs.Header.{header_given}
 use Rattle.abc_bars.specs.Step.{field_in}
-use Rattle.abc_bars.specs.LookBack.Heard.{held_at}
+use Rattle.abc_bars.specs.LookBack.Held.{held_at}
 use Rattle.abc_bars.specs.LookBack.Cells.{behind_tokens, looked_back}
 use Rattle.abc_bars.specs.LookBack.Defaults.{defaults_at}
 use Rattle.abc_bars.specs.LookBack.Element.{Element}

@@ -1,7 +1,6 @@
--- What holds at a place of a tune's body, by looking back over what stands before it, newest first. Voices
--- go by their places in the order of their mention.
-use Rattle.std.specs.Prelude.{ℕ, suc, ◌≡◌, ◌<◌, ◌==◌, nat_lt, Bool, true, false, if◌then◌else◌, List, [], ◌∷◌, ◌++◌, length, position, slice_range, bytes_eq, Option, Some, None, is_some, unwrap_or, Result, Ok, Err}
-use Rattle.std.specs.Map.{keys_of}
+-- What holds at a place of a tune's body, by looking back over what stands before it, newest first, where voices
+-- go by their places in the order of their mention, as a body keeps them.
+use Rattle.std.specs.Prelude.{ℕ, suc, ◌==◌, nat_lt, Bool, true, false, if◌then◌else◌, List, [], ◌∷◌, ◌++◌, length, position, slice_range, bytes_eq, Option, Some, None, is_some, unwrap_or, Result, Ok, Err}
 use Rattle.std.specs.Result.{result_ok}
 use Rattle.abc_fields.specs.declared.fault.FaultCode.{FaultCode}
 use Rattle.abc_fields.specs.declared.voice.Voice.{Voice}
@@ -11,8 +10,6 @@ use Rattle.abc_fields.specs.Voice.{voice_of}
 use Rattle.abc_scan.specs.declared.token.TokenKind.{TokenKind}
 use Rattle.abc_scan.specs.declared.token.TokenKind.TheVariants as kinds
 use Rattle.abc_bars.specs.declared.body.Body.{Body}
-use Rattle.abc_bars.specs.declared.body.Current.{Current}
-use Rattle.abc_bars.specs.declared.body.Current.TheVariants.{Unnamed, At}
 use Rattle.abc_music.specs.declared.item.TheConstants.{MOST_VOICES}
 use Rattle.abc_bars.specs.declared.field_kind.FieldKind.{FieldKind}
 use Rattle.abc_bars.specs.declared.field_kind.FieldKind.TheVariants as fields
@@ -22,6 +19,7 @@ use Rattle.abc_music.specs.Broken.{has_note}
 use Rattle.abc_bars.specs.FieldKind.{kind_of}
 use Rattle.abc_bars.specs.Voices.{voice_at}
 use Rattle.abc_bars.specs.LookBack.Element.{Element}
+use Rattle.abc_bars.specs.LookBack.Held.{Roll, current_by, roll_of}
 use Rattle.abc_bars.specs.LookBack.Voice.{settings_at}
 
 -- Which voices a token belongs to.
@@ -38,12 +36,6 @@ pub data Hearing : Type 0 where
   Former : ℕ → Hearing
   -- To a new voice of this name, which becomes the current one.
   New : List ℕ → Hearing
-
--- The voices at a place: their names in the order of their mention, and the place of the current one among
--- them, if it is mentioned.
-pub record Roll : Type 0 where
-  pub names : List (List ℕ)
-  pub current : Option ℕ
 
 -- A voice that is not yet mentioned is one too many behind fifteen. Our own.
 abbrev pub new_or_nobody : List (List ℕ) → List ℕ → Hearing
@@ -157,20 +149,6 @@ unnamed_behind Each element music = with_heard element music
 unnamed_behind (Former place) element music = music
 unnamed_behind (New name) element music = music
 
--- The place of the voice that is the current one, if it is mentioned.
-abbrev pub place_of_current : Current → Option ℕ
-place_of_current (Unnamed settings) = None
-place_of_current (At place) = Some place
-
--- The voices of a body.
-abbrev pub roll_of : Body → Roll
-roll_of body = record { names = keys_of body.voices; current = place_of_current body.current }
-
--- The current voice is one of those that are mentioned, or the one without a name as long as none is.
-abbrev pub IsPlaced : List (List ℕ) → Option ℕ → Type 0
-IsPlaced names None = names ≡ []
-IsPlaced names (Some place) = place < length names
-
 -- What belongs to the voice without a name.
 abbrev pub unnamed_music : Body → List Element → Music
 unnamed_music opening [] = record { opening = opening.another; before = [] }
@@ -193,14 +171,9 @@ abbrev pub voices_by : (ℕ → Settings) → List (List ℕ) → List (List ℕ
 voices_by known [] = []
 voices_by known (name ∷ names) = (name, known 0) ∷ voices_by (λ at. known (suc at)) names
 
--- The current voice, which is this one or the one without a name.
-abbrev pub current_by : Option ℕ → Settings → Current
-current_by None settings = Unnamed settings
-current_by (Some place) settings = At place
-
 -- What holds at a place.
-unfoldable pub held_at : Body → List Element → Body
-held_at opening before = record {
+unfoldable pub placed_at : Body → List Element → Body
+placed_at opening before = record {
   voices = voices_by (λ at. settings_in (music_at opening at before)) (roll_at (roll_of opening) before).names;
   current = current_by (roll_at (roll_of opening) before).current (settings_in (unnamed_music opening before));
   another = opening.another;
