@@ -9,3 +9,4 @@ pub mod Costs
 pub mod Edits
 pub mod Settled
 pub mod Working
+pub mod WholeTunes

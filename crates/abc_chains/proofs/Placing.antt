@@ -72,7 +72,7 @@ settle_next rows whole made made1 made2 blocks at i r e free own inside is =
     ∙ (append_assoc (made ++ a) b rest ∙ (append_assoc made a (b ++ rest)
     ∙ (ap (λ l. made ++ placed_from rows at i l) (sym cut) ∙ e)))
 
-take_whole : {A : Type 0} (n : ℕ) (xs : List A) → length xs ≤ n → take n xs ≡ xs
+pub take_whole : {A : Type 0} (n : ℕ) (xs : List A) → length xs ≤ n → take n xs ≡ xs
 take_whole zero [] h = refl
 take_whole zero (x ∷ xs) h = absurd (omega arith)
 take_whole (suc n) [] h = refl

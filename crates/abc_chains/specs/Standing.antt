@@ -1,5 +1,5 @@
 -- What contracts see of a text that is kept with its chains, and of an edit of it that has been prepared. Our own.
-use Rattle.std.specs.Prelude.{◌≡◌, ℕ, ◌≤◌, List, map, All}
+use Rattle.std.specs.Prelude.{◌≡◌, ℕ, ◌≤◌, List, Option, map, All}
 use Rattle.abc_book.specs.declared.block.Block.{Block}
 use Rattle.abc_fold.specs.Chain.{Chained}
 use Rattle.abc_fold.specs.Steps.{Steps}
@@ -32,13 +32,15 @@ pub record Keeping (C State Cell Items : Type 0) : Type 0 where
   pub blocks : List Block
   pub chains : List (Chained State Cell Items)
 
--- A kept text, the text that is to take its place, and what would be kept of that.
+-- A kept text, the text that is to take its place, what would be kept of that, and which of its tunes have the items of
+-- old ones.
 pub record Edited (C State Cell Items : Type 0) : Type 0 where
   pub on : Keeping C State Cell Items
   pub text : Text
   pub rows : List (Row Cell)
   pub blocks : List Block
   pub chains : List (Chained State Cell Items)
+  pub taken : List (Option ℕ)
 
 -- The lines scanned have risen by so many at most, and the steps folded by so many; no tune has been built.
 pub record IsWorkUpTo (lines steps : ℕ) (before after : Counters) : Type 0 where

@@ -7,6 +7,7 @@ mod pieces;
 mod row;
 mod settle;
 mod text;
+mod whole;
 
 pub use row::{Origin, Row, read};
 pub use text::{KeptPatch, KeptText};

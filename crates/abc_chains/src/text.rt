@@ -2,17 +2,20 @@
 //! memory and changes nothing, and one that needs none and changes the text.
 
 ghost use Rattle.std.specs.Prelude.{◌≡◌, ◌≢◌, ◌+◌, ◌-◌, ◌≤◌, [], ◌∷◌, ◌++◌, IfOk, IfErr, OnOk, Ok, drop, take, length, map};
+ghost use Rattle.std.specs.List.{AllZip};
 ghost use Rattle.abc_chains.specs.Standing.{IsWorkUpTo, Stands};
+ghost use Rattle.abc_chains.specs.Taking.{HasItemsOf};
 ghost use Rattle.abc_fold.specs.Chain.{no_cells};
 ghost use Rattle.abc_fold.specs.Steps.{steps_of};
 ghost use Rattle.abc_lines.specs.Edits.{Refuses, replaced};
 ghost use Rattle.abc_lines.specs.Text.{lines_of, splice_from, spliced};
 ghost use Rattle.abc_rework.specs.Fresh.{fresh_after};
 
-use crate::blocks::{blocks_of, places_of};
+use crate::blocks::{blocks_of, places_of, tunes_in};
 use crate::folded::chains_of;
 use crate::row::{Row, read};
 use crate::settle::settled;
+use crate::whole::taken_of;
 use abc_book::Block;
 use abc_compiler::Compiler;
 use abc_fold::{Chain, Counts, Fold, Resumable};
@@ -51,6 +54,7 @@ pub struct KeptPatch<C: Compiler> {
     rows: Vec<Row<C::Cell>>,
     blocks: Vec<Block>,
     chains: Vec<Chain<C>>,
+    taken: Vec<Option<usize>>,
 }
 
 impl<C: Compiler> Model for KeptPatch<C> {
@@ -60,7 +64,7 @@ impl<C: Compiler> Model for KeptPatch<C> {
 
     ghost Value = { Edited C C.State C.Cell C.Items };
 
-    ghost view = { λ p. record { on = p.on.value; text = p.lines.after; rows = p.rows.items; blocks = p.blocks.items; chains = p.chains.items } };
+    ghost view = { λ p. record { on = p.on.value; text = p.lines.after; rows = p.rows.items; blocks = p.blocks.items; chains = p.chains.items; taken = p.taken.items } };
 
     ghost invariant = { λ p. (p.lines.on ≡ p.on.value.lines) × Stands (steps_of (C.next p.on.value.compiler) (C.gives p.on.value.compiler) (C.alike p.on.value.compiler)) (C.rules p.on.value.compiler) p.lines.after p.rows.items p.blocks.items p.chains.items };
 }
@@ -70,6 +74,7 @@ struct Made<C: Compiler> {
     rows: Vec<Row<C::Cell>>,
     blocks: Vec<Block>,
     chains: Vec<Chain<C>>,
+    taken: Vec<Option<usize>>,
 }
 
 /// Appends rows.
@@ -175,6 +180,7 @@ impl<C: Compiler> KeptText<C> {
         requires { at + removed ≤ length self.now.lines.text }
         ensures stands { let c = self.now.compiler in
             IfOk result (λ made. Stands (steps_of (C.next c) (C.gives c) (C.alike c)) (C.rules c) (spliced self.now.lines.text (splice_from at removed lines.now)) made.rows.items made.blocks.items made.chains.items) }
+        ensures items { IfOk result (λ made. AllZip (HasItemsOf (drop 1 self.now.chains)) (drop 1 made.chains.items) made.taken.items) }
         ensures counted { let c = self.now.compiler in
             IsWorkUpTo (length lines.now) (fresh_after (steps_of (C.next c) (C.gives c) (C.alike c)) (C.rules c) self.now.lines.text (splice_from at removed lines.now)) (C.Work.counts work.old) (C.Work.counts work.new) }
     {
@@ -184,11 +190,14 @@ impl<C: Compiler> KeptText<C> {
         let blocks = blocks_of(alloc, &rows)?;
         let chains = chains_of(alloc, &self.compiler, &self.chains, &rows, &blocks, work)?;
         let places = places_of(alloc, &blocks)?;
-        let rows = settled(alloc, &rows, &places)?;
+        let placed = settled(alloc, &rows, &places)?;
+        let tunes = tunes_in(alloc, &blocks)?;
+        let taken = taken_of(alloc, &self.compiler, &self.chains, &chains, &rows, &tunes)?;
         Ok(Made {
-            rows,
+            rows: placed,
             blocks,
             chains,
+            taken,
         })
     }
 
@@ -206,6 +215,7 @@ impl<C: Compiler> KeptText<C> {
         ensures text { IfOk result (λ patch. replaced self.now.lines.text (splice_from at removed lines.now) ≡ Ok patch.text) }
         ensures stands { let c = self.now.compiler in
             IfOk result (λ patch. Stands (steps_of (C.next c) (C.gives c) (C.alike c)) (C.rules c) patch.text patch.rows patch.blocks patch.chains) }
+        ensures items { IfOk result (λ patch. AllZip (HasItemsOf (drop 1 self.now.chains)) (drop 1 patch.chains) patch.taken) }
         ensures refused { IfErr result (λ e. Refuses e (replaced self.now.lines.text (splice_from at removed lines.now))) }
         ensures uncounted { IfErr result (λ e. e ≢ EditError.OutOfMemory → work.new ≡ work.old) }
         ensures counted { let c = self.now.compiler in
@@ -218,6 +228,7 @@ impl<C: Compiler> KeptText<C> {
                     rows,
                     blocks,
                     chains,
+                    taken,
                 } = made;
                 Ok(KeptPatch {
                     on: Seen::of(self),
@@ -225,6 +236,7 @@ impl<C: Compiler> KeptText<C> {
                     rows,
                     blocks,
                     chains,
+                    taken,
                 })
             }
             Err(_) => {
@@ -249,6 +261,7 @@ impl<C: Compiler> KeptText<C> {
             rows,
             blocks,
             chains,
+            taken: _,
         } = patch;
         self.lines.commit(lines);
         self.rows = rows;
@@ -279,6 +292,13 @@ impl<C: Compiler> KeptPatch<C> {
         &self.chains
     }
 
+    /// For each tune that the text would have, the old one that has just its items, counted from 0, if one is known.
+    pub fn taken(&self) -> &[Option<usize>]
+        ensures { result.now ≡ self.now.taken }
+    {
+        &self.taken
+    }
+
     /// Gives the patch up.
     pub fn drop_patch(self) {
         let KeptPatch {
@@ -287,6 +307,7 @@ impl<C: Compiler> KeptPatch<C> {
             rows: _,
             blocks: _,
             chains: _,
+            taken: _,
         } = self;
         lines.drop_patch();
     }
