@@ -3,6 +3,7 @@
 
 mod blocks;
 mod folded;
+mod lines;
 mod pieces;
 mod row;
 mod settle;

@@ -8,7 +8,7 @@ ghost use Rattle.abc_chains.specs.Taking.{HasItemsOf};
 ghost use Rattle.abc_fold.specs.Chain.{no_cells};
 ghost use Rattle.abc_fold.specs.Steps.{steps_of};
 ghost use Rattle.abc_lines.specs.Edits.{Refuses, replaced};
-ghost use Rattle.abc_lines.specs.Text.{lines_of, splice_from, spliced};
+ghost use Rattle.abc_lines.specs.Text.{IsText, lines_of, splice_from, spliced};
 ghost use Rattle.abc_rework.specs.Fresh.{fresh_after};
 
 use crate::blocks::{blocks_of, places_of, tunes_in};
@@ -50,7 +50,7 @@ impl<C: Compiler> Model for KeptText<C> {
 /// the text that it was prepared on, and what would take its place.
 pub struct KeptPatch<C: Compiler> {
     on: Seen<KeptText<C>>,
-    lines: LinePatch,
+    pub(crate) lines: LinePatch,
     rows: Vec<Row<C::Cell>>,
     blocks: Vec<Block>,
     chains: Vec<Chain<C>>,
@@ -216,6 +216,7 @@ impl<C: Compiler> KeptText<C> {
         ensures stands { let c = self.now.compiler in
             IfOk result (λ patch. Stands (steps_of (C.next c) (C.gives c) (C.alike c)) (C.rules c) patch.text patch.rows patch.blocks patch.chains) }
         ensures items { IfOk result (λ patch. AllZip (HasItemsOf (drop 1 self.now.chains)) (drop 1 patch.chains) patch.taken) }
+        ensures limits { IfOk result (λ patch. IsText patch.text) }
         ensures refused { IfErr result (λ e. Refuses e (replaced self.now.lines.text (splice_from at removed lines.now))) }
         ensures uncounted { IfErr result (λ e. e ≢ EditError.OutOfMemory → work.new ≡ work.old) }
         ensures counted { let c = self.now.compiler in
