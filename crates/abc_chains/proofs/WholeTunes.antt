@@ -5,14 +5,14 @@ use Rattle.std.proofs.lemmas.List.Elements.{All-take, All-drop}
 use Rattle.std.proofs.Math.Seq.{drop-cons}
 use Rattle.std.specs.List.{AllZip, flat_map}
 use Rattle.abc_book.specs.declared.block.Block.{Block}
-use Rattle.abc_fold.specs.Chain.{Chained, Folds, no_cells}
+use Rattle.abc_fold.specs.Chain.{Chained, Folds}
 use Rattle.abc_fold.specs.Steps.{Steps, AreAlike, IsAlike, IsResumable, items_from, states_from}
 use Rattle.abc_fold.proofs.Alike.{equal_items}
 use Rattle.abc_lines.specs.Text.{Text}
 use Rattle.abc_rework.specs.Origins.{Origin}
 use Rattle.abc_tunebook.specs.Book.{blocks_in, opening_of, tunes_in}
 use Rattle.abc_tunebook.specs.Rules.{Rules}
-use Rattle.abc_chains.specs.Holding.{IsCarried, IsChain, IsFolded, IsHeldAt, cells_at, cells_in, cells_over, rows_in}
+use Rattle.abc_chains.specs.Holding.{IsCarried, IsChain, IsFolded, IsHeldAt, cells_at, cells_in, rows_in}
 use Rattle.abc_chains.specs.Keeping.{AreChains, AreRead, IsChainOf}
 use Rattle.abc_chains.specs.Rows.{Row}
 use Rattle.abc_chains.specs.Taking.{HasItemsOf, are_alike_both, continues, is_along, is_origin}

@@ -1,4 +1,4 @@
-use Rattle.std.proofs.Common.{◌≡◌, ◌+◌, ◌<◌, ◌≤◌, drop, take, get_or, length, refl, sym, ap, ◌∙◌, subst, arith}
+use Rattle.std.proofs.Common.{◌≡◌, ◌+◌, ◌<◌, ◌≤◌, drop, get_or, length, subst, arith}
 use Rattle.std.specs.List.{AllZip}
 use Rattle.abc_book.specs.declared.block.BlockKind.TheVariants.{FileHeader}
 use Rattle.abc_chains.specs.Holding.{IsChain}
