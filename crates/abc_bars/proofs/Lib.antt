@@ -5,5 +5,6 @@ pub mod EntryLaws
 pub mod HeaderLaws
 pub mod HeaderViews
 pub mod LookBack
+pub mod Mentions
 pub mod NamePlaces
 pub mod VoicesLemmas

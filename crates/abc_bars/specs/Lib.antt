@@ -11,6 +11,7 @@ pub mod FieldKind
 pub mod FileHeader
 pub mod Header
 pub mod LookBack
+pub mod Mentioned
 pub mod Opening
 pub mod Reference
 pub mod SameDefaults

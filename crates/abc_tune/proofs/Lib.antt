@@ -1,1 +1,2 @@
+pub mod Mentions
 pub mod WholeFaults

@@ -1,18 +1,16 @@
 -- What a session relies on of the compiler of ABC.
-use Rattle.std.specs.Prelude.{◌≡◌, ◌↔◌, ◌⊎◌, ℕ, Bool, true, false, ◌&&◌, not, ◌==◌, if◌then◌else◌, List, [], ◌∷◌, Option, Some, None, refl, IsTrue}
-use Rattle.std.proofs.Common.{inl, inr, sym, ap, subst, ◌∙◌, ⊎_elim}
+use Rattle.std.specs.Prelude.{◌≡◌, ◌↔◌, ◌⊎◌, ℕ, Bool, true, false, ◌&&◌, not, ◌==◌, if◌then◌else◌, List, [], ◌∷◌, Some, None, refl, IsTrue}
+use Rattle.std.proofs.Common.{inl, inr, sym, ap, subst}
 use Rattle.std.proofs.lemmas.Bool.{eqb-true, false≢true}
 use Rattle.abc_bars.specs.Entry.{defaults_of, opening_after}
 use Rattle.abc_bars.specs.SameDefaults.{same_defaults, same_defaults_tells}
 use Rattle.abc_bars.specs.SameEntry.{bars, same_entry_tells}
 use Rattle.abc_bars.specs.declared.defaults.Defaults.{Defaults}
-use Rattle.abc_bars.specs.declared.entry.Entry.{Entry}
 use Rattle.abc_bars.specs.declared.entry.Entry.TheVariants as entries
 use Rattle.abc_compiler.specs.Lawful.{AreLawful}
-use Rattle.abc_fold.specs.Steps.{IsAlike}
 use Rattle.abc_scan.specs.Byte.{space, percent, backslash}
 use Rattle.abc_scan.specs.Cell.{cells_of, ends_cell, put_first}
-use Rattle.abc_scan.specs.Class.{class_of, class_of_text, class_by, field_or_music, first_visible, field_letter}
+use Rattle.abc_scan.specs.Class.{class_of, class_of_text, class_by, first_visible, field_letter}
 use Rattle.abc_scan.specs.Line.{tokens_in, tokens_of, cutting_of}
 use Rattle.abc_scan.specs.Text.{content, before_comment, without_comment}
 use Rattle.abc_scan.specs.declared.class.LineClass.{LineClass}

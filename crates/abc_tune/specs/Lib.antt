@@ -1,4 +1,5 @@
 pub mod Abc
 pub mod Built
 pub mod Lawful
+pub mod Lines
 pub mod WholeFaults

@@ -3,9 +3,11 @@
 
 mod abc;
 mod built;
+mod line_laws;
 mod whole_faults;
 
 pub use abc::Abc;
 pub use abc_compiler::{Built, Compiler};
 pub use abc_memo::{TuneKey, TuneMemo, put_line};
 pub use built::build;
+pub use line_laws::tunes_of_lines;

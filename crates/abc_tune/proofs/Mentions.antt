@@ -1,0 +1,136 @@
+-- The voices that items mention, by the walk over them.
+use Rattle.std.proofs.Common.{◌≡◌, ◌≤◌, ℕ, suc, Bool, true, false, cond, List, [], ◌∷◌, ◌++◌, length, drop, bytes_eq, refl, ap, ◌∙◌, arith}
+use Rattle.std.specs.Prelude.{◌||◌}
+use Rattle.std.specs.List.{flat_map, list_any}
+use Rattle.std.proofs.lemmas.Bool.{and_parts}
+use Rattle.abc_bars.specs.Mentioned.{AreNamed, behind_items}
+use Rattle.abc_bars.proofs.Mentions.{mentions_few, names_voices}
+use Rattle.abc_music.specs.declared.item.Item.{Item}
+use Rattle.abc_music.specs.declared.item.Item.TheVariants as items
+use Rattle.abc_tune.specs.Abc.{cells_in}
+use Rattle.abc_tune.specs.Lines.{HasFewVoices, IsTooLarge, IsTooLongBySize, items_of_lines, by_sections, by_places, by_time, by_title}
+use Rattle.abc_voices.specs.TooLong.{PassesALimit, of_sections, of_places, of_time, of_voices, of_title}
+use Rattle.abc_voices.proofs.TooLong.{by_a_limit}
+use Rattle.abc_bars.specs.declared.defaults.Defaults.{Defaults}
+use Rattle.abc_voices.specs.Section.{opening_voice}
+use Rattle.abc_voices.specs.Track.{everyone, names_from, nameless_plays, plays_first, tracks, with_name}
+
+abbrev own : Item → Item
+own item = item
+
+-- where one is the current one, only fields mention voices
+placed_from : (names : List (List ℕ)) (tune : List Item) → (behind_items (names, true) tune).0 ≡ names_from own names tune
+placed_from names [] = refl
+placed_from names (items.Number number ∷ tune) = placed_from names tune
+placed_from names (items.Tone tones length ∷ tune) = placed_from names tune
+placed_from names (items.Rest length bar ∷ tune) = placed_from names tune
+placed_from names (items.Bar line ∷ tune) = placed_from names tune
+placed_from names (items.Ending numbers ∷ tune) = placed_from names tune
+placed_from names (items.Section letter ∷ tune) = placed_from names tune
+placed_from names (items.Tempo opening micros out ∷ tune) = placed_from names tune
+placed_from names (items.Meter opening meter ∷ tune) = placed_from names tune
+placed_from names (items.Key opening key ∷ tune) = placed_from names tune
+placed_from names (items.Voice opening name ∷ tune) = placed_from (with_name names name) tune
+placed_from names (items.Title text ∷ tune) = placed_from names tune
+placed_from names (items.Order text ∷ tune) = placed_from names tune
+
+-- a name is put behind that of the voice without one
+in_front : (b : Bool) (names : List (List ℕ)) (name : List ℕ) → cond b ([] ∷ names) (([] ∷ names) ++ name ∷ []) ≡ [] ∷ cond b names (names ++ name ∷ [])
+in_front true names name = refl
+in_front false names name = refl
+
+with_named : (names : List (List ℕ)) (name : List ℕ) → bytes_eq name [] ≡ false → with_name ([] ∷ names) name ≡ [] ∷ with_name names name
+with_named names name some =
+    ap (λ b. cond (b || list_any (bytes_eq name) names) ([] ∷ names) (([] ∷ names) ++ name ∷ [])) some
+    ∙ in_front (list_any (bytes_eq name) names) names name
+
+behind_nameless : (names : List (List ℕ)) (tune : List Item) → AreNamed tune → names_from own ([] ∷ names) tune ≡ [] ∷ names_from own names tune
+behind_nameless names [] named = refl
+behind_nameless names (items.Number number ∷ tune) named = behind_nameless names tune named.1
+behind_nameless names (items.Tone tones length ∷ tune) named = behind_nameless names tune named.1
+behind_nameless names (items.Rest length bar ∷ tune) named = behind_nameless names tune named.1
+behind_nameless names (items.Bar line ∷ tune) named = behind_nameless names tune named.1
+behind_nameless names (items.Ending numbers ∷ tune) named = behind_nameless names tune named.1
+behind_nameless names (items.Section letter ∷ tune) named = behind_nameless names tune named.1
+behind_nameless names (items.Tempo opening micros out ∷ tune) named = behind_nameless names tune named.1
+behind_nameless names (items.Meter opening meter ∷ tune) named = behind_nameless names tune named.1
+behind_nameless names (items.Key opening key ∷ tune) named = behind_nameless names tune named.1
+behind_nameless names (items.Voice opening name ∷ tune) named =
+    ap (λ known. names_from own known tune) (with_named names name named.0) ∙ behind_nameless (with_name names name) tune named.1
+behind_nameless names (items.Title text ∷ tune) named = behind_nameless names tune named.1
+behind_nameless names (items.Order text ∷ tune) named = behind_nameless names tune named.1
+
+-- where the voice without a name has a track, it is mentioned
+heard : (tune : List Item) → AreNamed tune → bytes_eq (opening_voice own tune) [] ≡ true → plays_first own tune ≡ true
+    → (behind_items ([], false) tune).0 ≡ names_from own ([] ∷ []) tune
+heard [] named opens plays = absurd (cc)
+heard (items.Number number ∷ tune) named opens plays = heard tune named.1 opens plays
+heard (items.Tone tones length ∷ tune) named opens plays = placed_from ([] ∷ []) tune
+heard (items.Rest length bar ∷ tune) named opens plays = placed_from ([] ∷ []) tune
+heard (items.Bar line ∷ tune) named opens plays = heard tune named.1 opens plays
+heard (items.Ending numbers ∷ tune) named opens plays = heard tune named.1 opens plays
+heard (items.Section letter ∷ tune) named opens plays = heard tune named.1 opens plays
+heard (items.Tempo opening micros out ∷ tune) named opens plays = heard tune named.1 opens plays
+heard (items.Meter opening meter ∷ tune) named opens plays = heard tune named.1 opens plays
+heard (items.Key opening key ∷ tune) named opens plays = heard tune named.1 opens plays
+heard (items.Voice true name ∷ tune) named opens plays = absurd (cc (named.0, opens))
+heard (items.Voice false name ∷ tune) named opens plays = absurd (cc)
+heard (items.Title text ∷ tune) named opens plays = heard tune named.1 opens plays
+heard (items.Order text ∷ tune) named opens plays = heard tune named.1 opens plays
+
+-- beside the voice without a name all others are mentioned
+others : (tune : List Item) → AreNamed tune → length (names_from own ([] ∷ []) tune) ≤ suc (length (behind_items ([], false) tune).0)
+others [] named = omega arith
+others (items.Number number ∷ tune) named = others tune named.1
+others (items.Tone tones long ∷ tune) named = omega (arith, ap length (placed_from ([] ∷ []) tune))
+others (items.Rest long bar ∷ tune) named = omega (arith, ap length (placed_from ([] ∷ []) tune))
+others (items.Bar line ∷ tune) named = others tune named.1
+others (items.Ending numbers ∷ tune) named = others tune named.1
+others (items.Section letter ∷ tune) named = others tune named.1
+others (items.Tempo opening micros out ∷ tune) named = others tune named.1
+others (items.Meter opening meter ∷ tune) named = others tune named.1
+others (items.Key opening key ∷ tune) named = others tune named.1
+others (items.Voice opening name ∷ tune) named =
+    omega (arith, ap length (ap (λ known. names_from own known tune) (with_named [] name named.0) ∙ behind_nameless (with_name [] name) tune named.1), ap length (placed_from (with_name [] name) tune))
+others (items.Title text ∷ tune) named = others tune named.1
+others (items.Order text ∷ tune) named = others tune named.1
+
+behind_first : {A : Type 0} (xs : List A) (n : ℕ) → length xs ≤ suc n → length (drop 1 xs) ≤ n
+behind_first [] n few = omega arith
+behind_first (x ∷ xs) n few = omega (arith, few)
+
+by_nameless : (tune : List Item) → AreNamed tune → (b : Bool) → nameless_plays own tune ≡ b
+    → length (cond b (everyone own tune) (drop 1 (everyone own tune))) ≤ length (behind_items ([], false) tune).0
+by_nameless tune named true plays =
+    let both = and_parts (bytes_eq (opening_voice own tune) []) (plays_first own tune) plays in
+    omega (arith, ap length (heard tune named both.0 both.1))
+by_nameless tune named false plays = behind_first (everyone own tune) _ (others tune named)
+
+-- no more voices have tracks than are mentioned
+tracks_few : (tune : List Item) → AreNamed tune → length (tracks own tune) ≤ length (behind_items ([], false) tune).0
+tracks_few tune named = by_nameless tune named (nameless_plays own tune) refl
+
+-- no tune has more than may be
+pub few_voices : HasFewVoices
+few_voices opening lines =
+    let cells = flat_map cells_in lines in
+    omega (arith, tracks_few _ (names_voices opening cells), mentions_few opening cells)
+
+-- so only the other limits are passed
+large : (opening : Defaults) (lines : List (List ℕ)) → PassesALimit own (items_of_lines opening lines) → IsTooLarge (items_of_lines opening lines)
+large opening lines (of_sections h) = by_sections h
+large opening lines (of_places h) = by_places h
+large opening lines (of_time h) = by_time h
+large opening lines (of_voices h) = let few = few_voices opening lines in absurd (omega (arith, h, few))
+large opening lines (of_title h) = by_title h
+
+limited : (tune : List Item) → IsTooLarge tune → PassesALimit own tune
+limited tune (by_sections h) = of_sections h
+limited tune (by_places h) = of_places h
+limited tune (by_time h) = of_time h
+limited tune (by_title h) = of_title h
+
+pub by_size : IsTooLongBySize
+by_size opening lines =
+    let tune = items_of_lines opening lines in
+    (λ long. large opening lines ((by_a_limit tune).0 long), λ is. (by_a_limit tune).1 (limited tune is))

@@ -1,0 +1,38 @@
+-- What the lines of a tune give, and what makes it too long.
+use Rattle.std.specs.Prelude.{◌≡◌, ◌≤◌, ◌<◌, ◌↔◌, ℕ, true, List, length}
+use Rattle.std.specs.List.{flat_map}
+use Rattle.abc_bars.specs.Mentioned.{items_of_cells}
+use Rattle.abc_bars.specs.declared.defaults.Defaults.{Defaults}
+use Rattle.abc_music.specs.declared.item.Item.{Item}
+use Rattle.abc_music.specs.declared.item.TheConstants.{MOST_VOICES}
+use Rattle.abc_repeat.specs.declared.order.TheConstants.{MOST_SECTIONS}
+use Rattle.abc_repeat.specs.declared.play.TheConstants.{MOST_PLACES}
+use Rattle.abc_time.specs.Grains.{grains_of_the_latest_end}
+use Rattle.abc_tune.specs.Abc.{cells_in}
+use Rattle.abc_tune.specs.Built.{is_long}
+use Rattle.abc_voices.specs.Arrange.{end_of, places_played, sections_played}
+use Rattle.abc_voices.specs.Opening.{title_of}
+use Rattle.abc_voices.specs.Track.{tracks}
+use Rattle.abc_voices.specs.declared.limits.TheConstants.{LONGEST_TITLE}
+
+-- What a tune of these lines gives to its score, where a file header set these values.
+abbrev pub items_of_lines : Defaults → List (List ℕ) → List Item
+items_of_lines opening lines = items_of_cells opening (flat_map cells_in lines)
+
+-- No tune of lines has more voices than may have a track.
+abbrev pub HasFewVoices : Type 0
+HasFewVoices = (opening : Defaults) (lines : List (List ℕ))
+    → length (tracks (λ item. item) (items_of_lines opening lines)) ≤ MOST_VOICES
+
+-- More sections or more places of a tune are played than may be, it ends later than a tune may, or its title is longer
+-- than a line. Our own.
+pub data IsTooLarge (tune : List Item) : Type 0 where
+  by_sections : MOST_SECTIONS < sections_played (λ item. item) tune → IsTooLarge tune
+  by_places : MOST_PLACES < places_played (λ item. item) tune → IsTooLarge tune
+  by_time : grains_of_the_latest_end < end_of (λ item. item) tune → IsTooLarge tune
+  by_title : LONGEST_TITLE < length (title_of (λ item. item) tune) → IsTooLarge tune
+
+-- A tune of lines is too long exactly where it is, never for its voices.
+abbrev pub IsTooLongBySize : Type 0
+IsTooLongBySize = (opening : Defaults) (lines : List (List ℕ))
+    → (is_long (items_of_lines opening lines) ≡ true) ↔ IsTooLarge (items_of_lines opening lines)
