@@ -1,8 +1,9 @@
 -- A row as its block shows it.
-use Rattle.std.proofs.Common.{◌≡◌, length, Option, Some, sym, ap, ◌∙◌, subst}
-use Rattle.abc_lines.specs.Block.{Placed, IsSound, shown}
+use Rattle.std.proofs.Common.{◌≡◌, ℕ, ◌-◌, length, set, Option, Some, None, refl, sym, ap, ◌∙◌, subst}
+use Rattle.abc_lines.specs.Block.{Placed, placed, IsSound, shown}
+use Rattle.abc_lines.specs.GapRowLends.{with_item_in}
 use Rattle.abc_lines.specs.declared.gap_row.GapRow.{GapRow}
-use Rattle.abc_lines.proofs.GapRow.{held_count}
+use Rattle.abc_lines.proofs.GapRow.{held_count, sound_at, holds_at}
 
 module _ {X : Type 0} (seen : Option (GapRow X)) (row : GapRow X) (now : Placed X) (is : seen ≡ Some row) (view : shown seen ≡ now) (sound : IsSound seen) where
   same : shown (Some row) ≡ now
@@ -13,3 +14,12 @@ module _ {X : Type 0} (seen : Option (GapRow X)) (row : GapRow X) (now : Placed 
 
   pub gap_shown : row.at ≡ now.gap
   gap_shown = ap (λ p. p.gap) same
+
+module _ {X : Type 0} where
+  pub sound_in : (row : Option (GapRow X)) (i : ℕ) (w : X) → IsSound row → IsSound (with_item_in row i w)
+  sound_in None i w sound = tt
+  sound_in (Some row) i w sound = sound_at sound i w
+
+  pub shown_in : (row : Option (GapRow X)) (i : ℕ) (w : X) → IsSound row → shown (with_item_in row i w) ≡ placed (set (shown row).items i w) (shown row).gap (shown row).room
+  shown_in None i w sound = refl
+  shown_in (Some row) i w sound = ap (λ items. placed items row.at (row.capacity - row.size)) (holds_at sound i w)

@@ -4,13 +4,21 @@
 --     low_full, low_empty             the place at the lower edge, before and behind it
 --     high_full, high_empty           the place at the upper edge, behind and before it
 --     fill_low, clear_low, fill_high, clear_high      what a write or a read there makes
-use Rattle.std.proofs.Common.{◌≡◌, ℕ, suc, zero, ◌+◌, ◌-◌, ◌<◌, ◌≤◌, List, [], ◌∷◌, ◌++◌, map, length, replicate, get_or, set, Option, Some, None, refl, sym, ap, ◌∙◌, arith}
+use Rattle.std.proofs.Common.{◌≡◌, ℕ, suc, zero, ◌+◌, ◌-◌, ◌<◌, ◌≤◌, List, [], ◌∷◌, ◌++◌, map, length, replicate, get_or, set, length-set, Option, Some, None, Bool, true, false, if◌then◌else◌, nat_lt, ⊎_elim, refl, sym, ap, ◌∙◌, subst, arith}
 use Rattle.std.proofs.lemmas.List.{append-nil, get_or_at, length-append, set_at}
 use Rattle.std.proofs.lemmas.Option.{slice_get_past}
+use Rattle.std.proofs.lemmas.Bool.{cases_Bool, ltb-true, ltb-false, le-ltb}
 use Rattle.std.specs.List.{insert, remove, slice_get}
-use Rattle.abc_lines.specs.GapRow.{somes, items_of, laid, IsGapped, Becomes}
+use Rattle.abc_lines.specs.GapRow.{somes, items_of, laid, place_of, IsGapped, Becomes}
+use Rattle.abc_lines.specs.GapRowLends.{with_item}
+use Rattle.abc_lines.specs.PlacesLends.{with_row}
 use Rattle.abc_lines.specs.declared.gap_row.GapRow.{GapRow}
 use Rattle.abc_lines.specs.declared.places.Places.{Places}
+
+set_past : {Y : Type 0} (ys : List Y) (i : ℕ) (y : Y) → length ys ≤ i → set ys i y ≡ ys
+set_past [] i y le = refl
+set_past (z ∷ ys) zero y le = absurd (omega arith)
+set_past (z ∷ ys) (suc i) y le = ap (λ zs. z ∷ zs) (set_past ys i y (omega arith))
 
 module _ {X : Type 0} where
   somes_full : (xs : List X) → somes (map Some xs) ≡ xs
@@ -149,6 +157,37 @@ module _ {X : Type 0} where
   seen_back (x ∷ front) n back (suc i) zero le is = absurd (omega arith)
   seen_back (x ∷ front) n back (suc i) (suc j) le is = seen_back front n back i j (omega arith) (omega arith)
 
+  -- an item with another one in its place
+  write_full : (xs : List X) (i : ℕ) (w : X) → set (map Some xs) i (Some w) ≡ map Some (set xs i w)
+  write_full [] i w = refl
+  write_full (x ∷ xs) zero w = refl
+  write_full (x ∷ xs) (suc i) w = ap (λ cs. Some x ∷ cs) (write_full xs i w)
+
+  write_past : (n : ℕ) (back : List X) (i j : ℕ) (w : X) → j ≡ i + n → set (replicate n None ++ map Some back) j (Some w) ≡ replicate n None ++ map Some (set back i w)
+  write_past zero back i j w is = ap (λ k. set (map Some back) k (Some w)) (omega (arith, is)) ∙ write_full back i w
+  write_past (suc n) back i zero w is = absurd (omega arith)
+  write_past (suc n) back i (suc j) w is = ap (λ cs. None ∷ cs) (write_past n back i j w (omega arith))
+
+  write_front : (front : List X) (n : ℕ) (back : List X) (i : ℕ) (w : X) → i < length front → set (laid front n back) i (Some w) ≡ laid (set front i w) n back
+  write_front [] n back i w lt = absurd (omega arith)
+  write_front (x ∷ front) n back zero w lt = refl
+  write_front (x ∷ front) n back (suc i) w lt = ap (λ cs. Some x ∷ cs) (write_front front n back i w (omega arith))
+
+  write_back : (front : List X) (n : ℕ) (back : List X) (i j : ℕ) (w : X) → j ≡ length front + i + n → set (laid front n back) j (Some w) ≡ laid front n (set back i w)
+  write_back [] n back i j w is = write_past n back i j w (omega (arith, is))
+  write_back (x ∷ front) n back i zero w is = absurd (omega arith)
+  write_back (x ∷ front) n back i (suc j) w is = ap (λ cs. Some x ∷ cs) (write_back front n back i j w (omega arith))
+
+  written_front : (front back : List X) (i : ℕ) (w : X) → i < length front → set front i w ++ back ≡ set (front ++ back) i w
+  written_front [] back i w lt = absurd (omega arith)
+  written_front (x ∷ front) back zero w lt = refl
+  written_front (x ∷ front) back (suc i) w lt = ap (λ zs. x ∷ zs) (written_front front back i w (omega arith))
+
+  written_back : (front back : List X) (i j : ℕ) (w : X) → j ≡ length front + i → front ++ set back i w ≡ set (front ++ back) j w
+  written_back [] back i j w is = ap (λ k. set back k w) (omega (arith, is))
+  written_back (x ∷ front) back i zero w is = absurd (omega arith)
+  written_back (x ∷ front) back i (suc j) w is = ap (λ zs. x ∷ zs) (written_back front back i j w (omega arith))
+
 -- a new block is a gap from end to end
 pub all_gap : {X : Type 0} (row : List (Option X)) (room : ℕ) → row ≡ replicate room None → row ≡ laid [] (room - 0) []
 all_gap row room is = is ∙ sym (append-nil (replicate room None)) ∙ ap (λ k. laid [] k []) (omega arith)
@@ -281,3 +320,59 @@ module _ {X : Type 0} {r : GapRow X} (g : IsGapped r) where
       (wrote.1 ∙ ap (λ cs. set cs r.at (Some item)) (g.row ∙ ap (λ k. laid g.front k g.back) one_less) ∙ fill_low g.front item left g.back r.at g.before)
       (omega (arith, g.before, length_push g.front item)) (omega (arith, g.count, length_push g.front item)) (omega (arith, room))
       (sym (seam g.front item g.back) ∙ sym (inserted g.front g.back item) ∙ ap (λ i. insert (g.front ++ g.back) i item) (sym g.before) ∙ ap (λ xs. insert xs r.at item) (sym held))
+
+  -- the item with so many others before it
+  module _ (index : ℕ) (inside : index < r.size) where
+    pub seen_at : get_or r.places.row (place_of r index) None ≡ slice_get (items_of r) index
+    seen_at = ⊎_elim
+        (λ (e : nat_lt index r.at ≡ true). ap (λ (b : Bool). get_or r.places.row (if b then index else index + gap) None) e ∙ seen_before index (ltb-true index r.at e))
+        (λ (e : nat_lt index r.at ≡ false). ap (λ (b : Bool). get_or r.places.row (if b then index else index + gap) None) e ∙ seen_behind index (ltb-false index r.at e))
+        (cases_Bool (nat_lt index r.at))
+
+    pub full_at : (x : X) × (get_or r.places.row (place_of r index) None ≡ Some x)
+    full_at = let x = held_at index inside in (x.0, seen_at ∙ x.1)
+
+    wrote_before : (w : X) → index < r.at → Becomes r (record r { places = with_row r.places (set r.places.row index (Some w)) }) (set (items_of r) index w) r.at r.size
+    wrote_before w lt =
+        let front = set g.front index w in let within : index < length g.front = omega (arith, g.before) in
+        remade (with_row r.places (set r.places.row index (Some w))) r.size r.at front g.back (set (items_of r) index w) refl
+        (ap (λ cs. set cs index (Some w)) g.row ∙ write_front g.front gap g.back index w within)
+        (g.before ∙ sym (length-set g.front index w)) (omega (arith, g.count, length-set g.front index w)) g.fits
+        (written_front g.front g.back index w within ∙ ap (λ xs. set xs index w) (sym held))
+
+    wrote_behind : (w : X) → r.at ≤ index → Becomes r (record r { places = with_row r.places (set r.places.row (index + gap) (Some w)) }) (set (items_of r) index w) r.at r.size
+    wrote_behind w le =
+        let k = index - length g.front in let back = set g.back k w in let is : index ≡ length g.front + k = omega (arith, g.before) in
+        remade (with_row r.places (set r.places.row (index + gap) (Some w))) r.size r.at g.front back (set (items_of r) index w) refl
+        (ap (λ cs. set cs (index + gap) (Some w)) g.row ∙ write_back g.front gap g.back k (index + gap) w (ap (λ j. j + gap) is))
+        g.before (omega (arith, g.count, length-set g.back k w)) g.fits
+        (written_back g.front g.back k index w is ∙ ap (λ xs. set xs index w) (sym held))
+
+    pub wrote_at : (w : X) → Becomes r (with_item r index w) (set (items_of r) index w) r.at r.size
+    wrote_at w =
+        let Wrote = λ (b : Bool). Becomes r (record r { places = with_row r.places (set r.places.row (if b then index else index + gap) (Some w)) }) (set (items_of r) index w) r.at r.size in
+        ⊎_elim
+        (λ (e : nat_lt index r.at ≡ true). subst Wrote (sym e) (wrote_before w (ltb-true index r.at e)))
+        (λ (e : nat_lt index r.at ≡ false). subst Wrote (sym e) (wrote_behind w (ltb-false index r.at e)))
+        (cases_Bool (nat_lt index r.at))
+
+  -- past the last item nothing is written
+  unwritten : (index : ℕ) (w : X) → r.size ≤ index → with_item r index w ≡ r
+  unwritten index w past =
+      let behind : nat_lt index r.at ≡ false = le-ltb index r.at (omega (arith, g.before, g.count)) in
+      ap (λ (b : Bool). record r { places = with_row r.places (set r.places.row (if b then index else index + gap) (Some w)) }) behind
+      ∙ ap (λ cs. record r { places = with_row r.places cs }) (set_past r.places.row (index + gap) (Some w) (omega (arith, ap length g.row ∙ length_laid g.front gap g.back, g.count, g.fits)))
+
+  pub sound_at : (index : ℕ) (w : X) → IsGapped (with_item r index w)
+  sound_at index w = ⊎_elim
+      (λ (e : nat_lt index r.size ≡ true). (wrote_at index (ltb-true index r.size e) w).gapped)
+      (λ (e : nat_lt index r.size ≡ false). subst IsGapped (sym (unwritten index w (ltb-false index r.size e))) g)
+      (cases_Bool (nat_lt index r.size))
+
+  pub holds_at : (index : ℕ) (w : X) → items_of (with_item r index w) ≡ set (items_of r) index w
+  holds_at index w = ⊎_elim
+      (λ (e : nat_lt index r.size ≡ true). (wrote_at index (ltb-true index r.size e) w).holds)
+      (λ (e : nat_lt index r.size ≡ false).
+      let past : r.size ≤ index = ltb-false index r.size e in
+      ap items_of (unwritten index w past) ∙ sym (set_past (items_of r) index w (omega (arith, held_count))))
+      (cases_Bool (nat_lt index r.size))

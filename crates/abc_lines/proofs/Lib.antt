@@ -6,3 +6,4 @@ pub mod PlacesLent
 pub mod PlacesSteps
 pub mod Runs
 pub mod Splices
+pub mod Iterations

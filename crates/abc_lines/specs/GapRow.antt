@@ -1,5 +1,5 @@
 -- What a list with a gap holds, and how its places are laid out.
-use Rattle.std.specs.Prelude.{◌≡◌, ℕ, ◌+◌, ◌-◌, ◌^◌, ◌<◌, ◌≤◌, List, ◌++◌, map, length, replicate, Option, Some, None}
+use Rattle.std.specs.Prelude.{◌≡◌, ℕ, ◌+◌, ◌-◌, ◌^◌, ◌<◌, ◌≤◌, if◌then◌else◌, nat_lt, List, ◌++◌, map, length, replicate, Option, Some, None}
 use Rattle.std.specs.List.{filter_map}
 use Rattle.abc_lines.specs.declared.gap_row.GapRow.{GapRow}
 
@@ -14,6 +14,10 @@ module _ {X : Type 0} where
   -- items, a gap of so many empty places, and items
   abbrev pub laid : List X → ℕ → List X → List (Option X)
   laid front gap back = map Some front ++ (replicate gap None ++ map Some back)
+
+  -- where the item with so many others before it lies
+  abbrev pub place_of : GapRow X → ℕ → ℕ
+  place_of r index = if nat_lt index r.at then index else index + (r.capacity - r.size)
 
   -- `front` stands before the gap, and `back` behind it
   pub record IsGapped (r : GapRow X) : Type 0 where

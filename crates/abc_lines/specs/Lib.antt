@@ -1,9 +1,13 @@
 pub mod Block
+pub mod BlockLends
 pub mod EditError
 pub mod Edits
 pub mod GapList
+pub mod GapListLends
 pub mod GapRow
+pub mod GapRowLends
 pub mod Lines
 pub mod ListSplice
 pub mod Places
+pub mod PlacesLends
 pub mod Text

@@ -2,7 +2,10 @@
 
 ghost use Rattle.std.specs.Prelude.{◌≡◌, ◌+◌, ◌-◌, ◌<◌, ◌≤◌, ◌^◌, [], length, IfOk, IsOk, option_copied, slice_get, Some};
 ghost use Rattle.std.specs.List.{insert, remove};
-ghost use Rattle.abc_lines.specs.Block.{placed};
+ghost use Rattle.std.specs.Option.{option_copied_mut};
+ghost use Rattle.std.specs.Borrow.{sem};
+ghost use Rattle.abc_lines.specs.Block.{placed, shown, IsSound};
+ghost use Rattle.abc_lines.specs.GapRowLends.{lends_in};
 
 use crate::gap_row::GapRow;
 use std::alloc::{AllocError, Global};
@@ -25,6 +28,8 @@ impl<T> Model for Block<T> {
 }
 
 impl<T> Block<T> {
+    ghost use Rattle.abc_lines.specs.BlockLends.{lends_placed};
+
     /// So many empty places.
     pub(crate) fn with_room(alloc: Global, room: usize) -> Result<Block<T>, AllocError>
         ensures empty { IfOk result (λ block. block ≡ placed [] 0 room) }
@@ -81,6 +86,14 @@ impl<T> Block<T> {
         }
     }
 
+    /// The item with `i` others before it, to be changed where it lies.
+    pub(crate) fn get_mut(&mut self, i: usize) -> Option<&mut T>
+        ensures* writes_back { sem 𝓛 (lends_placed T.row self.entry i result) }
+        ensures value { option_copied_mut result ≡ slice_get self.old.items i }
+    {
+        item_in(&mut self.row, i)
+    }
+
     /// Moves the gap to a place.
     pub(crate) fn move_gap(&mut self, to: usize)
         requires { to ≤ length self.old.items }
@@ -125,5 +138,17 @@ impl<T> Block<T> {
             None => {}
             Some(row) => row.destroy_empty(),
         }
+    }
+}
+
+/// The item with `i` others before it of a row, if there is one, to be changed where it lies.
+fn item_in<T>(row: &mut Option<GapRow<T>>, i: usize) -> Option<&mut T>
+    requires { IsSound row.old }
+    ensures* writes_back { sem 𝓛 (lends_in T.row row.entry i result) }
+    ensures value { option_copied_mut result ≡ slice_get (shown row.old).items i }
+{
+    match row {
+        None => None,
+        Some(row) => row.get_mut(i),
     }
 }

@@ -2,6 +2,8 @@
 
 ghost use Rattle.std.specs.Prelude.{◌≡◌, ◌+◌, ◌-◌, ◌<◌, ◌≤◌, ◌^◌, [], length, IfOk, IsOk, option_copied, slice_get, Some};
 ghost use Rattle.std.specs.List.{insert, remove};
+ghost use Rattle.std.specs.Option.{option_copied_mut};
+ghost use Rattle.std.specs.Borrow.{sem};
 ghost use Rattle.abc_lines.specs.Block.{placed};
 ghost use Rattle.abc_lines.specs.GapList.{gapped, distance, tallied, replaced_run};
 
@@ -27,6 +29,8 @@ impl<T> Model for GapList<T> {
 }
 
 impl<T> GapList<T> {
+    ghost use Rattle.abc_lines.specs.GapListLends.{lends_item};
+
     /// A list with no items, and room for as many as it says.
     pub fn with_room(alloc: Global, room: usize) -> Result<GapList<T>, AllocError>
         ensures empty { IfOk result (λ list. list ≡ gapped [] 0 room 0) }
@@ -79,6 +83,14 @@ impl<T> GapList<T> {
         ensures { option_copied result ≡ slice_get self.now.items i }
     {
         self.block.get(i)
+    }
+
+    /// The item with `i` others before it, to be changed where it lies.
+    pub fn get_mut(&mut self, i: usize) -> Option<&mut T>
+        ensures* writes_back { sem 𝓛 (lends_item T.row self.entry i result) }
+        ensures value { option_copied_mut result ≡ slice_get self.old.items i }
+    {
+        self.block.get_mut(i)
     }
 
     /// Puts an item before the one with `i` others before it, or at the end. The gap stands behind it then.

@@ -2,7 +2,10 @@
 
 ghost use Rattle.std.specs.Prelude.{◌≡◌, ◌+◌, ◌-◌, ◌<◌, ◌≤◌, ◌^◌, [], length, Some, IfOk, option_copied, slice_get};
 ghost use Rattle.std.specs.List.{insert, remove};
-ghost use Rattle.abc_lines.specs.GapRow.{IsGapped, Becomes, items_of};
+ghost use Rattle.std.specs.Option.{option_copied_mut};
+ghost use Rattle.std.specs.Borrow.{sem};
+ghost use Rattle.abc_lines.specs.GapRow.{IsGapped, Becomes, items_of, place_of};
+ghost use Rattle.abc_lines.specs.GapRowLends.{lends_at};
 
 use crate::places::{Claim, Places, allocate, deallocate};
 use std::alloc::{AllocError, Global};
@@ -73,10 +76,32 @@ impl<T> GapRow<T> {
         if self.size <= index {
             return None;
         }
+        Some(self.places.get(self.place(index)))
+    }
+
+    /// Where the item with `index` items before it lies.
+    fn place(&self, index: usize) -> usize
+        requires gapped { IsGapped self.now }
+        requires inside { index < self.now.size }
+        ensures { result ≡ place_of self.now index }
+    {
         if index < self.at {
-            return Some(self.places.get(index));
+            return index;
         }
-        Some(self.places.get(index + (self.capacity - self.size)))
+        index + (self.capacity - self.size)
+    }
+
+    /// The item with `index` items before it, to be changed where it lies.
+    pub(crate) fn get_mut(&mut self, index: usize) -> Option<&mut T>
+        requires { IsGapped self.old }
+        ensures* writes_back { sem 𝓛 (lends_at T.row self.entry index result) }
+        ensures value { option_copied_mut result ≡ slice_get (items_of self.old) index }
+    {
+        if self.size <= index {
+            return None;
+        }
+        let place = self.place(index);
+        Some(self.places.get_mut(place))
     }
 
     /// Moves the item before the gap behind it.

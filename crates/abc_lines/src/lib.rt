@@ -6,6 +6,7 @@ mod block;
 mod edit_error;
 mod gap_list;
 mod gap_row;
+mod iter;
 mod limits;
 mod line;
 mod lines;
@@ -14,6 +15,7 @@ mod splice_patch;
 
 pub use edit_error::EditError;
 pub use gap_list::GapList;
+pub use iter::Iter;
 pub use limits::{LONGEST_LINE, MOST_LINES, text_limits};
 pub use lines::{LineBuffer, LinePatch};
 pub use splice_patch::SplicePatch;
