@@ -3,3 +3,4 @@ pub mod Cuts
 pub mod Cases
 pub mod Rising
 pub mod Lying
+pub mod Stretches

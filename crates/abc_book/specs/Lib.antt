@@ -1,3 +1,4 @@
 pub mod Block
 pub mod Pass
 pub mod Laws
+pub mod Stretch

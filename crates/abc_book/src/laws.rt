@@ -1,6 +1,7 @@
 //! What holds of the blocks of every text. Each function has no body: its contract is the law.
 
 ghost use Rattle.abc_book.specs.Laws.{OnePass, EachLineInOneBlock, NoBlankInABlock, AnXLineCuts, BlocksRise, XLinesBeginTunes};
+ghost use Rattle.abc_book.specs.Stretch.{AStretchIsEnough};
 
 /// One pass over the lines finds the blocks that the rules tell.
 pub fn one_pass()
@@ -23,4 +24,10 @@ pub fn an_x_line_cuts()
 pub fn blocks_rise()
     ensures rise { BlocksRise }
     ensures tunes { XLinesBeginTunes }
+{}
+
+/// Where a stretch of a text takes the place of another, and both begin a tune or the text, and a tune or nothing
+/// follows them, the blocks before it stay, and those behind it move by the difference of lines.
+pub fn a_stretch_is_enough()
+    ensures { AStretchIsEnough }
 {}

@@ -6,5 +6,7 @@ mod laws;
 mod pass;
 
 pub use block::{Block, BlockKind};
-pub use laws::{an_x_line_cuts, blocks_rise, each_line_in_one_block, one_pass};
-pub use pass::blocks;
+pub use laws::{
+    a_stretch_is_enough, an_x_line_cuts, blocks_rise, each_line_in_one_block, one_pass,
+};
+pub use pass::{blocks, stretch_blocks};

@@ -1,9 +1,11 @@
 //! The blocks of a text, in one pass over the classes of its lines.
 
-ghost use Rattle.std.specs.Prelude.{◌≡◌, ◌+◌, ◌<◌, ◌++◌, IfOk, OnOk};
+ghost use Rattle.std.specs.Prelude.{◌≡◌, ◌+◌, ◌<◌, ◌≤◌, ◌++◌, length, IfOk, OnOk};
 ghost use Rattle.std.specs.Option.{option_to_list};
 ghost use Rattle.abc_book.specs.Block.{blocks_of};
-ghost use Rattle.abc_book.specs.Pass.{one_line, with_line, after_line, ended_by, last_block};
+ghost use Rattle.abc_book.specs.Pass.{one_line, with_line, after_line, ended_by, last_block, blocks_from};
+ghost use Rattle.abc_book.specs.Stretch.{blocks_at};
+ghost use Rattle.abc_book.specs.declared.pass.Before.TheVariants.{Nothing};
 
 use crate::block::{Block, BlockKind};
 use abc_scan::LineClass;
@@ -95,17 +97,38 @@ fn append(blocks: &mut Vec<Block>, block: Option<Block>) -> Result<(), AllocErro
     }
 }
 
+/// The blocks of lines with so many others before them that none of those goes on into.
+fn blocks_from(alloc: Global, first: usize, classes: &[LineClass]) -> Result<Vec<Block>, AllocError>
+    requires { first + length classes.now ≤ usize.MAX }
+    ensures { IfOk result (λ blocks. blocks.items ≡ blocks_from Nothing first classes.now) }
+{
+    let mut blocks = Vec::new(alloc);
+    let mut before = Before::Nothing;
+    for (done, class) in classes.iter().enumerate() {
+        append(&mut blocks, ended_by(before, *class))?;
+        before = after_line(before, first + done, *class);
+    }
+    append(&mut blocks, last_block(before))?;
+    Ok(blocks)
+}
+
 /// The blocks of a text, in order, by the classes of its lines (ABC 2.1 section 2.2). An error says that
 /// there is no memory for them.
 pub fn blocks(alloc: Global, classes: &[LineClass]) -> Result<Vec<Block>, AllocError>
     ensures value { IfOk result (λ blocks. blocks.items ≡ blocks_of classes.now) }
 {
-    let mut blocks = Vec::new(alloc);
-    let mut before = Before::Nothing;
-    for (at, class) in classes.iter().enumerate() {
-        append(&mut blocks, ended_by(before, *class))?;
-        before = after_line(before, at, *class);
-    }
-    append(&mut blocks, last_block(before))?;
-    Ok(blocks)
+    blocks_from(alloc, 0, classes)
+}
+
+/// The blocks of a stretch of a text that has so many lines before it, by the classes of its own lines alone, where they
+/// stand in the text. What they have to do with the blocks of the text is `a_stretch_is_enough`.
+pub fn stretch_blocks(
+    alloc: Global,
+    first: usize,
+    classes: &[LineClass],
+) -> Result<Vec<Block>, AllocError>
+    requires { first + length classes.now ≤ usize.MAX }
+    ensures value { IfOk result (λ blocks. blocks.items ≡ blocks_at first classes.now) }
+{
+    blocks_from(alloc, first, classes)
 }

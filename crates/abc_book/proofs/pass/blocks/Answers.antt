@@ -1,20 +1,10 @@
-use Rattle.std.proofs.Common.{◌≡◌, ◌++◌, [], drop, sym, ap, ◌∙◌, arith}
-use Rattle.std.proofs.lemmas.List.{drop_all}
-use Rattle.abc_book.specs.declared.pass.Before.TheVariants.{Nothing}
-use Rattle.abc_book.specs.Pass.{blocks_from}
+use Rattle.std.proofs.Common.{◌≡◌, IfOk, List, sym, subst}
+use Rattle.std.specs.Global.{Vec}
+use Rattle.abc_book.specs.declared.block.Block.{Block}
 use Rattle.abc_book.proofs.OnePass.{one_pass}
 use Rattle.abc_book.proofs.pass.blocks.Goals as goal
 
-pub loop-at-init : goal.loop-at-init
-loop-at-init c = ap (λ l. l ++ blocks_from Nothing 0 c.args.classes.now) c.new-blocks.ensures.items ∙ sym (one_pass c.args.classes.now)
-
 pub returns : goal.returns
-returns c =
-    let done = c.loop-at.blocks.items in
-    let none : drop c.loop-at.at c.args.classes.now ≡ [] = drop_all c.loop-at.at c.args.classes.now (omega arith) in
-    record {
-      value = c.in_ok-append-2.ensures
-          ∙ ap (λ l. done ++ l) c.last_block.ensures
-          ∙ ap (λ l. done ++ blocks_from c.loop-at.before c.loop-at.at l) (sym none)
-          ∙ c.loop-at.invariant;
-    }
+returns c = record {
+  value = subst (λ (there : List Block). IfOk c.blocks_from.result (λ (blocks : Vec Block). blocks.items ≡ there)) (sym (one_pass c.args.classes.now)) c.blocks_from.ensures;
+}

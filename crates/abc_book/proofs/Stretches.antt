@@ -1,0 +1,121 @@
+-- A stretch of a text is cut out of it, and another one put in its place.
+use Rattle.std.proofs.Common.{◌≡◌, ℕ, ◌+◌, ◌-◌, ◌<◌, ◌≤◌, Bool, true, false, List, [], ◌∷◌, ◌++◌, filter, length, map, refl, sym, ap, ◌∙◌, subst, arith, append_assoc, ⊎_elim}
+use Rattle.std.specs.Prelude.{nat_le, nat_lt}
+use Rattle.std.proofs.lemmas.Bool.{lt-ltb, le-ltb, le-leb, lt-leb}
+use Rattle.std.proofs.lemmas.List.{append-nil, length-append}
+use Rattle.std.proofs.lemmas.List.Elements.{filter-append}
+use Rattle.abc_scan.specs.declared.class.LineClass.{LineClass}
+use Rattle.abc_book.specs.declared.block.Block.{Block}
+use Rattle.abc_book.specs.Block.{blocks_of}
+use Rattle.abc_book.specs.Laws.{moved, RiseFromTo}
+use Rattle.abc_book.specs.Stretch.{BeginTune, IsCut, blocks_at, blocks_before, blocks_behind, shifted, AStretchIsEnough}
+use Rattle.abc_book.proofs.Cuts.{x_line_cuts}
+use Rattle.abc_book.proofs.Rising.{blocks_rise}
+
+unmoved : (blocks : List Block) → map (moved 0) blocks ≡ blocks
+unmoved [] = refl
+unmoved (block ∷ blocks) =
+    let from : block.from + 0 ≡ block.from = omega arith in
+    let to : block.to + 0 ≡ block.to = omega arith in
+    λ i. record { kind = block.kind; from = from i; to = to i } ∷ unmoved blocks i
+
+none_before : (behind : List LineClass) → blocks_of ([] ++ behind) ≡ blocks_of [] ++ blocks_at 0 behind
+unfolding blocks_of
+none_before behind = sym (unmoved (blocks_of behind))
+
+none_behind : (before : List LineClass) → blocks_of (before ++ []) ≡ blocks_of before ++ blocks_at (length before) []
+unfolding blocks_of
+none_behind before = ap blocks_of (append-nil before) ∙ sym (append-nil (blocks_of before))
+
+tune_cuts : (before behind : List LineClass) → BeginTune behind → blocks_of (before ++ behind) ≡ blocks_of before ++ blocks_at (length before) behind
+tune_cuts before [] tune = none_behind before
+tune_cuts before (x ∷ behind) tune = x_line_cuts before behind x tune
+
+cuts : (before behind : List LineClass) → IsCut before behind → blocks_of (before ++ behind) ≡ blocks_of before ++ blocks_at (length before) behind
+cuts before behind cut = ⊎_elim
+    (λ (e : before ≡ []). subst (λ lines. blocks_of (lines ++ behind) ≡ blocks_of lines ++ blocks_at (length lines) behind) (sym e) (none_before behind))
+    (λ (tune : BeginTune behind). tune_cuts before behind tune)
+    cut
+
+-- a text in three
+in_three : (before stretch behind : List LineClass) → IsCut before stretch → BeginTune behind
+    → blocks_of (before ++ (stretch ++ behind)) ≡ blocks_of before ++ (blocks_at (length before) stretch ++ blocks_at (length before + length stretch) behind)
+in_three before stretch behind cut tune =
+    ap blocks_of (sym (append_assoc before stretch behind)) ∙ tune_cuts (before ++ stretch) behind tune
+    ∙ (λ i. cuts before stretch cut i ++ blocks_at (length-append before stretch i) behind)
+    ∙ append_assoc (blocks_of before) (blocks_at (length before) stretch) (blocks_at (length before + length stretch) behind)
+
+rise_on : (first last : ℕ) (blocks : List Block) → RiseFromTo first blocks last → first ≤ last
+rise_on first last [] h = h
+rise_on first last (block ∷ blocks) h = omega (arith, h.0, h.1, rise_on block.to last blocks h.2)
+
+module _ (line : ℕ) where
+  before_kept : (first last : ℕ) (blocks : List Block) → RiseFromTo first blocks last → last ≤ line → blocks_before line blocks ≡ blocks
+  before_kept first last [] h le = refl
+  before_kept first last (block ∷ blocks) h le =
+      let e : nat_lt block.from line ≡ true = lt-ltb block.from line (omega (arith, h.1, rise_on block.to last blocks h.2)) in
+      simp e (ap (λ l. block ∷ l) (before_kept block.to last blocks h.2 le))
+
+  behind_gone : (first last : ℕ) (blocks : List Block) → RiseFromTo first blocks last → last ≤ line → blocks_behind line blocks ≡ []
+  behind_gone first last [] h le = refl
+  behind_gone first last (block ∷ blocks) h le =
+      let e : nat_le line block.from ≡ false = lt-leb line block.from (omega (arith, h.1, rise_on block.to last blocks h.2)) in
+      simp e (behind_gone block.to last blocks h.2 le)
+
+  moved_gone : (n first last : ℕ) (blocks : List Block) → RiseFromTo first blocks last → last + n ≤ line → blocks_behind line (map (moved n) blocks) ≡ []
+  moved_gone n first last [] h le = refl
+  moved_gone n first last (block ∷ blocks) h le =
+      let e : nat_le line (block.from + n) ≡ false = lt-leb line (block.from + n) (omega (arith, h.1, rise_on block.to last blocks h.2)) in
+      simp e (moved_gone n block.to last blocks h.2 le)
+
+  before_gone : (n : ℕ) (blocks : List Block) → line ≤ n → blocks_before line (map (moved n) blocks) ≡ []
+  before_gone n [] le = refl
+  before_gone n (block ∷ blocks) le =
+      let e : nat_lt (block.from + n) line ≡ false = le-ltb (block.from + n) line (omega arith) in simp e (before_gone n blocks le)
+
+  behind_kept : (n : ℕ) (blocks : List Block) → line ≤ n → blocks_behind line (map (moved n) blocks) ≡ map (moved n) blocks
+  behind_kept n [] le = refl
+  behind_kept n (block ∷ blocks) le =
+      let e : nat_le line (block.from + n) ≡ true = le-leb line (block.from + n) (omega arith) in
+      simp e (ap (λ l. moved n block ∷ l) (behind_kept n blocks le))
+
+shifts : (n went came : ℕ) (blocks : List Block) → map (shifted went came) (map (moved (n + went)) blocks) ≡ map (moved (n + came)) blocks
+shifts n went came [] = refl
+shifts n went came (block ∷ blocks) =
+    let from : block.from + (n + went) - went + came ≡ block.from + (n + came) = omega arith in
+    let to : block.to + (n + went) - went + came ≡ block.to + (n + came) = omega arith in
+    λ i. record { kind = block.kind; from = from i; to = to i } ∷ shifts n went came blocks i
+
+module _ (before old behind : List LineClass) (cut : IsCut before old) (tune : BeginTune behind) where
+  abbrev n : ℕ
+  n = length before
+
+  abbrev k : ℕ
+  k = length old
+
+  abbrev there : List Block
+  there = blocks_of (before ++ (old ++ behind))
+
+  stay : blocks_before n there ≡ blocks_of before
+  stay =
+      ap (blocks_before n) (in_three before old behind cut tune)
+      ∙ filter-append (λ (b : Block). nat_lt b.from n) (blocks_of before) (blocks_at n old ++ blocks_at (n + k) behind)
+      ∙ (λ i. before_kept n 0 n (blocks_of before) (blocks_rise before) (omega arith) i
+      ++ (filter-append (λ (b : Block). nat_lt b.from n) (blocks_at n old) (blocks_at (n + k) behind)
+      ∙ (λ j. before_gone n n (blocks_of old) (omega arith) j ++ before_gone n (n + k) (blocks_of behind) (omega arith) j)) i)
+      ∙ append-nil (blocks_of before)
+
+  rest : blocks_behind (n + k) there ≡ blocks_at (n + k) behind
+  rest =
+      ap (blocks_behind (n + k)) (in_three before old behind cut tune)
+      ∙ filter-append (λ (b : Block). nat_le (n + k) b.from) (blocks_of before) (blocks_at n old ++ blocks_at (n + k) behind)
+      ∙ (λ i. behind_gone (n + k) 0 n (blocks_of before) (blocks_rise before) (omega arith) i
+      ++ (filter-append (λ (b : Block). nat_le (n + k) b.from) (blocks_at n old) (blocks_at (n + k) behind)
+      ∙ (λ j. moved_gone (n + k) n 0 k (blocks_of old) (blocks_rise old) (omega arith) j ++ behind_kept (n + k) (n + k) (blocks_of behind) (omega arith) j)) i)
+
+pub stretch_is_enough : AStretchIsEnough
+stretch_is_enough before old new behind cut cut_new tune =
+    let n = length before in let k = length old in let m = length new in
+    in_three before new behind cut_new tune
+    ∙ (λ i. sym (stay before old behind cut tune) i
+    ++ (blocks_at n new ++ (sym (shifts n k m (blocks_of behind)) ∙ ap (map (shifted k m)) (sym (rest before old behind cut tune))) i))
