@@ -1,9 +1,10 @@
 -- What is remembered of a key is what is built of its items.
-use Rattle.std.proofs.Common.{◌≡◌, Bool, true, ◌&&◌, ◌⊎◌, inr, List, Contains, Some, sym, ap, subst, ⊎_elim, ◌∙◌}
-use Rattle.std.specs.Prelude.{IsTrue, nat_eq}
+use Rattle.std.proofs.Common.{◌≡◌, Bool, true, false, ◌&&◌, ◌⊎◌, inl, inr, List, [], ◌∷◌, Contains, Option, Some, None, refl, sym, ap, subst, ⊎_elim, ◌∙◌}
+use Rattle.std.specs.Prelude.{IsTrue, cond, nat_eq}
 use Rattle.std.specs.Cmp.Lexicographic.{pointwise, same_text}
 use Rattle.std.specs.List.{flat_map}
-use Rattle.std.specs.Map.{lookup}
+use Rattle.std.specs.Map.{lookup, lookup_entry, remove_entry}
+use Rattle.std.specs.Option.{option_map_or}
 use Rattle.std.proofs.lemmas.Bool.{and_parts}
 use Rattle.lru.specs.LruCache.{lru_cache, promoted, put_entries}
 use Rattle.lru.proofs.CallerLemmas.{Contains-lookup, Contains-promoted, Contains-put_entries}
@@ -13,7 +14,7 @@ use Rattle.abc_fold.specs.Steps.{Steps, IsResumable, items_from}
 use Rattle.abc_fold.proofs.Alike.{equal_items}
 use Rattle.abc_tunebook.specs.Rules.{Rules}
 use Rattle.abc_memo.specs.declared.key.TuneKey.{TuneKey}
-use Rattle.abc_memo.specs.Memo.{AreItemsOf, IsBuiltOf, Remembers}
+use Rattle.abc_memo.specs.Memo.{AreItemsOf, IsBuiltOf, IsKeptBehind, Remembers}
 use Rattle.abc_memo.proofs.Tunes.{same_cells}
 
 -- Whether code finds two keys equal.
@@ -27,6 +28,37 @@ same_key test told a b is =
     let one = told a.defaults b.defaults parts.0 in
     let other = same_text a.bytes b.bytes (sym parts.1) in
     ap (λ defaults. record { defaults = defaults; bytes = a.bytes }) one ∙ ap (λ bytes. record { defaults = b.defaults; bytes = bytes }) other
+
+some_is_none : {A : Type 0} (a : A) → Some a ≡ None → ⊥
+some_is_none a is = cc
+
+module _ {K V : Type 0} (test : K → Bool) where
+  unfound : (entries : List (K × V)) → lookup test entries ≡ None → lookup_entry test entries ≡ None
+  unfound [] none = refl
+  unfound (e ∷ entries) none = (elim (test e.0) as (λ found. cond found (Some e.1) (lookup test entries) ≡ None → cond found (Some e) (lookup_entry test entries) ≡ None) [
+    | true ↦ λ never. absurd (some_is_none e.1 never)
+    | false ↦ λ others. unfound entries others
+  ]) none
+
+  -- What is not there does not go first.
+  not_promoted : (entries : List (K × V)) → lookup test entries ≡ None → promoted test entries ≡ entries
+  not_promoted entries none = ap (λ found. option_map_or (λ e. e ∷ remove_entry test entries) found entries) (unfound entries none)
+
+not_some : {A : Type 0} (option : Option A) → ((a : A) → option ≡ Some a → ⊥) → option ≡ None
+not_some None never = refl
+not_some (Some a) never = absurd (never a refl)
+
+-- What was built of a key that was not there may be put first.
+pub kept_behind : {Defaults : Type 0} (test : Defaults → Defaults → Bool) (key : TuneKey Defaults) (known : Option Built) (built : Built) (old asked now : List (TuneKey Defaults × Built))
+    → known ≡ lookup (is_same test key) old → ((one : Built) → known ≡ Some one → ⊥)
+    → asked ≡ promoted (is_same test key) old → (now ≡ asked) ⊎ (now ≡ put_entries (is_same test) (lru_cache asked 64) key built)
+    → IsKeptBehind (is_same test) key built old now
+kept_behind test key known built old asked now found never is cases =
+    let none = sym found ∙ not_some known never in
+    ⊎_elim
+    (λ all. inl (all ∙ is))
+    (λ put. inr (put ∙ ap (λ entries. put_entries (is_same test) (lru_cache entries 64) key built) (is ∙ not_promoted (is_same test key) old none)))
+    cases
 
 module _ {State Cell Items Defaults : Type 0} (steps : Steps State Cell Items) (rules : Rules State Cell Items Defaults) (laws : IsResumable steps) (lawful : AreLawful steps rules) (test : Defaults → Defaults → Bool) (told : (a b : Defaults) → IsTrue (test a b) → a ≡ b) where
   -- A key has one list of items.

@@ -1,9 +1,10 @@
 -- Which items are those of a key, and what a memo remembers. Our own.
-use Rattle.std.specs.Prelude.{◌≡◌, true, List, Contains, Some}
+use Rattle.std.specs.Prelude.{◌≡◌, ◌⊎◌, Bool, true, List, Contains, Some}
 use Rattle.std.specs.List.{list_all, flat_map}
 use Rattle.abc_compiler.specs.declared.built.Built.{Built}
 use Rattle.abc_fold.specs.Steps.{Steps, items_from}
 use Rattle.abc_lines.specs.Text.{Text, is_line}
+use Rattle.lru.specs.LruCache.{lru_cache, promoted, put_entries}
 use Rattle.abc_memo.specs.Bytes.{bytes_of_lines}
 use Rattle.abc_memo.specs.declared.key.TuneKey.{TuneKey}
 use Rattle.abc_tunebook.specs.Rules.{Rules}
@@ -28,3 +29,8 @@ pub record IsBuiltOf {State Cell Items Defaults : Type 0} (steps : Steps State C
 -- All that is remembered is what the compiler's definitions say of its key.
 abbrev pub Remembers : {State Cell Items Defaults : Type 0} → Steps State Cell Items → Rules State Cell Items Defaults → List (TuneKey Defaults × Built) → Type 0
 Remembers {Defaults = Defaults} steps rules entries = (entry : TuneKey Defaults × Built) → Contains entries entry → IsBuiltOf steps rules entry.0 entry.1
+
+-- What is remembered behind the asking for a key: it goes first where it was there, and nothing else changes; or, where
+-- it was not, it comes first with what was built, and of 64 others the last goes.
+abbrev pub IsKeptBehind : {Defaults : Type 0} → (TuneKey Defaults → TuneKey Defaults → Bool) → TuneKey Defaults → Built → List (TuneKey Defaults × Built) → List (TuneKey Defaults × Built) → Type 0
+IsKeptBehind same key built old new = (new ≡ promoted (same key) old) ⊎ (new ≡ put_entries same (lru_cache old 64) key built)
