@@ -16,6 +16,7 @@ mod streams;
 mod transcript;
 
 pub use book_fault::fault_of_book;
+pub use command::Command;
 pub use fault::RunFault;
 pub use reading::{MOST_READS, run_limits};
 pub use streams::{Piped, Sink, Source, Store, StoreFault, StreamFault};
