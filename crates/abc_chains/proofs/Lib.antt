@@ -9,4 +9,6 @@ pub mod Costs
 pub mod Edits
 pub mod Settled
 pub mod Working
+pub mod Along
+pub mod Untouched
 pub mod WholeTunes

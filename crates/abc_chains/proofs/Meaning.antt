@@ -35,7 +35,7 @@ map-over g h [] = refl
 map-over g h (x ∷ xs) = ap (λ l. g (h x) ∷ l) (map-over g h xs)
 
 -- What stands beside a line of the new text has the addresses of its pasts.
-beside_whole : {State Cell : Type 0} (cells : List Cell) (row : List (Option (Past State))) → length row ≡ length cells → pasts_beside cells row ≡ row
+pub beside_whole : {State Cell : Type 0} (cells : List Cell) (row : List (Option (Past State))) → length row ≡ length cells → pasts_beside cells row ≡ row
 beside_whole [] [] e = refl
 beside_whole [] (p ∷ row) e = absurd (omega arith)
 beside_whole (c ∷ cells) [] e = absurd (omega arith)
@@ -49,7 +49,7 @@ length-none : {Cell : Type 0} (cells : List Cell) → length (addresses None cel
 length-none [] = refl
 length-none (c ∷ cells) = ap suc (length-none cells)
 
-length-addresses : {Cell : Type 0} (o : Option Origin) (cells : List Cell) → length (addresses o cells) ≡ length cells
+pub length-addresses : {Cell : Type 0} (o : Option Origin) (cells : List Cell) → length (addresses o cells) ≡ length cells
 length-addresses None cells = length-none cells
 length-addresses (Some o) cells = length-numbered o.source o.first cells
 
@@ -121,7 +121,7 @@ block_helds {State = State} {Cell = Cell} steps read laid s old rows source open
     sym (helds_walk read (held_at (entries_at old)) (block.to - block.from) (drop block.from rows) (drop block.from text) (drop block.from all) (read_drop read block.from rows text cells) dropped)
 
 -- The steps over a block are the fresh cells of its chain.
-block_steps : {State Cell Items : Type 0} (steps : Steps State Cell Items) (read : List ℕ → List Cell) (laid : Laid State) (s : Splice) (old : List (Chained State Cell Items)) (rows : List (Row Cell)) (source : ℕ) (own opening : State) (block : Block)
+pub block_steps : {State Cell Items : Type 0} (steps : Steps State Cell Items) (read : List ℕ → List Cell) (laid : Laid State) (s : Splice) (old : List (Chained State Cell Items)) (rows : List (Row Cell)) (source : ℕ) (own opening : State) (block : Block)
     → IsResumable steps → LiesInOrder laid → s.at + s.removed ≤ length laid.text → AreKept steps read laid (entries_at old)
     → map cells_in rows ≡ map read (spliced laid.text s) → map origin_in rows ≡ origins read laid s → IsAlike steps own opening
     → steps_taken steps own old rows block ≡ fresh_of steps read (spliced laid.text s) (pasts steps read laid s) (chain_at source opening block)

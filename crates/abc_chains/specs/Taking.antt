@@ -1,12 +1,25 @@
 -- Which tunes of an edited text have the items of old ones. Our own.
-use Rattle.std.specs.Prelude.{◌≡◌, ℕ, ◌+◌, ◌==◌, ◌&&◌, if◌then◌else◌, Bool, true, false, List, [], ◌∷◌, length, Option, Some, None, IfSome, slice_get}
+use Rattle.std.specs.Prelude.{◌≡◌, ℕ, suc, ◌+◌, ◌==◌, ◌&&◌, if◌then◌else◌, Bool, true, false, List, [], ◌∷◌, length, Option, Some, None, IfSome, IsSome, slice_get}
+use Rattle.std.specs.List.{AllZip}
+use Rattle.std.specs.Option.{option_map}
 use Rattle.abc_fold.specs.Chain.{Chained}
+use Rattle.abc_fold.specs.Steps.{IsAlike, Steps}
+use Rattle.abc_lines.specs.Text.{Splice, Text, spliced}
+use Rattle.abc_rework.specs.Entered.{entered_of}
+use Rattle.abc_rework.specs.Fresh.{is_untouched}
+use Rattle.abc_rework.specs.Laid.{laid_in, tune_chains}
 use Rattle.abc_rework.specs.Origins.{Origin}
+use Rattle.abc_tunebook.specs.Rules.{Rules}
 use Rattle.abc_chains.specs.Rows.{Row}
 
 -- An old chain of this number has the items of a chain.
 abbrev pub HasItemsOf : {State Cell Items : Type 0} → List (Chained State Cell Items) → Chained State Cell Items → Option ℕ → Type 0
 HasItemsOf {State = State} {Cell = Cell} {Items = Items} olds chain taken = IfSome taken (λ old. (was : Chained State Cell Items) × (slice_get olds old ≡ Some was) × (was.items ≡ chain.items))
+
+-- Each untouched tune of the text behind a splice has the items of an old one.
+abbrev pub TakesUntouched : {State Cell Items Defaults : Type 0} → Steps State Cell Items → Rules State Cell Items Defaults → Text → Splice → List (Option ℕ) → Type 0
+TakesUntouched steps rules text s taken =
+    AllZip (λ tune old. is_untouched steps rules.cells (laid_in steps rules text) s (entered_of steps rules.cells (spliced text s) tune) ≡ true → IsSome old) (tune_chains 1 (laid_in steps rules (spliced text s)).opening (laid_in steps rules (spliced text s)).tunes) taken
 
 abbrev pub is_origin : ℕ → ℕ → Option Origin → Bool
 is_origin source place None = false
@@ -22,8 +35,24 @@ abbrev pub is_along : {Cell : Type 0} → ℕ → ℕ → ℕ → List (Row Cell
 is_along source count place [] = place == count
 is_along source count place (row ∷ rows) = continues source place row && is_along source count (place + length row.cells) rows
 
+-- The old chain that holds the first of some lines.
+abbrev pub first_source : {Cell : Type 0} → List (Row Cell) → Option ℕ
+first_source [] = None
+first_source (row ∷ rows) = option_map (λ origin. origin.source) row.origin
+
 -- Whether two states are there, and are alike.
 abbrev pub are_alike_both : {State : Type 0} → (State → State → Bool) → Option State → Option State → Bool
 are_alike_both alike None other = false
 are_alike_both alike (Some state) None = false
 are_alike_both alike (Some state) (Some other) = alike state other
+
+-- The cells of lines are those of an old tune, from its first to its last, and it began in a state alike to this one.
+pub record GoesAlong {State Cell Items : Type 0} (steps : Steps State Cell Items) (old : List (Chained State Cell Items)) (opening : State) (rows : List (Row Cell)) : Type 0 where
+  pub number : ℕ
+  pub was : Chained State Cell Items
+  pub there : slice_get old (suc number) ≡ Some was
+  pub source : first_source rows ≡ Some (suc number)
+  pub along : is_along (suc number) (length was.cells) 0 rows ≡ true
+  pub begun : State
+  pub entry : slice_get was.entries 0 ≡ Some begun
+  pub alike : IsAlike steps begun opening

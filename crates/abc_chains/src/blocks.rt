@@ -32,7 +32,7 @@ fn is_tune(kind: BlockKind) -> bool
 }
 
 /// The file header, if there is one: no other block comes before it.
-pub(crate) fn header_in(blocks: &[Block]) -> Option<Block>
+pub fn header_in(blocks: &[Block]) -> Option<Block>
     ensures { result ≡ header_in blocks.now }
 {
     match blocks {
@@ -48,7 +48,7 @@ pub(crate) fn header_in(blocks: &[Block]) -> Option<Block>
 }
 
 /// The tunes of a text in the order in which they stand.
-pub(crate) fn tunes_in(alloc: Global, blocks: &[Block]) -> Result<Vec<Block>, AllocError>
+pub fn tunes_in(alloc: Global, blocks: &[Block]) -> Result<Vec<Block>, AllocError>
     ensures { IfOk result (λ tunes. tunes.items ≡ tunes_in blocks.now) }
 {
     blocks

@@ -10,5 +10,6 @@ mod settle;
 mod text;
 mod whole;
 
+pub use blocks::{header_in, tunes_in};
 pub use row::{Origin, Row, read};
 pub use text::{KeptPatch, KeptText};

@@ -4,7 +4,7 @@
 ghost use Rattle.std.specs.Prelude.{◌≡◌, ◌≢◌, ◌+◌, ◌-◌, ◌≤◌, [], ◌∷◌, ◌++◌, IfOk, IfErr, OnOk, Ok, drop, take, length, map};
 ghost use Rattle.std.specs.List.{AllZip};
 ghost use Rattle.abc_chains.specs.Standing.{IsWorkUpTo, Stands};
-ghost use Rattle.abc_chains.specs.Taking.{HasItemsOf};
+ghost use Rattle.abc_chains.specs.Taking.{HasItemsOf, TakesUntouched};
 ghost use Rattle.abc_fold.specs.Chain.{no_cells};
 ghost use Rattle.abc_fold.specs.Steps.{steps_of};
 ghost use Rattle.abc_lines.specs.Edits.{Refuses, replaced};
@@ -181,6 +181,8 @@ impl<C: Compiler> KeptText<C> {
         ensures stands { let c = self.now.compiler in
             IfOk result (λ made. Stands (steps_of (C.next c) (C.gives c) (C.alike c)) (C.rules c) (spliced self.now.lines.text (splice_from at removed lines.now)) made.rows.items made.blocks.items made.chains.items) }
         ensures items { IfOk result (λ made. AllZip (HasItemsOf (drop 1 self.now.chains)) (drop 1 made.chains.items) made.taken.items) }
+        ensures untouched { let c = self.now.compiler in
+            IfOk result (λ made. TakesUntouched (steps_of (C.next c) (C.gives c) (C.alike c)) (C.rules c) self.now.lines.text (splice_from at removed lines.now) made.taken.items) }
         ensures counted { let c = self.now.compiler in
             IsWorkUpTo (length lines.now) (fresh_after (steps_of (C.next c) (C.gives c) (C.alike c)) (C.rules c) self.now.lines.text (splice_from at removed lines.now)) (C.Work.counts work.old) (C.Work.counts work.new) }
     {
@@ -217,6 +219,8 @@ impl<C: Compiler> KeptText<C> {
             IfOk result (λ patch. Stands (steps_of (C.next c) (C.gives c) (C.alike c)) (C.rules c) patch.text patch.rows patch.blocks patch.chains) }
         ensures items { IfOk result (λ patch. AllZip (HasItemsOf (drop 1 self.now.chains)) (drop 1 patch.chains) patch.taken) }
         ensures limits { IfOk result (λ patch. IsText patch.text) }
+        ensures untouched { let c = self.now.compiler in
+            IfOk result (λ patch. TakesUntouched (steps_of (C.next c) (C.gives c) (C.alike c)) (C.rules c) self.now.lines.text (splice_from at removed lines.now) patch.taken) }
         ensures refused { IfErr result (λ e. Refuses e (replaced self.now.lines.text (splice_from at removed lines.now))) }
         ensures uncounted { IfErr result (λ e. e ≢ EditError.OutOfMemory → work.new ≡ work.old) }
         ensures counted { let c = self.now.compiler in

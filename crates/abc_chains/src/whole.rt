@@ -1,9 +1,10 @@
 //! Which tunes of an edited text are whole tunes of the old one.
 
-ghost use Rattle.std.specs.Prelude.{◌≡◌, ◌+◌, All, IfOk, drop, length, slice_get};
-ghost use Rattle.std.specs.List.{AllZip};
-ghost use Rattle.abc_chains.specs.Holding.{IsCarried, IsChain, IsFolded, LiesWithin, rows_in};
-ghost use Rattle.abc_chains.specs.Taking.{HasItemsOf, are_alike_both, continues, is_along};
+ghost use Rattle.std.specs.Prelude.{◌≡◌, ◌+◌, All, IfOk, IsSome, drop, length, slice_get};
+ghost use Rattle.std.specs.List.{AllZip, flat_map};
+ghost use Rattle.abc_chains.specs.Holding.{IsCarried, IsChain, IsFolded, LiesWithin, cells_in, rows_in};
+ghost use Rattle.abc_chains.specs.Taking.{GoesAlong, HasItemsOf, are_alike_both, continues, first_source, is_along};
+ghost use Rattle.abc_fold.specs.Chain.{Folds};
 ghost use Rattle.abc_fold.specs.Steps.{steps_of};
 
 use crate::row::Row;
@@ -24,16 +25,17 @@ fn continues<K: Drop>(row: &Row<K>, source: usize, place: usize) -> bool
     }
 }
 
-/// Whether the cells of a block are all those of the old chain of a number, which has so many.
-fn is_along<K: Drop>(rows: &[Row<K>], block: &Block, source: usize, count: usize) -> bool
-    requires within { LiesWithin (length rows.now) block.now }
-    ensures { result ≡ is_along source count 0 (rows_in rows.now block.now) }
+/// Whether the cells of lines are all those of the old chain of a number, which has so many.
+fn is_along<K: Drop>(rows: &[Row<K>], source: usize, count: usize) -> bool
+    ensures { result ≡ is_along source count 0 rows.now }
 {
     let mut place: usize = 0;
-    for i in block.from..block.to {
-        let row = &rows[i];
+    for row in rows {
         let cells = row.cells().len();
-        if cells > count - place || !continues(row, source, place) {
+        if cells > count - place {
+            return false;
+        }
+        if !continues(row, source, place) {
             return false;
         }
         place += cells;
@@ -41,15 +43,16 @@ fn is_along<K: Drop>(rows: &[Row<K>], block: &Block, source: usize, count: usize
     place == count
 }
 
-/// The old chain that holds the first line of a block.
-fn first_source<K: Drop>(rows: &[Row<K>], block: &Block) -> Option<usize> {
-    if block.from >= rows.len() {
-        return None;
-    }
-    let row = &rows[block.from];
-    match &row.origin {
-        None => None,
-        Some(origin) => Some(origin.source),
+/// The old chain that holds the first of some lines.
+fn first_source<K: Drop>(rows: &[Row<K>]) -> Option<usize>
+    ensures { result ≡ first_source rows.now }
+{
+    match rows {
+        [] => None,
+        [row, ..] => match &row.origin {
+            None => None,
+            Some(origin) => Some(origin.source),
+        },
     }
 }
 
@@ -66,30 +69,60 @@ fn begin_alike<F: Resumable>(fold: &F, chain: &Chain<F>, other: &Chain<F>) -> bo
     }
 }
 
-/// The old tune that a tune is, counted from 0, if all its cells are those of that one, and it begins alike.
+/// The old tune that a tune is, counted from 0, if the cells of its lines are all those of that one, and it begins alike.
 fn tune_taken<F: Resumable>(
     fold: &F,
     old: &[Chain<F>],
     chain: &Chain<F>,
     rows: &[Row<F::Cell>],
-    block: &Block,
 ) -> Option<usize>
     requires carried { All (IsCarried old.now) rows.now }
     requires folded { All (IsFolded (steps_of (F.next fold.now) (F.gives fold.now) (F.alike fold.now))) old.now }
-    requires within { LiesWithin (length rows.now) block.now }
-    requires made { (opening : F.State) × IsChain (steps_of (F.next fold.now) (F.gives fold.now) (F.alike fold.now)) opening rows.now chain.now block.now }
-    ensures { HasItemsOf (drop 1 old.now) chain.now result }
+    ensures items { (opening : F.State) → Folds (steps_of (F.next fold.now) (F.gives fold.now) (F.alike fold.now)) opening chain.now
+        → chain.now.cells ≡ flat_map cells_in rows.now → HasItemsOf (drop 1 old.now) chain.now result }
+    ensures along { (opening : F.State) → Folds (steps_of (F.next fold.now) (F.gives fold.now) (F.alike fold.now)) opening chain.now
+        → GoesAlong (steps_of (F.next fold.now) (F.gives fold.now) (F.alike fold.now)) old.now opening rows.now → IsSome result }
 {
-    let source = first_source(rows, block)?;
-    if source == 0 || source >= old.len() {
+    let source = first_source(rows)?;
+    if source == 0 {
         return None;
     }
-    let was = &old[source];
-    if is_along(rows, block, source, was.len()) && begin_alike(fold, was, chain) {
-        Some(source - 1)
-    } else {
-        None
+    let was = old.get(source)?;
+    if !is_along(rows, source, was.len()) {
+        return None;
     }
+    if !begin_alike(fold, was, chain) {
+        return None;
+    }
+    Some(source - 1)
+}
+
+/// The old tunes that tunes are, of which these are the chains, and where they lie among lines.
+fn tunes_taken<F: Resumable>(
+    alloc: Global,
+    fold: &F,
+    old: &[Chain<F>],
+    chains: &[Chain<F>],
+    rows: &[Row<F::Cell>],
+    tunes: &[Block],
+) -> Result<Vec<Option<usize>>, AllocError>
+    requires carried { All (IsCarried old.now) rows.now }
+    requires folded { All (IsFolded (steps_of (F.next fold.now) (F.gives fold.now) (F.alike fold.now))) old.now }
+    requires within { All (LiesWithin (length rows.now)) tunes.now }
+    requires count { length chains.now ≡ length tunes.now }
+    ensures items { (opening : F.State) → AllZip (IsChain (steps_of (F.next fold.now) (F.gives fold.now) (F.alike fold.now)) opening rows.now) chains.now tunes.now
+        → IfOk result (λ taken. AllZip (HasItemsOf (drop 1 old.now)) chains.now taken.items) }
+    ensures along { (opening : F.State) → AllZip (IsChain (steps_of (F.next fold.now) (F.gives fold.now) (F.alike fold.now)) opening rows.now) chains.now tunes.now
+        → IfOk result (λ taken. AllZip (λ tune one. GoesAlong (steps_of (F.next fold.now) (F.gives fold.now) (F.alike fold.now)) old.now opening (rows_in rows.now tune) → IsSome one) tunes.now taken.items) }
+{
+    let mut taken = Vec::new(alloc);
+    for (place, chain) in chains.iter().enumerate() {
+        let tune = tunes[place];
+        let own = &rows[tune.from..tune.to];
+        let one = tune_taken(fold, old, chain, own);
+        taken.push(one)?;
+    }
+    Ok(taken)
 }
 
 /// The old tunes that tunes are, of which these are the chains, the file header's before them.
@@ -106,12 +139,9 @@ pub(crate) fn taken_of<F: Resumable>(
     requires within { All (LiesWithin (length rows.now)) tunes.now }
     requires count { length chains.now ≡ length tunes.now + 1 }
     requires made { (opening : F.State) × AllZip (IsChain (steps_of (F.next fold.now) (F.gives fold.now) (F.alike fold.now)) opening rows.now) (drop 1 chains.now) tunes.now }
-    ensures { IfOk result (λ taken. AllZip (HasItemsOf (drop 1 old.now)) (drop 1 chains.now) taken.items) }
+    ensures items { IfOk result (λ taken. AllZip (HasItemsOf (drop 1 old.now)) (drop 1 chains.now) taken.items) }
+    ensures along { (opening : F.State) → AllZip (IsChain (steps_of (F.next fold.now) (F.gives fold.now) (F.alike fold.now)) opening rows.now) (drop 1 chains.now) tunes.now
+        → IfOk result (λ taken. AllZip (λ tune one. GoesAlong (steps_of (F.next fold.now) (F.gives fold.now) (F.alike fold.now)) old.now opening (rows_in rows.now tune) → IsSome one) tunes.now taken.items) }
 {
-    let mut taken = Vec::new(alloc);
-    for i in 0..tunes.len() {
-        let one = tune_taken(fold, old, &chains[i + 1], rows, &tunes[i]);
-        taken.push(one)?;
-    }
-    Ok(taken)
+    tunes_taken(alloc, fold, old, &chains[1..], rows, tunes)
 }

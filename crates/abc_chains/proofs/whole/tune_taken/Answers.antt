@@ -1,21 +1,23 @@
-use Rattle.std.proofs.Common.{◌≡◌, ◌<◌, true, Some, length, slice_get, refl, sym, ◌∙◌, subst, arith}
-use Rattle.std.proofs.lemmas.Option.{slice_get_read}
-use Rattle.abc_chains.specs.Holding.{IsFolded, rows_in}
-use Rattle.abc_chains.specs.Taking.{is_along}
+use Rattle.std.proofs.Common.{◌≡◌, ℕ, Some, true, false, length, slice_get, sym, ◌∙◌, rules, arith}
 use Rattle.abc_fold.specs.Steps.{steps_of}
-use Rattle.abc_chains.proofs.WholeTunes.{whole_at}
+use Rattle.abc_chains.specs.Taking.{are_alike_both, first_source, is_along}
+use Rattle.abc_chains.proofs.Along.{begins_so, got_there, taken_items}
 use Rattle.abc_chains.proofs.whole.tune_taken.Goals as goal
 
-pub returns-then-begin_alike : goal.returns-then-begin_alike
-returns-then-begin_alike g c =
+pub returns-then-not-begin_alike-clause-along : goal.returns-then-not-begin_alike-clause-along
+returns-then-not-begin_alike-clause-along g c =
     let steps = steps_of (g.F.Fold.next c.args.fold.now) (g.F.Fold.gives c.args.fold.now) (g.F.Resumable.alike c.args.fold.now) in
-    let source = c.in_ok-source.source in
-    let was = c.index-old-source.result in
-    let positive : 0 < source = let a = c.if-source-eq0.false in omega (arith, a) in
-    let inside : source < length c.args.old.now = let a = c.if-source-old.false in omega (arith, a) in
-    let at : slice_get c.args.old.now source ≡ Some was = slice_get_read c.args.old.now (length c.args.old.now) source was refl inside c.index-old-source.is in
-    let folded : IsFolded steps was = subst (IsFolded steps) (sym c.index-old-source.is) (c.requires.folded source was inside) in
-    let along : is_along source (length was.cells) 0 (rows_in c.args.rows.now c.args.block.now) ≡ true =
-    let a = c.is_along.ensures in let b = c.if-is_along.true in let d = c.len.ensures in cc in
-    let alike = let a = c.begin_alike.ensures in let b = c.if-begin_alike.true in sym a ∙ b in
-    whole_at steps c.args.old.now was c.args.chain.now c.args.rows.now c.args.block.now source c.requires.made.0 (g.met.F.Resumable.resumable c.args.fold.now) c.requires.carried folded c.requires.made.1 positive at along alike
+    let was = c.in_ok-was.was'.now in
+    let from : first_source c.args.rows.now ≡ Some c.in_ok-source.source = search rules in
+    let there : slice_get c.args.old.now c.in_ok-source.source ≡ Some was = got_there c.args.old.now c.in_ok-source.source was c.in_ok-was.ensures.lookup.1 c.in_ok-was.ensures.lookup.3.0 in
+    let not_alike : are_alike_both steps.alike (slice_get was.entries 0) (slice_get c.args.chain.now.entries 0) ≡ false = search rules in
+    λ opening folds goes. absurd (let so = begins_so steps c.args.old.now c.args.rows.now c.in_ok-source.source was c.args.chain.now (g.met.F.Resumable.resumable c.args.fold.now) from there opening folds goes in cc)
+
+pub returns-clause-items : goal.returns-clause-items
+returns-clause-items g c =
+    let steps = steps_of (g.F.Fold.next c.args.fold.now) (g.F.Fold.gives c.args.fold.now) (g.F.Resumable.alike c.args.fold.now) in
+    let was = c.in_ok-was.was'.now in
+    let there : slice_get c.args.old.now c.in_ok-source.source ≡ Some was = got_there c.args.old.now c.in_ok-source.source was c.in_ok-was.ensures.lookup.1 c.in_ok-was.ensures.lookup.3.0 in
+    let along : is_along c.in_ok-source.source (length was.cells) 0 c.args.rows.now ≡ true = search rules in
+    let alike : are_alike_both steps.alike (slice_get was.entries 0) (slice_get c.args.chain.now.entries 0) ≡ true = search rules in
+    taken_items steps c.args.old.now c.args.rows.now c.in_ok-source.source was c.args.chain.now (g.met.F.Resumable.resumable c.args.fold.now) c.requires.carried c.requires.folded there c.if-source-eq0.false along alike
