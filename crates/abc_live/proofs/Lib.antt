@@ -1,4 +1,3 @@
-pub mod Along
-pub mod Blocks
 pub mod Books
-pub mod Reuse
+pub mod Costs
+pub mod Parts

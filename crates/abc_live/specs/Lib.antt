@@ -1,4 +1,3 @@
-pub mod Block
+pub mod Counting
 pub mod Edit
-pub mod Kept
 pub mod Session

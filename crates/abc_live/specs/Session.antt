@@ -1,22 +1,36 @@
--- What contracts see of a session: its compiler and its text, which say all else. Our own.
-use Rattle.std.specs.Prelude.{List}
+-- What contracts see of a session: its compiler and its text, which say all else, and what is kept of the text. Our own.
+use Rattle.std.specs.Prelude.{ℕ, List, length}
+use Rattle.abc_chains.specs.Rows.{Row}
+use Rattle.abc_chains.specs.Standing.{Keeping}
 use Rattle.abc_lines.specs.Text.{Text}
 use Rattle.abc_tunebook.specs.Book.{Book, blocks_in, book_of, given_by}
 use Rattle.abc_tunebook.specs.Rules.{Rules}
+use Rattle.abc_tunebook.specs.declared.report.Report.{Report}
 use Rattle.abc_tunebook.specs.declared.tune.Tune.{Tune}
 
--- A compiler of tunes, and a text.
-pub record Live (C : Type 0) : Type 0 where
+-- A compiler of tunes, a text, and both with all that is kept of the text.
+pub record Live (C State Cell Items : Type 0) : Type 0 where
   pub compiler : C
   pub text : Text
+  pub kept : Keeping C State Cell Items
 
-abbrev pub live : {C : Type 0} → C → Text → Live C
-live compiler text = record { compiler = compiler; text = text }
+abbrev pub live : {C State Cell Items : Type 0} → Keeping C State Cell Items → Live C State Cell Items
+live kept = record { compiler = kept.compiler; text = kept.lines.text; kept = kept }
 
 -- The book of a session's text, by the definitions of its compiler.
-abbrev pub book_in : {C State Cell Items Defaults : Type 0} → (C → State → Cell → State) → (C → State → Cell → Items) → (C → Rules State Cell Items Defaults) → Live C → Book
+abbrev pub book_in : {C State Cell Items Defaults : Type 0} → (C → State → Cell → State) → (C → State → Cell → Items) → (C → Rules State Cell Items Defaults) → Live C State Cell Items → Book
 book_in next gives rules s = book_of (next s.compiler) (gives s.compiler) (rules s.compiler) s.text
 
 -- The tunes of a session's text, in the order in which they stand.
-abbrev pub tunes_given : {C State Cell Items Defaults : Type 0} → (C → State → Cell → State) → (C → State → Cell → Items) → (C → Rules State Cell Items Defaults) → Live C → List Tune
+abbrev pub tunes_given : {C State Cell Items Defaults : Type 0} → (C → State → Cell → State) → (C → State → Cell → Items) → (C → Rules State Cell Items Defaults) → Live C State Cell Items → List Tune
 tunes_given next gives rules s = (given_by (next s.compiler) (gives s.compiler) (rules s.compiler) s.text (blocks_in (rules s.compiler) s.text)).tunes
+
+-- A session, the text that is to take the place of its own, and how its files will differ.
+pub record EditPatched (C State Cell Items : Type 0) : Type 0 where
+  pub on : Live C State Cell Items
+  pub text : Text
+  pub report : Report
+
+-- How many cells a line has.
+abbrev pub count_in : {Cell : Type 0} → Row Cell → ℕ
+count_in row = length row.cells

@@ -3,20 +3,13 @@
 #![tactic(auto)]
 
 mod abc;
-mod block;
-mod compile;
+mod change;
 mod edit;
-mod fault;
-mod fold;
-mod header;
-mod kept;
-mod placed;
+mod outcome;
 mod session;
-mod tune;
-mod tunes;
 
 pub use abc::Session;
 pub use abc_lines::EditError;
 pub use abc_tunebook::{Fault, Report, Title};
 pub use edit::Edit;
-pub use session::LiveSession;
+pub use session::{EditPatch, LiveSession};

@@ -1,89 +1,149 @@
 //! A tune book that is edited, for any compiler of its tunes.
 
-ghost use Rattle.std.specs.Prelude.{◌≡◌, ◌≢◌, ◌↔◌, ℕ, ◌≤◌, [], Contains, IfOk, IfErr, IsSome, MatchResult, Ok, option_copied, length};
+ghost use Rattle.std.specs.Prelude.{◌≡◌, ◌≢◌, ◌↔◌, ℕ, ◌≤◌, [], Contains, IfErr, IfOk, IsSome, MatchResult, Ok, length, option_copied};
 ghost use Rattle.std.specs.List.Sorted.{IsStrictlyIncreasing, IsStrictlySortedBy};
 ghost use Rattle.std.specs.Map.{keys_of};
-ghost use Rattle.abc_lines.specs.Text.{IsText, lines_of};
-ghost use Rattle.abc_lines.specs.Edits.{edited, replacement, Refuses};
+ghost use Rattle.abc_fold.specs.Steps.{steps_of};
+ghost use Rattle.abc_lines.specs.Edits.{Refuses, edited};
 ghost use Rattle.abc_lines.specs.declared.limits.TheConstants.{MOST_LINES};
+ghost use Rattle.abc_live.specs.Counting.{MayCost};
 ghost use Rattle.abc_live.specs.Edit.{line_at, splice_of};
-ghost use Rattle.abc_live.specs.Kept.{AreOf};
-ghost use Rattle.abc_live.specs.Session.{book_in, live, tunes_given};
+ghost use Rattle.abc_live.specs.Session.{book_in, tunes_given};
 ghost use Rattle.abc_tunebook.specs.Book.{book_of};
 ghost use Rattle.abc_tunebook.specs.Fault.{fault_cmp};
 ghost use Rattle.abc_tunebook.specs.Files.{file_at, first_file};
 ghost use Rattle.abc_tunebook.specs.Report.{Reports};
 
-use crate::compile::compile;
+use crate::change::prepared;
 use crate::edit::Edit;
-use crate::kept::{KeptBook, KeptText};
-use abc_lines::{EditError, LineBuffer, LinePatch};
-use abc_tune::Compiler;
+use crate::outcome::outcome_of;
+use abc_chains::{KeptPatch, KeptText};
+use abc_compiler::Compiler;
+use abc_fold::Shared;
+use abc_lines::EditError;
+use abc_outputs::Output;
 use abc_tunebook::{Book, Fault, Report, Title};
 use std::alloc::{AllocError, Global};
 use std::marker::Model;
 
 /// A tune book's text with the file of each reference number, the titles and the faults, as a compiler gives them.
-/// Contracts see the compiler and the text alone: all else is what these give.
+/// Contracts see the compiler, the text and what is kept of it: all else is what these give.
 #[derive(Drop)]
 pub struct LiveSession<C: Compiler> {
-    compiler: C,
-    text: KeptText,
+    text: KeptText<C>,
+    outputs: Vec<Shared<Output>>,
     book: Book,
 }
 
 impl<C: Compiler> Model for LiveSession<C> {
-    ghost use Rattle.std.specs.Prelude.{◌≡◌};
-    ghost use Rattle.abc_live.specs.Kept.{AreOf};
+    ghost use Rattle.std.specs.Prelude.{◌≡◌, drop, map};
     ghost use Rattle.abc_live.specs.Session.{Live, live};
+    ghost use Rattle.abc_outputs.specs.Output.{output_in};
     ghost use Rattle.abc_tunebook.specs.Book.{book_of};
 
-    ghost Value = { Live C };
+    ghost Value = { Live C C.State C.Cell C.Items };
 
-    ghost view = { λ s. live s.compiler s.text.lines.text };
+    ghost view = { λ s. live s.text };
 
-    ghost invariant = { λ s. AreOf (C.next s.compiler) (C.gives s.compiler) (C.rules s.compiler) s.text.lines.text s.text.kept.header s.text.kept.tunes.items × (s.book ≡ book_of (C.next s.compiler) (C.gives s.compiler) (C.rules s.compiler) s.text.lines.text) };
+    ghost invariant = { λ s. (s.outputs.items ≡ map (output_in (C.rules s.text.compiler)) (drop 1 s.text.chains)) × (s.book ≡ book_of (C.next s.text.compiler) (C.gives s.text.compiler) (C.rules s.text.compiler) s.text.lines.text) };
+}
+
+/// An edit that has been prepared: what the session would be, and how its files would differ. It must be spent, by
+/// `commit` of the session as it is or by `drop_patch`.
+pub struct EditPatch<C: Compiler> {
+    kept: KeptPatch<C>,
+    outputs: Vec<Shared<Output>>,
+    book: Book,
+    report: Report,
+}
+
+impl<C: Compiler> Model for EditPatch<C> {
+    ghost use Rattle.std.specs.Prelude.{◌≡◌, drop, map};
+    ghost use Rattle.abc_live.specs.Session.{EditPatched, live};
+    ghost use Rattle.abc_outputs.specs.Output.{output_in};
+    ghost use Rattle.abc_tunebook.specs.Book.{book_of};
+
+    ghost Value = { EditPatched C C.State C.Cell C.Items };
+
+    ghost view = { λ p. record { on = live p.kept.on; text = p.kept.text; report = p.report } };
+
+    ghost invariant = { λ p. (p.outputs.items ≡ map (output_in (C.rules p.kept.on.compiler)) (drop 1 p.kept.chains)) × (p.book ≡ book_of (C.next p.kept.on.compiler) (C.gives p.kept.on.compiler) (C.rules p.kept.on.compiler) p.kept.text) };
 }
 
 impl<C: Compiler> LiveSession<C> {
     /// A session with no lines, whose tunes this compiler compiles.
     pub fn with(alloc: Global, compiler: C) -> Result<LiveSession<C>, AllocError>
-        ensures { IfOk result (λ s. s ≡ live compiler []) }
+        ensures compiler { IfOk result (λ s. s.compiler ≡ compiler) }
+        ensures text { IfOk result (λ s. s.text ≡ []) }
     {
-        let lines = LineBuffer::new(alloc)?;
-        let kept = KeptBook {
-            header: None,
-            tunes: Vec::new(alloc),
-        };
+        let text = KeptText::new(alloc, compiler)?;
         let book = Book::of(alloc, Vec::new(alloc), Vec::new(alloc))?;
         Ok(LiveSession {
-            compiler,
-            text: KeptText { lines, kept },
+            text,
+            outputs: Vec::new(alloc),
             book,
         })
     }
 
-    /// Edits the text, and answers which files that changed. After an error the session is unchanged.
+    /// Prepares an edit. Nothing changes but the counters: they rise by the new lines, the fresh cells and the touched
+    /// tunes at most, also where the edit is refused.
+    pub fn prepare(&mut self, edit: &Edit, work: &mut C::Work) -> Result<EditPatch<C>, EditError>
+        ensures unchanged { self.new ≡ self.old }
+        ensures on { IfOk result (λ patch. patch.on ≡ self.old) }
+        ensures text { IfOk result (λ patch. edited self.old.text (splice_of edit.now) ≡ Ok patch.text) }
+        ensures report { let c = self.old.compiler in
+            IfOk result (λ patch. Reports (book_in C.next C.gives C.rules self.old).files (book_of (C.next c) (C.gives c) (C.rules c) patch.text).files patch.report) }
+        ensures refused { IfErr result (λ e. Refuses e (edited self.old.text (splice_of edit.now))) }
+        ensures uncounted { IfErr result (λ e. e ≢ EditError.OutOfMemory → work.new ≡ work.old) }
+        ensures counted { MayCost (steps_of (C.next self.old.compiler) (C.gives self.old.compiler) (C.alike self.old.compiler)) (C.rules self.old.compiler) self.old.text (splice_of edit.now) (C.Work.counts work.old) (C.Work.counts work.new) }
+    {
+        let kept = prepared(&self.text, edit, work)?;
+        match outcome_of(&self.text, &self.outputs, &self.book, &kept, work) {
+            Ok(given) => Ok(EditPatch {
+                kept,
+                outputs: given.outputs,
+                book: given.book,
+                report: given.report,
+            }),
+            Err(refused) => {
+                kept.drop_patch();
+                Err(EditError::from(refused))
+            }
+        }
+    }
+
+    /// Puts a prepared edit in place, without memory, and answers which files changed. The patch belongs to the session
+    /// as it is now.
+    pub fn commit(&mut self, patch: EditPatch<C>) -> Report
+        requires { patch.on ≡ self.old }
+        ensures text { self.new.text ≡ patch.text }
+        ensures compiler { self.new.compiler ≡ self.old.compiler }
+        ensures report { result ≡ patch.report }
+    {
+        let EditPatch {
+            kept,
+            outputs,
+            book,
+            report,
+        } = patch;
+        self.text.commit(kept);
+        self.outputs = outputs;
+        self.book = book;
+        report
+    }
+
+    /// Edits the text, and answers which files that changed. After an error the session is unchanged. The counters rise
+    /// by the new lines, the fresh cells and the touched tunes at most, also where the edit is refused.
     pub fn apply(&mut self, edit: &Edit, work: &mut C::Work) -> Result<Report, EditError>
         ensures text { MatchResult result (λ _. edited self.old.text (splice_of edit.now) ≡ Ok self.new.text) (λ _. self.new ≡ self.old) }
         ensures compiler { self.new.compiler ≡ self.old.compiler }
         ensures refused { IfErr result (λ e. Refuses e (edited self.old.text (splice_of edit.now))) }
         ensures uncounted { IfErr result (λ e. e ≢ EditError.OutOfMemory → work.new ≡ work.old) }
         ensures report { IfOk result (Reports (book_in C.next C.gives C.rules self.old).files (book_in C.next C.gives C.rules self.new).files) }
+        ensures counted { MayCost (steps_of (C.next self.old.compiler) (C.gives self.old.compiler) (C.alike self.old.compiler)) (C.rules self.old.compiler) self.old.text (splice_of edit.now) (C.Work.counts work.old) (C.Work.counts work.new) }
     {
-        let patch = prepare(&self.text.lines, edit)?;
-        match compiled(&self.compiler, &self.text, &self.book, &patch, work) {
-            Ok((kept, book, report)) => {
-                self.text.lines.commit(patch);
-                self.text.kept = kept;
-                self.book = book;
-                Ok(report)
-            }
-            Err(refused) => {
-                patch.drop_patch();
-                Err(EditError::from(refused))
-            }
-        }
+        let patch = self.prepare(edit, work)?;
+        Ok(self.commit(patch))
     }
 
     /// The bytes of a number's file: those of the first tune of the number that has one.
@@ -128,7 +188,7 @@ impl<C: Compiler> LiveSession<C> {
         if n == 0 {
             return None;
         }
-        self.text.lines.line(n as usize - 1)
+        self.text.lines().line(n as usize - 1)
     }
 
     /// How many lines there are.
@@ -136,66 +196,19 @@ impl<C: Compiler> LiveSession<C> {
         ensures count { result ≡ length self.now.text }
         ensures limit { result ≤ MOST_LINES }
     {
-        self.text.lines.len() as u32
+        self.text.lines().len() as u32
     }
 }
 
-/// Prepares the text that an edit makes.
-fn prepare(text: &LineBuffer, edit: &Edit) -> Result<LinePatch, EditError>
-    ensures on { IfOk result (λ patch. patch.on ≡ text.now) }
-    ensures after { IfOk result (λ patch. edited text.now.text (splice_of edit.now) ≡ Ok patch.after) }
-    ensures limits { IfOk result (λ patch. IsText patch.after) }
-    ensures refused { IfErr result (λ e. Refuses e (edited text.now.text (splice_of edit.now))) }
-{
-    match edit {
-        Edit::Insert { at, lines } => {
-            if *at == 0 {
-                return Err(EditError::BadRange);
-            }
-            text.splice_prepare(*at as usize - 1, 0, lines)
-        }
-        Edit::Replace { from, to, lines } => prepare_range(text, *from, *to, lines),
-        Edit::Delete { from, to } => prepare_range(text, *from, *to, &[]),
+impl<C: Compiler> EditPatch<C> {
+    /// Gives the edit up: the session stays as it is.
+    pub fn drop_patch(self) {
+        let EditPatch {
+            kept,
+            outputs: _,
+            book: _,
+            report: _,
+        } = self;
+        kept.drop_patch();
     }
-}
-
-/// Prepares the text with lines in the place of those from one number to another.
-fn prepare_range(
-    text: &LineBuffer,
-    from: u32,
-    to: u32,
-    lines: &[Vec<u8>],
-) -> Result<LinePatch, EditError>
-    ensures on { IfOk result (λ patch. patch.on ≡ text.now) }
-    ensures after { IfOk result (λ patch. edited text.now.text (replacement from to (lines_of lines.now)) ≡ Ok patch.after) }
-    ensures limits { IfOk result (λ patch. IsText patch.after) }
-    ensures refused { IfErr result (λ e. Refuses e (edited text.now.text (replacement from to (lines_of lines.now)))) }
-{
-    if from == 0 || from > to {
-        return Err(EditError::BadRange);
-    }
-    let removed = to - from + 1;
-    text.splice_prepare(from as usize - 1, removed as usize, lines)
-}
-
-/// What is kept of a prepared text, its book, and how its files differ from those of the one at hand.
-fn compiled<C: Compiler>(
-    compiler: &C,
-    text: &KeptText,
-    book: &Book,
-    patch: &LinePatch,
-    work: &mut C::Work,
-) -> Result<(KeptBook, Book, Report), AllocError>
-    requires on { patch.now.on ≡ text.now.lines }
-    requires limits { IsText patch.now.after }
-    requires kept { AreOf (C.next compiler.now) (C.gives compiler.now) (C.rules compiler.now) text.now.lines.text text.now.kept.header text.now.kept.tunes.items }
-    ensures kept { IfOk result (λ made. AreOf (C.next compiler.now) (C.gives compiler.now) (C.rules compiler.now) patch.now.after made.0.header made.0.tunes.items) }
-    ensures book { IfOk result (λ made. made.1 ≡ book_of (C.next compiler.now) (C.gives compiler.now) (C.rules compiler.now) patch.now.after) }
-    ensures report { IfOk result (λ made. Reports book.now.files made.1.files made.2) }
-{
-    let alloc = text.lines.allocator();
-    let lines = patch.after(&text.lines)?;
-    let (kept, after) = compile(compiler, alloc, &lines, text, work)?;
-    let report = book.changes(alloc, &after)?;
-    Ok((kept, after, report))
 }
