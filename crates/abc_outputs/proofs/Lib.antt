@@ -1,5 +1,6 @@
 pub mod Blocks
 pub mod Building
 pub mod Following
+pub mod Keys
 pub mod Lists
 pub mod Taking
