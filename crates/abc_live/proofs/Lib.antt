@@ -1,4 +1,3 @@
 pub mod Books
 pub mod Costs
-pub mod Memos
 pub mod Parts

@@ -1,6 +1,5 @@
 pub mod Blocks
 pub mod Building
 pub mod Following
-pub mod Keys
 pub mod Lists
 pub mod Taking

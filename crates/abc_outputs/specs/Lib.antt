@@ -1,5 +1,4 @@
 pub mod Built
-pub mod Key
 pub mod Output
 pub mod Taken
 pub mod Tunes

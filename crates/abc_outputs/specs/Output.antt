@@ -12,7 +12,8 @@ abbrev pub output_of : {State Cell Items Defaults : Type 0} → Rules State Cell
 output_of rules items = record {
   number = first_of rules.number 0 items;
   title = first_of rules.title [] items;
-  built = record { bytes = rules.bytes items; faults = rules.build_faults items };
+  bytes = rules.bytes items;
+  codes = rules.build_faults items;
 }
 
 -- What the chain of a tune gives.
@@ -33,8 +34,8 @@ abbrev pub tune_at : {State Cell Items Defaults : Type 0} → Rules State Cell I
 tune_at rules line output items = record {
   number = output.number;
   title = output.title;
-  bytes = output.built.bytes;
-  faults = map (fault_of_tune line) output.built.faults ++ faults_along rules.faults items;
+  bytes = output.bytes;
+  faults = map (fault_of_tune line) output.codes ++ faults_along rules.faults items;
 }
 
 -- A tune that takes over what an old one gives has its items.

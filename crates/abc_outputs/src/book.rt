@@ -15,11 +15,9 @@ use abc_fold::{Chain, Shared};
 use abc_tunebook::Book;
 use std::alloc::{AllocError, Global};
 
-/// The lines of a text, its chains and where they lie: that of its file header, if there is one, and those of its tunes.
+/// The chains of a text and where they lie: that of its file header, if there is one, and those of its tunes.
 #[derive(Drop)]
 pub struct FoldedText<'a, C: Compiler> {
-    /// The bytes of each line.
-    pub lines: &'a [&'a [u8]],
     /// Where the file header lies.
     pub header: Option<Block>,
     /// The chain of the file header.

@@ -8,8 +8,6 @@
 #[cfg(test)]
 mod account;
 #[cfg(test)]
-mod costs;
-#[cfg(test)]
 mod memos;
 #[cfg(test)]
 mod orders;
