@@ -7,4 +7,5 @@ pub mod HeaderViews
 pub mod LookBack
 pub mod Mentions
 pub mod NamePlaces
+pub mod Titles
 pub mod VoicesLemmas

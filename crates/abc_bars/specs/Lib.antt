@@ -17,5 +17,6 @@ pub mod Reference
 pub mod SameDefaults
 pub mod SameEntry
 pub mod Step
+pub mod Titles
 pub mod Voices
 pub mod VoicesLent

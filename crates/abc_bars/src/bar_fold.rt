@@ -16,9 +16,9 @@ use crate::field_kind::{FieldKind, kind_of};
 use crate::file_header::file_header_given;
 use crate::header::{Header, HeaderGiven, header_given};
 use abc_fields::{EMPTY_SIGNATURE, key_set_by};
-use abc_fold::{Fold, Resumable, Work};
+use abc_fold::{Fold, Resumable, Shared, Work};
 use abc_music::Items;
-use abc_scan::{Cell, Field, Token, TokenKind, cell_of};
+use abc_scan::{Cell, Field, Token, TokenKind};
 use abc_text::Sequence;
 use std::alloc::{AllocError, Global};
 
@@ -123,14 +123,15 @@ fn stepped(alloc: Global, entry: &Entry, cell: &[Token]) -> Stepped
 }
 
 /// The fold over the cells of a file header or of a tune, from `Entry::header` or `Entry::tune` on: what each
-/// cell gives and what holds behind it depend on what holds where it is entered, and on nothing else.
+/// cell gives and what holds behind it depend on what holds where it is entered, and on nothing else. A copy of a
+/// cell shares its tokens.
 #[derive(Clone, Copy, Debug, Drop)]
 pub struct BarFold;
 
 impl Fold for BarFold {
     type State = Entry;
 
-    type Cell = Cell;
+    type Cell = Shared<Cell>;
 
     type Items = Items;
 
@@ -144,11 +145,11 @@ impl Fold for BarFold {
         &self,
         alloc: Global,
         state: &Entry,
-        cell: &Cell,
+        cell: &Shared<Cell>,
         work: &mut Work,
     ) -> Result<(Entry, Items), AllocError> {
         work.count_folded();
-        stepped(alloc, state, cell.as_slice())
+        stepped(alloc, state, cell.get().as_slice())
     }
 }
 
@@ -165,8 +166,8 @@ impl Resumable for BarFold {
         state.copied()
     }
 
-    fn copy_cell(&self, alloc: Global, cell: &Cell) -> Result<Cell, AllocError> {
-        cell_of(alloc, cell.as_slice())
+    fn copy_cell(&self, _alloc: Global, cell: &Shared<Cell>) -> Result<Shared<Cell>, AllocError> {
+        cell.share()
     }
 
     fn copy_items(&self, alloc: Global, items: &Items) -> Result<Items, AllocError> {

@@ -1,6 +1,7 @@
 //! Laws of what the cells of a tune give to the score.
 
 ghost use Rattle.abc_bars.specs.Mentioned.{MentionsFew, NamesVoices};
+ghost use Rattle.abc_bars.specs.Titles.{SaysTitlesOfHeader};
 
 /// What the cells of a tune give mentions at most fifteen voices, the one without a name among them where a note,
 /// chord or rest comes before the first V:, and each V: among it says a name.
@@ -8,4 +9,11 @@ ghost use Rattle.abc_bars.specs.Mentioned.{MentionsFew, NamesVoices};
 pub fn voices_of_items()
     ensures few { MentionsFew }
     ensures named { NamesVoices }
+{}
+
+/// The titles that a tune says are the values of the T: lines of its header, in order: up to its K:, or to the music that
+/// ends a header without one.
+#[tactic(auto, using(crate::proofs::Titles::says_titles_of_header))]
+pub fn titles_of_items()
+    ensures { SaysTitlesOfHeader }
 {}

@@ -45,7 +45,7 @@ pub use entry::Entry;
 pub use field_kind::field_letters;
 pub use header_laws::{declared_voices, entries_apart, entry_views, header_views};
 pub use heard_laws::held_views;
-pub use item_laws::voices_of_items;
+pub use item_laws::{titles_of_items, voices_of_items};
 pub use key_laws::{alterations_of_notes, keys_at_places};
 pub use length_laws::lengths_at_places;
 pub use name_laws::named_voices;

@@ -1,5 +1,5 @@
 -- Tunes that are whole tunes of the old text.
-use Rattle.std.proofs.Common.{◌≡◌, ℕ, zero, suc, ◌+◌, ◌-◌, ◌<◌, ◌≤◌, ◌==◌, ◌&&◌, Bool, true, false, List, [], ◌∷◌, ◌++◌, Option, Some, None, All, slice_get, length, take, drop, get_or, refl, sym, ◌∙◌, ap, subst, arith, add-one, ⊎_elim, inl, inr}
+use Rattle.std.proofs.Common.{◌≡◌, ℕ, zero, suc, ◌+◌, ◌-◌, ◌<◌, ◌≤◌, ◌==◌, ◌&&◌, Bool, true, false, List, [], ◌∷◌, ◌++◌, Option, Some, None, Result, Ok, Err, IfOk, All, slice_get, length, take, drop, get_or, refl, sym, ◌∙◌, ap, subst, arith, add-one, ⊎_elim, inl, inr}
 use Rattle.std.proofs.lemmas.Bool.{cases_Bool, ne_eqb, eqb-true, and_parts}
 use Rattle.std.proofs.lemmas.List.Elements.{All-take, All-drop}
 use Rattle.std.proofs.Math.Seq.{drop-cons}
@@ -7,7 +7,7 @@ use Rattle.std.specs.List.{AllZip, flat_map}
 use Rattle.abc_book.specs.declared.block.Block.{Block}
 use Rattle.abc_fold.specs.Chain.{Chained, Folds, no_cells}
 use Rattle.abc_fold.specs.Steps.{Steps, AreAlike, IsAlike, IsResumable, items_from, states_from}
-use Rattle.abc_fold.proofs.Alike.{equal_items}
+use Rattle.abc_fold.proofs.Alike.{alike_states, equal_items}
 use Rattle.abc_rework.specs.Origins.{Origin}
 use Rattle.abc_chains.specs.Holding.{IsCarried, IsChain, IsFolded, IsHeldAt, cells_at, cells_in, cells_over, rows_in}
 use Rattle.abc_chains.specs.Rows.{Row}
@@ -191,3 +191,47 @@ pub got_there : {A : Type 0} (xs : List A) (k : ℕ) (x : A) → x ≡ get_or xs
 got_there [] k x is inside = absurd (omega arith)
 got_there (y ∷ ys) zero x is inside = ap (λ z. Some z) (sym is)
 got_there (y ∷ ys) (suc k) x is inside = got_there ys k x is (omega arith)
+
+both_alike : {State Cell Items : Type 0} (steps : Steps State Cell Items) → IsResumable steps → (a b c : List State) → AreAlike steps a b → AreAlike steps b c → AreAlike steps a c
+both_alike steps laws [] [] c ab bc = bc
+both_alike steps laws [] (y ∷ ys) c ab bc = absurd ab
+both_alike steps laws (x ∷ xs) [] c ab bc = absurd ab
+both_alike steps laws (x ∷ xs) (y ∷ ys) [] ab bc = bc
+both_alike steps laws (x ∷ xs) (y ∷ ys) (z ∷ zs) ab bc = (laws.transitive x y z ab.0 bc.0, both_alike steps laws xs ys zs ab.1 bc.1)
+
+-- A whole old chain that begins alike is the fold over the cells of the lines that go along it.
+pub whole_folds : {State Cell Items : Type 0} (steps : Steps State Cell Items) (old : List (Chained State Cell Items)) (source : ℕ) (was : Chained State Cell Items) (opening : State) → IsResumable steps → All (IsFolded steps) old
+    → slice_get old source ≡ Some was → are_alike_both steps.alike (slice_get was.entries 0) (Some opening) ≡ true → Folds steps opening was
+whole_folds {State = State} {Cell = Cell} {Items = Items} steps old source was opening laws folded there e =
+    ⊎_elim
+    (λ (none : was ≡ no_cells).
+    let empty : was.entries ≡ [] = ap (λ (c : Chained State Cell Items). c.entries) none in
+    let no : false ≡ true = sym (ap (λ (l : List State). are_alike_both steps.alike (slice_get l 0) (Some opening)) empty) ∙ e in
+    absurd (cc))
+    (λ (own : (begun : State) × Folds steps begun was).
+    let at = both_there steps.alike (slice_get was.entries 0) (Some opening) e in
+    let begun_alike = first_alike steps was.entries own.0 at.0 was.cells own.1.entries at.2 in
+    let same : opening ≡ at.1 = (let both = at.3 in cc) in
+    let alike : IsAlike steps own.0 opening = laws.transitive own.0 at.0 opening (laws.symmetric at.0 own.0 begun_alike) (subst (IsAlike steps at.0) (sym same) at.4) in
+    record {
+      items = own.1.items ∙ equal_items steps laws own.0 opening was.cells alike;
+      entries = both_alike steps laws was.entries (states_from steps own.0 was.cells) (states_from steps opening was.cells) own.1.entries (alike_states steps laws own.0 opening was.cells alike);
+    })
+    (all_at (IsFolded steps) old source was folded there)
+
+-- It has just their cells.
+pub whole_cells : {State Cell Items : Type 0} (old : List (Chained State Cell Items)) (rows : List (Row Cell)) (source : ℕ) (was : Chained State Cell Items) → All (IsCarried old) rows
+    → slice_get old source ≡ Some was → is_along source (length was.cells) 0 rows ≡ true → was.cells ≡ flat_map cells_in rows
+whole_cells old rows source was carried there along = sym (cells_along old was.cells source 0 rows (cells_there old source was there) carried along)
+
+-- An old chain that is shared is the chain of a block.
+pub shared_chain : {State Cell Items E : Type 0} (steps : Steps State Cell Items) (opening : State) (rows : List (Row Cell)) (block : Block) (was : Chained State Cell Items) (result : Result (Chained State Cell Items) E)
+    → IfOk result (λ chain. chain ≡ was) → Folds steps opening was → was.cells ≡ cells_over rows block → IfOk result (λ chain. IsChain steps opening rows chain block)
+shared_chain steps opening rows block was (Err error) same folds cells = tt
+shared_chain steps opening rows block was (Ok chain) same folds cells = subst (λ x. IsChain steps opening rows x block) (sym same) (record { folds = folds; cells = cells })
+
+-- And so is a new one that is shared.
+pub shared_new : {State Cell Items E : Type 0} (steps : Steps State Cell Items) (opening : State) (rows : List (Row Cell)) (block : Block) (was : Chained State Cell Items) (result : Result (Chained State Cell Items) E)
+    → IfOk result (λ chain. chain ≡ was) → IsChain steps opening rows was block → IfOk result (λ chain. IsChain steps opening rows chain block)
+shared_new steps opening rows block was (Err error) same own = tt
+shared_new steps opening rows block was (Ok chain) same own = subst (λ x. IsChain steps opening rows x block) (sym same) own

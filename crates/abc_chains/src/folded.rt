@@ -5,6 +5,7 @@ ghost use Rattle.std.specs.List.{AllZip, sum_by};
 ghost use Rattle.abc_book.specs.Block.{blocks_of};
 ghost use Rattle.abc_chains.specs.Holding.{IsCarried, IsChain, IsFolded, LiesWithin, class_in, origin_in, steps_taken};
 ghost use Rattle.abc_chains.specs.Keeping.{AreChains, AreRead, IsHeader, behind_chain, header_steps};
+ghost use Rattle.abc_fold.specs.Chain.{no_cells};
 ghost use Rattle.abc_fold.specs.Steps.{steps_of};
 ghost use Rattle.abc_fold.specs.Work.{IsRaisedUpTo};
 ghost use Rattle.abc_lines.specs.Text.{Splice, Text, spliced};
@@ -16,17 +17,18 @@ ghost use Rattle.abc_tunebook.specs.Book.{blocks_in};
 use crate::blocks::{header_in, tunes_in};
 use crate::pieces::pieces_of;
 use crate::row::Row;
+use crate::whole::whole_chain;
 use abc_book::Block;
 use abc_compiler::Compiler;
-use abc_fold::{Chain, Counts, Fold, Resumable};
+use abc_fold::{Chain, Counts, Fold, Resumable, Shared};
 use std::alloc::{AllocError, Global};
 
-/// The chain of a block, begun in this state.
+/// A new chain of a block, begun in this state.
 fn chain_of<F: Resumable>(
     alloc: Global,
     fold: &F,
     opening: &F::State,
-    old: &[Chain<F>],
+    old: &[Shared<Chain<F>>],
     rows: &[Row<F::Cell>],
     block: &Block,
     work: &mut F::Work,
@@ -44,16 +46,41 @@ fn chain_of<F: Resumable>(
     Ok(chain)
 }
 
+/// The chain of a block, begun in this state: an old one, where one holds just the cells of its lines and begins alike.
+fn chain_over<F: Resumable>(
+    alloc: Global,
+    fold: &F,
+    opening: &F::State,
+    old: &[Shared<Chain<F>>],
+    rows: &[Row<F::Cell>],
+    block: &Block,
+    work: &mut F::Work,
+) -> Result<Shared<Chain<F>>, AllocError>
+    requires carried { All (IsCarried old.now) rows.now }
+    requires folded { All (IsFolded (steps_of (F.next fold.now) (F.gives fold.now) (F.alike fold.now))) old.now }
+    requires within { LiesWithin (length rows.now) block.now }
+    ensures chain { IfOk result (λ chain. IsChain (steps_of (F.next fold.now) (F.gives fold.now) (F.alike fold.now)) opening.now rows.now chain block.now) }
+    ensures counted { IsRaisedUpTo (steps_taken (steps_of (F.next fold.now) (F.gives fold.now) (F.alike fold.now)) opening.now old.now rows.now block.now) (F.Work.counts work.old) (F.Work.counts work.new) }
+{
+    match whole_chain(fold, old, opening, &rows[block.from..block.to]) {
+        Some(chain) => chain.share(),
+        None => {
+            let chain = chain_of(alloc, fold, opening, old, rows, block, work)?;
+            Shared::new(alloc, chain)
+        }
+    }
+}
+
 /// The chains of tunes, each begun in this state.
 fn tune_chains<F: Resumable>(
     alloc: Global,
     fold: &F,
     opening: &F::State,
-    old: &[Chain<F>],
+    old: &[Shared<Chain<F>>],
     rows: &[Row<F::Cell>],
     blocks: &[Block],
     work: &mut F::Work,
-) -> Result<Vec<Chain<F>>, AllocError>
+) -> Result<Vec<Shared<Chain<F>>>, AllocError>
     requires carried { All (IsCarried old.now) rows.now }
     requires folded { All (IsFolded (steps_of (F.next fold.now) (F.gives fold.now) (F.alike fold.now))) old.now }
     requires within { All (LiesWithin (length rows.now)) blocks.now }
@@ -62,21 +89,29 @@ fn tune_chains<F: Resumable>(
 {
     let mut chains = Vec::new(alloc);
     for block in blocks {
-        let chain = chain_of(alloc, fold, opening, old, rows, block, work)?;
+        let chain = chain_over(alloc, fold, opening, old, rows, block, work)?;
         chains.push(chain)?;
     }
     Ok(chains)
+}
+
+/// A chain without cells and states.
+fn no_chain<F: Resumable>(alloc: Global) -> Result<Shared<Chain<F>>, AllocError>
+    ensures { IfOk result (λ chain. chain ≡ no_cells) }
+{
+    let chain = Chain::new(alloc)?;
+    Shared::new(alloc, chain)
 }
 
 /// The chain of the file header; where there is none, one without cells and states.
 fn header_chain<C: Compiler>(
     alloc: Global,
     compiler: &C,
-    old: &[Chain<C>],
+    old: &[Shared<Chain<C>>],
     rows: &[Row<C::Cell>],
     header: Option<Block>,
     work: &mut C::Work,
-) -> Result<Chain<C>, AllocError>
+) -> Result<Shared<Chain<C>>, AllocError>
     requires carried { All (IsCarried old.now) rows.now }
     requires folded { All (IsFolded (steps_of (C.next compiler.now) (C.gives compiler.now) (C.alike compiler.now))) old.now }
     requires within { IfSome header (LiesWithin (length rows.now)) }
@@ -84,10 +119,10 @@ fn header_chain<C: Compiler>(
     ensures counted { IsRaisedUpTo (header_steps (steps_of (C.next compiler.now) (C.gives compiler.now) (C.alike compiler.now)) (C.rules compiler.now).header old.now rows.now header) (C.Work.counts work.old) (C.Work.counts work.new) }
 {
     match header {
-        None => Chain::new(alloc),
+        None => no_chain(alloc),
         Some(block) => {
             let first = compiler.header(alloc);
-            chain_of(alloc, compiler, &first, old, rows, &block, work)
+            chain_over(alloc, compiler, &first, old, rows, &block, work)
         }
     }
 }
@@ -113,11 +148,11 @@ fn opening_behind<C: Compiler>(
 pub(crate) fn chains_of<C: Compiler>(
     alloc: Global,
     compiler: &C,
-    old: &[Chain<C>],
+    old: &[Shared<Chain<C>>],
     rows: &[Row<C::Cell>],
     blocks: &[Block],
     work: &mut C::Work,
-) -> Result<Vec<Chain<C>>, AllocError>
+) -> Result<Vec<Shared<Chain<C>>>, AllocError>
     requires carried { All (IsCarried old.now) rows.now }
     requires folded { All (IsFolded (steps_of (C.next compiler.now) (C.gives compiler.now) (C.alike compiler.now))) old.now }
     requires blocks { blocks.now ≡ blocks_of (map class_in rows.now) }
@@ -130,7 +165,7 @@ pub(crate) fn chains_of<C: Compiler>(
 {
     let header = header_in(blocks);
     let first = header_chain(alloc, compiler, old, rows, header, work)?;
-    let opening = opening_behind(alloc, compiler, header, &first);
+    let opening = opening_behind(alloc, compiler, header, first.get());
     let tunes = tunes_in(alloc, blocks)?;
     let mut others = tune_chains(alloc, compiler, &opening, old, rows, &tunes, work)?;
     let mut chains = Vec::new(alloc);

@@ -2,20 +2,38 @@
 
 ghost use Rattle.std.specs.Prelude.{◌≡◌, ◌<◌, ◌++◌, All, IfOk, OnOk, Some, length, slice_get};
 ghost use Rattle.abc_chains.specs.Holding.{IsCarried, IsFolded, LiesWithin, address_from, cells_over, entries_at, held_in, helds_in, helds_of, helds_over};
+ghost use Rattle.abc_fold.specs.Chain.{Folds, IsKeptAt};
 ghost use Rattle.abc_fold.specs.Piece.{IsKept, cell_of, cells_of};
-ghost use Rattle.abc_fold.specs.Steps.{steps_of};
+ghost use Rattle.abc_fold.specs.Steps.{IsResumable, Steps, steps_of};
 ghost use Rattle.abc_rework.specs.Kept.{held_at};
 
 use crate::row::Row;
 use abc_book::Block;
-use abc_fold::{Chain, Fold, Piece, Resumable};
+use abc_fold::{Chain, Fold, Piece, Resumable, Shared};
 use std::alloc::{AllocError, Global};
+
+/// How many cells a chain has.
+fn count_of<F: Resumable>(chain: &Shared<Chain<F>>) -> usize
+    ensures { result ≡ length chain.now.cells }
+{
+    chain.get().len()
+}
+
+/// What a chain keeps of the cell with `i` others before it.
+fn kept_at<F: Resumable>(chain: &Shared<Chain<F>>, i: usize) -> Result<Piece<F>, AllocError>
+    requires { i < length chain.now.cells }
+    ensures place { IfOk result (λ piece. IsKeptAt chain.now i piece) }
+    ensures resumable { (steps : Steps F.State F.Cell F.Items) (opening : F.State) → IsResumable steps → Folds steps opening chain.now →
+        IfOk result (λ piece. IsKept steps piece) }
+{
+    chain.get().kept(i)
+}
 
 /// The piece of the cell of a line with `k` others before it: what an old chain keeps of it, or a new one.
 fn piece_at<F: Resumable>(
     alloc: Global,
     fold: &F,
-    chains: &[Chain<F>],
+    chains: &[Shared<Chain<F>>],
     row: &Row<F::Cell>,
     k: usize,
 ) -> Result<Piece<F>, AllocError>
@@ -33,8 +51,8 @@ fn piece_at<F: Resumable>(
         }
         Some(origin) => {
             let chain = &chains[origin.source];
-            let count = chain.len();
-            chain.kept(origin.first + k)
+            let count = count_of(chain);
+            kept_at(chain, origin.first + k)
         }
     }
 }
@@ -43,7 +61,7 @@ fn piece_at<F: Resumable>(
 fn append_row<F: Resumable>(
     alloc: Global,
     fold: &F,
-    chains: &[Chain<F>],
+    chains: &[Shared<Chain<F>>],
     row: &Row<F::Cell>,
     pieces: &mut Vec<Piece<F>>,
 ) -> Result<(), AllocError>
@@ -66,7 +84,7 @@ fn append_row<F: Resumable>(
 pub(crate) fn pieces_of<F: Resumable>(
     alloc: Global,
     fold: &F,
-    chains: &[Chain<F>],
+    chains: &[Shared<Chain<F>>],
     rows: &[Row<F::Cell>],
     block: &Block,
 ) -> Result<Vec<Piece<F>>, AllocError>

@@ -18,7 +18,7 @@ use crate::settle::settled;
 use crate::whole::taken_of;
 use abc_book::Block;
 use abc_compiler::Compiler;
-use abc_fold::{Chain, Counts, Fold, Resumable};
+use abc_fold::{Chain, Counts, Fold, Resumable, Shared};
 use abc_lines::{EditError, LineBuffer, LinePatch};
 use abc_text::Seen;
 use std::alloc::{AllocError, Global};
@@ -32,7 +32,7 @@ pub struct KeptText<C: Compiler> {
     lines: LineBuffer,
     rows: Vec<Row<C::Cell>>,
     blocks: Vec<Block>,
-    chains: Vec<Chain<C>>,
+    chains: Vec<Shared<Chain<C>>>,
 }
 
 impl<C: Compiler> Model for KeptText<C> {
@@ -53,7 +53,7 @@ pub struct KeptPatch<C: Compiler> {
     pub(crate) lines: LinePatch,
     rows: Vec<Row<C::Cell>>,
     blocks: Vec<Block>,
-    chains: Vec<Chain<C>>,
+    chains: Vec<Shared<Chain<C>>>,
     taken: Vec<Option<usize>>,
 }
 
@@ -73,7 +73,7 @@ impl<C: Compiler> Model for KeptPatch<C> {
 struct Made<C: Compiler> {
     rows: Vec<Row<C::Cell>>,
     blocks: Vec<Block>,
-    chains: Vec<Chain<C>>,
+    chains: Vec<Shared<Chain<C>>>,
     taken: Vec<Option<usize>>,
 }
 
@@ -122,12 +122,16 @@ impl<C: Compiler> KeptText<C> {
     {
         let lines = LineBuffer::new(alloc)?;
         let mut chains = Vec::new(alloc);
-        chains.push(Chain::new(alloc)?)?;
+        let none = Chain::new(alloc)?;
+        let first = Shared::new(alloc, none)?;
+        chains.push(first)?;
+        let rows = Vec::new(alloc);
+        let blocks = Vec::new(alloc);
         Ok(KeptText {
             compiler,
             lines,
-            rows: Vec::new(alloc),
-            blocks: Vec::new(alloc),
+            rows,
+            blocks,
             chains,
         })
     }
@@ -162,7 +166,7 @@ impl<C: Compiler> KeptText<C> {
 
     /// The chain of the file header, which has no states where there is none, and then those of the tunes. All that is
     /// kept is that of the text.
-    pub fn chains(&self) -> &[Chain<C>]
+    pub fn chains(&self) -> &[Shared<Chain<C>>]
         ensures chains { result.now ≡ self.now.chains }
         ensures stands { Stands (steps_of (C.next self.now.compiler) (C.gives self.now.compiler) (C.alike self.now.compiler)) (C.rules self.now.compiler) self.now.lines.text self.now.rows self.now.blocks self.now.chains }
     {
@@ -291,7 +295,7 @@ impl<C: Compiler> KeptPatch<C> {
     }
 
     /// The chains that the text would have.
-    pub fn chains(&self) -> &[Chain<C>]
+    pub fn chains(&self) -> &[Shared<Chain<C>>]
         ensures { result.now ≡ self.now.chains }
     {
         &self.chains

@@ -1,6 +1,6 @@
 //! Which tunes of an edited text are whole tunes of the old one.
 
-ghost use Rattle.std.specs.Prelude.{◌≡◌, ◌+◌, All, IfOk, IsSome, drop, length, slice_get};
+ghost use Rattle.std.specs.Prelude.{◌≡◌, ◌+◌, All, IfOk, IfSome, IsSome, Some, drop, length, slice_get};
 ghost use Rattle.std.specs.List.{AllZip, flat_map};
 ghost use Rattle.abc_chains.specs.Holding.{IsCarried, IsChain, IsFolded, LiesWithin, cells_in, rows_in};
 ghost use Rattle.abc_chains.specs.Taking.{GoesAlong, HasItemsOf, are_alike_both, continues, first_source, is_along};
@@ -9,7 +9,7 @@ ghost use Rattle.abc_fold.specs.Steps.{steps_of};
 
 use crate::row::Row;
 use abc_book::Block;
-use abc_fold::{Chain, Fold, Resumable};
+use abc_fold::{Chain, Fold, Resumable, Shared};
 use std::alloc::{AllocError, Global};
 
 /// Whether the old chain of a number holds the cells of a line from a place on.
@@ -69,10 +69,45 @@ fn begin_alike<F: Resumable>(fold: &F, chain: &Chain<F>, other: &Chain<F>) -> bo
     }
 }
 
+/// Whether nothing can tell the state in which a chain begins from another one.
+fn begins_in<F: Resumable>(fold: &F, chain: &Chain<F>, opening: &F::State) -> bool
+    ensures { result ≡ are_alike_both (F.alike fold.now) (slice_get chain.now.entries 0) (Some opening.now) }
+{
+    match chain.entry(0) {
+        None => false,
+        Some(state) => fold.same(state, opening),
+    }
+}
+
+/// The old chain that holds just the cells of lines, if there is one and nothing can tell the state in which it begins
+/// from this one.
+pub(crate) fn whole_chain<'a, F: Resumable>(
+    fold: &F,
+    old: &'a [Shared<Chain<F>>],
+    opening: &F::State,
+    rows: &[Row<F::Cell>],
+) -> Option<&'a Shared<Chain<F>>>
+    requires carried { All (IsCarried old.now) rows.now }
+    requires folded { All (IsFolded (steps_of (F.next fold.now) (F.gives fold.now) (F.alike fold.now))) old.now }
+    ensures folds { IfSome result (λ chain. Folds (steps_of (F.next fold.now) (F.gives fold.now) (F.alike fold.now)) opening.now chain.now) }
+    ensures cells { IfSome result (λ chain. chain.now.cells ≡ flat_map cells_in rows.now) }
+{
+    let source = first_source(rows)?;
+    let known = old.get(source)?;
+    let was = known.get();
+    if !is_along(rows, source, was.len()) {
+        return None;
+    }
+    if !begins_in(fold, was, opening) {
+        return None;
+    }
+    Some(known)
+}
+
 /// The old tune that a tune is, counted from 0, if the cells of its lines are all those of that one, and it begins alike.
 fn tune_taken<F: Resumable>(
     fold: &F,
-    old: &[Chain<F>],
+    old: &[Shared<Chain<F>>],
     chain: &Chain<F>,
     rows: &[Row<F::Cell>],
 ) -> Option<usize>
@@ -87,7 +122,8 @@ fn tune_taken<F: Resumable>(
     if source == 0 {
         return None;
     }
-    let was = old.get(source)?;
+    let known = old.get(source)?;
+    let was = known.get();
     if !is_along(rows, source, was.len()) {
         return None;
     }
@@ -101,8 +137,8 @@ fn tune_taken<F: Resumable>(
 fn tunes_taken<F: Resumable>(
     alloc: Global,
     fold: &F,
-    old: &[Chain<F>],
-    chains: &[Chain<F>],
+    old: &[Shared<Chain<F>>],
+    chains: &[Shared<Chain<F>>],
     rows: &[Row<F::Cell>],
     tunes: &[Block],
 ) -> Result<Vec<Option<usize>>, AllocError>
@@ -119,7 +155,7 @@ fn tunes_taken<F: Resumable>(
     for (place, chain) in chains.iter().enumerate() {
         let tune = tunes[place];
         let own = &rows[tune.from..tune.to];
-        let one = tune_taken(fold, old, chain, own);
+        let one = tune_taken(fold, old, chain.get(), own);
         taken.push(one)?;
     }
     Ok(taken)
@@ -129,8 +165,8 @@ fn tunes_taken<F: Resumable>(
 pub(crate) fn taken_of<F: Resumable>(
     alloc: Global,
     fold: &F,
-    old: &[Chain<F>],
-    chains: &[Chain<F>],
+    old: &[Shared<Chain<F>>],
+    chains: &[Shared<Chain<F>>],
     rows: &[Row<F::Cell>],
     tunes: &[Block],
 ) -> Result<Vec<Option<usize>>, AllocError>

@@ -1,9 +1,7 @@
--- The chains of a text as those of its file header and its tunes, how many cells its lines have, and how many lines an
--- edited text has.
-use Rattle.std.proofs.Common.{◌≡◌, ◌⊎◌, ℕ, ◌+◌, ◌<◌, ◌≤◌, List, [], ◌∷◌, true, false, length, map, Option, Some, None, Ok, sym, ap, ◌∙◌, refl, subst, arith, Result, Err, ⊎_elim}
-use Rattle.std.proofs.lemmas.Bool.{cases_Bool, cases_lt}
-use Rattle.std.specs.List.{AllZip, list_all}
-use Rattle.std.specs.Prelude.{IfOk, IfSome}
+-- The chains of a text as those of its file header and its tunes, and how many cells its lines have.
+use Rattle.std.proofs.Common.{◌≡◌, ℕ, ◌≤◌, List, [], ◌∷◌, length, map, Option, Some, None, ap, ◌∙◌, refl, subst, arith}
+use Rattle.std.specs.List.{AllZip}
+use Rattle.std.specs.Prelude.{IfSome}
 use Rattle.abc_book.specs.declared.block.Block.{Block}
 use Rattle.abc_chains.specs.Holding.{cells_in}
 use Rattle.abc_chains.specs.Keeping.{AreChains, AreRead, IsChainOf, IsHeaderOf}
@@ -12,10 +10,7 @@ use Rattle.abc_chains.specs.Standing.{Stands}
 use Rattle.abc_fold.specs.Chain.{Chained}
 use Rattle.abc_fold.specs.Steps.{Steps}
 use Rattle.abc_live.specs.Session.{count_in}
-use Rattle.abc_lines.specs.Edits.{replaced}
-use Rattle.abc_lines.specs.declared.limits.TheConstants.{MOST_LINES}
-use Rattle.abc_lines.proofs.Splices.{replaced-bad, replaced-inside, replaced-large, replaced-outside}
-use Rattle.abc_lines.specs.Text.{Splice, Text, is_line, spliced}
+use Rattle.abc_lines.specs.Text.{Text}
 use Rattle.abc_outputs.specs.Output.{counts_of}
 use Rattle.abc_outputs.specs.Tunes.{AreFoldsOf, HasCells, IsFoldOf, given_by_chains}
 use Rattle.abc_outputs.proofs.Following.{all_cells, book_follows}
@@ -65,16 +60,16 @@ pub counts_are : {State Cell Items Defaults : Type 0} (rules : Rules State Cell 
 counts_are rules text rows are = row_counts rows ∙ ap (map length) are.cells ∙ line_counts rules.cells text
 
 module _ {State Cell Items Defaults : Type 0} (steps : Steps State Cell Items) (rules : Rules State Cell Items Defaults) (text : Text) (rows : List (Row Cell)) (blocks : List Block) (chains : List (Chained State Cell Items)) (stands : Stands steps rules text rows blocks chains) (first : Chained State Cell Items) (tunes : List (Chained State Cell Items)) (counts : List ℕ) (header : Option Block) (places : List Block) (parts : chains ≡ first ∷ tunes) (counts_is : counts ≡ map count_in rows) (header_is : header ≡ header_in blocks) (places_is : places ≡ tunes_in blocks) where
-  all_folds : AreFoldsOf steps rules text first tunes
+  pub all_folds : AreFoldsOf steps rules text first tunes
   all_folds = folds_of steps rules text chains first tunes parts stands.chains_are
 
   counts_same : counts ≡ counts_of rules.cells text
   counts_same = counts_is ∙ counts_are rules text rows stands.read
 
-  header_same : header ≡ header_in (blocks_in rules text)
+  pub header_same : header ≡ header_in (blocks_in rules text)
   header_same = header_is ∙ ap header_in stands.blocks_are
 
-  places_same : places ≡ tunes_in (blocks_in rules text)
+  pub places_same : places ≡ tunes_in (blocks_in rules text)
   places_same = places_is ∙ ap tunes_in stands.blocks_are
 
   -- the chains have the cells of their lines
@@ -87,23 +82,3 @@ module _ {State Cell Items Defaults : Type 0} (steps : Steps State Cell Items) (
   -- they give the book of the text
   pub book_is : book_from (given_by_chains rules counts first tunes header places) ≡ book_of steps.next steps.gives rules text
   book_is = rw (header_same, counts_same, places_same) (book_follows steps rules text first tunes all_folds)
-
--- A text that is accepted has no more lines than a text may have.
-pub few_lines : (text : Text) (s : Splice) (after : Text) → replaced text s ≡ Ok after → length after ≤ MOST_LINES
-few_lines text s after e = ⊎_elim
-    (λ (out : length text < s.at + s.removed). let bad = replaced-outside text s out in absurd (cc (bad, e)))
-    (λ (inside : s.at + s.removed ≤ length text). ⊎_elim
-    (λ (good : list_all is_line s.lines ≡ true). ⊎_elim
-    (λ (large : MOST_LINES < length (spliced text s)). let bad = replaced-large text s inside good large in absurd (cc (bad, e)))
-    (λ (small : length (spliced text s) ≤ MOST_LINES).
-    let own = replaced-inside text s inside good small in
-    let same : spliced text s ≡ after = cc (own, e) in
-    subst (λ (t : Text). length t ≤ MOST_LINES) same small)
-    (cases_lt MOST_LINES (length (spliced text s))))
-    (λ (wrong : list_all is_line s.lines ≡ false). let bad = replaced-bad text s inside wrong in absurd (cc (bad, e)))
-    (cases_Bool (list_all is_line s.lines)))
-    (cases_lt (length text) (s.at + s.removed))
-
-pub few_if : {P E : Type 0} (text_of : P → Text) (text : Text) (s : Splice) (result : Result P E) → IfOk result (λ patch. replaced text s ≡ Ok (text_of patch)) → IfOk result (λ patch. length (text_of patch) ≤ MOST_LINES)
-few_if text_of text s (Ok patch) is = few_lines text s (text_of patch) is
-few_if text_of text s (Err e) is = tt

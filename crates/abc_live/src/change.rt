@@ -1,14 +1,13 @@
 //! The run of lines that an edit replaces, and the text behind it, prepared.
 
-ghost use Rattle.std.specs.Prelude.{◌≡◌, ◌≢◌, ◌≤◌, IfErr, IfOk, IfSome, Ok, drop, length};
+ghost use Rattle.std.specs.Prelude.{◌≡◌, ◌≢◌, IfErr, IfOk, IfSome, Ok, drop};
 ghost use Rattle.std.specs.List.{AllZip};
 ghost use Rattle.std.specs.Option.{option_map};
 ghost use Rattle.abc_chains.specs.Standing.{Stands};
 ghost use Rattle.abc_chains.specs.Taking.{HasItemsOf, TakesUntouched};
 ghost use Rattle.abc_fold.specs.Steps.{steps_of};
 ghost use Rattle.abc_lines.specs.Edits.{Refuses, edited, replacement};
-ghost use Rattle.abc_lines.specs.Text.{lines_of, splice_from};
-ghost use Rattle.abc_lines.specs.declared.limits.TheConstants.{MOST_LINES};
+ghost use Rattle.abc_lines.specs.Text.{IsText, lines_of, splice_from};
 ghost use Rattle.abc_live.specs.Counting.{MayFold};
 ghost use Rattle.abc_live.specs.Edit.{splice_of};
 
@@ -33,7 +32,7 @@ pub(crate) fn prepared<C: Compiler>(
 ) -> Result<KeptPatch<C>, EditError>
     ensures on { IfOk result (λ patch. patch.on ≡ text.now) }
     ensures text { IfOk result (λ patch. edited text.now.lines.text (splice_of edit.now) ≡ Ok patch.text) }
-    ensures few { IfOk result (λ patch. length patch.text ≤ MOST_LINES) }
+    ensures limits { IfOk result (λ patch. IsText patch.text) }
     ensures stands { let c = text.now.compiler in
         IfOk result (λ patch. Stands (steps_of (C.next c) (C.gives c) (C.alike c)) (C.rules c) patch.text patch.rows patch.blocks patch.chains) }
     ensures items { IfOk result (λ patch. AllZip (HasItemsOf (drop 1 text.now.chains)) (drop 1 patch.chains) patch.taken) }

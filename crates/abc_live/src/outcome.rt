@@ -5,8 +5,9 @@ ghost use Rattle.std.specs.List.{AllZip};
 ghost use Rattle.abc_chains.specs.Standing.{Stands};
 ghost use Rattle.abc_chains.specs.Taking.{HasItemsOf};
 ghost use Rattle.abc_fold.specs.Steps.{steps_of};
-ghost use Rattle.abc_lines.specs.declared.limits.TheConstants.{MOST_LINES};
+ghost use Rattle.abc_lines.specs.Text.{IsText};
 ghost use Rattle.abc_live.specs.Session.{count_in};
+ghost use Rattle.abc_memo.specs.Memo.{Remembers};
 ghost use Rattle.abc_outputs.specs.Built.{IsBuiltUpTo, made_of};
 ghost use Rattle.abc_outputs.specs.Output.{output_in};
 ghost use Rattle.abc_tunebook.specs.Book.{book_of};
@@ -15,7 +16,8 @@ ghost use Rattle.abc_tunebook.specs.Report.{Reports};
 use abc_chains::{KeptPatch, KeptText, Row, header_in, tunes_in};
 use abc_compiler::Compiler;
 use abc_fold::{Chain, Shared};
-use abc_outputs::{FoldedText, Output, book_by, outputs_of};
+use abc_memo::TuneMemo;
+use abc_outputs::{FoldedText, Output, TakenOver, book_by, outputs_of};
 use abc_tunebook::{Book, Report};
 use std::alloc::{AllocError, Global};
 
@@ -39,7 +41,7 @@ fn counts_of<K: Drop>(alloc: Global, rows: &[Row<K>]) -> Result<Vec<usize>, Allo
 }
 
 /// The chain of the file header, and those of the tunes.
-fn parted<C: Compiler>(chains: &[Chain<C>]) -> (&Chain<C>, &[Chain<C>])
+fn parted<C: Compiler>(chains: &[Shared<Chain<C>>]) -> (&Shared<Chain<C>>, &[Shared<Chain<C>>])
     requires { 1 ≤ length chains.now }
     ensures parts { chains.now ≡ result.0.now ∷ result.1.now }
     ensures tunes { result.1.now ≡ drop 1 chains.now }
@@ -47,59 +49,54 @@ fn parted<C: Compiler>(chains: &[Chain<C>]) -> (&Chain<C>, &[Chain<C>])
     (&chains[0], &chains[1..])
 }
 
-/// The book of a prepared text, of which each tune gives one of these outputs.
-fn book_of_patch<C: Compiler>(
-    compiler: &C,
-    alloc: Global,
-    kept: &KeptPatch<C>,
-    outputs: &[Shared<Output>],
-) -> Result<Book, AllocError>
-    requires few { length kept.now.text ≤ MOST_LINES }
-    requires stands { let c = compiler.now in
-        Stands (steps_of (C.next c) (C.gives c) (C.alike c)) (C.rules c) kept.now.text kept.now.rows kept.now.blocks kept.now.chains }
-    requires outputs { outputs.now ≡ map (output_in (C.rules compiler.now)) (drop 1 kept.now.chains) }
-    ensures { IfOk result (λ book. book ≡ book_of (C.next compiler.now) (C.gives compiler.now) (C.rules compiler.now) kept.now.text) }
-{
-    let (first, tunes) = parted(kept.chains());
-    let blocks = kept.blocks();
-    let places = tunes_in(alloc, blocks)?;
-    let counts = counts_of(alloc, kept.rows())?;
-    let folded = FoldedText {
-        header: header_in(blocks),
-        first,
-        blocks: &places,
-        chains: tunes,
-        counts: &counts,
-    };
-    book_by(compiler, alloc, &folded, outputs)
-}
-
-/// What a prepared text gives, by what the tunes of the present one give. At most the tunes that take nothing over are
-/// built.
+/// What a prepared text gives, by what the tunes of the present one give. The memo is asked for the tunes that take
+/// nothing over, and at most these are built.
 pub(crate) fn outcome_of<C: Compiler>(
     text: &KeptText<C>,
     outputs: &[Shared<Output>],
     book: &Book,
     kept: &KeptPatch<C>,
+    memo: &mut TuneMemo<C>,
     work: &mut C::Work,
 ) -> Result<Outcome, AllocError>
-    requires few { length kept.now.text ≤ MOST_LINES }
+    requires on { kept.now.on ≡ text.now }
+    requires limits { IsText kept.now.text }
     requires stands { let c = text.now.compiler in
         Stands (steps_of (C.next c) (C.gives c) (C.alike c)) (C.rules c) kept.now.text kept.now.rows kept.now.blocks kept.now.chains }
     requires items { AllZip (HasItemsOf (drop 1 text.now.chains)) (drop 1 kept.now.chains) kept.now.taken }
     requires outputs { outputs.now ≡ map (output_in (C.rules text.now.compiler)) (drop 1 text.now.chains) }
+    requires remembers { let c = text.now.compiler in
+        Remembers (steps_of (C.next c) (C.gives c) (C.alike c)) (C.rules c) memo.old }
     ensures outputs { IfOk result (λ given. given.outputs.items ≡ map (output_in (C.rules text.now.compiler)) (drop 1 kept.now.chains)) }
     ensures book { let c = text.now.compiler in
         IfOk result (λ given. given.book ≡ book_of (C.next c) (C.gives c) (C.rules c) kept.now.text) }
     ensures report { let c = text.now.compiler in
         IfOk result (λ given. Reports book.now.files (book_of (C.next c) (C.gives c) (C.rules c) kept.now.text).files given.report) }
+    ensures remembers { let c = text.now.compiler in
+        Remembers (steps_of (C.next c) (C.gives c) (C.alike c)) (C.rules c) memo.new }
     ensures counted { IsBuiltUpTo (made_of kept.now.taken) (C.Work.counts work.old) (C.Work.counts work.new) }
 {
     let alloc = text.lines().allocator();
     let compiler = text.compiler();
-    let (_, tunes) = parted(kept.chains());
-    let made = outputs_of(compiler, alloc, tunes, kept.taken(), outputs, work)?;
-    let new_book = book_of_patch(compiler, alloc, kept, &made)?;
+    let lines = kept.lines(text)?;
+    let (first, tunes) = parted(kept.chains());
+    let blocks = kept.blocks();
+    let places = tunes_in(alloc, blocks)?;
+    let counts = counts_of(alloc, kept.rows())?;
+    let folded = FoldedText {
+        lines: &lines,
+        header: header_in(blocks),
+        first: first.get(),
+        blocks: &places,
+        chains: tunes,
+        counts: &counts,
+    };
+    let old = TakenOver {
+        taken: kept.taken(),
+        outputs,
+    };
+    let made = outputs_of(compiler, alloc, &folded, &old, memo, work)?;
+    let new_book = book_by(compiler, alloc, &folded, &made)?;
     let report = book.changes(alloc, &new_book)?;
     Ok(Outcome {
         outputs: made,

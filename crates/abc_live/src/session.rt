@@ -21,23 +21,28 @@ use abc_chains::{KeptPatch, KeptText};
 use abc_compiler::Compiler;
 use abc_fold::Shared;
 use abc_lines::EditError;
+use abc_memo::TuneMemo;
 use abc_outputs::Output;
 use abc_tunebook::{Book, Fault, Report, Title};
 use std::alloc::{AllocError, Global};
 use std::marker::Model;
 
 /// A tune book's text with the file of each reference number, the titles and the faults, as a compiler gives them.
-/// Contracts see the compiler, the text and what is kept of it: all else is what these give.
+/// Contracts see the compiler, the text and what is kept of it: all else is what these give, but for the memo of built
+/// tunes, which nothing but the counters tells of.
 #[derive(Drop)]
 pub struct LiveSession<C: Compiler> {
     text: KeptText<C>,
     outputs: Vec<Shared<Output>>,
     book: Book,
+    memo: TuneMemo<C>,
 }
 
 impl<C: Compiler> Model for LiveSession<C> {
     ghost use Rattle.std.specs.Prelude.{◌≡◌, drop, map};
+    ghost use Rattle.abc_fold.specs.Steps.{steps_of};
     ghost use Rattle.abc_live.specs.Session.{Live, live};
+    ghost use Rattle.abc_memo.specs.Memo.{Remembers};
     ghost use Rattle.abc_outputs.specs.Output.{output_in};
     ghost use Rattle.abc_tunebook.specs.Book.{book_of};
 
@@ -45,7 +50,7 @@ impl<C: Compiler> Model for LiveSession<C> {
 
     ghost view = { λ s. live s.text };
 
-    ghost invariant = { λ s. (s.outputs.items ≡ map (output_in (C.rules s.text.compiler)) (drop 1 s.text.chains)) × (s.book ≡ book_of (C.next s.text.compiler) (C.gives s.text.compiler) (C.rules s.text.compiler) s.text.lines.text) };
+    ghost invariant = { λ s. (s.outputs.items ≡ map (output_in (C.rules s.text.compiler)) (drop 1 s.text.chains)) × (s.book ≡ book_of (C.next s.text.compiler) (C.gives s.text.compiler) (C.rules s.text.compiler) s.text.lines.text) × Remembers (steps_of (C.next s.text.compiler) (C.gives s.text.compiler) (C.alike s.text.compiler)) (C.rules s.text.compiler) s.memo };
 }
 
 /// An edit that has been prepared: what the session would be, and how its files would differ. It must be spent, by
@@ -76,17 +81,19 @@ impl<C: Compiler> LiveSession<C> {
         ensures compiler { IfOk result (λ s. s.compiler ≡ compiler) }
         ensures text { IfOk result (λ s. s.text ≡ []) }
     {
+        let memo = TuneMemo::new(alloc)?;
         let text = KeptText::new(alloc, compiler)?;
         let book = Book::of(alloc, Vec::new(alloc), Vec::new(alloc))?;
         Ok(LiveSession {
             text,
             outputs: Vec::new(alloc),
             book,
+            memo,
         })
     }
 
-    /// Prepares an edit. Nothing changes but the counters: they rise by the new lines, the fresh cells and the touched
-    /// tunes at most, also where the edit is refused.
+    /// Prepares an edit. Nothing changes but the counters and what is remembered: the counters rise by the new lines, the
+    /// fresh cells and the touched tunes at most, also where the edit is refused.
     pub fn prepare(&mut self, edit: &Edit, work: &mut C::Work) -> Result<EditPatch<C>, EditError>
         ensures unchanged { self.new ≡ self.old }
         ensures on { IfOk result (λ patch. patch.on ≡ self.old) }
@@ -98,7 +105,8 @@ impl<C: Compiler> LiveSession<C> {
         ensures counted { MayCost (steps_of (C.next self.old.compiler) (C.gives self.old.compiler) (C.alike self.old.compiler)) (C.rules self.old.compiler) self.old.text (splice_of edit.now) (C.Work.counts work.old) (C.Work.counts work.new) }
     {
         let kept = prepared(&self.text, edit, work)?;
-        match outcome_of(&self.text, &self.outputs, &self.book, &kept, work) {
+        let memo = &mut self.memo;
+        match outcome_of(&self.text, &self.outputs, &self.book, &kept, memo, work) {
             Ok(given) => Ok(EditPatch {
                 kept,
                 outputs: given.outputs,

@@ -1,5 +1,5 @@
 -- Counts of tunes built.
-use Rattle.std.proofs.Common.{◌≡◌, ℕ, ◌+◌, ◌<◌, ◌≤◌, List, drop, get_or, length, Option, refl, sym, ap, ◌∙◌, subst, arith}
+use Rattle.std.proofs.Common.{◌≡◌, ℕ, ◌+◌, ◌<◌, ◌≤◌, Bool, true, false, if◌then◌else◌, List, drop, get_or, length, Option, Some, None, refl, sym, ap, ◌∙◌, subst, arith}
 use Rattle.std.proofs.lemmas.List.Sums.{sum_by-drop_more}
 use Rattle.abc_fold.specs.Work.{Counters, raised}
 use Rattle.abc_outputs.specs.Built.{IsBuiltUpTo, made_at, made_of}
@@ -14,13 +14,26 @@ pub built_none : (k : ℕ) (counters : Counters) → IsBuiltUpTo k counters coun
 built_none k counters = record { scanned = refl; folded = refl; least = omega arith; most = raised-least counters.built k }
 
 -- One call of a builder.
-pub built_once : (before after : Counters) → after ≡ record before { built = raised before.built 1 } → IsBuiltUpTo 1 before after
+built_once : (before after : Counters) → after ≡ record before { built = raised before.built 1 } → IsBuiltUpTo 1 before after
 built_once before after is = record {
   scanned = ap (λ c. c.scanned) is;
   folded = ap (λ c. c.folded) is;
   least = rw is (raised-least before.built 1);
   most = rw is (omega arith);
 }
+
+-- One call of a builder, if any.
+pub built_perhaps : (known : Bool) (before after : Counters) → after ≡ (if known then before else record before { built = raised before.built 1 }) → IsBuiltUpTo 1 before after
+built_perhaps true before after is = rw is (built_none 1 before)
+built_perhaps false before after is = built_once before after is
+
+-- A tune that takes over what an old one gives.
+pub built_shared : (taken : Option ℕ) (old : ℕ) → taken ≡ Some old → (now later : Counters) → later ≡ now → IsBuiltUpTo (made_at taken) now later
+built_shared taken old is now later same = rw (same) (built_none (made_at taken) now)
+
+-- One that is asked for.
+pub built_asked : (taken : Option ℕ) → taken ≡ None → (now later : Counters) → IsBuiltUpTo 1 now later → IsBuiltUpTo (made_at taken) now later
+built_asked taken is now later one = rw (is) one
 
 -- One thing after another.
 pub built_both : (j k : ℕ) (a b c : Counters) → IsBuiltUpTo j a b → IsBuiltUpTo k b c → IsBuiltUpTo (j + k) a c

@@ -1,10 +1,12 @@
 -- Items of a chain from a place on, and their faults.
-use Rattle.std.proofs.Common.{◌≡◌, ℕ, zero, suc, ◌+◌, ◌-◌, ◌<◌, ◌≤◌, List, [], ◌∷◌, ◌++◌, length, take, drop, map, Some, None, slice_get, get_or, sym, ap, ◌∙◌, subst, append_assoc, length-append, arith, inl, inr}
+use Rattle.std.proofs.Common.{◌≡◌, ℕ, zero, suc, ◌+◌, ◌-◌, ◌<◌, ◌≤◌, List, [], ◌∷◌, ◌++◌, length, take, drop, map, Option, Some, None, slice_get, get_or, refl, sym, ap, ◌∙◌, subst, append_assoc, length-append, arith, inl, inr}
 use Rattle.std.proofs.Math.Seq.{drop-cons}
 use Rattle.std.proofs.lemmas.Grind.{flat_map-append}
-use Rattle.std.proofs.lemmas.List.{drop_all, drop-drop, append-nil}
-use Rattle.std.proofs.lemmas.Option.{slice_get_within, slice_get_cases, get_or_from_slice_get}
+use Rattle.std.proofs.lemmas.List.{drop_all, drop-drop, drop-map, append-nil}
+use Rattle.std.proofs.lemmas.List.Elements.{All-head, All-tail}
+use Rattle.std.proofs.lemmas.Option.{slice_get_within, slice_get_cases, slice_get_read, get_or_from_slice_get}
 use Rattle.std.specs.List.{AllZip}
+use Rattle.std.specs.Prelude.{All, IfOk, Result, Ok, Err}
 use Rattle.abc_fields.specs.declared.fault.FaultCode.{FaultCode}
 use Rattle.abc_outputs.specs.Output.{placed_from}
 use Rattle.abc_tunebook.specs.Placed.{placed_at}
@@ -12,6 +14,14 @@ use Rattle.abc_tunebook.specs.Tune.{fault_in, faults_along}
 
 none_some : {X : Type 0} (x : X) → None ≡ Some x → ⊥
 none_some x is = subst (λ o. elim o as (λ _. Type 0) [ None ↦ Unit {0} | Some y ↦ ⊥ ]) is tt
+
+value_or : {X : Type 0} → X → Option X → X
+value_or x None = x
+value_or x (Some y) = y
+
+some_one : {X : Type 0} (x y : X) → Some x ≡ Some y → x ≡ y
+unfolding value_or
+some_one x y is = ap (value_or x) is
 
 -- the one at a place, and those behind it
 pub one_on : {X : Type 0} (xs : List X) (i : ℕ) (x : X) → slice_get xs i ≡ Some x → drop i xs ≡ x ∷ drop (i + 1) xs
@@ -86,36 +96,48 @@ copied_all all copies n count at whole =
     sym (append-nil copies) ∙ ap (λ l. copies ++ l) (sym (none_on all (length copies) is)) ∙ whole
 
 module _ {A B : Type 0} (R : A → B → Type 0) where
-  none_left : (xs : List A) (at : ℕ) → at < length xs → AllZip R (drop at xs) [] → ⊥
-  none_left [] at inside all = omega (arith, inside)
-  none_left (x ∷ xs) zero inside all = all
-  none_left (x ∷ xs) (suc at) inside all = none_left xs at (omega (arith, inside)) all
+  -- two lists that go together place by place have as many
+  pub zipped_count : (xs : List A) (ys : List B) → AllZip R xs ys → length xs ≡ length ys
+  zipped_count [] [] all = refl
+  zipped_count [] (y ∷ ys) all = absurd all
+  zipped_count (x ∷ xs) [] all = absurd all
+  zipped_count (x ∷ xs) (y ∷ ys) all = ap suc (zipped_count xs ys all.1)
 
-  -- where the rest of two lists goes together place by place, both have the next place
-  pub zipped_both : (xs : List A) (ys : List B) (at : ℕ) → at < length xs → AllZip R (drop at xs) (drop at ys) → at < length ys
-  zipped_both [] ys at inside all = absurd (omega (arith, inside))
-  zipped_both (x ∷ xs) [] zero inside all = absurd all
-  zipped_both (x ∷ xs) [] (suc at) inside all = absurd (none_left xs at (omega (arith, inside)) all)
-  zipped_both (x ∷ xs) (y ∷ ys) zero inside all = omega arith
-  zipped_both (x ∷ xs) (y ∷ ys) (suc at) inside all = let rest = zipped_both xs ys at (omega (arith, inside)) all in omega (arith, rest)
+  -- and those of one place go together
+  pub zipped_at : (xs : List A) (ys : List B) (at : ℕ) (x : A) (y : B) → AllZip R xs ys → slice_get xs at ≡ Some x → slice_get ys at ≡ Some y → R x y
+  zipped_at [] ys at x y all here there = absurd (none_some x here)
+  zipped_at (x ∷ xs) [] at one other all here there = absurd all
+  zipped_at (x ∷ xs) (y ∷ ys) zero one other all here there = subst (λ b. R one b) (some_one y other there) (subst (λ a. R a y) (some_one x one here) all.0)
+  zipped_at (x ∷ xs) (y ∷ ys) (suc at) one other all here there = zipped_at xs ys at one other all.1 here there
 
-  zipped_on : (xs : List A) (ys : List B) (at : ℕ) → at < length xs → AllZip R (drop at xs) (drop at ys) → AllZip R (drop (suc at) xs) (drop (suc at) ys)
-  zipped_on [] ys at inside all = absurd (omega (arith, inside))
-  zipped_on (x ∷ xs) [] zero inside all = absurd all
-  zipped_on (x ∷ xs) [] (suc at) inside all = absurd (none_left xs at (omega (arith, inside)) all)
-  zipped_on (x ∷ xs) (y ∷ ys) zero inside all = all.1
-  zipped_on (x ∷ xs) (y ∷ ys) (suc at) inside all = zipped_on xs ys at (omega (arith, inside)) all
+-- what holds of all holds of the one at a place
+pub all_at : {X : Type 0} (P : X → Type 0) (xs : List X) (at : ℕ) (x : X) → All P xs → slice_get xs at ≡ Some x → P x
+all_at P [] at x all here = absurd (none_some x here)
+all_at P (y ∷ xs) zero x all here = subst P (some_one y x here) (All-head P y xs all)
+all_at P (y ∷ xs) (suc at) x all here = all_at P xs at x (All-tail P y xs all) here
 
-  -- and so does what is behind it
-  pub zipped_next : (xs : List A) (ys : List B) (at : ℕ) → at < length xs → AllZip R (drop at xs) (drop at ys) → AllZip R (drop (at + 1) xs) (drop (at + 1) ys)
-  zipped_next xs ys at inside all =
-      let next : suc at ≡ at + 1 = omega arith in
-      subst (λ k. AllZip R (drop k xs) (drop k ys)) next (zipped_on xs ys at inside all)
+-- there is one at each place
+pub some_at : {X : Type 0} (xs : List X) (at : ℕ) → at < length xs → (x : X) × (slice_get xs at ≡ Some x)
+some_at [] at inside = absurd (omega (arith, inside))
+some_at (x ∷ xs) zero inside = (x, refl)
+some_at (x ∷ xs) (suc at) inside = some_at xs at (omega (arith, inside))
+
+-- the one at a place, as code reads it
+pub read_at : {X : Type 0} (xs : List X) (at : ℕ) (x : X) → at < length xs → x ≡ get_or xs at x → slice_get xs at ≡ Some x
+read_at xs at x inside is = slice_get_read xs (length xs) at x refl inside is
 
 -- one value more, and those of the rest
-pub made_more : {A B : Type 0} (f : A → B) (xs : List A) (at : ℕ) (x : A) (y : B) (made more : List B) → at < length xs → x ≡ get_or xs at x → y ≡ f x → more ≡ made ++ y ∷ []
+pub made_more : {A B : Type 0} (f : A → B) (xs : List A) (at : ℕ) (y : B) (made more : List B) → slice_get (map f xs) at ≡ Some y → more ≡ made ++ y ∷ []
     → made ++ map f (drop at xs) ≡ map f xs → more ++ map f (drop (at + 1) xs) ≡ map f xs
-made_more f xs at x y made more inside is value put whole =
-    let next : suc at ≡ at + 1 = omega arith in
-    let left : drop at xs ≡ x ∷ drop (at + 1) xs = drop-cons xs at x inside ∙ ap (λ z. z ∷ drop (suc at) xs) (sym is) ∙ ap (λ k. x ∷ drop k xs) next in
-    put_more made more (f x ∷ []) (map f (drop (at + 1) xs)) (map f (drop at xs)) (map f xs) (put ∙ ap (λ z. made ++ z ∷ []) value) (ap (map f) left) whole
+made_more f xs at y made more is put whole =
+    let left : map f (drop at xs) ≡ y ∷ map f (drop (at + 1) xs) = sym (drop-map f at xs) ∙ one_on (map f xs) at y is ∙ ap (λ l. y ∷ l) (drop-map f (at + 1) xs) in
+    put_more made more (y ∷ []) (map f (drop (at + 1) xs)) (map f (drop at xs)) (map f xs) put left whole
+
+-- where none is left, these are all
+pub made_all : {A B : Type 0} (f : A → B) (xs : List A) (at : ℕ) (made : List B) → length xs ≤ at → made ++ map f (drop at xs) ≡ map f xs → made ≡ map f xs
+made_all f xs at made behind whole = sym (append-nil made) ∙ ap (λ l. made ++ map f l) (sym (drop_all at xs behind)) ∙ whole
+
+-- what holds of an answer holds of what follows from it
+pub ok_more : {A E : Type 0} (answer : Result A E) (P Q : A → Type 0) → ((x : A) → P x → Q x) → IfOk answer P → IfOk answer Q
+ok_more (Ok x) P Q follows holds = follows x holds
+ok_more (Err e) P Q follows holds = holds

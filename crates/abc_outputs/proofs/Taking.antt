@@ -9,7 +9,7 @@ use Rattle.abc_outputs.specs.Taken.{HasItemsOf}
 use Rattle.abc_tunebook.specs.Rules.{Rules}
 
 -- the one at a place of mapped values
-mapped_at : {A B : Type 0} (f : A → B) (xs : List A) (i : ℕ) (x : A) → slice_get xs i ≡ Some x → slice_get (map f xs) i ≡ Some (f x)
+pub mapped_at : {A B : Type 0} (f : A → B) (xs : List A) (i : ℕ) (x : A) → slice_get xs i ≡ Some x → slice_get (map f xs) i ≡ Some (f x)
 mapped_at f [] i x is = absurd (subst (λ o. elim o as (λ _. Type 0) [ None ↦ Unit {0} | Some y ↦ ⊥ ]) is tt)
 mapped_at f (y ∷ xs) zero x is = ap (option_map f) is
 mapped_at f (y ∷ xs) (suc i) x is = mapped_at f xs i x is

@@ -1,4 +1,5 @@
 pub mod Built
+pub mod Key
 pub mod Output
 pub mod Taken
 pub mod Tunes

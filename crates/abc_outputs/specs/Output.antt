@@ -1,5 +1,5 @@
 -- What the items of a tune give, wherever its lines stand, and what they give where they stand. Our own.
-use Rattle.std.specs.Prelude.{◌≡◌, ℕ, ◌+◌, List, [], ◌∷◌, ◌++◌, length, map, take, drop, Option, Some, IfSome, slice_get}
+use Rattle.std.specs.Prelude.{◌≡◌, ℕ, ◌+◌, ◌==◌, if◌then◌else◌, Bool, true, false, List, [], ◌∷◌, ◌++◌, length, map, take, drop, Option, Some, IfSome, slice_get}
 use Rattle.abc_fold.specs.Chain.{Chained}
 use Rattle.abc_outputs.specs.declared.output.Output.{Output}
 use Rattle.abc_tunebook.specs.Placed.{Placed, placed_at}
@@ -7,13 +7,18 @@ use Rattle.abc_tunebook.specs.Rules.{Rules}
 use Rattle.abc_tunebook.specs.Tune.{fault_of_tune, faults_along, first_of}
 use Rattle.abc_tunebook.specs.declared.tune.Tune.{Tune}
 
+-- Whether one of the items of a tune has faults.
+abbrev pub has_faults : {State Cell Items Defaults : Type 0} → Rules State Cell Items Defaults → List Items → Bool
+has_faults rules [] = false
+has_faults rules (one ∷ rest) = if length (rules.faults one) == 0 then has_faults rules rest else true
+
 -- What the items of a tune give: the first number and title that are there count.
 abbrev pub output_of : {State Cell Items Defaults : Type 0} → Rules State Cell Items Defaults → List Items → Output
 output_of rules items = record {
   number = first_of rules.number 0 items;
   title = first_of rules.title [] items;
-  bytes = rules.bytes items;
-  codes = rules.build_faults items;
+  built = record { bytes = rules.bytes items; faults = rules.build_faults items };
+  faulty = has_faults rules items;
 }
 
 -- What the chain of a tune gives.
@@ -34,8 +39,8 @@ abbrev pub tune_at : {State Cell Items Defaults : Type 0} → Rules State Cell I
 tune_at rules line output items = record {
   number = output.number;
   title = output.title;
-  bytes = output.bytes;
-  faults = map (fault_of_tune line) output.codes ++ faults_along rules.faults items;
+  bytes = output.built.bytes;
+  faults = map (fault_of_tune line) output.built.faults ++ faults_along rules.faults items;
 }
 
 -- A tune that takes over what an old one gives has its items.

@@ -15,9 +15,11 @@ use abc_fold::{Chain, Shared};
 use abc_tunebook::Book;
 use std::alloc::{AllocError, Global};
 
-/// The chains of a text and where they lie: that of its file header, if there is one, and those of its tunes.
+/// The lines of a text, its chains and where they lie: that of its file header, if there is one, and those of its tunes.
 #[derive(Drop)]
 pub struct FoldedText<'a, C: Compiler> {
+    /// The bytes of each line.
+    pub lines: &'a [&'a [u8]],
     /// Where the file header lies.
     pub header: Option<Block>,
     /// The chain of the file header.
@@ -25,7 +27,7 @@ pub struct FoldedText<'a, C: Compiler> {
     /// Where the tunes lie.
     pub blocks: &'a [Block],
     /// The chain of each tune.
-    pub chains: &'a [Chain<C>],
+    pub chains: &'a [Shared<Chain<C>>],
     /// How many cells each line of the text has.
     pub counts: &'a [usize],
 }

@@ -2,50 +2,47 @@
 
 ghost use Rattle.std.specs.Prelude.{◌≡◌, ◌+◌, ◌≤◌, [], IfOk, length, option_copied};
 ghost use Rattle.std.specs.List.{sum_by};
-ghost use Rattle.abc_outputs.specs.Built.{IsBuiltUpTo};
-ghost use Rattle.abc_outputs.specs.Output.{output_in, placed_from, tune_at};
+ghost use Rattle.abc_outputs.specs.Output.{has_faults, output_of, placed_from, tune_at};
 ghost use Rattle.abc_tunebook.specs.Tune.{first_of};
 
 use crate::faults::{put_of_lines, put_of_tune};
-use abc_compiler::Compiler;
-use abc_fields::FaultCode;
-use abc_fold::{Chain, Counts};
+use abc_compiler::{Built, Compiler};
+use abc_fold::{Chain, Shared};
 use abc_text::Sequence;
 use abc_tunebook::Tune;
 use std::alloc::{AllocError, Global};
 
 /// What a tune gives to the book wherever its lines stand: all but the faults of its cells.
-#[derive(Debug, Drop)]
+#[derive(Drop)]
 pub struct Output {
     /// The reference number, 0 where the tune has none.
     pub number: u32,
     /// The title's bytes, empty where the tune has none.
     pub title: Sequence<u8>,
-    /// The bytes of its MIDI file; None where the tune is too long for one.
-    pub bytes: Option<Sequence<u8>>,
-    /// The codes of its faults as a whole.
-    pub codes: Sequence<FaultCode>,
+    /// Its MIDI file and its faults as a whole, which the memo may hold too.
+    pub built: Shared<Built>,
+    /// Whether one of its cells has faults.
+    pub faulty: bool,
 }
 
 impl Output {
-    /// What the items of a chain give. The compiler builds at most one tune.
-    pub fn of<C: Compiler>(
+    /// What items give, of which this was built.
+    pub(crate) fn of<C: Compiler>(
         compiler: &C,
         alloc: Global,
-        chain: &Chain<C>,
-        work: &mut C::Work,
+        items: &[C::Items],
+        built: Shared<Built>,
     ) -> Result<Output, AllocError>
-        ensures value { IfOk result (λ output. output ≡ output_in (C.rules compiler.now) chain.now) }
-        ensures counted { IsBuiltUpTo 1 (C.Work.counts work.old) (C.Work.counts work.new) }
+        requires bytes { built.bytes ≡ (C.rules compiler.now).bytes items.now }
+        requires faults { built.faults ≡ (C.rules compiler.now).build_faults items.now }
+        ensures { IfOk result (λ output. output ≡ output_of (C.rules compiler.now) items.now) }
     {
-        let items = copied_items(compiler, alloc, chain)?;
-        let built = compiler.build(alloc, &items, work)?;
-        let title = Sequence::from_slice(alloc, title_of(compiler, &items))?;
+        let title = Sequence::from_slice(alloc, title_of(compiler, items))?;
         Ok(Output {
-            number: number_of(compiler, &items),
+            number: number_of(compiler, items),
             title,
-            bytes: built.bytes,
-            codes: built.faults,
+            built,
+            faulty: has_faults(compiler, items),
         })
     }
 
@@ -63,11 +60,12 @@ impl Output {
         requires inside { sum_by (λ count. count) counts.now ≤ length chain.now.cells }
         ensures { IfOk result (λ tune. tune ≡ tune_at (C.rules compiler.now) line self.now (placed_from line counts.now chain.now.items)) }
     {
+        let built = self.built.get();
         let mut faults = Vec::new(alloc);
-        put_of_tune(&mut faults, line, self.codes.as_slice())?;
+        put_of_tune(&mut faults, line, built.faults.as_slice())?;
         put_of_lines(compiler, &mut faults, chain, line, counts)?;
         let title = Sequence::from_slice(alloc, self.title.as_slice())?;
-        let bytes = copied_bytes(alloc, &self.bytes)?;
+        let bytes = copied_bytes(alloc, &built.bytes)?;
         Ok(Tune {
             number: self.number,
             title,
@@ -91,7 +89,7 @@ fn copied_bytes(
 }
 
 /// Copies of the items of a chain.
-fn copied_items<C: Compiler>(
+pub(crate) fn copied_items<C: Compiler>(
     compiler: &C,
     alloc: Global,
     chain: &Chain<C>,
@@ -103,6 +101,18 @@ fn copied_items<C: Compiler>(
         copies.push(compiler.copy_items(alloc, items)?)?;
     }
     Ok(copies)
+}
+
+/// Whether one of the cells has faults.
+fn has_faults<C: Compiler>(compiler: &C, items: &[C::Items]) -> bool
+    ensures { result ≡ has_faults (C.rules compiler.now) items.now }
+{
+    for one in items {
+        if compiler.faults(one).len() != 0 {
+            return true;
+        }
+    }
+    false
 }
 
 /// The reference number of the first cell that gives one, 0 where none does.

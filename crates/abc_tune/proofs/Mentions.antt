@@ -8,10 +8,7 @@ use Rattle.abc_bars.proofs.Mentions.{mentions_few, names_voices}
 use Rattle.abc_music.specs.declared.item.Item.{Item}
 use Rattle.abc_music.specs.declared.item.Item.TheVariants as items
 use Rattle.abc_tune.specs.Abc.{cells_in}
-use Rattle.abc_tune.specs.Lines.{HasFewVoices, IsTooLarge, IsTooLongBySize, items_of_lines, by_sections, by_places, by_time, by_title}
-use Rattle.abc_voices.specs.TooLong.{PassesALimit, of_sections, of_places, of_time, of_voices, of_title}
-use Rattle.abc_voices.proofs.TooLong.{by_a_limit}
-use Rattle.abc_bars.specs.declared.defaults.Defaults.{Defaults}
+use Rattle.abc_tune.specs.Lines.{HasFewVoices}
 use Rattle.abc_voices.specs.Section.{opening_voice}
 use Rattle.abc_voices.specs.Track.{everyone, names_from, nameless_plays, plays_first, tracks, with_name}
 
@@ -115,22 +112,3 @@ pub few_voices : HasFewVoices
 few_voices opening lines =
     let cells = flat_map cells_in lines in
     omega (arith, tracks_few _ (names_voices opening cells), mentions_few opening cells)
-
--- so only the other limits are passed
-large : (opening : Defaults) (lines : List (List ℕ)) → PassesALimit own (items_of_lines opening lines) → IsTooLarge (items_of_lines opening lines)
-large opening lines (of_sections h) = by_sections h
-large opening lines (of_places h) = by_places h
-large opening lines (of_time h) = by_time h
-large opening lines (of_voices h) = let few = few_voices opening lines in absurd (omega (arith, h, few))
-large opening lines (of_title h) = by_title h
-
-limited : (tune : List Item) → IsTooLarge tune → PassesALimit own tune
-limited tune (by_sections h) = of_sections h
-limited tune (by_places h) = of_places h
-limited tune (by_time h) = of_time h
-limited tune (by_title h) = of_title h
-
-pub by_size : IsTooLongBySize
-by_size opening lines =
-    let tune = items_of_lines opening lines in
-    (λ long. large opening lines ((by_a_limit tune).0 long), λ is. (by_a_limit tune).1 (limited tune is))

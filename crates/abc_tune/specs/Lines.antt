@@ -1,8 +1,9 @@
 -- What the lines of a tune give, and what makes it too long.
 use Rattle.std.specs.Prelude.{◌≡◌, ◌≤◌, ◌<◌, ◌↔◌, ℕ, true, List, length}
-use Rattle.std.specs.List.{flat_map}
+use Rattle.std.specs.List.{flat_map, list_all}
 use Rattle.abc_bars.specs.Mentioned.{items_of_cells}
 use Rattle.abc_bars.specs.declared.defaults.Defaults.{Defaults}
+use Rattle.abc_lines.specs.Text.{is_line}
 use Rattle.abc_music.specs.declared.item.Item.{Item}
 use Rattle.abc_music.specs.declared.item.TheConstants.{MOST_VOICES}
 use Rattle.abc_repeat.specs.declared.order.TheConstants.{MOST_SECTIONS}
@@ -24,15 +25,18 @@ abbrev pub HasFewVoices : Type 0
 HasFewVoices = (opening : Defaults) (lines : List (List ℕ))
     → length (tracks (λ item. item) (items_of_lines opening lines)) ≤ MOST_VOICES
 
--- More sections or more places of a tune are played than may be, it ends later than a tune may, or its title is longer
--- than a line. Our own.
+-- The title of a tune of lines is one that a score may have: it stands in one of them.
+abbrev pub HasShortTitle : Type 0
+HasShortTitle = (opening : Defaults) (lines : List (List ℕ)) → list_all is_line lines ≡ true
+    → length (title_of (λ item. item) (items_of_lines opening lines)) ≤ LONGEST_TITLE
+
+-- More sections or more places of a tune are played than may be, or it ends later than a tune may. Our own.
 pub data IsTooLarge (tune : List Item) : Type 0 where
   by_sections : MOST_SECTIONS < sections_played (λ item. item) tune → IsTooLarge tune
   by_places : MOST_PLACES < places_played (λ item. item) tune → IsTooLarge tune
   by_time : grains_of_the_latest_end < end_of (λ item. item) tune → IsTooLarge tune
-  by_title : LONGEST_TITLE < length (title_of (λ item. item) tune) → IsTooLarge tune
 
--- A tune of lines is too long exactly where it is, never for its voices.
+-- A tune of lines is too long exactly where it is, never for its voices or its title.
 abbrev pub IsTooLongBySize : Type 0
-IsTooLongBySize = (opening : Defaults) (lines : List (List ℕ))
+IsTooLongBySize = (opening : Defaults) (lines : List (List ℕ)) → list_all is_line lines ≡ true
     → (is_long (items_of_lines opening lines) ≡ true) ↔ IsTooLarge (items_of_lines opening lines)

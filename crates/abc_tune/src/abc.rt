@@ -7,10 +7,11 @@ ghost use Rattle.abc_tune.specs.Abc.{rules_of_abc, number_of, title_of, first_va
 ghost use Rattle.abc_tune.specs.Lawful.{abc_lawful, abc_told_apart};
 
 use crate::built::build;
+use crate::kept_cells::shared;
 use abc_bars::{BarFold, Defaults, Entry, Item, Items};
 use abc_compiler::{Built, Compiler};
 use abc_fields::FaultCode;
-use abc_fold::{Fold, Resumable, Work};
+use abc_fold::{Fold, Resumable, Shared, Work};
 use abc_scan::{Cell, LineClass, class_of, into_cells, scan};
 use std::alloc::{AllocError, Global};
 
@@ -21,7 +22,7 @@ pub struct Abc;
 impl Fold for Abc {
     type State = Entry;
 
-    type Cell = Cell;
+    type Cell = Shared<Cell>;
 
     type Items = Items;
 
@@ -35,7 +36,7 @@ impl Fold for Abc {
         &self,
         alloc: Global,
         state: &Entry,
-        cell: &Cell,
+        cell: &Shared<Cell>,
         work: &mut Work,
     ) -> Result<(Entry, Items), AllocError> {
         BarFold.step(alloc, state, cell, work)
@@ -55,7 +56,7 @@ impl Resumable for Abc {
         BarFold.copy_state(alloc, state)
     }
 
-    fn copy_cell(&self, alloc: Global, cell: &Cell) -> Result<Cell, AllocError> {
+    fn copy_cell(&self, alloc: Global, cell: &Shared<Cell>) -> Result<Shared<Cell>, AllocError> {
         BarFold.copy_cell(alloc, cell)
     }
 
@@ -101,9 +102,15 @@ impl Compiler for Abc {
         class_of(line)
     }
 
-    fn cells(&self, alloc: Global, line: &[u8], work: &mut Work) -> Result<Vec<Cell>, AllocError> {
+    fn cells(
+        &self,
+        alloc: Global,
+        line: &[u8],
+        work: &mut Work,
+    ) -> Result<Vec<Shared<Cell>>, AllocError> {
         let tokens = scan(alloc, line, work)?;
-        into_cells(alloc, tokens)
+        let cells = into_cells(alloc, tokens)?;
+        shared(alloc, cells)
     }
 
     fn header(&self, alloc: Global) -> Entry {

@@ -3,6 +3,7 @@
 
 mod abc;
 mod built;
+mod kept_cells;
 mod line_laws;
 mod whole_faults;
 

@@ -1,6 +1,6 @@
+pub mod Chains
 pub mod Cuts
 pub mod Endings
-pub mod Examples
 pub mod Fitting
 pub mod Given
 pub mod Layouts
@@ -10,7 +10,7 @@ pub mod Placed
 pub mod Staged
 pub mod Steady
 pub mod Straight
-pub mod TooLong
-pub mod Within
-pub mod Voices
 pub mod Ties
+pub mod TooLong
+pub mod Voices
+pub mod Within

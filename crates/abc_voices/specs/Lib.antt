@@ -1,5 +1,6 @@
 pub mod Along
 pub mod Arrange
+pub mod Chains
 pub mod Change
 pub mod Conduct
 pub mod Endings

@@ -55,7 +55,7 @@ fn put_key_changes(out: &mut Vec<Change>, keys: &[(Grains, (i8, bool))]) -> Resu
 }
 
 /// The changes of a score, of the tempos, meters and keys in order of play.
-pub fn conductor(
+pub(crate) fn conductor(
     alloc: Global,
     tempos: &[(Grains, u32)],
     meters: &[(Grains, Meter)],

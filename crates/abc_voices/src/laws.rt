@@ -1,5 +1,6 @@
 //! Laws of the layout: what a tune is laid out by is what ABC says.
 
+ghost use Rattle.abc_voices.specs.Chains.{HearsChains, HearsNoOthers};
 ghost use Rattle.abc_voices.specs.Endings.{MovesByStrains};
 ghost use Rattle.abc_voices.specs.Ties.{PlaysChains, VoicesPlayChains};
 ghost use Rattle.abc_voices.specs.Voices.{AreOfVoices};
@@ -13,8 +14,10 @@ pub fn voices_by_looking_back()
 
 /// A note is heard for each longest chain of tied tones, of which each is joined with one of its key in the next
 /// time token that is played: the first tied one of the key with the first of the key, and so on.
-#[tactic(auto, using(crate::proofs::Ties::plays_chains, crate::proofs::Ties::voices_play_chains))]
+#[tactic(auto, using(crate::proofs::Chains::hears_chains, crate::proofs::Chains::hears_no_others, crate::proofs::Ties::plays_chains, crate::proofs::Ties::voices_play_chains))]
 pub fn ties_in_play()
+    ensures chains { HearsChains }
+    ensures once { HearsNoOthers }
     ensures play { PlaysChains }
     ensures voices { VoicesPlayChains }
 {}

@@ -30,16 +30,8 @@ mod voice;
 
 pub use abc_music::MOST_VOICES;
 pub use arranged::{Arranged, BuildFault};
-pub use conduct::conductor;
 pub use laws::{fields_before_endings, ties_in_play, voices_by_looking_back};
 pub use layout::arrange;
 pub use limits::{LONGEST_TITLE, MOST_CHANGES, MOST_NOTES, is_within_limits, score_limits};
-pub use notes::put_notes;
-pub use opening::{opening_key, opening_meter, opening_tempo, order_of, title_of};
-pub use play::{duration, played};
 pub use score::{Change, ChangeKind, Score, Sounding};
 pub use score_laws::{scores_fit, too_long_by_a_limit};
-pub use section::{Section, letters, part, sections};
-pub use settle::settled;
-pub use timing::{last_off, plays_time};
-pub use track::{everyone, nameless_plays};

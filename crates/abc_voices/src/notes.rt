@@ -71,7 +71,7 @@ fn put_item(
 }
 
 /// Puts what is played up to a moment before the notes of what comes behind it.
-pub fn put_notes(
+pub(crate) fn put_notes(
     alloc: Global,
     first: &mut Vec<Sounding>,
     others: &mut Vec<Sounding>,

@@ -7,7 +7,7 @@ use abc_fields::Meter;
 use abc_music::Item;
 
 /// The microseconds of a quarter note with which a tune opens, where its header sets a tempo.
-pub fn opening_tempo(tune: &[&Item]) -> Option<u32>
+pub(crate) fn opening_tempo(tune: &[&Item]) -> Option<u32>
     ensures { result ≡ past_all (λ step. step.now) tempo_past None tune.now }
 {
     let mut tempo = None;
@@ -25,7 +25,7 @@ pub fn opening_tempo(tune: &[&Item]) -> Option<u32>
 }
 
 /// The meter with which a tune opens, where its items say one.
-pub fn opening_meter(tune: &[&Item]) -> Option<Meter>
+pub(crate) fn opening_meter(tune: &[&Item]) -> Option<Meter>
     ensures { result ≡ past_all (λ step. step.now) meter_past None tune.now }
 {
     let mut meter = None;
@@ -42,7 +42,7 @@ pub fn opening_meter(tune: &[&Item]) -> Option<Meter>
 }
 
 /// The key with which a tune opens, where its items say one: its sharps, and whether it is minor.
-pub fn opening_key(tune: &[&Item]) -> Option<(i8, bool)>
+pub(crate) fn opening_key(tune: &[&Item]) -> Option<(i8, bool)>
     ensures { result ≡ past_all (λ step. step.now) key_past None tune.now }
 {
     let mut key = None;
@@ -59,7 +59,7 @@ pub fn opening_key(tune: &[&Item]) -> Option<(i8, bool)>
 }
 
 /// The order of a tune's parts, where its header has one.
-pub fn order_of<'a>(tune: &[&'a Item]) -> Option<&'a [u8]>
+pub(crate) fn order_of<'a>(tune: &[&'a Item]) -> Option<&'a [u8]>
     ensures { option_copied result ≡ past_all (λ step. step.now) order_past None tune.now }
 {
     let mut order: Option<&'a [u8]> = None;
@@ -72,7 +72,7 @@ pub fn order_of<'a>(tune: &[&'a Item]) -> Option<&'a [u8]>
 }
 
 /// The title of a tune, empty where it has none.
-pub fn title_of<'a>(tune: &[&'a Item]) -> &'a [u8]
+pub(crate) fn title_of<'a>(tune: &[&'a Item]) -> &'a [u8]
     ensures { result.now ≡ title_of (λ step. step.now) tune.now }
 {
     for item in tune {

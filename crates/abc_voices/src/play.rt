@@ -82,7 +82,7 @@ fn played_once<'a>(part: Vec<&'a Item>, room: u64) -> Result<Vec<&'a Item>, Repe
 
 /// What is played of the items of a voice in a section, in order of play, where there is room for so many
 /// places. Memory for more places than there are items is asked for only where there is room.
-pub fn played<'a>(
+pub(crate) fn played<'a>(
     alloc: Global,
     part: Vec<&'a Item>,
     room: u64,
@@ -107,7 +107,7 @@ pub fn played<'a>(
 
 /// How long items take one after another, unless that is later than a tune may end.
 #[tactic(auto, unfolding(abc_time::specs::Grains::grains_of_a_whole_note, abc_time::specs::Grains::grains_of_the_latest_end))]
-pub fn duration(steps: &[&Item]) -> Option<Grains>
+pub(crate) fn duration(steps: &[&Item]) -> Option<Grains>
     ensures { MatchOption result
         (grains_of_the_latest_end < duration (λ step. step.now) steps.now)
         (λ grains. (grains.0 ≡ duration (λ step. step.now) steps.now) × (grains.0 ≤ grains_of_the_latest_end)) }

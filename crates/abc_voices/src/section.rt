@@ -8,7 +8,7 @@ use std::alloc::{AllocError, Global};
 
 /// A section of a tune.
 #[derive(Clone, Copy)]
-pub struct Section<'s, 't> {
+pub(crate) struct Section<'s, 't> {
     /// The current voice where it begins.
     pub voice: &'t [u8],
     /// What stands in it.
@@ -65,7 +65,7 @@ pub(crate) fn opening_voice<'a>(tune: &[&'a Item]) -> &'a [u8]
 }
 
 /// The items of a voice, of those from a place on where a voice is the current one.
-pub fn part<'a>(
+pub(crate) fn part<'a>(
     alloc: Global,
     voice: &[u8],
     opening: &'a [u8],
@@ -86,7 +86,7 @@ pub fn part<'a>(
 
 /// The sections of a tune, the opening one first, where this voice is the current one before the first V: of the
 /// body.
-pub fn sections<'s, 't>(
+pub(crate) fn sections<'s, 't>(
     alloc: Global,
     tune: &'s [&'t Item],
     first: &'t [u8],
@@ -119,7 +119,7 @@ pub fn sections<'s, 't>(
 }
 
 /// The letters of the sections behind the opening one.
-pub fn letters(alloc: Global, tune: &[&Item]) -> Result<Vec<u8>, AllocError>
+pub(crate) fn letters(alloc: Global, tune: &[&Item]) -> Result<Vec<u8>, AllocError>
     ensures { IfOk result (λ found. found.items ≡ letters (λ step. step.now) tune.now) }
 {
     let mut found = Vec::new(alloc);

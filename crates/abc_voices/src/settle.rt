@@ -9,7 +9,7 @@ use std::alloc::{AllocError, Global};
 use std::collections::HashSet;
 
 /// Of changes of one sort in order of play the last one of each tick, the last of all first.
-pub fn settled<T: Copy>(
+pub(crate) fn settled<T: Copy>(
     alloc: Global,
     changes: &[(Grains, T)],
 ) -> Result<Vec<(Grains, T)>, AllocError>

@@ -9,7 +9,7 @@ use abc_music::Item;
 use abc_time::Grains;
 
 /// When a moment and the last of some notes are over.
-pub fn last_off(at: Grains, notes: &[Sounding]) -> Grains
+pub(crate) fn last_off(at: Grains, notes: &[Sounding]) -> Grains
     ensures { result.0 ≡ last_off at.0 notes.now }
 {
     let mut last = at;
@@ -27,7 +27,7 @@ fn takes_time(item: &Item) -> bool
 }
 
 /// Whether something of a play takes time.
-pub fn plays_time(steps: &[&Item]) -> bool
+pub(crate) fn plays_time(steps: &[&Item]) -> bool
     ensures { result ≡ list_any (λ step. takes_time step.now) steps.now }
 {
     for step in steps {

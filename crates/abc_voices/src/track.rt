@@ -32,7 +32,7 @@ fn put_name<'a>(known: &mut Vec<&'a [u8]>, name: &'a [u8]) -> Result<(), AllocEr
 }
 
 /// The voices of a tune, that without a name before those that have one.
-pub fn everyone<'a>(alloc: Global, tune: &[&'a Item]) -> Result<Vec<&'a [u8]>, AllocError>
+pub(crate) fn everyone<'a>(alloc: Global, tune: &[&'a Item]) -> Result<Vec<&'a [u8]>, AllocError>
     ensures { IfOk result (λ voices. map (λ voice. voice.now) voices.items ≡ everyone (λ step. step.now) tune.now) }
 {
     let mut voices = Vec::new(alloc);
@@ -62,7 +62,7 @@ fn plays_first(tune: &[&Item]) -> bool
 
 /// Whether the voice without a name has a track, where this one is the current one before the
 /// first V: of the body.
-pub fn nameless_plays(tune: &[&Item], opening: &[u8]) -> bool
+pub(crate) fn nameless_plays(tune: &[&Item], opening: &[u8]) -> bool
     requires { opening.now ≡ opening_voice (λ step. step.now) tune.now }
     ensures { result ≡ nameless_plays (λ step. step.now) tune.now }
 {

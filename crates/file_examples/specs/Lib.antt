@@ -1,2 +1,3 @@
+pub mod Tunes
 pub mod Values
 pub mod Words

@@ -8,6 +8,8 @@
 #[cfg(test)]
 mod account;
 #[cfg(test)]
+mod costs;
+#[cfg(test)]
 mod memos;
 #[cfg(test)]
 mod orders;

@@ -15,7 +15,25 @@ fn line_of(number: u8) -> [u8; 3]
     [b'c', b'0' + number / 10 % 10, b'0' + number % 10]
 }
 
-/// Whether a memo gives the file of a tune of this line behind a file header that sets this byte.
+/// Whether a memo gives the file of a tune of this line behind a file header that sets this byte; nothing where it finds
+/// no memory.
+fn answered(
+    alloc: Global,
+    memo: &mut ToyMemo,
+    byte: u8,
+    number: u8,
+    work: &mut Work,
+) -> Option<bool> {
+    let line = line_of(number);
+    let built = memo.ask(alloc, byte, &line, work).ok()?;
+    let file = [byte, line[0], line[1], line[2]];
+    match &built.get().bytes {
+        Some(bytes) => Some(bytes.as_slice() == file.as_slice()),
+        None => Some(false),
+    }
+}
+
+/// The same where there is memory.
 fn gives(
     rt: &impl Abort,
     alloc: Global,
@@ -24,15 +42,7 @@ fn gives(
     number: u8,
     work: &mut Work,
 ) -> bool {
-    let line = line_of(number);
-    let built = memo
-        .ask(alloc, byte, &line, work)
-        .expect(rt, "there is memory");
-    let file = [byte, line[0], line[1], line[2]];
-    match &built.get().bytes {
-        Some(bytes) => bytes.as_slice() == file.as_slice(),
-        None => false,
-    }
+    answered(alloc, memo, byte, number, work).expect(rt, "there is memory")
 }
 
 #[test]
@@ -69,4 +79,22 @@ fn the_tune_last_asked_for_stays(rt: HostRuntime) {
     assert!(rt; gives(&rt, alloc, &mut memo, b'0', 1, &mut work) && work.built() == 65);
     assert!(rt; gives(&rt, alloc, &mut memo, b'0', 3, &mut work) && work.built() == 65);
     assert!(rt; gives(&rt, alloc, &mut memo, b'0', 2, &mut work) && work.built() == 66);
+}
+
+// One request for memory is refused by `rt try --test --fail-alloc N`: then no answer is a wrong one, of any two calls one
+// has an answer, and the tune is built twice at most.
+#[test]
+fn no_answer_hangs_on_memory(rt: HostRuntime) {
+    let alloc = rt.alloc();
+    let Ok(mut memo) = ToyMemo::new(alloc) else {
+        return;
+    };
+    let mut work = Work::mint(&rt);
+    let first = answered(alloc, &mut memo, b'0', 1, &mut work);
+    let second = answered(alloc, &mut memo, b'0', 1, &mut work);
+    let third = answered(alloc, &mut memo, b'0', 1, &mut work);
+    assert!(rt; first.unwrap_or(true) && second.unwrap_or(true) && third.unwrap_or(true));
+    assert!(rt; first.is_some() || second.is_some() && third.is_some());
+    assert!(rt; second.is_some() || third.is_some());
+    assert!(rt; work.built() <= 2);
 }

@@ -7,7 +7,7 @@ ghost use Rattle.abc_fold.specs.Chain.{Folds};
 ghost use Rattle.abc_fold.specs.Piece.{IsKept};
 
 use abc_bars::{BarFold, Entry};
-use abc_fold::{Chain, Fold, Piece, Resumable, Work};
+use abc_fold::{Chain, Fold, Piece, Resumable, Shared, Work};
 use abc_scan::{Cell, scan};
 use std::alloc::{AllocError, Global};
 use std::rt::HostRuntime;
@@ -20,7 +20,7 @@ fn line_piece(alloc: Global, line: &[u8], work: &mut Work) -> Result<Piece<BarFo
     ensures { IfOk result (λ piece. IsKept bars piece) }
 {
     let cell = Cell::from(scan(alloc, line, work)?);
-    Ok(Piece::New(cell))
+    Ok(Piece::New(Shared::new(alloc, cell)?))
 }
 
 /// The tune of `X:1`, `K:C` and a hundred lines `CDEF|`.

@@ -38,6 +38,44 @@ fn the_gap_stands_where_a_list_was_last_changed(rt: HostRuntime) {
     assert_eq!(rt; list.room(), 1);
 }
 
+#[test]
+fn an_item_is_changed_where_it_lies(rt: HostRuntime) {
+    let alloc = rt.alloc();
+    let mut list = GapList::with_room(alloc, 4).expect(&rt, "there is memory");
+    list.insert(0, 7);
+    list.insert(0, 8);
+    list.insert(1, 9);
+    // one before the gap, and one behind it
+    for (i, item) in [(0, 5), (2, 6), (3, 4)] {
+        if let Some(place) = list.get_mut(i) {
+            *place = item;
+        }
+    }
+    assert_eq!(rt;
+        items(alloc, &list)
+            .expect(&rt, "there is memory")
+            .as_slice(),
+        &[5, 9, 6][..]
+    );
+    assert_eq!(rt; list.gap(), 2);
+    assert_eq!(rt; list.moved(), 1);
+}
+
+#[test]
+fn a_range_of_a_list_is_given_in_order(rt: HostRuntime) {
+    let alloc = rt.alloc();
+    let mut list = GapList::with_room(alloc, 4).expect(&rt, "there is memory");
+    list.insert(0, 7);
+    list.insert(0, 8);
+    list.insert(1, 9);
+    assert!(rt; list.len() == 3);
+    let mut range = list.range(1..3);
+    assert_eq!(rt; range.next().copied(), Some(9));
+    assert_eq!(rt; range.next().copied(), Some(7));
+    assert_eq!(rt; range.next().copied(), None);
+    assert_eq!(rt; list.iter().count(), 3);
+}
+
 /// Counts up when it is dropped.
 struct Told<'a> {
     drops: &'a Cell<u32>,
@@ -102,14 +140,15 @@ fn each_item_of_a_splice_is_dropped_once(rt: HostRuntime) {
     assert_eq!(rt; drops.get(), 3);
     assert_eq!(rt; list.gap(), 1);
     assert!(rt; list.len() == 3);
-    let two = several(alloc, &drops, 2).expect(&rt, "there is memory");
+    let four = several(alloc, &drops, 4).expect(&rt, "there is memory");
+    // seven do not fit, so that the patch has a list of its own
     let patch = list
-        .splice_prepare(alloc, 3, 0, two)
+        .splice_prepare(alloc, 3, 0, four)
         .expect(&rt, "there is memory");
     patch.drop_patch();
-    assert_eq!(rt; drops.get(), 5);
+    assert_eq!(rt; drops.get(), 7);
     drop(list);
-    assert_eq!(rt; drops.get(), 8);
+    assert_eq!(rt; drops.get(), 10);
 }
 
 #[test]

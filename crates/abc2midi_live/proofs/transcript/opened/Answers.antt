@@ -6,6 +6,9 @@ use Rattle.abc_publish.specs.Publisher.{maps_of}
 use Rattle.abc2midi_live.specs.Dialogue.{Opens}
 use Rattle.abc2midi_live.specs.Gathering.{begun_of}
 use Rattle.abc2midi_live.specs.Told.{holding}
+use Rattle.abc2midi_live.specs.declared.fault.RunFault.TheVariants.{Memory}
+use Rattle.abc2midi_live.proofs.Counts.{raised_none}
+use Rattle.abc2midi_live.proofs.Feeding.{fault_is}
 use Rattle.abc2midi_live.proofs.Runs.{opens_none, opens_some}
 use Rattle.abc2midi_live.proofs.transcript.opened.Goals as goal
 
@@ -16,6 +19,11 @@ returns-in-None-clause-answer g c =
     let begun = begun_of d.gathering in
     let opens = opens_none d.session.text h.directory begun c.in_ok-dialogue.ensures.session c.in_ok-dialogue.ensures.directory (ap begun_of c.in_ok-dialogue.ensures.gathering) in
     ([], Appends-nil _, subst (λ book. Opens book [] h begun) (sym (ap option_copied c.in-None.is)) opens)
+
+pub returns-in_err-text-in-Some-clause-fails : goal.returns-in_err-text-in-Some-clause-fails
+returns-in_err-text-in-Some-clause-fails g c =
+    let failed = c.from_residual-in_err-text-in-Some in
+    rw (fault_is failed.result Memory failed.ensures) (sym (raised_none _))
 
 pub returns-in-Ok-clause-answer : goal.returns-in-Ok-clause-answer
 returns-in-Ok-clause-answer g c =

@@ -1,6 +1,7 @@
-use Rattle.std.proofs.Common.{◌≡◌, ◌∷◌, All, List, Option, IfSome, length, refl, sym, ◌∙◌, subst}
+use Rattle.std.proofs.Common.{◌≡◌, ◌∷◌, All, List, Option, IfSome, length, refl, sym, ◌∙◌, ap, subst}
 use Rattle.std.specs.List.{AllZip}
 use Rattle.abc_book.specs.declared.block.Block.{Block}
+use Rattle.abc_fold.specs.Chain.{Chained}
 use Rattle.abc_fold.specs.Steps.{steps_of}
 use Rattle.abc_fold.specs.Work.{IsRaisedUpTo}
 use Rattle.abc_chains.specs.Holding.{IsChain, LiesWithin}
@@ -41,7 +42,7 @@ returns-in_err-others-clause-counted g c =
     let own = c.opening_behind-opening.result in
     whole_cost steps rules' c.args.old.now c.args.rows.now c.args.blocks.now _ _ _ first own c.deref.result.now (g.met.C.Resumable.resumable c.args.compiler.now) (g.met.C.Compiler.lawful c.args.compiler.now) c.requires.blocks
     (subst (λ (o : Option Block). IsHeader steps rules'.header c.args.rows.now first o) header c.in_ok-first.ensures.chain)
-    (subst (λ (o : Option Block). own ≡ rules'.tune (behind_chain o first)) header c.opening_behind-opening.ensures)
+    (subst (λ (o : Option Block). own ≡ rules'.tune (behind_chain o first)) header (c.opening_behind-opening.ensures ∙ ap (λ (x : Chained g.row.C-State.Denot g.row.C-Cell.Denot g.row.C-Items.Denot). rules'.tune (behind_chain c.header_in-header.result x)) c.get.ensures))
     (c.deref.ensures.value ∙ c.in_ok-tunes.ensures)
     (subst (λ (o : Option Block). IsRaisedUpTo (header_steps steps rules'.header c.args.old.now c.args.rows.now o) (g.C.Work.Counts.counts c.args.work.now) (g.C.Work.Counts.counts c.header_chain.new.work)) header c.header_chain.ensures.counted)
     c.tune_chains.ensures.counted
@@ -55,7 +56,7 @@ returns-in_err-push-clause-counted g c =
     let own = c.opening_behind-opening.result in
     whole_cost steps rules' c.args.old.now c.args.rows.now c.args.blocks.now _ _ _ first own c.deref.result.now (g.met.C.Resumable.resumable c.args.compiler.now) (g.met.C.Compiler.lawful c.args.compiler.now) c.requires.blocks
     (subst (λ (o : Option Block). IsHeader steps rules'.header c.args.rows.now first o) header c.in_ok-first.ensures.chain)
-    (subst (λ (o : Option Block). own ≡ rules'.tune (behind_chain o first)) header c.opening_behind-opening.ensures)
+    (subst (λ (o : Option Block). own ≡ rules'.tune (behind_chain o first)) header (c.opening_behind-opening.ensures ∙ ap (λ (x : Chained g.row.C-State.Denot g.row.C-Cell.Denot g.row.C-Items.Denot). rules'.tune (behind_chain c.header_in-header.result x)) c.get.ensures))
     (c.deref.ensures.value ∙ c.in_ok-tunes.ensures)
     (subst (λ (o : Option Block). IsRaisedUpTo (header_steps steps rules'.header c.args.old.now c.args.rows.now o) (g.C.Work.Counts.counts c.args.work.now) (g.C.Work.Counts.counts c.header_chain.new.work)) header c.header_chain.ensures.counted)
     c.tune_chains.ensures.counted
@@ -69,7 +70,7 @@ returns-in_err-append-clause-counted g c =
     let own = c.opening_behind-opening.result in
     whole_cost steps rules' c.args.old.now c.args.rows.now c.args.blocks.now _ _ _ first own c.deref.result.now (g.met.C.Resumable.resumable c.args.compiler.now) (g.met.C.Compiler.lawful c.args.compiler.now) c.requires.blocks
     (subst (λ (o : Option Block). IsHeader steps rules'.header c.args.rows.now first o) header c.in_ok-first.ensures.chain)
-    (subst (λ (o : Option Block). own ≡ rules'.tune (behind_chain o first)) header c.opening_behind-opening.ensures)
+    (subst (λ (o : Option Block). own ≡ rules'.tune (behind_chain o first)) header (c.opening_behind-opening.ensures ∙ ap (λ (x : Chained g.row.C-State.Denot g.row.C-Cell.Denot g.row.C-Items.Denot). rules'.tune (behind_chain c.header_in-header.result x)) c.get.ensures))
     (c.deref.ensures.value ∙ c.in_ok-tunes.ensures)
     (subst (λ (o : Option Block). IsRaisedUpTo (header_steps steps rules'.header c.args.old.now c.args.rows.now o) (g.C.Work.Counts.counts c.args.work.now) (g.C.Work.Counts.counts c.header_chain.new.work)) header c.header_chain.ensures.counted)
     c.tune_chains.ensures.counted
@@ -83,7 +84,7 @@ returns-clause-counted g c =
     let own = c.opening_behind-opening.result in
     whole_cost steps rules' c.args.old.now c.args.rows.now c.args.blocks.now _ _ _ first own c.deref.result.now (g.met.C.Resumable.resumable c.args.compiler.now) (g.met.C.Compiler.lawful c.args.compiler.now) c.requires.blocks
     (subst (λ (o : Option Block). IsHeader steps rules'.header c.args.rows.now first o) header c.in_ok-first.ensures.chain)
-    (subst (λ (o : Option Block). own ≡ rules'.tune (behind_chain o first)) header c.opening_behind-opening.ensures)
+    (subst (λ (o : Option Block). own ≡ rules'.tune (behind_chain o first)) header (c.opening_behind-opening.ensures ∙ ap (λ (x : Chained g.row.C-State.Denot g.row.C-Cell.Denot g.row.C-Items.Denot). rules'.tune (behind_chain c.header_in-header.result x)) c.get.ensures))
     (c.deref.ensures.value ∙ c.in_ok-tunes.ensures)
     (subst (λ (o : Option Block). IsRaisedUpTo (header_steps steps rules'.header c.args.old.now c.args.rows.now o) (g.C.Work.Counts.counts c.args.work.now) (g.C.Work.Counts.counts c.header_chain.new.work)) header c.header_chain.ensures.counted)
     c.tune_chains.ensures.counted
@@ -97,7 +98,7 @@ returns-clause-chains g c = λ text read.
     let first = c.in_ok-first.first in
     let own = c.opening_behind-opening.result in
     let made = subst (λ (o : Option Block). IsHeader steps rules'.header c.args.rows.now first o) header c.in_ok-first.ensures.chain in
-    let is = subst (λ (o : Option Block). own ≡ rules'.tune (behind_chain o first)) header c.opening_behind-opening.ensures in
+    let is = subst (λ (o : Option Block). own ≡ rules'.tune (behind_chain o first)) header (c.opening_behind-opening.ensures ∙ ap (λ (x : Chained g.row.C-State.Denot g.row.C-Cell.Denot g.row.C-Items.Denot). rules'.tune (behind_chain c.header_in-header.result x)) c.get.ensures) in
     let alike = own_opening steps rules' text c.args.rows.now c.args.blocks.now first own laws (g.met.C.Compiler.lawful c.args.compiler.now) read c.requires.blocks made is in
     let tunes = subst (λ (b : List Block). AllZip (IsChain steps own c.args.rows.now) c.in_ok-others.others.items b) (c.deref.ensures.value ∙ c.in_ok-tunes.ensures) c.in_ok-others.ensures.chains in
     let all : c.append.new.self.items ≡ first ∷ c.in_ok-others.others.items = rw (c.in_ok-append.ensures.items, c.in_ok-push.ensures.items, c.new-chains.ensures.items) refl in

@@ -15,11 +15,11 @@ returns-in_err-chain-clause-counted g c =
     let is : block ≡ get_or c.args.blocks.now c.loop-block.block-index block = get_same c.args.blocks.now c.loop-block.block-index _ block c.loop-block-test.true in
     let before = g.F.Work.Counts.counts c.args.work.now in
     let now = g.F.Work.Counts.counts c.loop-block.work in
-    let later = g.F.Work.Counts.counts c.chain_of.new.work in
+    let later = g.F.Work.Counts.counts c.chain_over.new.work in
     let rest = sum_by taken (drop (c.loop-block.block-index + 1) c.args.blocks.now) in
     let most = sum_by taken c.args.blocks.now in
     let here = subst (λ k. IsWithin before now k most) (sum_at taken c.args.blocks.now c.loop-block.block-index block is c.loop-block-test.true) c.loop-block.invariant.within in
-    within_raised before later rest most (within_more before now later (taken block) rest most here c.chain_of.ensures.counted)
+    within_raised before later rest most (within_more before now later (taken block) rest most here c.chain_over.ensures.counted)
 
 pub returns-in_err-push-clause-counted : goal.returns-in_err-push-clause-counted
 returns-in_err-push-clause-counted g c =
@@ -28,11 +28,11 @@ returns-in_err-push-clause-counted g c =
     let is : block ≡ get_or c.args.blocks.now c.loop-block.block-index block = get_same c.args.blocks.now c.loop-block.block-index _ block c.loop-block-test.true in
     let before = g.F.Work.Counts.counts c.args.work.now in
     let now = g.F.Work.Counts.counts c.loop-block.work in
-    let later = g.F.Work.Counts.counts c.chain_of.new.work in
+    let later = g.F.Work.Counts.counts c.chain_over.new.work in
     let rest = sum_by taken (drop (c.loop-block.block-index + 1) c.args.blocks.now) in
     let most = sum_by taken c.args.blocks.now in
     let here = subst (λ k. IsWithin before now k most) (sum_at taken c.args.blocks.now c.loop-block.block-index block is c.loop-block-test.true) c.loop-block.invariant.within in
-    within_raised before later rest most (within_more before now later (taken block) rest most here c.chain_of.ensures.counted)
+    within_raised before later rest most (within_more before now later (taken block) rest most here c.chain_over.ensures.counted)
 
 pub loop-block-preserved : goal.loop-block-preserved
 loop-block-preserved g c =
@@ -42,14 +42,14 @@ loop-block-preserved g c =
     let is : block ≡ get_or c.args.blocks.now c.loop-block.block-index block = get_same c.args.blocks.now c.loop-block.block-index _ block c.loop-block-test.true in
     let before = g.F.Work.Counts.counts c.args.work.now in
     let now = g.F.Work.Counts.counts c.loop-block.work in
-    let later = g.F.Work.Counts.counts c.chain_of.new.work in
+    let later = g.F.Work.Counts.counts c.chain_over.new.work in
     let rest = sum_by taken (drop (c.loop-block.block-index + 1) c.args.blocks.now) in
     let most = sum_by taken c.args.blocks.now in
     let here = subst (λ k. IsWithin before now k most) (sum_at taken c.args.blocks.now c.loop-block.block-index block is c.loop-block-test.true) c.loop-block.invariant.within in
     record {
       chains = rw c.in_ok-push.ensures.items
           (zip_next (IsChain steps c.args.opening.now c.args.rows.now) c.loop-block.chains.items c.args.blocks.now c.loop-block.block-index c.in_ok-chain.chain block c.loop-block.invariant.chains c.in_ok-chain.ensures.chain is c.loop-block-test.true);
-      within = within_more before now later (taken block) rest most here c.chain_of.ensures.counted;
+      within = within_more before now later (taken block) rest most here c.chain_over.ensures.counted;
     }
 
 pub returns-clause-counted : goal.returns-clause-counted

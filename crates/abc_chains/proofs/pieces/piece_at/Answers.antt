@@ -17,12 +17,12 @@ bounds-chains-origin-inside g c = source_there c.args.chains.now c.args.row.now.
 pub overflow_add-origin-inside : goal.overflow_add-origin-inside
 overflow_add-origin-inside g c =
     let within = place_within c.args.chains.now c.args.row.now.cells c.args.row.now.origin c.in-Some.origin c.origin.inside.source c.origin.inside.first c.args.k c.index-chains-origin.result (ap (λ (l : Row g.row.F-Cell.Denot). l.origin) (sym c.row.view_is) ∙ c.in-Some.is) (sym c.origin.view_is) c.requires.carried c.requires.inside c.index-chains-origin.is in
-    let count = c.len-count.ensures in
-    let fits = c.len-count.type_inv in
+    let count = c.count_of-count.ensures in
+    let fits = c.count_of-count.type_inv in
     omega arith
 
-pub kept-requires : goal.kept-requires
-kept-requires g c = place_within c.args.chains.now c.args.row.now.cells c.args.row.now.origin c.in-Some.origin c.origin.inside.source c.origin.inside.first c.args.k c.index-chains-origin.result (ap (λ (l : Row g.row.F-Cell.Denot). l.origin) (sym c.row.view_is) ∙ c.in-Some.is) (sym c.origin.view_is) c.requires.carried c.requires.inside c.index-chains-origin.is
+pub kept_at-requires : goal.kept_at-requires
+kept_at-requires g c = place_within c.args.chains.now c.args.row.now.cells c.args.row.now.origin c.in-Some.origin c.origin.inside.source c.origin.inside.first c.args.k c.index-chains-origin.result (ap (λ (l : Row g.row.F-Cell.Denot). l.origin) (sym c.row.view_is) ∙ c.in-Some.is) (sym c.origin.view_is) c.requires.carried c.requires.inside c.index-chains-origin.is
 
 pub returns-in_ok-cell-in-None-clause-cell : goal.returns-in_ok-cell-in-None-clause-cell
 returns-in_ok-cell-in-None-clause-cell g c =
@@ -33,18 +33,18 @@ returns-in_ok-cell-in-None-clause-cell g c =
     ∙ ap (λ x. Some x) (sym c.in_ok-cell-in-None.ensures)
 
 pub returns-in-Some-clause-cell : goal.returns-in-Some-clause-cell
-returns-in-Some-clause-cell g c = own_cell c.args.row.now.cells c.index-chains-origin.result (c.origin.inside.first + c.args.k) c.args.k c.kept.result
+returns-in-Some-clause-cell g c = own_cell c.args.row.now.cells c.index-chains-origin.result (c.origin.inside.first + c.args.k) c.args.k c.kept_at.result
     (place_there c.args.chains.now c.args.row.now.cells c.args.row.now.origin c.in-Some.origin c.origin.inside.source c.origin.inside.first c.args.k c.index-chains-origin.result (ap (λ (l : Row g.row.F-Cell.Denot). l.origin) (sym c.row.view_is) ∙ c.in-Some.is) (sym c.origin.view_is) c.requires.carried c.requires.inside c.index-chains-origin.is)
-    c.kept.ensures.place
+    c.kept_at.ensures.place
 
 pub returns-in-Some-clause-held : goal.returns-in-Some-clause-held
-returns-in-Some-clause-held g c = own_held c.args.chains.now c.args.row.now.cells c.args.row.now.origin c.in-Some.origin c.origin.inside.source c.origin.inside.first c.args.k c.index-chains-origin.result c.kept.result (ap (λ (l : Row g.row.F-Cell.Denot). l.origin) (sym c.row.view_is) ∙ c.in-Some.is) (sym c.origin.view_is) c.requires.carried c.requires.inside c.index-chains-origin.is c.kept.ensures.place
+returns-in-Some-clause-held g c = own_held c.args.chains.now c.args.row.now.cells c.args.row.now.origin c.in-Some.origin c.origin.inside.source c.origin.inside.first c.args.k c.index-chains-origin.result c.kept_at.result (ap (λ (l : Row g.row.F-Cell.Denot). l.origin) (sym c.row.view_is) ∙ c.in-Some.is) (sym c.origin.view_is) c.requires.carried c.requires.inside c.index-chains-origin.is c.kept_at.ensures.place
 
 pub returns-in-Some-clause-kept : goal.returns-in-Some-clause-kept
 returns-in-Some-clause-kept g c =
     let steps = steps_of (g.F.Fold.next c.args.fold.now) (g.F.Fold.gives c.args.fold.now) (g.F.Resumable.alike c.args.fold.now) in
     let there = source_there c.args.chains.now c.args.row.now.cells c.args.row.now.origin c.in-Some.origin c.origin.inside.source c.origin.inside.first c.args.k (ap (λ (l : Row g.row.F-Cell.Denot). l.origin) (sym c.row.view_is) ∙ c.in-Some.is) (sym c.origin.view_is) c.requires.carried c.requires.inside in
     let own : IsFolded steps c.index-chains-origin.result = subst (IsFolded steps) (sym c.index-chains-origin.is) (c.requires.folded c.origin.inside.source c.index-chains-origin.result there) in
-    kept_there steps c.index-chains-origin.result (c.origin.inside.first + c.args.k) c.kept.result own
+    kept_there steps c.index-chains-origin.result (c.origin.inside.first + c.args.k) c.kept_at.result own
     (place_within c.args.chains.now c.args.row.now.cells c.args.row.now.origin c.in-Some.origin c.origin.inside.source c.origin.inside.first c.args.k c.index-chains-origin.result (ap (λ (l : Row g.row.F-Cell.Denot). l.origin) (sym c.row.view_is) ∙ c.in-Some.is) (sym c.origin.view_is) c.requires.carried c.requires.inside c.index-chains-origin.is)
-    (λ opening folds. c.kept.ensures.resumable steps opening (g.met.F.Resumable.resumable c.args.fold.now) folds)
+    (λ opening folds. c.kept_at.ensures.resumable steps opening (g.met.F.Resumable.resumable c.args.fold.now) folds)

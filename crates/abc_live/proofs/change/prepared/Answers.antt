@@ -4,7 +4,6 @@ use Rattle.abc_fold.specs.Steps.{steps_of}
 use Rattle.abc_lines.specs.Text.{splice_from}
 use Rattle.abc_live.specs.Edit.{splice_of}
 use Rattle.abc_live.proofs.Costs.{edit_is, edit_none, fold_is, fold_none, takes_if}
-use Rattle.abc_live.proofs.Parts.{few_if}
 use Rattle.abc_live.proofs.change.prepared.Goals as goal
 
 pub returns-in-None-clause-refused : goal.returns-in-None-clause-refused
@@ -33,8 +32,3 @@ returns-in-Some-clause-counted g c =
     let change = c.in-Some.change in
     fold_is steps (g.C.Compiler.rules c.args.text.now.compiler) c.args.text.now.lines.text (splice_of c.args.edit.now) (splice_from change.at change.removed change.lines.now) (length change.lines.now) (g.C.Work.Counts.counts c.args.work.now) (g.C.Work.Counts.counts c.prepare.new.work)
     c.in-Some.ensures (sym (length-map change.lines.now (λ line. line.items))) c.prepare.ensures.counted
-
-pub returns-in-Some-clause-few : goal.returns-in-Some-clause-few
-returns-in-Some-clause-few g c =
-    let change = c.in-Some.change in
-    few_if (λ patch. patch.text) c.args.text.now.lines.text (splice_from change.at change.removed change.lines.now) c.prepare.result c.prepare.ensures.text

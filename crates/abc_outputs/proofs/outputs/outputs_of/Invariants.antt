@@ -1,13 +1,14 @@
 use Rattle.std.proofs.Common.{◌≡◌, ◌++◌, drop, map}
-use Rattle.std.specs.List.{AllZip}
-use Rattle.abc_outputs.specs.Output.{TakesOver, output_in}
+use Rattle.abc_fold.specs.Steps.{steps_of}
+use Rattle.abc_memo.specs.Memo.{Remembers}
+use Rattle.abc_outputs.specs.Output.{output_in}
 use Rattle.abc_outputs.proofs.Building.{BuiltSoFar}
 use Rattle.abc_outputs.proofs.outputs.outputs_of.Given as goal
 
 -- the outputs so far, and those of the rest, for which no more is built than their share
 abbrev pub invariant-loop-place : goal.invariant-loop-place
 invariant-loop-place g l = record {
-  values : l.made.items ++ map (output_in (g.C.Compiler.rules l.compiler)) (drop l.place l.chains) ≡ map (output_in (g.C.Compiler.rules l.compiler)) l.chains;
-  taken : AllZip (TakesOver (g.C.Compiler.rules l.compiler) l.outputs) (drop l.place l.chains) (drop l.place l.taken);
-  built : BuiltSoFar l.taken (drop l.place l.taken) (g.C.Work.Counts.counts l.initial.work) (g.C.Work.Counts.counts l.work);
+  values : l.made.items ++ map (output_in (g.C.Compiler.rules l.compiler)) (drop l.place l.text.chains.now) ≡ map (output_in (g.C.Compiler.rules l.compiler)) l.text.chains.now;
+  remembers : Remembers (steps_of (g.C.Fold.next l.compiler) (g.C.Fold.gives l.compiler) (g.C.Resumable.alike l.compiler)) (g.C.Compiler.rules l.compiler) l.memo;
+  built : BuiltSoFar l.old.taken.now (drop l.place l.old.taken.now) (g.C.Work.Counts.counts l.initial.work) (g.C.Work.Counts.counts l.work);
 }

@@ -6,6 +6,6 @@ use Rattle.abc_chains.proofs.text.KeptText.new.Goals as goal
 
 pub invariant_of-result : goal.invariant_of-result
 invariant_of-result g c =
-    let all : c.push.new.self.items ≡ no_cells ∷ [] = rw (c.in_ok-push.ensures.items, c.new-chains.ensures.items, c.in_ok-new.ensures.no_cells) refl in
-    empty_stands (steps_of (g.C.Fold.next c.args.compiler) (g.C.Fold.gives c.args.compiler) (g.C.Resumable.alike c.args.compiler)) (g.C.Compiler.rules c.args.compiler) c.in_ok-lines.lines.text c.new-3.result.items c.new-4.result.items c.push.new.self.items
-    c.in_ok-lines.ensures.empty c.new-3.ensures.items c.new-4.ensures.items all
+    let all : c.push.new.self.items ≡ no_cells ∷ [] = rw (c.in_ok-push.ensures.items, c.new-chains.ensures.items, c.in_ok-first.ensures, c.in_ok-none.ensures.no_cells) refl in
+    empty_stands (steps_of (g.C.Fold.next c.args.compiler) (g.C.Fold.gives c.args.compiler) (g.C.Resumable.alike c.args.compiler)) (g.C.Compiler.rules c.args.compiler) c.in_ok-lines.lines.text c.new-rows.result.items c.new-blocks.result.items c.push.new.self.items
+    c.in_ok-lines.ensures.empty c.new-rows.ensures.items c.new-blocks.ensures.items all

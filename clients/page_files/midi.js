@@ -1,0 +1,104 @@
+// A Standard MIDI File as what is drawn and played: notes with moments in ticks, tempos, bars, voices.
+
+const DRUMS = 9;
+
+/** The score of a file's bytes: notes in order of their starts, each with the voice (track) it belongs to. */
+export function scoreOf(buffer) {
+  const bytes = new DataView(buffer);
+  const score = { division: bytes.getUint16(12), notes: [], tempos: [], meters: [], end: 0, voices: 0 };
+  let at = 8 + bytes.getUint32(4);
+  while (at + 8 <= bytes.byteLength) {
+    const end = at + 8 + bytes.getUint32(at + 4);
+    readTrack(new DataView(buffer, at + 8, end - at - 8), score);
+    at = end;
+  }
+  score.notes.sort((a, b) => a.start - b.start || a.key - b.key);
+  score.tempos = timed(score.tempos, score.division);
+  score.bars = barsOf(score);
+  return score;
+}
+
+/** Adds the events of a track. A track with notes is a voice. */
+function readTrack(bytes, score) {
+  const programs = new Array(16).fill(0);
+  const open = new Map();
+  const notes = [];
+  let at = 0, tick = 0, status = 0;
+  const number = () => {
+    let value = 0, byte;
+    do { byte = bytes.getUint8(at++); value = value * 128 + (byte & 127); } while (byte & 128);
+    return value;
+  };
+  while (at < bytes.byteLength) {
+    tick += number();
+    if (bytes.getUint8(at) & 128) status = bytes.getUint8(at++);
+    const kind = status >> 4, channel = status & 15;
+    if (status >= 0xf0) {
+      const type = status === 0xff ? bytes.getUint8(at++) : 0;
+      const length = number();
+      if (type === 0x51) score.tempos.push({ tick, micros: bytes.getUint16(at) * 256 + bytes.getUint8(at + 2) });
+      if (type === 0x58) score.meters.push({ tick, over: bytes.getUint8(at), under: 2 ** bytes.getUint8(at + 1) });
+      at += length;
+    } else {
+      const first = bytes.getUint8(at++);
+      const second = kind === 12 || kind === 13 ? 0 : bytes.getUint8(at++);
+      const id = channel * 128 + first;
+      if (kind === 12) programs[channel] = first;
+      if ((kind === 8 || kind === 9) && open.has(id)) {
+        open.get(id).end = tick;
+        open.delete(id);
+      }
+      if (kind === 9 && second > 0) {
+        const note = { start: tick, end: tick, key: first, velocity: second, program: programs[channel], drum: channel === DRUMS };
+        notes.push(note);
+        open.set(id, note);
+      }
+    }
+  }
+  score.end = Math.max(score.end, tick);
+  if (notes.length) {
+    for (const note of notes) score.notes.push({ ...note, voice: score.voices });
+    score.voices += 1;
+  }
+}
+
+/** The tempos in order, each with the second at which it begins and the seconds of a tick. */
+function timed(tempos, division) {
+  const found = [{ tick: 0, second: 0, each: 0.5 / division }];
+  for (const { tick, micros } of tempos.sort((a, b) => a.tick - b.tick)) {
+    const last = found[found.length - 1];
+    const next = { tick, second: last.second + (tick - last.tick) * last.each, each: micros / 1e6 / division };
+    if (tick === last.tick) found[found.length - 1] = next;
+    else found.push(next);
+  }
+  return found;
+}
+
+/** The ticks at which bars begin, by the meters from tick 0; the end is the last. */
+function barsOf(score) {
+  const bars = [];
+  const meters = score.meters.sort((a, b) => a.tick - b.tick);
+  let tick = 0, next = 0, length = 4 * score.division;
+  while (tick < score.end) {
+    while (next < meters.length && meters[next].tick <= tick) {
+      length = Math.max(1, (4 * score.division * meters[next].over) / meters[next].under);
+      next += 1;
+    }
+    bars.push(tick);
+    tick = next < meters.length ? Math.min(tick + length, meters[next].tick) : tick + length;
+  }
+  bars.push(score.end);
+  return bars;
+}
+
+/** The second at which a tick is played. */
+export function secondOf(score, tick) {
+  const tempo = score.tempos.findLast((one) => one.tick <= tick);
+  return tempo.second + (tick - tempo.tick) * tempo.each;
+}
+
+/** The tick that is played at a second. */
+export function tickOf(score, second) {
+  const tempo = score.tempos.findLast((one) => one.second <= second) ?? score.tempos[0];
+  return tempo.tick + (second - tempo.second) / tempo.each;
+}

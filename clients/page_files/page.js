@@ -1,0 +1,375 @@
+// The page: ties the text, its faults, the tunes, the roll and the player together.
+
+import { Drafts } from "./drafts.js";
+import { Link } from "./link.js";
+import { scoreOf, secondOf } from "./midi.js";
+import { Player } from "./player.js";
+import { Roll, nameOf } from "./roll.js";
+import { Sheet } from "./sheet.js";
+import { Text } from "./text.js";
+import { Tunes } from "./tunes.js";
+
+const MOST_TOLD = 50; // faults of a tune in the list below the text
+const find = (id) => document.getElementById(id);
+
+const text = new Text();
+const link = new Link(text);
+const sheet = new Sheet(text, find("sheet"));
+const tunes = new Tunes(find("list"));
+const roll = new Roll(find("roll"), document.querySelector("canvas"));
+const player = new Player();
+
+const book = { name: "", faults: [], tunes: [], sentences: {} }; // as the server has it
+let drafts = null;
+let faults = [], rows = []; // as they stand in this window's text
+let shown = { number: null, score: null, asked: 0 }; // the tune in the roll
+let start = 0; // the tick at which to play
+
+/** Rows of the server's text, as they stand in this window's. */
+function placed(found) {
+  const { sent } = link;
+  const regions = [sent && { ...sent, count: sent.lines.length }, text.pending].filter(Boolean);
+  return regions.reduce((those, { start, stop, count }) => {
+    const more = count - (stop - start);
+    return those.flatMap((row) => {
+      if (row[0] < start || (row[0] < stop && row[0] - start < count)) return [row];
+      return row[0] < stop ? [] : [[row[0] + more, ...row.slice(1)]];
+    });
+  }, found);
+}
+
+/** Rows after a change of the server's text. */
+function changed(old, { start, stop, lines }, { at, out, put }) {
+  const more = lines.length - (stop - start);
+  const moved = old.filter(([line]) => line < start || line >= stop)
+    .map((row) => (row[0] < start || !more ? row : [row[0] + more, ...row.slice(1)]));
+  moved.splice(at, out, ...put.slice(0, 1000));
+  return put.length > 1000 ? moved.slice(0, at + 1000).concat(put.slice(1000), moved.slice(at + 1000)) : moved;
+}
+
+/** The place in sorted rows of the first that stands at a line or behind it. */
+function placeOf(found, line) {
+  let low = 0, high = found.length;
+  while (low < high) {
+    const middle = (low + high) >> 1;
+    if (found[middle][0] < line) low = middle + 1;
+    else high = middle;
+  }
+  return low;
+}
+
+const tuneAt = (line) => placeOf(rows, line + 1) - 1;
+
+/** What stands around the text follows it. */
+function follow() {
+  faults = placed(book.faults);
+  rows = placed(book.tunes);
+  find("tally").textContent = rows.length ? String(rows.length) : "";
+  const count = find("count");
+  count.textContent = faults.length ? `${faults.length} fault${faults.length === 1 ? "" : "s"}` : "No faults";
+  count.classList.toggle("some", faults.length > 0);
+  find("before").disabled = find("after").disabled = !faults.length;
+  sheet.drawFaults(sheet.faultsOf(sheet.first, sheet.last));
+  tell();
+}
+
+/** What belongs to the caret's line and its tune. */
+function tell() {
+  const line = Math.max(0, sheet.caret().line);
+  const at = tuneAt(line);
+  tunes.show(rows, at);
+  const from = at < 0 ? 0 : rows[at][0], to = rows[at + 1]?.[0] ?? text.lines.length;
+  const those = faults.slice(placeOf(faults, from), placeOf(faults, to)).slice(0, MOST_TOLD);
+  const nearest = those.filter((fault) => fault[0] === line).concat(those.filter((fault) => fault[0] !== line));
+  const list = find("told");
+  const items = nearest.map(told);
+  if (list.textContent !== items.map((item) => item.textContent).join("")) list.replaceChildren(...items);
+  if (!player.playing) show(at < 0 ? null : rows[at]);
+}
+
+function told([line, column, , name]) {
+  const item = document.createElement("li"), button = document.createElement("button");
+  button.type = "button";
+  button.append(Object.assign(document.createElement("b"), { textContent: `Line ${line + 1}` }), ...worded(name));
+  button.addEventListener("click", () => sheet.go(line, column, true));
+  item.append(button);
+  return item;
+}
+
+/** The sentence of a fault, with what stands in backquotes as code. */
+function worded(name) {
+  return (book.sentences[name] ?? name).split("`").map((part, n) => {
+    return n % 2 ? Object.assign(document.createElement("code"), { textContent: part }) : part;
+  });
+}
+
+/** Shows a tune in the roll. */
+function show(row) {
+  const number = row?.[3] ? row[1] : null;
+  const title = row ? `${row[1]} ${row[2]}` : "";
+  find("tune").textContent = title;
+  if (number !== shown.number) load(number);
+}
+
+/** Reads the file of a number; one that is asked for later comes in its place. */
+async function load(number) {
+  const asked = shown.asked + 1;
+  if (number !== shown.number) start = 0;
+  if (!start && !player.playing) roll.cursor(null);
+  shown = { ...shown, number, asked };
+  let score = null;
+  try {
+    const answer = number === null ? null : await fetch(`midi/${number}`);
+    if (answer?.ok) score = scoreOf(await answer.arrayBuffer());
+  } catch {
+    if (shown.asked === asked) shown.number = null;
+    return;
+  }
+  if (shown.asked !== asked) return;
+  shown.score = score;
+  roll.show(score);
+  if (player.playing) score ? player.change(score) : player.stop();
+  describe(score, number);
+}
+
+/** Says what is in the roll. */
+function describe(score, number) {
+  const midi = find("midi");
+  find("play").disabled = !score;
+  if (score) Object.assign(midi, { href: `midi/${number}`, download: `${number}.mid` });
+  else midi.removeAttribute("href");
+  const range = score?.notes.length ? `, from ${nameOf(roll.lowest)} to ${nameOf(roll.highest)}` : "";
+  const counted = score && `${score.voices} voice${score.voices === 1 ? "" : "s"}, ${score.bars.length - 1} bars`;
+  const label = score ? `Piano roll of tune ${number}: ${counted}, ${clock(secondOf(score, score.end))}${range}` : "No tune is here";
+  find("roll").setAttribute("aria-label", label);
+  find("voices").replaceChildren(...Array.from({ length: score?.voices > 1 ? score.voices : 0 }, (_, voice) => {
+    const swatch = document.createElement("i"), name = document.createElement("span");
+    swatch.style.background = roll.colour(voice);
+    name.append(swatch, String(voice + 1));
+    return name;
+  }));
+  time(player.playing ? player.tick : start);
+}
+
+const clock = (seconds) => `${Math.floor(seconds / 60)}:${String(Math.floor(seconds % 60)).padStart(2, "0")}`;
+
+function time(tick) {
+  const score = player.score ?? shown.score;
+  find("time").textContent = score ? `${clock(secondOf(score, tick))} / ${clock(secondOf(score, score.end))}` : "";
+}
+
+/** Plays the tune that is shown, or stops. */
+function playOrStop() {
+  if (player.playing) return player.stop();
+  if (!shown.score) return;
+  find("play").textContent = "■ Stop";
+  player.play(shown.score, start < shown.score.end ? start : 0);
+}
+
+player.moved = (tick) => {
+  roll.cursor(tick);
+  time(tick);
+};
+player.ended = () => {
+  find("play").textContent = "▶ Play";
+  roll.cursor(start || null);
+  time(start);
+  tell();
+};
+roll.picked = (tick) => {
+  start = tick;
+  if (player.playing) player.begin(player.score, tick, player.audio.currentTime + 0.05);
+  else roll.cursor(tick);
+  time(tick);
+};
+
+sheet.faultsOf = (first, last) => faults.slice(placeOf(faults, first), placeOf(faults, last));
+sheet.moved = () => {
+  find("tip").hidden = true;
+  tell();
+};
+sheet.pointed = (under, event) => {
+  const tip = find("tip");
+  tip.hidden = !under.length;
+  if (!under.length) return;
+  tip.replaceChildren(...[...new Set(under.map((fault) => fault[3]))].flatMap((name) => [...worded(name), " "]));
+  tip.style.left = `${Math.max(8, Math.min(event.clientX + 12, innerWidth - tip.offsetWidth - 8))}px`;
+  const below = event.clientY + 20;
+  tip.style.top = `${below + tip.offsetHeight < innerHeight ? below : event.clientY - tip.offsetHeight - 12}px`;
+};
+tunes.chosen = ([line]) => sheet.go(line, 0, true);
+text.edited = () => {
+  follow();
+  link.soon();
+  keepSoon();
+};
+
+link.opened = (fresh, whole) => {
+  if (fresh) {
+    Object.assign(book, { name: fresh.name, faults: fresh.faults, tunes: fresh.tunes, sentences: fresh.sentences });
+    drafts ??= new Drafts(fresh.id, link.window);
+    text.open(fresh.lines);
+  }
+  shown.number = undefined;
+  sheet.refresh(sheet.selection());
+  follow();
+  if (fresh && whole) offer();
+};
+link.changed = (change, own) => {
+  book.faults = changed(book.faults, change.edit, change.faults);
+  book.tunes = changed(book.tunes, change.edit, change.tunes);
+  if (own) follow();
+  else {
+    sheet.refresh(moved(sheet.selection(), change.edit));
+    follow();
+  }
+  const { written, removed, milliseconds } = change;
+  tunes.light(written, removed);
+  if (written.concat(removed).includes(shown.number)) load(shown.number);
+  const names = (what, numbers) => (numbers.length ? [`${what} ${numbers.slice(0, 8).map((n) => `${n}.mid`).join(", ")}${numbers.length > 8 ? " and more" : ""}`] : []);
+  const files = [...names("changed", written), ...names("removed", removed)].join("; ") || "no file changed";
+  say(`${files} · ${milliseconds} ms${own ? "" : " · by another window"}`);
+};
+link.told = () => {
+  const { version, saved, savedVersion, windows } = link.state ?? {};
+  const unsaved = link.state && (version !== savedVersion || !link.settled || saved === null);
+  find("unsaved").hidden = !unsaved;
+  document.title = `${unsaved ? "● " : ""}${book.name || "Tune book"} – abc2midi_live`;
+  find("name").textContent = book.name || "Tune book";
+  find("save").textContent = book.name || !link.state ? "Save" : "Download";
+  find("windows").hidden = !(windows > 1);
+  find("windows").textContent = `${windows} windows have this book`;
+  const footer = find("status");
+  footer.classList.toggle("away", Boolean(link.away));
+  if (link.away) {
+    const kept = keep() ? "what you type is kept in this browser, and sent when it is there again" : "and this browser has no room to keep the text: do not close it";
+    say(`The server is away (${link.away}): ${kept}.`);
+  } else if (footer.dataset.away) {
+    say("The server is there again.");
+  }
+  footer.dataset.away = link.away ? "away" : "";
+  if (link.state && !link.away && link.settled && !find("notice").dataset.asks) drafts?.forget();
+};
+link.refused = (why) => ask(`The server does not take this edit: ${why}. Undo it.`, { Undo: () => sheet.history(true) });
+link.twice = () => say("Another window changed the same lines: both are there.");
+link.doubted = (mine) => {
+  drafts.keep(mine);
+  ask("This window's text and the book both changed while the server was away.", {
+    "Keep this window's text": () => link.take(mine),
+    "Take the book as it is": () => drafts.forget(),
+  });
+};
+
+/** A selection, after lines were put in the place of others. */
+function moved(selection, { start, stop, lines }) {
+  const more = lines.length - (stop - start);
+  const move = (place) => (place.line >= stop ? { ...place, line: place.line + more } : place);
+  return { ...selection, start: move(selection.start), end: move(selection.end) };
+}
+
+/** Keeps the text in the browser, where the server may not have it: whether there was room. */
+function keep() {
+  return !drafts || !link.state || (link.settled && link.state.version === link.state.savedVersion) || drafts.keep(text.lines);
+}
+
+let keeping = null;
+function keepSoon() {
+  if (link.away) keeping ??= setTimeout(() => {
+    keeping = null;
+    keep();
+  }, 300);
+}
+
+/** Offers text that an earlier window left. */
+function offer() {
+  const draft = drafts.left(text.lines);
+  if (!draft) return;
+  ask(`This browser kept text of ${new Date(draft.when).toLocaleString()} that the book does not have.`, {
+    "Take it": () => {
+      link.take(draft.text.split("\n"));
+      drafts.forget(draft.key);
+    },
+    "Forget it": () => drafts.forget(draft.key),
+  });
+}
+
+/** Asks in a line, with a button for each answer. */
+function ask(question, answers) {
+  const notice = find("notice");
+  const words = Object.assign(document.createElement("span"), { textContent: question });
+  const buttons = Object.entries(answers).map(([name, act]) => {
+    const button = Object.assign(document.createElement("button"), { type: "button", textContent: name });
+    button.addEventListener("click", () => {
+      notice.hidden = true;
+      delete notice.dataset.asks;
+      act();
+    });
+    return button;
+  });
+  notice.replaceChildren(words, ...buttons);
+  notice.hidden = false;
+  notice.dataset.asks = "asks";
+  buttons[0].focus();
+}
+
+function say(words) {
+  find("status").textContent = words;
+}
+
+/** Saves the book, or hands it out where no book was named. */
+async function save(over) {
+  try {
+    if (!book.name) return download();
+    await link.save(over);
+    say(`Saved ${book.name}.`);
+  } catch (error) {
+    if (error.told && "ask" in error.told) {
+      ask("The book on disk was changed by another program since it was read.", {
+        "Keep the book on disk": () => say("Not saved."),
+        "Replace it by this text": () => save({ over: error.told.ask }),
+      });
+    } else {
+      say(`Not saved: ${error.message}.`);
+    }
+  }
+}
+
+function download() {
+  const link = document.createElement("a");
+  link.href = URL.createObjectURL(new Blob([text.lines.join("\n")], { type: "text/vnd.abc" }));
+  link.download = "book.abc";
+  link.click();
+  setTimeout(() => URL.revokeObjectURL(link.href), 60000);
+}
+
+/** Goes to the next fault, or the one before. */
+function toFault(forward) {
+  const { line, column } = sheet.caret();
+  const later = ([at, from]) => at > line || (at === line && from > column);
+  const earlier = ([at, from]) => at < line || (at === line && from < column);
+  const fault = forward ? (faults.find(later) ?? faults[0]) : (faults.findLast(earlier) ?? faults[faults.length - 1]);
+  if (fault) sheet.go(fault[0], fault[1], true);
+}
+
+document.addEventListener("keydown", (event) => {
+  const command = event.ctrlKey || event.metaKey;
+  const inText = event.target === sheet.area;
+  const plain = !inText && !event.target.closest("button, a, input");
+  if (command && event.key.toLowerCase() === "s") save();
+  else if (event.code === "Space" && (event.ctrlKey || (plain && !event.altKey && !event.metaKey))) playOrStop();
+  else if (event.key === "F8") toFault(!event.shiftKey);
+  else if (event.key === "Escape" && inText) find("play").focus();
+  else return;
+  event.preventDefault();
+});
+find("save").addEventListener("click", () => save());
+find("play").addEventListener("click", playOrStop);
+find("before").addEventListener("click", () => toFault(false));
+find("after").addEventListener("click", () => toFault(true));
+addEventListener("pagehide", keep);
+addEventListener("beforeunload", (event) => {
+  if (link.state && !link.settled) event.preventDefault();
+});
+document.addEventListener("visibilitychange", () => document.hidden && link.away && keep());
+
+link.open();

@@ -1,0 +1,288 @@
+// The text box. A text area has the lines about those that are seen, and no others, so that a long book is as quick as
+// a short one; line numbers and marks of faults stand beside and below it.
+
+import { difference } from "./text.js";
+
+const MARGIN = 100; // lines above and below those that are seen
+const EDGE = 6; // lines that the caret keeps from the edge of the area
+
+export class Sheet {
+  constructor(text, root) {
+    this.text = text;
+    this.scroller = root.querySelector(".scroller");
+    [this.paper, this.leaf, this.numbers, this.marks, this.here, this.area] = [
+      ".paper", ".leaf", ".numbers", ".marks", ".here", "textarea",
+    ].map((name) => root.querySelector(name));
+    this.first = this.last = 0;
+    this.away = null; // the selection, while its lines are not in the area
+    this.faultsOf = () => []; // from a line, to a line
+    this.moved = () => {};
+    this.pointed = () => {};
+    this.line = -1;
+    this.height = parseFloat(getComputedStyle(this.area).lineHeight);
+    this.listen();
+  }
+
+  listen() {
+    const area = this.area;
+    this.scroller.addEventListener("scroll", () => this.look());
+    new ResizeObserver(() => this.look()).observe(this.scroller);
+    area.addEventListener("input", () => this.read());
+    area.addEventListener("compositionend", () => this.look());
+    area.addEventListener("beforeinput", (event) => this.before(event));
+    area.addEventListener("keydown", (event) => this.key(event));
+    area.addEventListener("pointerdown", () => this.here_again());
+    area.addEventListener("pointermove", (event) => this.pointed(this.faultUnder(event), event));
+    area.addEventListener("pointerleave", () => this.pointed([]));
+    this.scroller.addEventListener("pointerdown", (event) => {
+      if (event.target === this.scroller || event.target === this.paper) {
+        event.preventDefault();
+        this.go(this.text.lines.length - 1, Infinity, true);
+      }
+    });
+    for (const name of ["keyup", "pointerup", "focus", "select"]) area.addEventListener(name, () => this.watch());
+    document.addEventListener("selectionchange", () => this.watch());
+  }
+
+  /** The lines that are seen: from, to. */
+  seen() {
+    const first = Math.floor(this.scroller.scrollTop / this.height);
+    return [first, first + Math.ceil(this.scroller.clientHeight / this.height) + 1];
+  }
+
+  /** The place of an offset in the area. */
+  place(offset) {
+    const before = this.area.value.slice(0, offset);
+    return { line: this.first + before.split("\n").length - 1, column: offset - before.lastIndexOf("\n") - 1 };
+  }
+
+  /** The offset of a place in the area. */
+  offset({ line, column }) {
+    let offset = 0;
+    for (let n = this.first; n < line; n += 1) offset += this.text.lines[n].length + 1;
+    return offset + Math.min(column, this.text.lines[line].length);
+  }
+
+  /** Where the selection begins and ends, and its direction. */
+  selection() {
+    if (this.away) return this.away;
+    const { selectionStart, selectionEnd, selectionDirection } = this.area;
+    return { start: this.place(selectionStart), end: this.place(selectionEnd), direction: selectionDirection };
+  }
+
+  /** The place of the caret. */
+  caret() {
+    const { start, end, direction } = this.selection();
+    return direction === "backward" ? start : end;
+  }
+
+  /** Puts these lines into the area, and those that are selected. */
+  load(first, last, selection = this.selection()) {
+    const lines = this.text.lines;
+    const { start, end, direction } = within(selection, lines);
+    this.first = Math.max(0, first);
+    this.last = Math.min(lines.length, last);
+    if (start.line !== end.line || start.column !== end.column) {
+      this.first = Math.min(this.first, start.line);
+      this.last = Math.max(this.last, end.line + 1);
+    }
+    const inside = this.first <= start.line && end.line < this.last;
+    this.area.value = lines.slice(this.first, this.last).join("\n");
+    this.before_input = null;
+    this.away = inside ? null : { start, end, direction };
+    this.area.classList.toggle("away", !inside);
+    if (inside) this.area.setSelectionRange(this.offset(start), this.offset(end), direction);
+    else this.area.setSelectionRange(0, 0);
+    this.draw();
+  }
+
+  /** Takes care that what is seen is in the area, and not much more. */
+  look() {
+    const [first, last] = this.seen();
+    const lacking = first < this.first || (last > this.last && this.last < this.text.lines.length);
+    const { start, end } = this.selection();
+    const much = this.last - this.first > last - first + 4 * MARGIN && start.line === end.line;
+    if ((lacking || much) && !this.composing) this.load(first - MARGIN, last + MARGIN);
+  }
+
+  /** The lines were changed from elsewhere. */
+  refresh(selection) {
+    const [first, last] = this.seen();
+    this.load(first - MARGIN, last + MARGIN, selection);
+    if (selection) this.reveal(this.caret().line);
+    this.watch();
+  }
+
+  /** What was typed becomes an edit of the text. */
+  read() {
+    const edit = difference(this.text.lines.slice(this.first, this.last), this.area.value.split("\n"));
+    if (!edit) return;
+    const before = this.before_input ?? this.selection();
+    this.last += edit.put.length - (edit.stop - edit.start);
+    const from = this.first + edit.start;
+    const { selectionStart, selectionEnd, selectionDirection } = this.area;
+    this.text.edit(from, this.first + edit.stop, edit.put, before, null);
+    const after = { start: this.place(selectionStart), end: this.place(selectionEnd), direction: selectionDirection };
+    this.text.past[this.text.past.length - 1].after = after;
+    this.draw();
+    this.watch();
+  }
+
+  /** Before the browser changes the area. */
+  before(event) {
+    this.composing = event.isComposing;
+    if (event.inputType === "historyUndo" || event.inputType === "historyRedo") {
+      event.preventDefault();
+      this.history(event.inputType === "historyUndo");
+    } else {
+      this.before_input = this.selection();
+    }
+  }
+
+  /** Undoes, or does again. */
+  history(back) {
+    const selection = back ? this.text.undo() : this.text.redo();
+    if (selection) this.refresh(selection);
+  }
+
+  /** Keys that go farther than the area does. */
+  key(event) {
+    this.composing = event.isComposing;
+    const command = event.ctrlKey || event.metaKey;
+    const key = event.key.length === 1 ? event.key.toLowerCase() : event.key;
+    const page = this.seen()[1] - this.seen()[0] - 3;
+    const { line, column } = this.caret();
+    const end = this.text.lines.length - 1;
+    const goes = {
+      PageUp: [line - page, column],
+      PageDown: [line + page, column],
+      ...(command && { Home: [0, 0], End: [end, Infinity] }),
+    }[key];
+    if (goes && !event.altKey) this.move(...goes, event.shiftKey);
+    else if (command && key === "a") this.select({ line: 0, column: 0 }, { line: end, column: Infinity });
+    else if (command && key === "z") this.history(!event.shiftKey);
+    else if (command && key === "y") this.history(false);
+    else {
+      if (this.away && !["Shift", "Control", "Alt", "Meta", "Tab", "Escape"].includes(key) && key !== "s") this.back();
+      return;
+    }
+    event.preventDefault();
+  }
+
+  /** Moves the caret, or the end of the selection, to a place. */
+  move(line, column, extend) {
+    const { start, end, direction } = this.selection();
+    const to = { line: Math.max(0, Math.min(this.text.lines.length - 1, line)), column };
+    this.select(extend ? (direction === "backward" ? end : start) : to, to);
+  }
+
+  /** Selects from a place to the place of the caret. */
+  select(from, to) {
+    const backward = to.line < from.line || (to.line === from.line && to.column < from.column);
+    const [start, end] = backward ? [to, from] : [from, to];
+    this.reveal(to.line);
+    const [first, last] = this.seen();
+    this.load(first - MARGIN, last + MARGIN, { start, end, direction: backward ? "backward" : "forward" });
+    this.watch();
+  }
+
+  /** Brings the caret back into view before a key acts there. */
+  back() {
+    this.select(this.away.direction === "backward" ? this.away.end : this.away.start, this.caret());
+  }
+
+  /** Someone points into the area, which is where the caret goes. */
+  here_again() {
+    this.away = null;
+    this.area.classList.remove("away");
+  }
+
+  /** Scrolls no farther than a line wants to be seen. */
+  reveal(line) {
+    const top = line * this.height, { scrollTop, clientHeight } = this.scroller;
+    this.paper.style.height = `${this.text.lines.length * this.height + 8}px`;
+    if (top < scrollTop) this.scroller.scrollTop = top - this.height;
+    else if (top + 2 * this.height > scrollTop + clientHeight) this.scroller.scrollTop = top + 2 * this.height - clientHeight;
+  }
+
+  /** Goes to a place, some lines below the top. */
+  go(line, column = 0, focus = false) {
+    this.paper.style.height = `${this.text.lines.length * this.height + 8}px`;
+    this.scroller.scrollTop = Math.max(0, (line - 2) * this.height);
+    this.select({ line, column }, { line, column });
+    this.scroller.scrollLeft = 0;
+    if (focus) this.area.focus({ preventScroll: true });
+  }
+
+  /** The caret may have moved. */
+  watch() {
+    if (this.away) return;
+    const { line } = this.caret();
+    const near = (line < this.first + EDGE && this.first > 0) || (line >= this.last - EDGE && this.last < this.text.lines.length);
+    if (near && !this.composing && document.activeElement === this.area) this.load(line - 2 * MARGIN, line + 2 * MARGIN);
+    if (line === this.line && !this.changed) return;
+    this.line = line;
+    this.changed = false;
+    this.here.style.top = `${(line - this.first) * this.height}px`;
+    this.moved(line);
+  }
+
+  /** Draws the numbers and the marks of the lines in the area. */
+  draw() {
+    const { first, last, height, text } = this;
+    this.paper.style.height = `${text.lines.length * height + 8}px`;
+    this.paper.style.setProperty("--digits", String(text.lines.length).length);
+    this.leaf.style.top = `${first * height}px`;
+    this.area.style.height = `${(last - first) * height}px`;
+    let widest = 0;
+    for (let line = first; line < last; line += 1) widest = Math.max(widest, text.lines[line].length);
+    this.area.style.minWidth = `${widest + 4}ch`;
+    this.here.style.top = `${(this.caret().line - first) * height}px`;
+    this.changed = true;
+    this.drawFaults(this.faultsOf(first, last));
+  }
+
+  drawFaults(faults) {
+    const numbers = document.createDocumentFragment(), marks = document.createDocumentFragment();
+    const faulty = new Set(faults.map(([line]) => line));
+    let plain = "";
+    for (let line = this.first; line < this.last; line += 1) {
+      if (faulty.has(line)) {
+        numbers.append(plain, Object.assign(document.createElement("b"), { textContent: line + 1 }), "\n");
+        plain = "";
+      } else {
+        plain += `${line + 1}\n`;
+      }
+    }
+    numbers.append(plain);
+    for (const fault of faults) marks.append(this.mark(fault));
+    this.numbers.replaceChildren(numbers);
+    this.marks.replaceChildren(marks);
+  }
+
+  /** A mark below the place of a fault: the text before it, not to be seen, gives its place. */
+  mark(fault) {
+    const [number, start, end] = fault;
+    const line = this.text.lines[number] ?? "";
+    const row = document.createElement("div"), mark = document.createElement("mark");
+    row.style.top = `${(number - this.first) * this.height}px`;
+    mark.textContent = line.slice(start, Math.max(end, start + 1)) || " ";
+    mark.fault = fault;
+    row.append(line.slice(0, start), mark);
+    return row;
+  }
+
+  /** The faults at which a mouse points. */
+  faultUnder({ clientX, clientY }) {
+    return document.elementsFromPoint(clientX, clientY).flatMap((element) => element.fault ? [element.fault] : []);
+  }
+}
+
+/** A selection that fits into these lines. */
+function within({ start, end, direction }, lines) {
+  const fit = ({ line, column }) => {
+    const number = Math.max(0, Math.min(lines.length - 1, line));
+    return { line: number, column: Math.max(0, Math.min(lines[number].length, column)) };
+  };
+  return { start: fit(start), end: fit(end), direction };
+}

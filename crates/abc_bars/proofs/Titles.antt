@@ -1,0 +1,315 @@
+-- The titles that the cells of a tune say are those of its header.
+use Rattle.std.proofs.Common.{◌≡◌, ℕ, Bool, true, false, cond, List, [], ◌∷◌, ◌++◌, Option, Some, None, refl, ap, ◌∙◌, append-nil}
+use Rattle.std.specs.Prelude.{All, IfSome, Result, Ok, Err, option_to_list, slice_range}
+use Rattle.std.specs.List.{cons_option, flat_map}
+use Rattle.std.proofs.lemmas.List.Elements.{All-nil, All-cons, All-head, All-tail, filter_map-append}
+use Rattle.abc_fields.specs.declared.fault.FaultCode.{FaultCode}
+use Rattle.abc_fields.specs.declared.fault.FaultCode.TheVariants.{BadBroken, LooseTie, TempoRange}
+use Rattle.abc_fields.specs.declared.key.Key.{Key}
+use Rattle.abc_fields.specs.declared.meter.Meter.{Meter}
+use Rattle.abc_fields.specs.declared.shift.Shift.{Shift}
+use Rattle.abc_fields.specs.declared.tempo.Tempo.{Tempo}
+use Rattle.abc_fields.specs.declared.voice.Voice.{Voice}
+use Rattle.abc_fields.specs.Key.{empty_signature, key_of}
+use Rattle.abc_fields.specs.Meter.{meter_of}
+use Rattle.abc_fields.specs.Parts.{parts_of}
+use Rattle.abc_fields.specs.Tempo.{tempo_of}
+use Rattle.abc_fields.specs.Unit.{unit_of}
+use Rattle.abc_fields.specs.Voice.{voice_of}
+use Rattle.abc_fold.specs.Steps.{items_from}
+use Rattle.abc_music.specs.BarRest.{bar_rest_of}
+use Rattle.abc_music.specs.Broken.{factors_of, has_note, is_bad_mark}
+use Rattle.abc_music.specs.Chords.{inside_of}
+use Rattle.abc_music.specs.Item.{Items}
+use Rattle.abc_music.specs.TempoItem.{is_out, tempo_item}
+use Rattle.abc_music.specs.TimeTokens.{chord_by, note_played, rest_played}
+use Rattle.abc_music.specs.Tuplet.{tuplet_opened}
+use Rattle.abc_music.specs.declared.item.Item.{Item}
+use Rattle.abc_music.specs.declared.item.Item.TheVariants as items
+use Rattle.abc_music.specs.declared.settings.Settings.{Settings}
+use Rattle.abc_music.specs.declared.sound.Inside.{Inside}
+use Rattle.abc_scan.specs.declared.field.Field.{Field}
+use Rattle.abc_scan.specs.declared.spanned.Spanned.{Spanned}
+use Rattle.abc_scan.specs.declared.token.TokenKind.{TokenKind}
+use Rattle.abc_scan.specs.declared.token.TokenKind.TheVariants as kinds
+use Rattle.abc_time.specs.declared.ratio.Ratio.{Ratio}
+use Rattle.abc_bars.specs.Body.{here, made_current, mentioned, with_here}
+use Rattle.abc_bars.specs.BodyFields.{field_given, key_by, kind_given, meter_by, part_by, part_of, tempo_by, unit_by, voice_by, voice_made, accepted, faulty}
+use Rattle.abc_bars.specs.BodyOpening.{body_from}
+use Rattle.abc_bars.specs.Cell.{given_from, mentioned_by_chord, nothing_given, tie_ahead, with_ending, with_fault, with_fault_if, with_kind, with_played_in, with_some_fault, with_token}
+use Rattle.abc_bars.specs.Defaults.{unit_in}
+use Rattle.abc_bars.specs.FieldKind.{kind_of}
+use Rattle.abc_bars.specs.Header.{declared, declared_given, items_with, opening_header, order_by, own_given, reference_by}
+use Rattle.abc_bars.specs.Header.{key_by as header_key_by, voice_by as header_voice_by}
+use Rattle.abc_bars.specs.Opening.{opening_meter, opening_tempo, opening_tempo_by}
+use Rattle.abc_bars.specs.Reference.{reference_of}
+use Rattle.abc_bars.specs.SameEntry.{bars}
+use Rattle.abc_bars.specs.Step.{behind_kind, body_stepped, field_in, file_header_stepped, header_stepped, stepped}
+use Rattle.abc_bars.specs.Titles.{title_said, titles_by, titles_from, titles_of_header, titles_said, SaysTitlesOfHeader}
+use Rattle.abc_bars.specs.declared.body.Body.{Body}
+use Rattle.abc_bars.specs.declared.cell.Given.{Given}
+use Rattle.abc_bars.specs.declared.defaults.Defaults.{Defaults}
+use Rattle.abc_bars.specs.declared.entry.Entry.{Entry}
+use Rattle.abc_bars.specs.declared.entry.Entry.TheVariants as entries
+use Rattle.abc_bars.specs.declared.field_kind.FieldKind.{FieldKind}
+use Rattle.abc_bars.specs.declared.field_kind.FieldKind.TheVariants as fields
+use Rattle.abc_bars.specs.declared.header.Header.{Header}
+
+abbrev pub Cell : Type 0
+Cell = List (Spanned TokenKind)
+
+-- items that say no title, behind others
+quiet : (tune more : List Item) → titles_said more ≡ [] → titles_said (tune ++ more) ≡ titles_said tune
+quiet tune more none = filter_map-append title_said tune more ∙ ap (λ titles. titles_said tune ++ titles) none ∙ append-nil (titles_said tune)
+
+-- a field of the body says none
+part_quiet : (body : Body) (place : ℕ) (part : Option ℕ) → titles_said (part_by body place part).items ≡ []
+part_quiet body place None = refl
+part_quiet body place (Some letter) = refl
+
+meter_quiet : (body : Body) (place : ℕ) (meter : Result Meter FaultCode) → titles_said (meter_by body place meter).items ≡ []
+meter_quiet body place (Ok meter) = refl
+meter_quiet body place (Err fault) = refl
+
+unit_quiet : (body : Body) (place : ℕ) (unit : Result Ratio FaultCode) → titles_said (unit_by body place unit).items ≡ []
+unit_quiet body place (Ok unit) = refl
+unit_quiet body place (Err fault) = refl
+
+tempo_quiet : (body : Body) (place : ℕ) (tempo : Result Tempo FaultCode) → titles_said (tempo_by body place tempo).items ≡ []
+tempo_quiet body place (Ok tempo) = by (is_out (here body).unit tempo)
+  where
+    by : (out : Bool) → titles_said (cond out (faulty body place (tempo_item false (here body).unit tempo) TempoRange) (accepted body (tempo_item false (here body).unit tempo))).items ≡ []
+    by true = refl
+    by false = refl
+tempo_quiet body place (Err fault) = refl
+
+key_quiet : (body : Body) (place : ℕ) (key : Result Key FaultCode) → titles_said (key_by body place key).items ≡ []
+key_quiet body place (Ok key) = refl
+key_quiet body place (Err fault) = refl
+
+made_quiet : (body : Body) (place : ℕ) (name : List ℕ) (made : Option Body) → titles_said (voice_made body place name made).items ≡ []
+made_quiet body place name (Some made) = refl
+made_quiet body place name None = refl
+
+voice_quiet : (body : Body) (place : ℕ) (value : List ℕ) (voice : Result Voice FaultCode) → titles_said (voice_by body place value voice).items ≡ []
+voice_quiet body place value (Ok voice) =
+    let name = slice_range value voice.from voice.to in
+    made_quiet body place name (made_current body name voice.shift)
+voice_quiet body place value (Err fault) = refl
+
+field_quiet : (body : Body) (kind : FieldKind) (value : List ℕ) (place : ℕ) → titles_said (kind_given body kind value place).items ≡ []
+field_quiet body fields.Parts value place = part_quiet body place (part_of value)
+field_quiet body fields.Meter value place = meter_quiet body place (meter_of value)
+field_quiet body fields.UnitLength value place = unit_quiet body place (unit_of value)
+field_quiet body fields.Tempo value place = tempo_quiet body place (tempo_of value)
+field_quiet body fields.Key value place = key_quiet body place (key_of value)
+field_quiet body fields.Voice value place = voice_quiet body place value (voice_of value)
+field_quiet body fields.Reference value place = refl
+field_quiet body fields.Title value place = refl
+field_quiet body fields.Other value place = refl
+
+-- nor does any token
+abbrev said_in : Given → List (List ℕ)
+said_in given = titles_said given.items.items
+
+fault_kept : (given : Given) (place : ℕ) (fault : Option FaultCode) → (with_some_fault given place fault).items.items ≡ given.items.items
+fault_kept given place None = refl
+fault_kept given place (Some fault) = refl
+
+broken_quiet : (given : Given) (bad : Bool) (place : ℕ) → said_in (with_fault_if given bad place BadBroken) ≡ said_in given
+broken_quiet given true place = refl
+broken_quiet given false place = refl
+
+tie_quiet : (given : Given) (place : ℕ) (after_note : Bool) → said_in (cond after_note given (with_fault given place LooseTie)) ≡ said_in given
+tie_quiet given place true = refl
+tie_quiet given place false = refl
+
+ending_quiet : (given : Given) (place : ℕ) (passes : Option ℕ) → said_in (with_ending given place passes) ≡ said_in given
+ending_quiet given place None = refl
+ending_quiet given place (Some passes) = quiet given.items.items (items.Ending passes ∷ []) refl
+
+chord_quiet : (given : Given) (place : ℕ) (inside : Settings → Inside) (some : Bool)
+    → said_in (with_played_in given (mentioned_by_chord some given.body) (chord_by some (here (mentioned_by_chord some given.body)) place (inside (here (mentioned_by_chord some given.body)))))
+    ≡ said_in given
+chord_quiet given place inside true =
+    let played = chord_by true (here (mentioned given.body)) place (inside (here (mentioned given.body))) in
+    quiet given.items.items played.items refl
+chord_quiet given place inside false =
+    let played = chord_by false (here given.body) place (inside (here given.body)) in
+    quiet given.items.items played.items refl
+
+kind_quiet : (given : Given) (place : ℕ) (kind : TokenKind) (ahead : Cell) → said_in (with_kind given place kind ahead) ≡ said_in given
+kind_quiet given place (kinds.Note note) ahead =
+    let played = note_played (here (mentioned given.body)) (factors_of given.behind ahead) (tie_ahead ahead) place note in
+    quiet given.items.items played.items refl
+kind_quiet given place (kinds.Rest long) ahead =
+    let played = rest_played (here (mentioned given.body)) (factors_of given.behind ahead) place long in
+    quiet given.items.items played.items refl
+kind_quiet given place (kinds.BarRest bars) ahead =
+    let body = mentioned given.body in
+    let rest = bar_rest_of (here body).meter bars in
+    ap titles_said (fault_kept (record given { body = body; items = record given.items { items = given.items.items ++ rest.0 ∷ [] } }) place rest.1)
+    ∙ quiet given.items.items (rest.0 ∷ []) refl
+kind_quiet given place (kinds.Chord chord) ahead =
+    chord_quiet given place
+    (λ settings. inside_of settings (factors_of given.behind ahead) (record { length = chord.length; tied = tie_ahead ahead; from = place }) chord.parts)
+    (has_note chord.parts)
+kind_quiet given place (kinds.InlineField field) ahead =
+    quiet given.items.items (field_given given.body field.letter field.value place).items (field_quiet given.body (kind_of field.letter) field.value place)
+kind_quiet given place (kinds.Bar bar) ahead = quiet given.items.items (items.Bar bar ∷ []) refl
+kind_quiet given place (kinds.Ending passes) ahead = ending_quiet given place passes
+kind_quiet given place (kinds.Tuplet mark) ahead =
+    let opened = tuplet_opened (here given.body).meter (here given.body).tuplet mark in
+    ap titles_said (fault_kept (record given { body = with_here given.body (record (here given.body) { tuplet = opened.0 }) }) place opened.1)
+kind_quiet given place (kinds.Broken mark) ahead = broken_quiet given (is_bad_mark given.behind ahead) place
+kind_quiet given place kinds.Tie ahead = tie_quiet given place given.after_note
+kind_quiet given place kinds.Blank ahead = refl
+kind_quiet given place kinds.NoEffect ahead = refl
+kind_quiet given place (kinds.Field field) ahead =
+    quiet given.items.items (field_given given.body field.letter field.value place).items (field_quiet given.body (kind_of field.letter) field.value place)
+kind_quiet given place kinds.Unclosed ahead = refl
+kind_quiet given place kinds.BadByte ahead = refl
+
+tokens_quiet : (given : Given) (tokens : Cell) → said_in (given_from given tokens) ≡ said_in given
+tokens_quiet given [] = refl
+tokens_quiet given (token ∷ ahead) = tokens_quiet (with_token given token ahead) ahead ∙ kind_quiet given token.from token.kind ahead
+
+body_quiet : (body : Body) (cell : Cell) → titles_said (body_stepped body cell).1.items ≡ []
+body_quiet body cell = tokens_quiet (nothing_given body) cell
+
+-- the header
+tempo_silent : (unit : Ratio) (tempo : Option Tempo) → title_said (opening_tempo_by unit tempo) ≡ None
+tempo_silent unit None = refl
+tempo_silent unit (Some tempo) = refl
+
+opening_quiet : (defaults : Defaults) → titles_said (opening_tempo defaults ∷ opening_meter defaults ∷ []) ≡ []
+opening_quiet defaults = ap (λ title. cons_option title []) (tempo_silent (unit_in defaults) defaults.tempo)
+
+abbrev titles_if : Option Item → List (List ℕ)
+titles_if item = titles_said (option_to_list item)
+
+items_say : (item : Option Item) (defaults : Defaults) → titles_said (items_with item defaults) ≡ titles_if item
+items_say None defaults = opening_quiet defaults
+items_say (Some item) defaults = ap (cons_option (title_said item)) (opening_quiet defaults)
+
+reference_silent : (header : Header) (number : Result ℕ FaultCode) → titles_if (reference_by header number).item ≡ []
+reference_silent header (Ok number) = refl
+reference_silent header (Err fault) = refl
+
+order_silent : (header : Header) (value : List ℕ) (order : Result (Unit {0}) FaultCode) → titles_if (order_by header value order).item ≡ []
+order_silent header value (Ok reading) = refl
+order_silent header value (Err fault) = refl
+
+declared_silent : (header : Header) (name : List ℕ) (voices : List (List ℕ × Shift)) (fault : Option FaultCode)
+    → titles_if (declared_given header name (voices, fault)).item ≡ []
+declared_silent header name voices None = refl
+declared_silent header name voices (Some fault) = refl
+
+voice_silent : (header : Header) (value : List ℕ) (voice : Result Voice FaultCode) → titles_if (header_voice_by header value voice).item ≡ []
+voice_silent header value (Ok voice) =
+    let name = slice_range value voice.from voice.to in
+    let made = declared header.voices name voice.shift in
+    declared_silent header name made.0 made.1
+voice_silent header value (Err fault) = refl
+
+key_silent : (header : Header) (key : Result Key FaultCode) → titles_if (header_key_by header key).item ≡ []
+key_silent header (Ok key) = refl
+key_silent header (Err fault) = refl
+
+-- what a field of the header says itself
+own_say : (header : Header) (kind : FieldKind) (value : List ℕ) → titles_if (own_given header kind value).item ≡ titles_from kind value []
+own_say header fields.Reference value = reference_silent header (reference_of value)
+own_say header fields.Title value = refl
+own_say header fields.Meter value = refl
+own_say header fields.UnitLength value = refl
+own_say header fields.Tempo value = refl
+own_say header fields.Parts value = order_silent header value (parts_of value)
+own_say header fields.Voice value = voice_silent header value (voice_of value)
+own_say header fields.Key value = key_silent header (key_of value)
+own_say header fields.Other value = refl
+
+-- what holds of the value of each field line holds of each title
+from_passes : (P : List ℕ → Type 0) (kind : FieldKind) (value : List ℕ) (behind : List (List ℕ)) → P value → All P behind → All P (titles_from kind value behind)
+from_passes P fields.Reference value behind is all = all
+from_passes P fields.Title value behind is all = All-cons P value behind is all
+from_passes P fields.Meter value behind is all = all
+from_passes P fields.UnitLength value behind is all = all
+from_passes P fields.Tempo value behind is all = all
+from_passes P fields.Parts value behind is all = all
+from_passes P fields.Voice value behind is all = all
+from_passes P fields.Key value behind is all = All-nil P
+from_passes P fields.Other value behind is all = all
+
+abbrev pub HasValue : (List ℕ → Type 0) → Cell → Type 0
+HasValue P cell = IfSome (field_in cell) (λ field. P field.value)
+
+by_passes : (P : List ℕ → Type 0) (field : Option Field) (behind : List (List ℕ)) → IfSome field (λ f. P f.value) → All P behind → All P (titles_by field behind)
+by_passes P None behind is all = All-nil P
+by_passes P (Some field) behind is all = from_passes P (kind_of field.letter) field.value behind is all
+
+pub titles_pass : (P : List ℕ → Type 0) (cells : List Cell) → All (HasValue P) cells → All P (titles_of_header cells)
+titles_pass P [] all = All-nil P
+titles_pass P (cell ∷ cells) all =
+    by_passes P (field_in cell) (titles_of_header cells) (All-head (HasValue P) cell cells all) (titles_pass P cells (All-tail (HasValue P) cell cells all))
+
+-- what is said from a place of a tune on
+abbrev said_from : Entry → List Cell → List (List ℕ)
+said_from (entries.FileHeader defaults) cells = []
+said_from (entries.Opening defaults) cells = titles_of_header cells
+said_from (entries.Header header) cells = titles_of_header cells
+said_from (entries.Body body) cells = []
+
+behind_say : (header : Header) (kind : FieldKind) (value : List ℕ) (cells : List Cell)
+    → titles_from kind value [] ++ said_from (behind_kind header kind value) cells ≡ titles_from kind value (titles_of_header cells)
+behind_say header fields.Reference value cells = refl
+behind_say header fields.Title value cells = refl
+behind_say header fields.Meter value cells = refl
+behind_say header fields.UnitLength value cells = refl
+behind_say header fields.Tempo value cells = refl
+behind_say header fields.Parts value cells = refl
+behind_say header fields.Voice value cells = refl
+behind_say header fields.Key value cells = refl
+behind_say header fields.Other value cells = refl
+
+abbrev step_says : Entry × Items → List Cell → List (List ℕ)
+step_says step cells = titles_said step.1.items ++ said_from step.0 cells
+
+body_says : (body : Body) (cell : Cell) (cells : List Cell) → step_says (body_stepped body cell) cells ≡ []
+body_says body cell cells = ap (λ titles. titles ++ []) (body_quiet body cell)
+
+header_says : (header : Header) (cell : Cell) (field : Option Field) (cells : List Cell)
+    → step_says (header_stepped header cell field) cells ≡ titles_by field (titles_of_header cells)
+header_says header cell None cells = body_says (body_from header empty_signature) cell cells
+header_says header cell (Some field) cells =
+    let kind = kind_of field.letter in
+    let own = own_given header kind field.value in
+    ap (λ titles. titles ++ said_from (behind_kind own.header kind field.value) cells) (items_say own.item own.header.defaults ∙ own_say header kind field.value)
+    ∙ behind_say own.header kind field.value cells
+
+file_says : (defaults : Defaults) (field : Option Field) (cells : List Cell) → step_says (file_header_stepped defaults field) cells ≡ []
+file_says defaults None cells = refl
+file_says defaults (Some field) cells = refl
+
+says : (entry : Entry) (cell : Cell) (cells : List Cell) → step_says (stepped entry cell) cells ≡ said_from entry (cell ∷ cells)
+unfolding stepped
+says (entries.FileHeader defaults) cell cells = file_says defaults (field_in cell) cells
+says (entries.Opening defaults) cell cells = header_says (opening_header defaults) cell (field_in cell) cells
+says (entries.Header header) cell cells = header_says header cell (field_in cell) cells
+says (entries.Body body) cell cells = body_says body cell cells
+
+nothing_said : (entry : Entry) → [] ≡ said_from entry []
+nothing_said (entries.FileHeader defaults) = refl
+nothing_said (entries.Opening defaults) = refl
+nothing_said (entries.Header header) = refl
+nothing_said (entries.Body body) = refl
+
+cells_say : (entry : Entry) (cells : List Cell) → titles_said (flat_map (λ given. given.items) (items_from bars entry cells)) ≡ said_from entry cells
+cells_say entry [] = nothing_said entry
+cells_say entry (cell ∷ cells) =
+    let step = stepped entry cell in
+    filter_map-append title_said step.1.items (flat_map (λ given. given.items) (items_from bars step.0 cells))
+    ∙ ap (λ titles. titles_said step.1.items ++ titles) (cells_say step.0 cells)
+    ∙ says entry cell cells
+
+pub says_titles_of_header : SaysTitlesOfHeader
+says_titles_of_header opening cells = cells_say (entries.Opening opening) cells

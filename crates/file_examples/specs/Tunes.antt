@@ -1,0 +1,89 @@
+-- Items of tunes as the worked examples write them: a note lasts one grain. Our own.
+use Rattle.std.specs.Prelude.{ℕ, pos, Bool, true, false, List, [], ◌∷◌, Option, Some}
+use Rattle.abc_music.specs.declared.item.Item.{Item}
+use Rattle.abc_music.specs.declared.item.Item.TheVariants as items
+use Rattle.abc_music.specs.declared.item.Tone.{Tone}
+use Rattle.abc_voices.specs.declared.score.Change.{Change}
+use Rattle.abc_voices.specs.declared.score.ChangeKind.TheVariants as kinds
+use Rattle.abc_voices.specs.declared.score.Sounding.{Sounding}
+
+-- The items of a tune are what they are.
+abbrev pub own : Item → Item
+own item = item
+
+-- A tone of a key, or a silent one, of so many grains, that is tied or not.
+abbrev pub tone : Option ℕ → ℕ → Bool → Tone
+tone key grains tied = record { key = key; length = record { 0 = grains }; tied = tied }
+
+-- Tones that sound together, one grain long.
+abbrev pub chord : List Tone → Item
+chord tones = items.Tone tones (record { 0 = 1 })
+
+-- A note of a key, and one that is tied.
+abbrev pub note : ℕ → Item
+note key = chord (tone (Some key) 1 false ∷ [])
+
+abbrev pub tied : ℕ → Item
+tied key = chord (tone (Some key) 1 true ∷ [])
+
+-- A rest, and a rest of bars.
+abbrev pub rest : Item
+rest = items.Rest (record { 0 = 1 }) false
+
+abbrev pub bar_rest : Item
+bar_rest = items.Rest (record { 0 = 1 }) true
+
+-- The bar lines `|`, `|:`, `:|`, `::` and `||`.
+abbrev pub single : Item
+single = items.Bar (record { closes = 0; opens = 0; double = false })
+
+abbrev pub opening : Item
+opening = items.Bar (record { closes = 0; opens = 1; double = false })
+
+abbrev pub closing : Item
+closing = items.Bar (record { closes = 1; opens = 0; double = false })
+
+abbrev pub between : Item
+between = items.Bar (record { closes = 1; opens = 1; double = true })
+
+abbrev pub double : Item
+double = items.Bar (record { closes = 0; opens = 0; double = true })
+
+-- The first and the second ending.
+abbrev pub first : Item
+first = items.Ending 1
+
+abbrev pub second : Item
+second = items.Ending 2
+
+-- The section of the letter `A`, and of `B`.
+abbrev pub part_a : Item
+part_a = items.Section 65
+
+abbrev pub part_b : Item
+part_b = items.Section 66
+
+-- The voices `1` and `2` in the body, the first of them in the header.
+abbrev pub voice_1 : Item
+voice_1 = items.Voice false (49 ∷ [])
+
+abbrev pub voice_2 : Item
+voice_2 = items.Voice false (50 ∷ [])
+
+abbrev pub declared_1 : Item
+declared_1 = items.Voice true (49 ∷ [])
+
+-- A tempo of the body, by the microseconds of a quarter note.
+abbrev pub tempo : ℕ → Item
+tempo micros = items.Tempo false (Some micros) false
+
+-- A key that sounds from one grain to another.
+abbrev pub sounding : ℕ → ℕ → ℕ → Sounding
+sounding key on off = record { key = key; on = record { 0 = on }; off = record { 0 = off } }
+
+-- A tempo and a key without sharps at a grain.
+abbrev pub tempo_change : ℕ → ℕ → Change
+tempo_change at micros = record { at = record { 0 = at }; what = kinds.Tempo micros }
+
+abbrev pub key_change : ℕ → Change
+key_change at = record { at = record { 0 = at }; what = kinds.Key (pos 0) false }

@@ -1,0 +1,108 @@
+//! Worked examples by the definitions of `abc_voices`: sections, plays, notes and changes of tunes. A body here does
+//! nothing; its contract is the example. Notes last one grain.
+#![tactic(auto, unfolding(abc_fields::specs::Letters::play_on, abc_repeat::specs::Mark::names, abc_repeat::specs::Mark::greatest, abc_repeat::specs::Mark::greatest_to, abc_repeat::specs::Order::sections_of, abc_repeat::specs::Play::play_of, abc_repeat::specs::Play::strain_play, abc_time::specs::Grains::grains_of_a_tick))]
+
+ghost use Rattle.std.specs.Prelude.{◌≡◌, true, false, [], ◌∷◌, Some, None};
+ghost use Rattle.std.specs.List.{list_any};
+ghost use Rattle.abc_music.specs.declared.item.Item.TheVariants as items;
+ghost use Rattle.abc_repeat.specs.Strain.{strains_of};
+ghost use Rattle.abc_voices.specs.Arrange.{changes_of, end_of, is_uneven, played_sections, set_in, voices_notes};
+ghost use Rattle.abc_voices.specs.Change.{tempo_of};
+ghost use Rattle.abc_voices.specs.Endings.{between_endings_in, without_fields};
+ghost use Rattle.abc_voices.specs.Moved.{moved};
+ghost use Rattle.abc_voices.specs.Play.{marks_of, played};
+ghost use Rattle.abc_voices.specs.Section.{part, sections};
+ghost use Rattle.abc_voices.specs.Ties.{heard, tokens_from};
+ghost use Rattle.abc_voices.specs.Track.{tracks};
+ghost use Rattle.file_examples.specs.Tunes.{own, tone, chord, note, tied, rest, bar_rest, single, opening, closing, between, double, first, second, part_a, part_b, voice_1, voice_2, declared_1, tempo, sounding, tempo_change, key_change};
+
+/// A section begins at each part, and goes on in the voice that is the current one there. ABC 2.1 sections 3.1.9 and 7.
+pub fn sections_of_a_tune()
+    ensures none { sections own (note 60 ∷ []) ≡ ([], note 60 ∷ []) ∷ [] }
+    ensures voices { sections own (note 60 ∷ part_a ∷ voice_2 ∷ note 62 ∷ part_b ∷ note 64 ∷ [])
+        ≡ ([], note 60 ∷ []) ∷ ([], voice_2 ∷ note 62 ∷ []) ∷ (50 ∷ [], note 64 ∷ []) ∷ [] }
+    ensures declared { sections own (declared_1 ∷ note 60 ∷ []) ≡ (49 ∷ [], declared_1 ∷ note 60 ∷ []) ∷ [] }
+    ensures ordered { played_sections own (items.Order (66 ∷ 65 ∷ 66 ∷ []) ∷ part_a ∷ note 60 ∷ part_b ∷ note 62 ∷ part_a ∷ note 64 ∷ [])
+        ≡ ([], items.Order (66 ∷ 65 ∷ 66 ∷ []) ∷ []) ∷ ([], note 62 ∷ []) ∷ ([], note 60 ∷ []) ∷ ([], note 62 ∷ []) ∷ [] }
+{}
+
+/// What a voice has in a section is what stands where it is the current one. ABC 2.1 section 7.
+pub fn parts_of_voices()
+    ensures other { part own (50 ∷ []) (49 ∷ [], note 60 ∷ voice_2 ∷ note 62 ∷ voice_1 ∷ note 64 ∷ []) ≡ note 62 ∷ [] }
+    ensures own { part own (49 ∷ []) (49 ∷ [], note 60 ∷ voice_2 ∷ note 62 ∷ voice_1 ∷ note 64 ∷ []) ≡ note 60 ∷ note 64 ∷ [] }
+    ensures no_track { tracks own (voice_1 ∷ note 60 ∷ voice_2 ∷ note 62 ∷ []) ≡ (49 ∷ []) ∷ (50 ∷ []) ∷ [] }
+    ensures nameless { tracks own (note 60 ∷ voice_1 ∷ note 62 ∷ []) ≡ [] ∷ (49 ∷ []) ∷ [] }
+{}
+
+/// What is played of a voice's items. ABC 2.1 sections 4.8 and 4.9.
+pub fn plays()
+    ensures straight { played own (note 60 ∷ single ∷ note 62 ∷ []) ≡ note 60 ∷ note 62 ∷ [] }
+    ensures repeated { played own (opening ∷ note 60 ∷ closing ∷ note 62 ∷ []) ≡ note 60 ∷ note 60 ∷ note 62 ∷ [] }
+    ensures endings { played own (opening ∷ note 60 ∷ single ∷ first ∷ note 62 ∷ closing ∷ second ∷ note 64 ∷ double ∷ [])
+        ≡ note 60 ∷ note 62 ∷ note 60 ∷ note 64 ∷ [] }
+{}
+
+/// A field between the endings is played with the one behind it: `|:A|1B:|[Q:]|2F||`. Our own.
+pub fn fields_before_an_ending()
+    ensures played { played own (opening ∷ note 69 ∷ single ∷ first ∷ note 71 ∷ closing ∷ tempo 1000000 ∷ single ∷ second ∷ note 66 ∷ double ∷ [])
+        ≡ note 69 ∷ note 71 ∷ note 69 ∷ tempo 1000000 ∷ note 66 ∷ [] }
+    ensures waiting { between_endings_in (strains_of (marks_of own (without_fields
+        (opening ∷ note 69 ∷ single ∷ first ∷ note 71 ∷ closing ∷ tempo 1000000 ∷ single ∷ second ∷ note 66 ∷ double ∷ []))))
+        ≡ false ∷ false ∷ false ∷ false ∷ false ∷ true ∷ true ∷ false ∷ false ∷ false ∷ [] }
+{}
+
+/// No field is moved behind a bar that opens a strain of its own, `|:A|1B::[Q:]|2F||`, nor behind the common part's own
+/// bar, `A:|[Q:]|1B||`. Our own.
+pub fn fields_that_stay()
+    ensures opened { moved own (opening ∷ note 69 ∷ single ∷ first ∷ note 71 ∷ between ∷ tempo 1000000 ∷ single ∷ second ∷ note 66 ∷ double ∷ [])
+        ≡ opening ∷ note 69 ∷ single ∷ first ∷ note 71 ∷ between ∷ tempo 1000000 ∷ single ∷ second ∷ note 66 ∷ double ∷ [] }
+    ensures common { moved own (note 69 ∷ closing ∷ tempo 1000000 ∷ single ∷ first ∷ note 71 ∷ double ∷ [])
+        ≡ note 69 ∷ closing ∷ tempo 1000000 ∷ single ∷ first ∷ note 71 ∷ double ∷ [] }
+{}
+
+/// Ties go on in play: over a repeat, `|:C-|1C:|2C-||C`, and over sections, while another voice plays on, `P:A`, `V:1`
+/// with `C-`, `V:2` with `EE`, `P:B`, `V:1` with `C`. ABC 2.1 section 4.11; that they do is our own.
+pub fn ties_over_repeats_and_sections()
+    ensures repeated { voices_notes own (opening ∷ tied 60 ∷ single ∷ first ∷ note 60 ∷ closing ∷ second ∷ tied 60 ∷ double ∷ note 60 ∷ [])
+        ≡ (sounding 60 2 5 ∷ sounding 60 0 2 ∷ []) ∷ [] }
+    ensures sections { voices_notes own (part_a ∷ voice_1 ∷ tied 60 ∷ voice_2 ∷ note 64 ∷ note 64 ∷ part_b ∷ voice_1 ∷ note 60 ∷ [])
+        ≡ (sounding 60 0 3 ∷ []) ∷ (sounding 64 1 2 ∷ sounding 64 0 1 ∷ []) ∷ [] }
+{}
+
+/// A rest ends a tie, a rest of bars does not; a tied tone is joined with one of its key alone; and of two tied tones of
+/// a key each is joined with its own. Our own.
+pub fn ties_of_tones()
+    ensures rest { heard (tokens_from 0 (tied 60 ∷ rest ∷ note 60 ∷ []) []) ≡ sounding 60 2 3 ∷ sounding 60 0 1 ∷ [] }
+    ensures bar_rest { heard (tokens_from 0 (tied 60 ∷ bar_rest ∷ note 60 ∷ []) []) ≡ sounding 60 0 3 ∷ [] }
+    ensures other_key { heard (tokens_from 0 (tied 60 ∷ note 62 ∷ []) []) ≡ sounding 62 1 2 ∷ sounding 60 0 1 ∷ [] }
+    ensures not_tied { heard (tokens_from 0 (note 60 ∷ note 60 ∷ []) []) ≡ sounding 60 1 2 ∷ sounding 60 0 1 ∷ [] }
+    ensures in_turn { heard (tokens_from 0 (chord (tone (Some 60) 1 true ∷ tone (Some 60) 2 true ∷ [])
+        ∷ chord (tone (Some 60) 1 false ∷ tone (Some 60) 4 false ∷ []) ∷ []) [])
+        ≡ sounding 60 0 2 ∷ sounding 60 0 5 ∷ [] }
+{}
+
+/// A tone that lasts longer than its chord ends the tune, but a silent one does not. Our own.
+pub fn the_end_of_a_tune()
+    ensures heard { end_of own (chord (tone (Some 60) 1 false ∷ tone (Some 62) 5 false ∷ []) ∷ []) ≡ 5 }
+    ensures silent { end_of own (chord (tone (Some 60) 1 false ∷ tone None 5 false ∷ []) ∷ []) ≡ 1 }
+{}
+
+/// Voices are uneven where they play time in a section and differ in length there; one that plays none is not. Our own.
+pub fn uneven_voices()
+    ensures uneven { list_any (is_uneven own ([] ∷ (49 ∷ []) ∷ (50 ∷ []) ∷ []))
+        (played_sections own (voice_1 ∷ note 60 ∷ voice_2 ∷ note 64 ∷ note 64 ∷ [])) ≡ true }
+    ensures even { list_any (is_uneven own ([] ∷ (49 ∷ []) ∷ (50 ∷ []) ∷ []))
+        (played_sections own (voice_1 ∷ note 60 ∷ voice_2 ∷ note 64 ∷ [])) ≡ false }
+    ensures alone { list_any (is_uneven own ([] ∷ (49 ∷ []) ∷ (50 ∷ []) ∷ []))
+        (played_sections own (voice_1 ∷ note 60 ∷ voice_2 ∷ [])) ≡ false }
+{}
+
+/// Of tempos at one tick the last in order of play stands, here that of the second voice; and a field between two
+/// endings is heard with the second. Our own.
+pub fn tempos_at_a_tick()
+    ensures last { changes_of own (voice_1 ∷ tempo 400000 ∷ note 60 ∷ voice_2 ∷ tempo 300000 ∷ note 60 ∷ [])
+        ≡ tempo_change 0 300000 ∷ key_change 0 ∷ [] }
+    ensures behind { set_in own tempo_of ([] ∷ []) ([] ∷ []) 0
+        (([], opening ∷ note 69 ∷ single ∷ first ∷ note 71 ∷ closing ∷ tempo 1000000 ∷ single ∷ second ∷ note 66 ∷ double ∷ []) ∷ [])
+        ≡ (record { 0 = 3 }, 1000000) ∷ [] }
+{}

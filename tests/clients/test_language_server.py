@@ -1,0 +1,333 @@
+"""The language server, asked by a scripted editor."""
+
+import json
+import os
+import random
+import subprocess
+import sys
+
+import live_book
+import trial
+
+server = trial.client("language_server")
+URI = "file:///book.abc"
+BOOK = "X:1\nT:Kesh\nK:G\nGABc &\n\nX:2\nK:C\nCDE -\n"
+
+
+class Editor(trial.Folder):
+    """An editor that talks with the server, and keeps the text of each book as it stands after its changes."""
+
+    def setUp(self):
+        super().setUp()
+        self.start()
+
+    def start(self, *words):
+        """Starts the server, with a folder for what it leaves for a moment."""
+        words = [sys.executable, str(trial.CLIENTS / "language_server"), "--program", trial.program, *words]
+        self.server = subprocess.Popen(
+            words, stdin=subprocess.PIPE, stdout=subprocess.PIPE, stderr=subprocess.PIPE,
+            env={**os.environ, "TMPDIR": str(self.files)},
+        )  # fmt: skip
+        self.asked = 0
+        self.limit(self.server)
+
+    def send(self, data: bytes):
+        self.server.stdin.write(b"Content-Length: %d\r\n\r\n" % len(data) + data)
+        self.server.stdin.flush()
+
+    def read(self) -> dict:
+        """The next message of the server."""
+        name, length = self.server.stdout.readline().split()
+        self.assertEqual((name, self.server.stdout.readline()), (b"Content-Length:", b"\r\n"))
+        message = json.loads(self.server.stdout.read(int(length)))
+        self.assertEqual(message.pop("jsonrpc"), "2.0")
+        return message
+
+    def ask(self, method: str, params=None):
+        """The result of a request, or the number of its error."""
+        self.asked += 1
+        self.send(json.dumps({"jsonrpc": "2.0", "id": self.asked, "method": method, "params": params}).encode())
+        message = self.read()
+        self.assertEqual(message.pop("id"), self.asked)
+        self.assertEqual(len(message), 1)
+        return message["result"] if "result" in message else message["error"]["code"]
+
+    def notify(self, method: str, params=None):
+        self.send(json.dumps({"jsonrpc": "2.0", "method": method, "params": params}).encode())
+
+    def open(self, text: str, uri: str = URI) -> list:
+        """The diagnostics of a book that is opened."""
+        book = {"uri": uri, "languageId": "abc", "version": 0, "text": text}
+        self.notify("textDocument/didOpen", {"textDocument": book})
+        return self.diagnostics(0, uri)
+
+    def change(self, version: int, *changes) -> list:
+        """The diagnostics of a book after changes: each a text, with a range before it or none."""
+        told = [{"text": change[-1], **({"range": change[0]} if len(change) > 1 else {})} for change in changes]
+        book = {"uri": URI, "version": version}
+        self.notify("textDocument/didChange", {"textDocument": book, "contentChanges": told})
+        return self.diagnostics(version)
+
+    def diagnostics(self, version: int, uri: str = URI) -> list:
+        message = self.read()
+        self.assertEqual(message["method"], "textDocument/publishDiagnostics")
+        self.assertEqual((message["params"]["uri"], message["params"]["version"]), (uri, version))
+        return message["params"]["diagnostics"]
+
+    def play(self, uri: str, line: int) -> str:
+        """The file that `play` names."""
+        place = {"textDocument": {"uri": uri}, "position": {"line": line, "character": 0}}
+        self.asked += 1
+        asked = {"id": self.asked, "method": "workspace/executeCommand", "params": {"command": "play", "arguments": [place]}}
+        self.send(json.dumps(asked).encode())
+        message, answer = self.read(), self.read()
+        self.assertEqual((message["method"], message["params"]["message"]), ("window/showMessage", answer["result"]))
+        return answer["result"]
+
+    def finish(self):
+        """Ends the session, which leaves nothing."""
+        self.assertIsNone(self.ask("shutdown"))
+        self.assertEqual(os.listdir(self.files), [])
+        self.notify("exit")
+        self.assertEqual((self.server.wait(trial.SECONDS), self.server.stderr.read()), (0, b""))
+
+
+def span(first: int, start: int, last: int, end: int) -> dict:
+    return {"start": {"line": first, "character": start}, "end": {"line": last, "character": end}}
+
+
+def units(text: str) -> int:
+    """How many UTF-16 units a text has."""
+    return sum(2 if ord(character) > 0xFFFF else 1 for character in text)
+
+
+def starts(diagnostics: list) -> list:
+    """Where each diagnostic begins, and its fault."""
+    found = []
+    for diagnostic in diagnostics:
+        start = diagnostic["range"]["start"]
+        found.append((start["line"], start["character"], diagnostic["code"]))
+    return found
+
+
+def wanted(text: str) -> list:
+    """What `starts` gives by a fresh run: the character of a column is the one that has its byte."""
+    lines = text.split("\n")
+    found = []
+    for line, column, name in trial.fresh(text.encode()).faults:
+        character = before = 0
+        for each in lines[line - 1]:
+            before += len(each.encode())
+            if before >= column:
+                break
+            character += units(each)
+        found.append((line - 1, character, name))
+    return found
+
+
+class Session(Editor):
+    def setUp(self):
+        super().setUp()
+        self.assertEqual(self.ask("initialize", {"capabilities": {}})["capabilities"]["positionEncoding"], "utf-16")
+        self.notify("initialized", {})
+
+    def test_diagnostics(self):
+        found = self.open(BOOK)
+        self.assertEqual([each["range"] for each in found], [span(3, 5, 3, 6), span(7, 4, 7, 5)])
+        self.assertEqual([each["code"] for each in found], ["BadByte", "LooseTie"])
+        self.assertEqual([each["message"] for each in found], [live_book.sentences()[each["code"]] for each in found])
+        self.assertEqual(self.change(1, (span(3, 4, 3, 6), ""), (span(7, 3, 7, 5), "")), [])
+        self.assertEqual(starts(self.change(2, (span(2, 0, 3, 0), ""))), [(0, 0, "MissingKey")])
+        self.finish()
+
+    def test_ranges(self):
+        self.open("")
+        head = "X:1\nM:5\nK:C\n"
+        bodies = {"C^D0/3 C": span(3, 1, 3, 6), "C[K:X]C": span(3, 1, 3, 6), "C (99:2 CC": span(3, 2, 3, 7), "C[]2": span(3, 1, 3, 4),
+                  '"𝄞é"C"': span(3, 6, 3, 7), "C𝄞": span(3, 1, 3, 3), "|[33,1 C": span(3, 1, 3, 6)}  # fmt: skip
+        for version, (body, range_of_it) in enumerate(bodies.items(), 1):
+            found = self.change(version, (head + body + "\r\n",))
+            self.assertEqual([each["range"] for each in found[:2]], [span(1, 0, 1, 3), range_of_it], body)
+        self.finish()
+
+    def test_places_in_utf_16(self):
+        self.open("X:1\nK:C\n\"𝄞é\"C&\r\nC\n")
+        self.assertEqual(starts(self.change(1, (span(2, 7, 2, 7), "𝄞"))), [(2, 6, "BadByte")] + [(2, 7, "BadByte")] * 4)
+        self.assertEqual(starts(self.change(2, (span(2, 0, 2, 5), ""))), [(2, 1, "BadByte")] + [(2, 2, "BadByte")] * 4)
+        self.assertEqual(starts(self.change(3, (span(2, 99, 2, 99), "-&"))), wanted("X:1\nK:C\nC&𝄞-&\r\nC\n"))
+        # half of a pair, and then the other one
+        self.change(4, (span(2, 0, 2, 99), "\ud834C"))
+        self.assertEqual(starts(self.change(5, (span(2, 1, 2, 1), "\udd1e-"))), wanted("X:1\nK:C\n𝄞-C\r\nC\n"))
+        self.assertEqual(starts(self.change(6, (span(99, 0, 99, 9), "&"))), wanted("X:1\nK:C\n𝄞-C\r\nC\n&"))
+        self.assertEqual(starts(self.change(7, (span(5, 0, 5, 0), "-"))), wanted("X:1\nK:C\n𝄞-C\r\nC\n&-"))
+        self.finish()
+
+    def test_ends_of_the_text(self):
+        text = self.text = "X:1\nK:C\nC&"
+        self.open(text)
+        for version, (place, put, text) in enumerate(
+            [
+                (span(2, 2, 2, 2), "\n", "X:1\nK:C\nC&\n"),
+                (span(3, 0, 3, 0), "\n\n-", "X:1\nK:C\nC&\n\n\n-"),
+                (span(2, 2, 5, 1), "", "X:1\nK:C\nC&"),
+                (span(0, 0, 2, 2), "", ""),
+                (span(0, 0, 0, 0), "X:1\nK:C\n-", "X:1\nK:C\n-"),
+                (span(0, 0, 2, 0), "", "-"),
+                (span(0, 0, 0, 0), "\n\nX:0\n", "\n\nX:0\n-"),
+            ]
+        ):
+            self.assertEqual(starts(self.change(version, (place, put))), wanted(text))
+        self.finish()
+
+    def test_a_line_of_too_many_bytes(self):
+        found = self.open("X:1\nK:C\n" + "C" * 65_536 + "\n-\n")
+        self.assertEqual(starts(found), [(2, 65_535, "BadLine"), (3, 0, "LooseTie")])
+        self.assertEqual(found[0]["range"], span(2, 65_535, 2, 65_536))
+        self.assertEqual(starts(self.change(1, (span(2, 0, 2, 1), ""), (span(3, 0, 3, 1), "quit"))), wanted("X:1\nK:C\nC\nquit"))
+        self.finish()
+
+    def test_symbols(self):
+        self.open("T:book\n\n" + BOOK + "% words\nC\n \t\r\nwords\nX:7\nT:𝄞\n")
+        found = self.ask("textDocument/documentSymbol", {"textDocument": {"uri": URI}})
+        self.assertEqual([symbol["name"] for symbol in found], ["1 Kesh", "2", "7 𝄞"])
+        self.assertEqual([symbol["range"] for symbol in found], [span(2, 0, 5, 6), span(7, 0, 11, 1), span(14, 0, 15, 4)])
+        self.assertEqual(found[0]["selectionRange"], span(2, 0, 2, 3))
+        self.finish()
+
+    def test_play_names_the_file(self):
+        self.open(BOOK + "\nX:2\nK:C\nC")
+        for line, number in (1, 1), (7, 2):
+            place = {"textDocument": {"uri": URI}, "position": {"line": line, "character": 0}}
+            asked = {"textDocument": {"uri": URI}, "range": span(line, 0, line, 1), "context": {"diagnostics": []}}
+            action = self.ask("textDocument/codeAction", asked)[0]
+            self.assertEqual((action["command"], action["arguments"]), ("play", [place]))
+            with open(self.play(URI, line), "rb") as file:
+                self.assertEqual(file.read(), trial.fresh(BOOK.encode()).files[f"{number}.mid"])
+        for line in (4, 9):
+            place = {"textDocument": {"uri": URI}, "position": {"line": line, "character": 0}}
+            self.assertEqual(self.ask("workspace/executeCommand", {"command": "play", "arguments": [place]}), -32803)
+        self.assertEqual(self.ask("workspace/executeCommand", {"command": "dance", "arguments": []}), -32602)
+        self.finish()
+
+    def test_two_books(self):
+        self.open("X:1\nK:C\n&")
+        self.assertEqual(starts(self.open("X:0", "file:///other")), [(0, 0, "BadReference"), (0, 0, "MissingKey")])
+        self.assertEqual(starts(self.change(1, (span(2, 0, 2, 1), "-"))), [(2, 0, "LooseTie")])
+        paths = [self.play(uri, 0) for uri in (URI, "file:///other")]
+        self.assertEqual([os.path.basename(path) for path in paths], ["1.mid", "0.mid"])
+        self.assertEqual([os.listdir(os.path.dirname(path)) for path in paths], [["1.mid"], ["0.mid"]])
+        self.notify("textDocument/didClose", {"textDocument": {"uri": URI}})
+        self.assertEqual(self.read()["params"], {"uri": URI, "diagnostics": []})
+        self.assertEqual(self.ask("textDocument/documentSymbol", {"textDocument": {"uri": URI}}), -32602)
+        self.finish()
+
+    def test_random_changes(self):
+        """Each is followed by the diagnostics of a fresh run on the text."""
+        chance = random.Random(trial.seed)
+        tunes = [trial.random_tune(chance, number + 1) for number in range(min(trial.tunes, 9))]
+        text = "\n".join(line for tune in tunes for line in tune)
+        self.assertEqual(starts(self.open(text)), wanted(text))
+        for version in range(1, trial.changes + 1):
+            changes = []
+            for _ in range(chance.choice([1, 1, 1, 2, 3])):
+                start = chance.randrange(len(text) + 1)
+                end = min(len(text), start + chance.choice([0, 0, 0, 1, 1, 2, 5, 40]))
+                put = chance.choice([random_text(chance), random_text(chance), ""])
+                changes.append((span(*place_of(text, start), *place_of(text, end)), put))
+                text = text[:start] + put + text[end:]
+            if chance.random() < 0.05:
+                text = text[len(text) // 3 :] + text[: len(text) // 3]
+                changes.append((text,))
+            self.assertEqual(starts(self.change(version, *changes)), wanted(text), text)
+        self.finish()
+
+
+class Documents(trial.Folder):
+    """A document by itself."""
+
+    def test_the_lines_that_are_held(self):
+        chance = random.Random(trial.seed)
+        document = server.Document("", trial.program, str(self.files))
+        self.addCleanup(document.book.process.stdout.close)
+        self.addCleanup(document.book.close)
+        text = ""
+        for _ in range(200):
+            start = chance.randrange(len(text) + 1)
+            end = min(len(text), start + chance.choice([0, 1, 3, 30]))
+            put = chance.choice(["", "\n", "a", "é\n", "\na𝄞\r\n\n"])
+            document.change({"range": span(*place_of(text, start), *place_of(text, end)), "text": put})
+            text = text[:start] + put + text[end:]
+            self.assertEqual(document.book.lines, live_book.lines_of(text.encode()))
+
+
+class Protocol(Editor):
+    """Requests at a wrong time, unknown ones, and what is no request."""
+
+    def test_order_of_requests(self):
+        self.assertEqual(self.ask("textDocument/documentSymbol", {"textDocument": {"uri": URI}}), -32002)
+        self.notify("textDocument/didOpen", {"textDocument": {"uri": URI, "version": 1, "text": "&"}})
+        self.ask("initialize", {})
+        self.assertEqual(self.ask("initialize", {}), -32600)
+        self.assertEqual(self.ask("textDocument/hover", {}), -32601)
+        self.assertEqual(self.ask("$/unknown"), -32601)
+        self.notify("$/setTrace", {"value": "off"})
+        self.notify("workspace/didChangeConfiguration", {})
+        self.send(b'{"jsonrpc": "2.0", "id": 7, "result": null}')
+        self.assertEqual(self.ask("textDocument/documentSymbol", {}), -32602)
+        self.assertEqual(self.ask("textDocument/documentSymbol"), -32602)
+        self.assertIsNone(self.ask("shutdown"))
+        self.assertEqual(self.ask("shutdown"), -32600)
+        self.notify("exit")
+        self.assertEqual((self.server.wait(trial.SECONDS), os.listdir(self.files)), (0, []))
+
+    def test_what_is_no_request(self):
+        for data, code in (b"{", -32700), (b"\xff", -32700), (b"", -32700), (b"[]", -32600), (b'{"id": 1, "method": 2}', -32600):
+            self.send(data)
+            self.assertEqual([self.read()["error"]["code"] for _ in range(1)], [code])
+        data = b'{"id": "a", "method": "initialize", "params": {}}'
+        self.server.stdin.write(b"content-length:%d\r\nContent-Type: x\r\n\r\n" % len(data) + data)
+        self.server.stdin.flush()
+        self.assertEqual(self.read()["id"], "a")
+        self.notify("exit")
+        self.assertEqual((self.server.wait(trial.SECONDS), os.listdir(self.files)), (1, []))
+
+    def test_the_input_ends(self):
+        self.ask("initialize", {})
+        self.open(BOOK)
+        self.server.stdin.close()
+        self.server.stdin = None
+        self.assertEqual((self.server.wait(trial.SECONDS), os.listdir(self.files)), (1, []))
+
+    def test_a_player(self):
+        self.server.kill()
+        self.start("--play", f"cp -t {self.folder}")
+        self.ask("initialize", {})
+        self.open(BOOK)
+        place = {"textDocument": {"uri": URI}, "position": {"line": 1, "character": 0}}
+        path = self.ask("workspace/executeCommand", {"command": "play", "arguments": [place]})
+        self.assertEqual(os.path.basename(path), "1.mid")
+        self.finish()
+
+    def test_a_program_that_is_not_there(self):
+        self.server.kill()
+        self.start("--program", str(self.folder / "none"))
+        self.ask("initialize", {})
+        self.notify("textDocument/didOpen", {"textDocument": {"uri": URI, "version": 1, "text": "&"}})
+        self.assertEqual(self.server.wait(trial.SECONDS), 127)
+        self.assertEqual(self.server.stderr.read().count(b"\n"), 1)
+
+
+def place_of(text: str, at: int) -> tuple:
+    """The line of a place of a text, and the UTF-16 units before it there."""
+    before = text[:at].split("\n")
+    return len(before) - 1, units(before[-1])
+
+
+def random_text(chance: random.Random) -> str:
+    """A little text: pieces of music, lines, or a tune."""
+    kind = chance.random()
+    if kind < 0.5:
+        return chance.choice(trial.MUSIC + ["\n", "\n", "\r\n", "X:", "%"])
+    if kind < 0.9:
+        return chance.choice(["", "\n"]) + trial.random_line(chance) + chance.choice(["", "\n"])
+    return "\n" + "\n".join(trial.random_tune(chance, chance.randrange(1, 20)))

@@ -1,0 +1,237 @@
+"""What the clients stand on."""
+
+import os
+import random
+import re
+import stat
+from pathlib import Path
+
+import live_book
+import trial
+from live_book import Edit, Fault, LiveBook, Tune
+
+
+def lines(text: str) -> list:
+    return [letter.encode() for letter in text]
+
+
+class Edits(trial.Folder):
+    def check(self, old: list, new: list) -> list:
+        """The edits of two texts, which must make the one of the other, and leave a line between any two."""
+        found = live_book.edits(old, new)
+        made = list(old)
+        for edit in reversed(found):
+            made[edit.start : edit.stop] = edit.lines
+        self.assertEqual(made, new)
+        self.assertTrue(all(a.stop < b.start for a, b in zip(found, found[1:])))
+        self.assertTrue(all(edit.stop > edit.start or edit.lines for edit in found))
+        return found
+
+    def test_fewest_edits(self):
+        self.assertEqual(self.check(lines("abc"), lines("abc")), [])
+        self.assertEqual(self.check(lines("abcd"), lines("abXd")), [Edit(2, 3, [b"X"])])
+        self.assertEqual(self.check(lines("abcd"), lines("ad")), [Edit(1, 3, [])])
+        self.assertEqual(self.check(lines("ad"), lines("abcd")), [Edit(1, 1, lines("bc"))])
+        self.assertEqual(self.check(lines("aaa"), lines("aaaa")), [Edit(3, 3, [b"a"])])
+        self.assertEqual(self.check([], lines("ab")), [Edit(0, 0, lines("ab"))])
+        self.assertEqual(self.check(lines("ab"), []), [Edit(0, 2, [])])
+        self.assertEqual(self.check(lines("abcdef"), lines("Xbcdef")[:4] + lines("Yf")), [Edit(0, 1, [b"X"]), Edit(4, 5, [b"Y"])])
+
+    def test_random_texts(self):
+        chance = random.Random(trial.seed)
+        for _ in range(400):
+            old = [bytes([chance.choice(b"abcdefgh")]) for _ in range(chance.randrange(20))]
+            new = list(old)
+            for _ in range(chance.randrange(4)):
+                at = chance.randrange(len(new) + 1)
+                new[at : at + chance.randrange(3)] = [b"%d" % chance.randrange(9)] * chance.randrange(3)
+            self.check(old, new)
+
+    def test_a_large_text(self):
+        old = [b"%d" % (n // 2 if n % 3 else n % 7) for n in range(20_000)]
+        one = old[:10_000] + [b"a"] + old[10_001:]
+        self.assertEqual(self.check(old, one), [Edit(10_000, 10_001, [b"a"])])
+        self.assertEqual(len(self.check(old, [b"a", *one, b"b"])), 3)
+        self.check(old, [line for line in old for _ in range(2)])
+
+    def test_edits_that_are_joined(self):
+        old, new = lines("abcdefghijkl"), lines("XbcYefghZjklW")
+        found = self.check(old, new)
+        self.assertEqual([edit.start for edit in found], [0, 3, 8, 12])
+        self.assertEqual(live_book.joined(found, old, 9), found)
+        self.assertEqual(live_book.joined(found, old, 3), [Edit(0, 4, lines("XbcY")), *found[2:]])
+        self.assertEqual(live_book.joined(found, old, 2), [Edit(0, 4, lines("XbcY")), Edit(8, 12, lines("ZjklW"))])
+        self.assertEqual(live_book.joined(found, old, 1), [Edit(0, 12, new)])
+        self.assertEqual(live_book.joined([], old, 1), [])
+
+
+class Texts(trial.Folder):
+    def test_lines_of_a_book(self):
+        self.assertEqual(live_book.lines_of(b""), [])
+        self.assertEqual(live_book.lines_of(b"\n"), [b""])
+        self.assertEqual(live_book.lines_of(b"a\r\n\nb"), [b"a\r", b"", b"b"])
+        self.assertEqual(live_book.lines_of(b"\xef\xbb\xbf\xef\xbb\xbfa\n"), [b"\xef\xbb\xbfa"])
+
+    def test_bytes_and_characters(self):
+        line = "aé𝄞\ud83dz€"
+        places = [n for n, character in enumerate(line) for _ in live_book.utf8(character)]
+        self.assertEqual([live_book.character_of(line, n + 1) for n in range(len(places))], places)
+        self.assertEqual([live_book.character_of("abc", n) for n in (1, 2, 3)], [0, 1, 2])
+        self.assertEqual(live_book.from_utf16(live_book.utf16("a\ud834") + live_book.utf16("\udd1eb")), "a𝄞b")
+
+    def test_titles_in_latin_1(self):
+        self.assertEqual([live_book.text_of(b"caf\xe9"), live_book.text_of("café".encode())], ["café", "café"])
+
+    def test_each_fault_has_a_sentence(self):
+        source = Path(live_book.TOP, "crates/abc_fields/src/fault.rt").read_text("utf-8")
+        names = re.findall(r'=> "(\w+)"', source)
+        self.assertGreater(len(names), 20)
+        found = live_book.sentences()
+        self.assertEqual(list(found), names + ["BadLine", "TooLarge"])
+        self.assertIn("`M:C|`", found["BadMeter"])
+
+
+class Program(trial.Folder):
+    def book(self) -> LiveBook:
+        book = LiveBook(trial.program, str(self.files))
+        self.addCleanup(book.process.stdout.close)
+        self.addCleanup(book.close)
+        return book
+
+    def test_answers(self):
+        book = self.book()
+        text = [b"X:1", b"T:A", b"K:C", b"C&", b"", b"X:1", b"K:C", b"D", b"", b"X:2", b"K:C"]
+        self.assertEqual(book.replace(0, 0, text), [Edit(0, 0, text)])
+        self.assertEqual(book.faults(), [Fault(4, 2, "BadByte")])
+        self.assertEqual(book.tunes(), [Tune(1, "A", 1), Tune(1, "", 6), Tune(2, "", 10)])
+        self.assertEqual(book.build(), live_book.Built([1, 2], [], None))
+        self.assertEqual(book.replace(3, 4, [b"C"]), [Edit(3, 4, [b"C"])])
+        self.assertEqual(book.build(), live_book.Built([], [], None))
+        self.assertEqual(book.replace(9, 11, []), [Edit(9, 11, [])])
+        self.assertEqual((book.build(), book.close()), (live_book.Built([], [2], None), 0))
+
+    def test_what_to_write_instead(self):
+        """Each fault is there, and gone where its place is written as its sentence says."""
+        book, words = self.book(), live_book.sentences()
+        for name, wrong, right, said in INSTEAD:
+            for text, is_told in (wrong, True), (right, False):
+                book.replace(0, len(book.lines), text.encode().split(b"\n"))
+                self.assertEqual(name in [fault.name for fault in book.faults()], is_told, text)
+            self.assertIn(f"`{said}`" if said else "", words[name])
+        self.assertEqual([name for name, *_ in INSTEAD], list(words)[: len(INSTEAD)])
+
+    def test_a_file_that_fails(self):
+        book = self.book()
+        (self.files / "2.mid").mkdir()
+        book.replace(0, 0, [b"X:1", b"K:C", b"X:2", b"K:C", b"X:3", b"K:C"])
+        self.assertEqual(book.build(), live_book.Built([1], [], 2))
+
+    def test_the_file_of_a_number(self):
+        tunes = [Tune(1, "A", 1), Tune(1, "B", 5), Tune(2, "C", 9)]
+        self.assertEqual(live_book.files_of(tunes, [Fault(1, 1, "TuneTooLong")]), {1: tunes[1], 2: tunes[2]})
+
+    def test_lines_of_too_many_bytes(self):
+        book = self.book()
+        book.replace(0, 0, [b"X:" + b"2" * 65_534, b"X:1", b"K:C", b"C" * 65_535, b"D" * 65_536, b"E"])
+        self.assertEqual(book.faults(), [Fault(1, 65_536, "BadLine"), Fault(5, 65_536, "BadLine")])
+        self.assertEqual(book.tunes(), [Tune(1, "", 2)])
+        book.build()
+        self.assertTrue(trial.files_in(self.files) == trial.fresh(b"X:1\nK:C\n" + b"C" * 65_535 + b"\nE\n").files)
+        book.replace(4, 5, [b"D"])
+        self.assertEqual([fault.line for fault in book.faults()], [1])
+
+    def test_a_text_of_too_many_lines(self):
+        """The program never holds more lines than it takes, which are ten here."""
+        most, live_book.MOST_LINES = live_book.MOST_LINES, 10
+        self.addCleanup(setattr, live_book, "MOST_LINES", most)
+        book = self.book()
+        held, send = [], book._send
+
+        def sent(edit: Edit):
+            held.append((held or [0])[-1] + len(edit.lines) - (edit.stop - edit.start))
+            send(edit)
+
+        book._send = sent
+        text = [b"X:1", b"K:C", *lines("CDEFGAB"), b"last"]
+        book.replace(0, 0, text)
+        book.replace(0, 10, [b"last", *text[:-1]])
+        self.assertEqual((book.faults(), held), ([], [10, 10]))
+        book.replace(10, 10, [b"X:2", b"K:C"])
+        self.assertEqual((book.faults(), held), ([Fault(11, 1, "TooLarge")], [10, 10]))
+        self.assertEqual(book.tunes(), [Tune(1, "", 2)])
+        book.replace(4, 6, [])
+        self.assertEqual((book.faults(), max(held), len(book.lines)), ([], 10, 10))
+        self.assertEqual(book.tunes(), [Tune(1, "", 2), Tune(2, "", 9)])
+
+    def test_a_player(self):
+        player = live_book.Player(["sh", "-c", "exec sleep 600"])
+        self.addCleanup(player.stop)
+        player.play("1.mid")
+        first = player.process
+        player.play("2.mid")
+        second = player.process
+        self.assertEqual((first.returncode, second.poll()), (-15, None))
+        player.stop()
+        self.assertEqual(second.returncode, -15)
+
+    def test_a_program_that_ends(self):
+        false = self.folder / "false"
+        false.write_text("#!/bin/sh\nexit 3\n")
+        false.chmod(false.stat().st_mode | stat.S_IXUSR)
+        book = LiveBook(str(false), str(self.files))
+        self.addCleanup(book.process.stdout.close)
+        with self.assertRaisesRegex(live_book.ProgramEnded, "status 3"):
+            book.faults()
+        self.assertEqual(book.close(), 3)
+        with self.assertRaises(live_book.ProgramMissing):
+            LiveBook(str(self.folder / "none"), str(self.files))
+
+    def test_the_program_that_is_found(self):
+        top, live_book.TOP = live_book.TOP, self.folder
+        self.addCleanup(setattr, live_book, "TOP", top)
+        program = self.folder / "crates/program/out/program"
+        digest = self.folder / "scripts/digest_of_sources"
+        for path, text in (program, ""), (digest, "#!/bin/sh\necho now\n"), (Path(f"{program}.digest"), "now\n"):
+            path.parent.mkdir(parents=True, exist_ok=True)
+            path.write_text(text)
+            os.chmod(path, 0o755)
+        self.assertEqual(live_book.find_program(), str(program))
+        Path(f"{program}.digest").write_text("before\n")
+        with self.assertRaises(live_book.ProgramMissing):
+            live_book.find_program()
+        os.remove(digest)
+        with self.assertRaises(live_book.ProgramMissing):
+            live_book.find_program()
+
+
+HEAD = "X:1\nM:4/4\nK:C\n"
+
+# A name, a text with that fault, one without it, and what of that one its sentence says.
+INSTEAD = [
+    ("BadReference", "X:twelve\nK:C", "X:12\nK:C", "X:12"),
+    ("BadMeter", "X:1\nM:2+3/5\nK:C", "X:1\nM:(2+3)/8\nK:C", "M:(2+3)/8"),
+    ("BadUnit", "X:1\nL:3/8\nK:C", "X:1\nL:1/8\nK:C", "L:1/8"),
+    ("BadTempo", "X:1\nQ:Lively\nK:C", 'X:1\nQ:"Lively" 1/4=120\nK:C', 'Q:"Lively" 1/4=120'),
+    ("BadKey", "X:1\nK:Hp", "X:1\nK:D", "K:D"),
+    ("BadOrder", "X:1\nP:a2(bc)3\nK:C", "X:1\nP:A2(BC)3\nK:C", "P:A2(BC)3"),
+    ("BadPart", HEAD + "P:1", HEAD + "P:A", "P:A"),
+    ("BadVoice", HEAD + "V:1 octave=low", HEAD + "V:1 octave=-1 transpose=2", "V:1 octave=-1 transpose=2"),
+    ("TooManyVoices", HEAD + "".join(f"V:{n}\nC\n" for n in range(16)), HEAD + "[CE]", ""),
+    ("BadByte", HEAD + "slowly, C", HEAD + '"slowly"C', '"slowly"C'),
+    ("Unclosed", HEAD + '"5%"C', HEAD + '"5\\%"C', "\\%"),
+    ("BadLength", HEAD + "C0 C/0", HEAD + "C2 C/2 C3/2 Z4", "C3/2"),
+    ("BadTuplet", HEAD + "(0abc", HEAD + "(3abc (5:4:5abcde", "(5:4:5"),
+    ("NestedTuplet", HEAD + "(3ab(3abc", HEAD + "(3:2:2ab(3abc", "(3:2:2"),
+    ("BadBroken", HEAD + "A>|B", HEAD + "A>B|A3/2B/2", "A3/2B/2"),
+    ("LooseTie", HEAD + "C2 -C", HEAD + "C2-C2-|C", "C2-|C"),
+    ("EmptyChord", HEAD + "[]", HEAD + "[CEG]z2", "[CEG]"),
+    ("BigChord", HEAD + f"[{'C' * 17}]", HEAD + f"[{'C' * 16}]", ""),
+    ("BadEnding", HEAD + "|:A[0B:|[33C|", HEAD + "|:A[1,3B:|[2-4C|", "[1,3"),
+    ("FreeBarRest", "X:1\nK:C\nZ", "X:1\nM:4/4\nK:C\nZ", "M:4/4"),
+    ("KeyRange", HEAD + "c'''''", HEAD + "c'", ""),
+    ("MissingKey", "X:1\nC", "X:1\nK:C\nC", "K:C"),
+    ("TempoRange", "X:1\nQ:1/4=3\nK:C", "X:1\nQ:1/4=4\nK:C", ""),
+    ("UnknownPart", "X:1\nP:AB\nK:C\nP:A\nC", "X:1\nP:AB\nK:C\nP:A\nC\nP:B\nC", "P:"),
+    ("UnevenVoices", HEAD + "V:1\nC4\nV:2\nC2", HEAD + "V:1\nC4\nV:2\nC2z2", "z2"),
+    ("TuneTooLong", "X:1\nP:(A99)99\nK:C\nP:A\nC", "X:1\nP:(A9)9\nK:C\nP:A\nC", ""),
+]

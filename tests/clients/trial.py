@@ -1,0 +1,98 @@
+"""What the tests of the clients share: the program that is tried, what a fresh run of it gives, and random tunes."""
+
+import importlib.machinery
+import importlib.util
+import os
+import random
+import subprocess
+import sys
+import tempfile
+import threading
+import unittest
+from pathlib import Path
+from typing import NamedTuple
+
+CLIENTS = Path(__file__).resolve().parent.parent.parent / "clients"
+SECONDS = 300  # that a process may take, on a slow machine too, beside its random changes
+sys.path.insert(0, str(CLIENTS))
+
+program = ""
+oracle = []  # the command of the program that says what is wanted
+saves, tunes, changes, seed = 25, 20, 60, 1
+
+
+class Fresh(NamedTuple):
+    """What a program makes of a book from nothing: its files by name, and (line, column, name) of each fault."""
+
+    files: dict
+    faults: list
+
+
+def fresh(book: bytes, command=None) -> Fresh:
+    """What a program of its own makes of a book."""
+    with tempfile.TemporaryDirectory() as directory:
+        path = Path(directory, "book")
+        path.write_bytes(book)
+        folder = Path(directory, "files")
+        folder.mkdir()
+        words = [*(command or oracle), "--dir", str(folder), str(path)]
+        asked = subprocess.run(words, input=b"build\nfaults\n", capture_output=True, check=True)
+        answers = asked.stdout.decode().splitlines()
+        places = [line.split() for line in answers[answers.index("end") + 1 : -1]]
+        faults = [(*map(int, place.split(":")), name) for place, name in places]
+        return Fresh(files_in(folder), faults)
+
+
+def files_in(folder) -> dict:
+    """The files of a folder by name."""
+    return {entry.name: Path(entry.path).read_bytes() for entry in os.scandir(folder)}
+
+
+def client(name: str):
+    """A client as a module."""
+    loader = importlib.machinery.SourceFileLoader(name, str(CLIENTS / name))
+    module = importlib.util.module_from_spec(importlib.util.spec_from_loader(name, loader))
+    loader.exec_module(module)
+    return module
+
+
+class Folder(unittest.TestCase):
+    """Tests that have a folder of their own, which goes with them."""
+
+    maxDiff = 2000
+
+    def setUp(self):
+        kept = tempfile.TemporaryDirectory()
+        self.addCleanup(kept.cleanup)
+        self.folder = Path(kept.name)
+        self.files = self.folder / "files"
+        self.files.mkdir()
+
+    def limit(self, process: subprocess.Popen):
+        """Ends a process with its test, and when it takes too long: then nothing more is read of it."""
+        limit = threading.Timer(SECONDS + 3 * changes, process.kill)
+        limit.start()
+        self.addCleanup(process.communicate)
+        self.addCleanup(process.kill)
+        self.addCleanup(limit.cancel)
+
+
+MUSIC = ["C", "D2", "^F", "_b,", "z", "|", "|:", ":|", "[1", "[CEG]", "(3abc", ">", "-", "&", '"Am"', "é", "𝄞", "{a}", "[K:D]"]
+FIELDS = ["T:A title", "M:6/8", "M:7", "L:1/16", "Q:1/4=90", "K:D", "K:X", "V:1", "V:2", "P:A", "w:la la", "% words"]
+COMMANDS = ["quit", "build", "delete 1 9", "insert 1 2", "end", "hex 1"]
+
+
+def random_line(chance: random.Random) -> str:
+    """A line of music, a field, nothing, or what a command looks like."""
+    kind = chance.random()
+    if kind < 0.6:
+        return " ".join(chance.choice(MUSIC) for _ in range(chance.randrange(1, 9)))
+    if kind < 0.8:
+        return chance.choice(FIELDS)
+    return chance.choice(COMMANDS) if kind < 0.9 else ""
+
+
+def random_tune(chance: random.Random, number: int) -> list:
+    """The lines of a tune, with a blank one behind them."""
+    body = [random_line(chance) or "C" for _ in range(chance.randrange(1, 8))]
+    return [f"X:{number}", f"T:Tune {number} {chance.randrange(1000)}", "M:4/4", f"K:{chance.choice('CDEFGAB')}", *body, ""]
