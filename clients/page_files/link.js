@@ -181,11 +181,11 @@ export class Link {
 
   /** Waits till the server has all that was typed. */
   async flush() {
-    for (let n = 0; n < 100 && !this.settled && !this.away; n += 1) {
+    while (!this.settled && !this.away) {
       this.send();
       await new Promise((done) => setTimeout(done, 30));
     }
-    if (!this.settled) throw new Error(this.away || "the server is slow");
+    if (!this.settled) throw new Error(this.away);
   }
 
   /** Saves the book; `over` names the file on disk that is replaced though it was changed. */

@@ -293,15 +293,20 @@ function offer() {
   });
 }
 
-/** Asks in a line, with a button for each answer. */
+let behind = null; // what had the focus before a question
+
+/** Asks in a line, with a button for each answer. The focus goes there, and back with the answer. */
 function ask(question, answers) {
   const notice = find("notice");
+  if (!notice.contains(document.activeElement)) behind = document.activeElement;
   const words = Object.assign(document.createElement("span"), { textContent: question });
   const buttons = Object.entries(answers).map(([name, act]) => {
     const button = Object.assign(document.createElement("button"), { type: "button", textContent: name });
     button.addEventListener("click", () => {
       notice.hidden = true;
       delete notice.dataset.asks;
+      const kept = behind?.isConnected && behind !== document.body && !behind.disabled;
+      (kept ? behind : sheet.area).focus({ preventScroll: true });
       act();
     });
     return button;
@@ -358,7 +363,7 @@ document.addEventListener("keydown", (event) => {
   if (command && event.key.toLowerCase() === "s") save();
   else if (event.code === "Space" && (event.ctrlKey || (plain && !event.altKey && !event.metaKey))) playOrStop();
   else if (event.key === "F8") toFault(!event.shiftKey);
-  else if (event.key === "Escape" && inText) find("play").focus();
+  else if (event.key === "Escape" && inText) find(find("play").disabled ? "save" : "play").focus();
   else return;
   event.preventDefault();
 });

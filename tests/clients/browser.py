@@ -3,37 +3,43 @@
 import os
 import shutil
 import sys
+import time
 
-SECONDS = 120  # that a step may take, on a slow machine too
-NOTES = """
+SECONDS = 300  # that a step may take, on a slow machine too
+OWN = """
+window.clock = 0;
+Object.defineProperty(BaseAudioContext.prototype, "currentTime", { get: () => window.clock });
 window.played = [];
 const start = AudioScheduledSourceNode.prototype.start;
 AudioScheduledSourceNode.prototype.start = function (when) {
   window.played.push([when, Math.round(69 + 12 * Math.log2(this.frequency.value / 440))]);
   return start.call(this, when);
 };
-"""  # tells of each note that is handed to Web Audio: when, and its key
+addEventListener("beforeunload", (event) => event.stopImmediatePropagation());
+"""  # Web Audio by a clock that the test moves, and each note that is handed to it: when, and its key; no page asks to stay
 
 
 def lacking() -> str:
     """What is not installed here, or nothing."""
-    try:
-        import selenium  # noqa: F401
-    except ImportError:
-        sys.path.append("/usr/lib/python3/dist-packages")
+    for more in ([], ["/usr/lib/python3/dist-packages"]):
+        sys.path.extend(more)
         try:
-            import selenium  # noqa: F401
-        except ImportError:
-            return "python3-selenium is not installed"
-    missing = [name for name in ("chromium", "chromedriver") if not shutil.which(name)]
-    return f"{' and '.join(missing)} is not installed" if missing else ""
+            import selenium.webdriver.chrome.webdriver  # noqa: F401
+        except Exception as error:
+            why = f"python3-selenium is not installed, or not for this Python: {error}"
+        else:
+            missing = [name for name in ("chromium", "chromedriver") if not shutil.which(name)]
+            return f"{' and '.join(missing)} is not installed" if missing else ""
+    return why
 
 
 def started():
     """A browser."""
     from selenium import webdriver
     from selenium.webdriver.chrome.service import Service
+    from selenium.webdriver.remote.remote_connection import RemoteConnection
 
+    RemoteConnection.set_timeout(2 * SECONDS)
     options = webdriver.ChromeOptions()
     options.binary_location = shutil.which("chromium")
     words = ["headless=new", "disable-gpu", "disable-dev-shm-usage", "autoplay-policy=no-user-gesture-required"]
@@ -41,14 +47,39 @@ def started():
         options.add_argument(f"--{word}")
     options.set_capability("goog:loggingPrefs", {"browser": "ALL"})
     driver = webdriver.Chrome(options=options, service=Service(shutil.which("chromedriver")))
-    driver.set_script_timeout(10 * SECONDS)
+    driver.set_page_load_timeout(SECONDS)
+    driver.set_script_timeout(SECONDS)
     driver.set_window_size(1280, 900)
-    driver.execute_cdp_cmd("Page.addScriptToEvaluateOnNewDocument", {"source": NOTES})
+    driver.execute_cdp_cmd("Page.addScriptToEvaluateOnNewDocument", {"source": OWN})
     return driver
 
 
-def wait(driver, comes):
+def wait(comes):
     """Waits till something comes about, and gives it."""
-    from selenium.webdriver.support.ui import WebDriverWait
+    until = time.monotonic() + SECONDS
+    while not (found := comes()):
+        if time.monotonic() > until:
+            raise AssertionError(f"waited {SECONDS} seconds in vain")
+        time.sleep(0.05)
+    return found
 
-    return WebDriverWait(driver, SECONDS, 0.05).until(lambda _: comes())
+
+def type_keys(driver, words: str, *held):
+    """Types into whatever has the focus, while some keys are held down."""
+    from selenium.webdriver.common.action_chains import ActionChains
+
+    actions = ActionChains(driver)
+    for key in held:
+        actions.key_down(key)
+    actions.send_keys(words.replace("\n", "\ue007"))
+    for key in held:
+        actions.key_up(key)
+    actions.perform()
+
+
+def broke(error: Exception) -> bool:
+    """Whether it is the browser or its driver that failed, and not what the page did there."""
+    from selenium.common.exceptions import JavascriptException, WebDriverException
+    from urllib3.exceptions import HTTPError
+
+    return isinstance(error, (WebDriverException, HTTPError)) and not isinstance(error, JavascriptException)

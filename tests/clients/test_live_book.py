@@ -164,6 +164,8 @@ class Program(trial.Folder):
         self.assertEqual(book.tunes(), [Tune(1, "", 2), Tune(2, "", 9)])
 
     def test_a_player(self):
+        patience, live_book.SECONDS_TO_END = live_book.SECONDS_TO_END, trial.SECONDS
+        self.addCleanup(setattr, live_book, "SECONDS_TO_END", patience)
         player = live_book.Player(["sh", "-c", "exec sleep 600"])
         self.addCleanup(player.stop)
         player.play("1.mid")

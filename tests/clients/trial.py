@@ -13,7 +13,7 @@ from pathlib import Path
 from typing import NamedTuple
 
 CLIENTS = Path(__file__).resolve().parent.parent.parent / "clients"
-SECONDS = 300  # that a process may take, on a slow machine too, beside its random changes
+SECONDS = 300  # that a process may take, on a slow machine too
 sys.path.insert(0, str(CLIENTS))
 
 program = ""
@@ -60,6 +60,7 @@ class Folder(unittest.TestCase):
     """Tests that have a folder of their own, which goes with them."""
 
     maxDiff = 2000
+    seconds = SECONDS  # that a process of these tests has, beside its random changes
 
     def setUp(self):
         kept = tempfile.TemporaryDirectory()
@@ -70,7 +71,7 @@ class Folder(unittest.TestCase):
 
     def limit(self, process: subprocess.Popen):
         """Ends a process with its test, and when it takes too long: then nothing more is read of it."""
-        limit = threading.Timer(SECONDS + 3 * changes, process.kill)
+        limit = threading.Timer(self.seconds + 3 * changes, process.kill)
         limit.start()
         self.addCleanup(process.communicate)
         self.addCleanup(process.kill)
