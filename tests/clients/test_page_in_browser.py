@@ -56,17 +56,23 @@ class Kept(unittest.TestResult):
     def addFailure(self, _, error):
         self.wrong.append(("addFailure", error))
 
+    def reason(self) -> str:
+        """The first line of what went wrong first."""
+        error = self.wrong[0][1][1]
+        return f"{type(error).__name__}: {str(error).strip()}".partition("\n")[0]
+
     def tell(self, test: unittest.TestCase, result: unittest.TestResult):
         """Tells it as the end of the test. Where the browser itself failed the test counts as skipped."""
-        reasons = [why for _, why in self.skipped]
-        reasons += [f"the browser failed: {str(error[1]).strip()}" for _, error in self.wrong if browser.broke(error[1])]
         result.startTest(test)
-        if reasons:
-            result.addSkip(test, reasons[0].partition("\n")[0])
+        if self.skipped:
+            result.addSkip(test, self.skipped[0][1])
+        elif any(browser.broke(error[1]) for _, error in self.wrong):
+            result.addSkip(test, f"the browser failed: {self.reason()}")
         elif not self.wrong:
             result.addSuccess(test)
-        for how, error in [] if reasons else self.wrong:
-            getattr(result, how)(test, error)
+        else:
+            for how, error in self.wrong:
+                getattr(result, how)(test, error)
         result.stopTest(test)
 
 
@@ -82,6 +88,7 @@ class Browser(test_page.Page):
     def run(self, result=None):
         ended = self.tried()
         if ended.wrong:
+            print(f"tried again: {self.id()}: {ended.reason()}", flush=True)
             ended = self.tried()
         ended.tell(self, result)
         return result
