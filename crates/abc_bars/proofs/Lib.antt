@@ -7,5 +7,6 @@ pub mod HeaderViews
 pub mod LookBack
 pub mod Mentions
 pub mod NamePlaces
+pub mod SilentChords
 pub mod Titles
 pub mod VoicesLemmas

@@ -1,8 +1,11 @@
 //! The cells of a tune's body.
 
-ghost use Rattle.std.specs.Prelude.{◌≡◌, option_to_list, IfOk, IfSome, OnOk};
+ghost use Rattle.std.specs.Prelude.{◌≡◌, ℕ, Bool, option_to_list, IfOk, IfSome, OnOk};
 ghost use Rattle.abc_bars.specs.Cell.{is_tie_token, tie_ahead, may_be_tied, nothing_given, with_item, with_items, with_faults, with_fault, with_fault_if, with_some_fault, with_note, with_rest, with_chord, with_bar_rest, with_field, with_bar, with_ending, with_tuplet, with_tie, with_kind, with_token, given_from, cell_given};
+ghost use Rattle.abc_music.specs.Broken.{factors_of};
 ghost use Rattle.abc_music.specs.Item.{IsItem};
+ghost use Rattle.abc_music.specs.TimeTokens.{chord_played};
+ghost use Rattle.abc_music.specs.declared.settings.Settings.{Settings};
 
 use crate::body::Body;
 use crate::body_fields::{FieldItem, field_given};
@@ -39,6 +42,20 @@ fn may_be_tied(kind: &TokenKind) -> bool
     ensures { result ≡ may_be_tied kind.now }
 {
     matches!(kind, TokenKind::Note(_) | TokenKind::Chord(_))
+}
+
+/// Factors with which a chord gives what it gives with those of the marks round it. One without notes takes no time: for it
+/// nothing is read of what stands behind it, so that many of them side by side cost no more than each alone.
+#[tactic(auto, using(crate::proofs::SilentChords::silent_same))]
+fn chord_factors(behind: Behind, chord: &Chord, ahead: &[Token]) -> BrokenFactors
+    ensures { (settings : Settings) (tied : Bool) (from : ℕ) →
+        chord_played settings result tied from chord.now ≡ chord_played settings (factors_of behind ahead.now) tied from chord.now }
+{
+    if has_note(chord.parts.as_slice()) {
+        BrokenFactors::of(behind, ahead)
+    } else {
+        BrokenFactors::of(behind, &[])
+    }
 }
 
 /// What holds behind some tokens of a cell, and what they gave.
@@ -169,7 +186,7 @@ impl Given {
     ) -> Result<(), AllocError>
         ensures { OnOk result (self.new ≡ with_chord self.old place chord.now ahead.now) }
     {
-        let factors = BrokenFactors::of(self.behind, ahead);
+        let factors = chord_factors(self.behind, chord, ahead);
         let tied = tie_ahead(ahead);
         if has_note(chord.parts.as_slice()) {
             self.body.mention(alloc)?;

@@ -36,7 +36,8 @@ first_value value_of (item ∷ rest) = option_or (value_of item) (first_value va
 abbrev pub cells_in : List ℕ → List (List (Spanned TokenKind))
 cells_in line = cells_of (tokens_of line)
 
--- The definitions of the compiler of ABC, but for the steps of its fold.
+-- The definitions of the compiler of ABC, but for the steps of its fold: those are the look back along the cells, by the
+-- law `tunes_looked_back`.
 abbrev pub rules_of_abc : Rules Entry (List (Spanned TokenKind)) Items Defaults
 rules_of_abc = record {
   class = class_of;

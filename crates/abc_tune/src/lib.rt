@@ -3,6 +3,7 @@
 
 mod abc;
 mod built;
+mod fold_laws;
 mod kept_cells;
 mod line_laws;
 mod whole_faults;
@@ -11,4 +12,5 @@ pub use abc::Abc;
 pub use abc_compiler::{Built, Compiler};
 pub use abc_memo::{TuneKey, TuneMemo, put_line};
 pub use built::build;
+pub use fold_laws::tunes_looked_back;
 pub use line_laws::tunes_of_lines;
