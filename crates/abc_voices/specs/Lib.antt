@@ -9,6 +9,7 @@ pub mod Limits
 pub mod Linked
 pub mod Moved
 pub mod Opening
+pub mod Owned
 pub mod Play
 pub mod Section
 pub mod Settle
