@@ -1,6 +1,6 @@
 -- Stages played one after another. Our own.
 use Rattle.std.specs.Borrow.{Bor}
-use Rattle.std.specs.Prelude.{◌≡◌, ◌≤◌, ℕ, pos, ◌+◌, ◌-◌, Bool, false, not, if◌then◌else◌, ◌&&◌, ◌==◌, zero, suc, List, [], ◌∷◌, ◌++◌, sum_by, filter_map, All, Option, Some, None, slice_get, slice_index_or}
+use Rattle.std.specs.Prelude.{◌≡◌, ◌≤◌, ℕ, pos, ◌+◌, ◌-◌, Bool, false, not, if◌then◌else◌, ◌&&◌, ◌==◌, zero, suc, List, [], ◌∷◌, ◌++◌, map, sum_by, All, Option, Some, None, slice_get}
 use Rattle.std.specs.List.{list_any, flat_map}
 use Rattle.abc_music.specs.declared.item.Item.{Item}
 use Rattle.abc_music.specs.Item.{IsItem}
@@ -11,6 +11,7 @@ use Rattle.abc_voices.specs.declared.score.Score.{Score}
 use Rattle.abc_voices.specs.declared.score.Sounding.{Sounding}
 use Rattle.abc_voices.specs.declared.stage.Part.{Part}
 use Rattle.abc_voices.specs.declared.stage.Stage.{Stage}
+use Rattle.abc_voices.specs.declared.stage.Turn.{Turn}
 use Rattle.abc_voices.specs.Arrange.{all_notes, takes_time, last_off, or_else, usual_tempo}
 use Rattle.abc_voices.specs.Change.{tempo_of, meter_of, key_of, set_from}
 use Rattle.abc_voices.specs.Conduct.{conductor}
@@ -34,62 +35,50 @@ pub record IsStage (stage : Stage) : Type 0 where
 abbrev pub IsSteady : Stage → Type 0
 IsSteady stage = All (λ part. All (λ step. is_field step.now ≡ false) part.steps) stage.parts
 
--- The stage at a place of a table, if one stands there.
-abbrev pub stage_at : List (Option Stage) → ℕ → Option Stage
-stage_at table place = slice_index_or table place None
-
--- The stages at these places of a table, in the order of their play.
-abbrev pub at_places : List (Option Stage) → List ℕ → List Stage
-at_places table order = filter_map (stage_at table) order
+-- The stages of some turns.
+abbrev pub stages_in : List Turn → List Stage
+stages_in turns = map (λ turn. turn.stage.now) turns
 
 -- How long stages are one after another.
 abbrev pub length_along : List Stage → ℕ
 length_along stages = sum_by (λ stage. stage.longest.0) stages
-
--- How long a stage is, if there is one.
-abbrev pub length_if : Option Stage → ℕ
-length_if None = 0
-length_if (Some stage) = stage.longest.0
 
 -- What is played of a part, if there is one.
 abbrev pub steps_of : Option Part → List (Bor Item)
 steps_of None = []
 steps_of (Some part) = part.steps
 
--- What the voice at this place plays of a stage, if there is one, in front of these notes.
-abbrev pub before_rest : ℕ → ℕ → Option Stage → Notes → Notes
-before_rest voice at None notes = notes
-before_rest voice at (Some stage) notes = notes_from (λ step. step.now) at (steps_of (slice_get stage.parts voice)) notes
+-- What the voice at this place plays of a stage, in front of these notes.
+abbrev pub before_rest : ℕ → ℕ → Stage → Notes → Notes
+before_rest voice at stage notes = notes_from (λ step. step.now) at (steps_of (slice_get stage.parts voice)) notes
 
 -- The notes of the voice at this place, in stages that are played from a moment on.
 abbrev pub notes_along : ℕ → ℕ → List Stage → Notes
 notes_along voice at [] = record { first = []; others = [] }
-notes_along voice at (stage ∷ stages) = before_rest voice at (Some stage) (notes_along voice (at + stage.longest.0) stages)
+notes_along voice at (stage ∷ stages) = before_rest voice at stage (notes_along voice (at + stage.longest.0) stages)
 
 -- The notes of so many voices, from the one at this place on.
 abbrev pub voices_along : List Stage → ℕ → ℕ → List (List Sounding)
 voices_along stages voice zero = []
 voices_along stages voice (suc count) = all_notes (notes_along voice 0 stages) ∷ voices_along stages (voice + 1) count
 
--- What the parts of a stage, if there is one, set when it is played from a moment on.
-abbrev pub set_beside : {V : Type 0} → (Item → Option V) → ℕ → Option Stage → List (Grains × V)
-set_beside value_of at None = []
-set_beside value_of at (Some stage) = flat_map (λ part. set_from (λ step. step.now) value_of at part.steps) stage.parts
+-- What the parts of a stage set when it is played from a moment on.
+abbrev pub set_beside : {V : Type 0} → (Item → Option V) → ℕ → Stage → List (Grains × V)
+set_beside value_of at stage = flat_map (λ part. set_from (λ step. step.now) value_of at part.steps) stage.parts
 
 -- What all voices set in stages that are played from a moment on.
 abbrev pub set_by_all : {V : Type 0} → (Item → Option V) → ℕ → List Stage → List (Grains × V)
 set_by_all value_of at [] = []
-set_by_all value_of at (stage ∷ stages) = set_beside value_of at (Some stage) ++ set_by_all value_of (at + stage.longest.0) stages
+set_by_all value_of at (stage ∷ stages) = set_beside value_of at stage ++ set_by_all value_of (at + stage.longest.0) stages
 
--- What the voice at this place sets in a stage, if there is one, that is played from a moment on.
-abbrev pub set_at : {V : Type 0} → (Item → Option V) → ℕ → ℕ → Option Stage → List (Grains × V)
-set_at value_of voice at None = []
-set_at value_of voice at (Some stage) = set_from (λ step. step.now) value_of at (steps_of (slice_get stage.parts voice))
+-- What the voice at this place sets in a stage that is played from a moment on.
+abbrev pub set_at : {V : Type 0} → (Item → Option V) → ℕ → ℕ → Stage → List (Grains × V)
+set_at value_of voice at stage = set_from (λ step. step.now) value_of at (steps_of (slice_get stage.parts voice))
 
 -- What the voice at this place sets in stages that are played from a moment on.
 abbrev pub set_by_one : {V : Type 0} → (Item → Option V) → ℕ → ℕ → List Stage → List (Grains × V)
 set_by_one value_of voice at [] = []
-set_by_one value_of voice at (stage ∷ stages) = set_at value_of voice at (Some stage) ++ set_by_one value_of voice (at + stage.longest.0) stages
+set_by_one value_of voice at (stage ∷ stages) = set_at value_of voice at stage ++ set_by_one value_of voice (at + stage.longest.0) stages
 
 -- Whether two parts that play time differ in length.
 abbrev pub parts_differ : Part → Part → Bool

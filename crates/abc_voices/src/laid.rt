@@ -4,7 +4,7 @@ ghost use Rattle.std.specs.Prelude.{true, ◌≡◌, ◌≢◌, ◌<◌, ◌≤�
 ghost use Rattle.std.specs.List.{flat_map};
 ghost use Rattle.abc_time.specs.Grains.{grains_of_the_latest_end};
 ghost use Rattle.abc_voices.specs.declared.stage.StageFault.TheVariants.{TooMany, TooLate};
-ghost use Rattle.abc_voices.specs.Along.{IsStage, IsSteady, at_places, length_along, voices_along, changes_along, end_along, score_along};
+ghost use Rattle.abc_voices.specs.Along.{IsStage, IsSteady, stages_in, length_along, voices_along, changes_along, end_along, score_along};
 ghost use Rattle.abc_voices.specs.Arrange.{last_off};
 ghost use Rattle.abc_voices.specs.Fields.{is_steady};
 
@@ -14,7 +14,7 @@ use crate::fields::is_steady;
 use crate::opening::{opening_key, opening_meter, opening_tempo, title_of};
 use crate::score::{Change, Score, Sounding};
 use crate::setting::{one_along, tempos_along};
-use crate::stage::{Stage, StageFault};
+use crate::stage::{StageFault, Turn};
 use crate::timing::last_off;
 use crate::voice::voices_notes;
 use abc_fields::Meter;
@@ -30,14 +30,13 @@ const USUAL_TEMPO: u32 = 500_000;
 fn changes_along(
     alloc: Global,
     given: &[&Item],
-    table: &[Option<Stage>],
-    order: &[usize],
+    turns: &[Turn],
     first: usize,
 ) -> Result<Vec<Change>, AllocError>
-    requires stages { All IsStage (at_places table.now order.now) }
-    requires in_time { length_along (at_places table.now order.now) ≤ grains_of_the_latest_end }
-    requires steady { is_steady (λ step. step.now) given.now ≡ true → All IsSteady (at_places table.now order.now) }
-    ensures { IfOk result (λ changes. changes.items ≡ changes_along given.now first (at_places table.now order.now)) }
+    requires stages { All (λ turn. IsStage turn.stage.now) turns.now }
+    requires in_time { length_along (stages_in turns.now) ≤ grains_of_the_latest_end }
+    requires steady { is_steady (λ step. step.now) given.now ≡ true → All IsSteady (stages_in turns.now) }
+    ensures { IfOk result (λ changes. changes.items ≡ changes_along given.now first (stages_in turns.now)) }
 {
     let tempo = opening_tempo(given).unwrap_or(USUAL_TEMPO);
     let meter = opening_meter(given).unwrap_or(Meter::Free);
@@ -47,9 +46,9 @@ fn changes_along(
         let start = Grains(0);
         return conductor(alloc, &[(start, tempo)], &[(start, meter)], &[(start, key)]);
     }
-    let tempos = tempos_along(alloc, table, order, tempo)?;
-    let meters = one_along::<Meters>(alloc, table, order, first, meter)?;
-    let keys = one_along::<Keys>(alloc, table, order, first, key)?;
+    let tempos = tempos_along(alloc, turns, tempo)?;
+    let meters = one_along::<Meters>(alloc, turns, first, meter)?;
+    let keys = one_along::<Keys>(alloc, turns, first, key)?;
     conductor(alloc, &tempos, &meters, &keys)
 }
 
@@ -70,29 +69,28 @@ fn last_of_all(at: Grains, voices: &[Sequence<Sounding>]) -> Grains
 pub(crate) fn score_along(
     alloc: Global,
     given: &[&Item],
-    table: &[Option<Stage>],
-    order: &[usize],
+    turns: &[Turn],
     total: Grains,
     first: usize,
     count: usize,
 ) -> Result<Score, StageFault>
-    requires stages { All IsStage (at_places table.now order.now) }
-    requires total { total.0 ≡ length_along (at_places table.now order.now) }
+    requires stages { All (λ turn. IsStage turn.stage.now) turns.now }
+    requires total { total.0 ≡ length_along (stages_in turns.now) }
     requires in_time { total.0 ≤ grains_of_the_latest_end }
-    requires steady { is_steady (λ step. step.now) given.now ≡ true → All IsSteady (at_places table.now order.now) }
+    requires steady { is_steady (λ step. step.now) given.now ≡ true → All IsSteady (stages_in turns.now) }
     requires voices { first ≤ count }
-    ensures value { IfOk result (λ score. score ≡ score_along given.now first count (at_places table.now order.now)) }
+    ensures value { IfOk result (λ score. score ≡ score_along given.now first count (stages_in turns.now)) }
     ensures in_time { IfOk result (λ score. score.end.0 ≤ grains_of_the_latest_end) }
     ensures too_many { result ≢ Err TooMany }
     ensures too_late { result ≡ Err TooLate
-        → grains_of_the_latest_end < end_along (at_places table.now order.now) (voices_along (at_places table.now order.now) first (count - first)) }
+        → grains_of_the_latest_end < end_along (stages_in turns.now) (voices_along (stages_in turns.now) first (count - first)) }
 {
-    let voices = voices_notes(alloc, table, order, total, first, count)?;
+    let voices = voices_notes(alloc, turns, total, first, count)?;
     let end = last_of_all(total, voices.as_slice());
     if end > LATEST_END {
         return Err(StageFault::TooLate);
     }
-    let changes = changes_along(alloc, given, table, order, first)?;
+    let changes = changes_along(alloc, given, turns, first)?;
     let title = Sequence::from_slice(alloc, title_of(given))?;
     Ok(Score {
         title,
