@@ -10,7 +10,7 @@ use Rattle.abc_time.specs.declared.grains.Grains.{Grains}
 use Rattle.abc_voices.specs.declared.score.Sounding.{Sounding}
 use Rattle.abc_voices.specs.declared.stage.Stage.{Stage}
 use Rattle.abc_voices.specs.declared.stage.Turn.{Turn}
-use Rattle.abc_voices.specs.Along.{IsStage, stages_in, length_along, notes_along, voices_along, set_at, set_by_one}
+use Rattle.abc_voices.specs.Turns.{IsStage, stages_in, length_along, notes_along, voices_along, set_at, set_by_one}
 use Rattle.abc_voices.specs.Arrange.{all_notes, last_off}
 
 -- what holds of each stage holds at its turn

@@ -2,7 +2,7 @@
 
 ghost use Rattle.std.specs.Prelude.{◌≡◌, ◌+◌, ◌≤◌, ◌∷◌, ◌++◌, All, IfOk, OnOk};
 ghost use Rattle.abc_time.specs.Grains.{grains_of_the_latest_end};
-ghost use Rattle.abc_voices.specs.Along.{IsStage, IsPart, stages_in, length_along, set_beside, set_by_all, set_at, set_by_one};
+ghost use Rattle.abc_voices.specs.Turns.{IsStage, IsPart, stages_in, length_along, set_beside, set_by_all, set_at, set_by_one};
 ghost use Rattle.abc_voices.specs.Change.{tempo_of, set_from};
 
 use crate::change::{Setting, Tempos, put_set};

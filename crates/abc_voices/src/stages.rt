@@ -3,7 +3,7 @@
 ghost use Rattle.std.specs.Prelude.{◌≡◌, ◌+◌, ◌<◌, ◌≤◌, ◌^◌, ◌≢◌, length, map, None, sum_by, slice_get, option_copied, IfOk};
 ghost use Rattle.abc_repeat.specs.declared.play.TheConstants.{MOST_PLACES};
 ghost use Rattle.abc_time.specs.Grains.{grains_of_the_latest_end};
-ghost use Rattle.abc_voices.specs.Along.{stages_in};
+ghost use Rattle.abc_voices.specs.Turns.{stages_in};
 ghost use Rattle.abc_voices.specs.Arrange.{size_in, longest};
 ghost use Rattle.abc_voices.specs.Stage.{content, stage_of, stage_size};
 ghost use Rattle.abc_voices.specs.Stages.{stage_at, at_places, sections_at, size_for, longest_for, AreStages, IsNew, IsPut, ArePut};

@@ -2,9 +2,9 @@
 
 ghost use Rattle.std.specs.Prelude.{◌≡◌, ◌+◌, ◌-◌, ◌≤◌, All, IfOk, OnOk};
 ghost use Rattle.abc_time.specs.Grains.{grains_of_the_latest_end};
-ghost use Rattle.abc_voices.specs.Along.{IsPart, IsStage, stages_in, length_along, before_rest, notes_along, voices_along};
+ghost use Rattle.abc_voices.specs.Turns.{IsPart, IsStage, stages_in, length_along, before_rest, notes_along, voices_along};
 ghost use Rattle.abc_voices.specs.Arrange.{all_notes};
-ghost use Rattle.abc_voices.specs.Linked.{notes_from};
+ghost use Rattle.abc_voices.specs.TiedNotes.{notes_from};
 
 use crate::notes::put_notes;
 use crate::score::Sounding;

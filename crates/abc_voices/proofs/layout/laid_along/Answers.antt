@@ -1,6 +1,6 @@
 use Rattle.std.proofs.Common.{◌≡◌, ◌≤◌, ℕ, Err, ap, subst, ◌∙◌, arith}
 use Rattle.abc_time.specs.Grains.{grains_of_the_latest_end}
-use Rattle.abc_voices.specs.Along.{stages_in}
+use Rattle.abc_voices.specs.Turns.{stages_in}
 use Rattle.abc_voices.specs.declared.stage.StageFault.TheVariants.{TooLate}
 use Rattle.abc_voices.specs.declared.score.Score.{Score}
 use Rattle.abc_voices.proofs.Given.{score_given}

@@ -1,5 +1,5 @@
 use Rattle.std.proofs.Common.{◌≡◌, ◌∷◌, ◌+◌, ◌++◌, drop}
-use Rattle.abc_voices.specs.Along.{stages_in, length_along, set_by_one}
+use Rattle.abc_voices.specs.Turns.{stages_in, length_along, set_by_one}
 use Rattle.abc_voices.proofs.setting.one_along.Given as goal
 
 -- how long the other stages are; what is set so far, and what is set from here on

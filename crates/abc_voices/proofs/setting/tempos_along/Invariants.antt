@@ -1,5 +1,5 @@
 use Rattle.std.proofs.Common.{◌≡◌, ◌∷◌, ◌+◌, ◌++◌, drop}
-use Rattle.abc_voices.specs.Along.{stages_in, length_along, set_by_all}
+use Rattle.abc_voices.specs.Turns.{stages_in, length_along, set_by_all}
 use Rattle.abc_voices.specs.Change.{tempo_of}
 use Rattle.abc_voices.proofs.setting.tempos_along.Given as goal
 

@@ -1,5 +1,5 @@
 use Rattle.std.proofs.Common.{◌≡◌, ◌++◌, drop}
-use Rattle.abc_voices.specs.Along.{stages_in}
+use Rattle.abc_voices.specs.Turns.{stages_in}
 use Rattle.abc_voices.specs.Stages.{at_places}
 use Rattle.abc_voices.proofs.stages.in_order.Given as goal
 

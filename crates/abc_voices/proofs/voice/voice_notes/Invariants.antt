@@ -1,6 +1,6 @@
 use Rattle.std.proofs.Common.{◌≡◌, ◌≤◌, length, take, drop}
 use Rattle.abc_time.specs.Grains.{grains_of_the_latest_end}
-use Rattle.abc_voices.specs.Along.{stages_in, length_along, notes_along}
+use Rattle.abc_voices.specs.Turns.{stages_in, length_along, notes_along}
 use Rattle.abc_voices.proofs.voice.voice_notes.Given as goal
 
 -- the notes of the stages from here on

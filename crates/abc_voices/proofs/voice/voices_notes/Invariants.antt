@@ -1,5 +1,5 @@
 use Rattle.std.proofs.Common.{◌≡◌, ◌-◌, ◌++◌}
-use Rattle.abc_voices.specs.Along.{stages_in, voices_along}
+use Rattle.abc_voices.specs.Turns.{stages_in, voices_along}
 use Rattle.abc_voices.proofs.voice.voices_notes.Given as goal
 
 -- the voices so far, and the others
