@@ -11,7 +11,7 @@ use Rattle.abc_fields.specs.declared.meter.Meter.{Meter}
 use Rattle.abc_fields.specs.declared.meter.Meter.TheVariants as meters
 use Rattle.abc_repeat.specs.Order.{sections_of, has_unknown}
 use Rattle.abc_time.specs.declared.grains.Grains.{Grains}
-use Rattle.abc_voices.specs.Along.{set_by_all, set_by_one, score_along}
+use Rattle.abc_voices.specs.Turns.{set_by_all, set_by_one, score_along}
 use Rattle.abc_voices.specs.Arrange.{or_else, usual_tempo}
 use Rattle.abc_voices.specs.Change.{tempo_of, meter_of, key_of}
 use Rattle.abc_voices.specs.Fields.{is_music, fields}

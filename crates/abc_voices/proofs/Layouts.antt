@@ -18,10 +18,10 @@ use Rattle.abc_voices.specs.Section.{letters, sections}
 use Rattle.abc_voices.specs.declared.score.Score.{Score}
 use Rattle.abc_voices.specs.declared.stage.Part.{Part}
 use Rattle.abc_voices.specs.declared.stage.Stage.{Stage}
-use Rattle.abc_voices.specs.Along.{IsStage, length_along, steps_of, notes_along, voices_along, set_by_all, set_by_one, parts_differ, is_stage_uneven, first_place, changes_along, end_along, score_along}
+use Rattle.abc_voices.specs.Turns.{IsStage, length_along, steps_of, notes_along, voices_along, set_by_all, set_by_one, parts_differ, is_stage_uneven, first_place, changes_along, end_along, score_along}
 use Rattle.abc_voices.specs.Arrange.{play_in, longest, played_sections, voice_notes, all_notes, set_in, first_of, differ, is_uneven, voices_notes, last_off, end_of, changes_of, score_of, or_else, usual_tempo, arranged_of}
 use Rattle.abc_voices.specs.Change.{tempo_of, meter_of, key_of, set_from}
-use Rattle.abc_voices.specs.Linked.{notes_from}
+use Rattle.abc_voices.specs.TiedNotes.{notes_from}
 use Rattle.abc_voices.specs.Opening.{tempo_past, meter_past, key_past, order_past, past_all}
 use Rattle.abc_voices.specs.Stage.{part_of, stage_of}
 use Rattle.abc_voices.specs.Track.{everyone, nameless_plays, names_from, names_past}

@@ -23,13 +23,13 @@ use Rattle.abc_repeat.specs.Order.{sections_of, has_unknown}
 use Rattle.abc_repeat.specs.Play.{play_of}
 use Rattle.abc_voices.specs.Arrange.{play_in, size_in, length_in, longest, played_sections, voice_notes, all_notes, set_in, plays_time, takes_time, last_off, differ, is_uneven, total, voices_notes, end_of, changes_of, score_of, arranged_of, or_else, usual_tempo, first_of, sections_played, places_played, is_too_long}
 use Rattle.abc_voices.specs.Change.{tempo_of, meter_of, key_of, set_from, at_moment}
-use Rattle.abc_voices.specs.Conduct.{conductor}
+use Rattle.abc_voices.specs.ScoreChanges.{changes_that_stand}
 use Rattle.abc_music.specs.declared.item.TheConstants.{MOST_VOICES}
 use Rattle.abc_voices.specs.declared.limits.TheConstants.{LONGEST_TITLE}
-use Rattle.abc_voices.specs.Linked.{Notes, notes_from, before}
-use Rattle.abc_voices.specs.Moved.{moved, moved_from, set_down, waits, region_past}
-use Rattle.abc_voices.specs.declared.moved.Region.{Region}
-use Rattle.abc_voices.specs.declared.moved.Region.TheVariants.{Common}
+use Rattle.abc_voices.specs.TiedNotes.{Notes, notes_from, before}
+use Rattle.abc_voices.specs.EndingFields.{with_fields_in_endings, with_fields_in_endings_from, set_down, waits, region_past}
+use Rattle.abc_voices.specs.declared.ending_fields.Region.{Region}
+use Rattle.abc_voices.specs.declared.ending_fields.Region.TheVariants.{Common}
 use Rattle.abc_voices.specs.Opening.{past_all, order_past, tempo_past, meter_past, key_past, title_of, title_before}
 use Rattle.abc_voices.specs.Play.{marks_of, places_of, played, duration}
 use Rattle.abc_voices.specs.Section.{is_section, is_step, letter_of, letters, opening_voice, declared_or, part, part_from, sections, sections_from, voice_past}
@@ -162,21 +162,21 @@ set_down_mapped item_of held step =
     ∙ branches (is_ending (mark_of (item_of step))) refl (map-append item_of held (step ∷ []))
 
 pub moved_from_mapped : {A : Type 0} (item_of : A → Item) (region : Region) (held steps : List A)
-    → map item_of (moved_from item_of region held steps) ≡ moved_from own region (map item_of held) (map item_of steps)
+    → map item_of (with_fields_in_endings_from item_of region held steps) ≡ with_fields_in_endings_from own region (map item_of held) (map item_of steps)
 moved_from_mapped item_of region held [] = refl
 moved_from_mapped item_of region held (step ∷ steps) =
     let next = region_past region (mark_of (item_of step)) in
     of_branch (map item_of) (waits region (item_of step))
-    (moved_from item_of region (held ++ step ∷ []) steps)
-    (set_down item_of held step ++ moved_from item_of next [] steps)
+    (with_fields_in_endings_from item_of region (held ++ step ∷ []) steps)
+    (set_down item_of held step ++ with_fields_in_endings_from item_of next [] steps)
     ∙ branches (waits region (item_of step))
     (moved_from_mapped item_of region (held ++ step ∷ []) steps
-    ∙ ap (λ h. moved_from own region h (map item_of steps)) (map-append item_of held (step ∷ [])))
-    (map-append item_of (set_down item_of held step) (moved_from item_of next [] steps)
-    ∙ ap (λ front. front ++ map item_of (moved_from item_of next [] steps)) (set_down_mapped item_of held step)
+    ∙ ap (λ h. with_fields_in_endings_from own region h (map item_of steps)) (map-append item_of held (step ∷ [])))
+    (map-append item_of (set_down item_of held step) (with_fields_in_endings_from item_of next [] steps)
+    ∙ ap (λ front. front ++ map item_of (with_fields_in_endings_from item_of next [] steps)) (set_down_mapped item_of held step)
     ∙ ap (λ rest. set_down own (map item_of held) (item_of step) ++ rest) (moved_from_mapped item_of next [] steps))
 
-pub moved_mapped : {A : Type 0} (item_of : A → Item) (steps : List A) → map item_of (moved item_of steps) ≡ moved own (map item_of steps)
+pub moved_mapped : {A : Type 0} (item_of : A → Item) (steps : List A) → map item_of (with_fields_in_endings item_of steps) ≡ with_fields_in_endings own (map item_of steps)
 moved_mapped item_of steps = moved_from_mapped item_of Common [] steps
 
 -- plays
@@ -187,14 +187,14 @@ pub places_mapped : {A : Type 0} (item_of : A → Item) (steps : List A) → pla
 places_mapped item_of steps = ap play_of (marks_mapped item_of steps)
 
 -- the places of what is played of a part
-places_moved : {A : Type 0} (item_of : A → Item) (steps : List A) → places_of item_of (moved item_of steps) ≡ places_of own (moved own (map item_of steps))
-places_moved item_of steps = places_mapped item_of (moved item_of steps) ∙ ap (places_of own) (moved_mapped item_of steps)
+places_moved : {A : Type 0} (item_of : A → Item) (steps : List A) → places_of item_of (with_fields_in_endings item_of steps) ≡ places_of own (with_fields_in_endings own (map item_of steps))
+places_moved item_of steps = places_mapped item_of (with_fields_in_endings item_of steps) ∙ ap (places_of own) (moved_mapped item_of steps)
 
 pub played_mapped : {A : Type 0} (item_of : A → Item) (steps : List A) → map item_of (played item_of steps) ≡ played own (map item_of steps)
 played_mapped item_of steps =
-    chosen_map item_of (moved item_of steps) (places_of item_of (moved item_of steps))
-    ∙ ap (λ xs. filter_map (slice_get xs) (places_of item_of (moved item_of steps))) (moved_mapped item_of steps)
-    ∙ ap (filter_map (slice_get (moved own (map item_of steps)))) (places_moved item_of steps)
+    chosen_map item_of (with_fields_in_endings item_of steps) (places_of item_of (with_fields_in_endings item_of steps))
+    ∙ ap (λ xs. filter_map (slice_get xs) (places_of item_of (with_fields_in_endings item_of steps))) (moved_mapped item_of steps)
+    ∙ ap (filter_map (slice_get (with_fields_in_endings own (map item_of steps)))) (places_moved item_of steps)
 
 pub duration_mapped : {A : Type 0} (item_of : A → Item) (steps : List A) → duration item_of steps ≡ duration own (map item_of steps)
 duration_mapped item_of steps = sum_alike (λ step. length_of (item_of step)) length_of item_of (λ _. refl) steps
@@ -209,7 +209,7 @@ pub size_in_mapped : {A : Type 0} (item_of : A → Item) (section : List ℕ × 
     → size_in item_of section voice ≡ size_in own (by_items item_of section) voice
 size_in_mapped item_of section voice =
     ap length (places_moved item_of (part item_of voice section))
-    ∙ ap (λ steps. length (places_of own (moved own steps))) (part_mapped item_of voice section)
+    ∙ ap (λ steps. length (places_of own (with_fields_in_endings own steps))) (part_mapped item_of voice section)
 
 pub length_in_mapped : {A : Type 0} (item_of : A → Item) (section : List ℕ × List A) (voice : List ℕ)
     → length_in item_of section voice ≡ length_in own (by_items item_of section) voice
@@ -403,9 +403,9 @@ with_opening item_of value_of past usual those own_those tune same =
 
 -- three lists of changes alike
 pub conductor_same : (tempos tempos2 : List (Grains × ℕ)) (meters meters2 : List (Grains × Meter)) (keys keys2 : List (Grains × (ℤ × Bool)))
-    → tempos ≡ tempos2 → meters ≡ meters2 → keys ≡ keys2 → conductor tempos meters keys ≡ conductor tempos2 meters2 keys2
+    → tempos ≡ tempos2 → meters ≡ meters2 → keys ≡ keys2 → changes_that_stand tempos meters keys ≡ changes_that_stand tempos2 meters2 keys2
 conductor_same tempos tempos2 meters meters2 keys keys2 p q r =
-    ap (λ t. conductor t meters keys) p ∙ ap (λ m. conductor tempos2 m keys) q ∙ ap (conductor tempos2 meters2) r
+    ap (λ t. changes_that_stand t meters keys) p ∙ ap (λ m. changes_that_stand tempos2 m keys) q ∙ ap (changes_that_stand tempos2 meters2) r
 
 pub changes_mapped : {A : Type 0} (item_of : A → Item) (tune : List A) → changes_of item_of tune ≡ changes_of own (map item_of tune)
 changes_mapped item_of tune =

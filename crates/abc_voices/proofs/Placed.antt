@@ -19,9 +19,8 @@ use Rattle.abc_voices.specs.declared.section.Section.{Section}
 use Rattle.abc_voices.specs.declared.stage.Stage.{Stage}
 use Rattle.abc_voices.specs.declared.stage.StageFault.{StageFault}
 use Rattle.abc_voices.specs.Arrange.{size_in, longest}
-use Rattle.abc_voices.specs.Along.{stage_at}
 use Rattle.abc_voices.specs.Stage.{content, stage_of, stage_size}
-use Rattle.abc_voices.specs.Stages.{stage_for, number_of, size_for, longest_for, IsStageAt, AreStages, IsNew, IsPut, ArePut, sections_at}
+use Rattle.abc_voices.specs.Stages.{stage_at, stage_for, number_of, size_for, longest_for, IsStageAt, AreStages, IsNew, IsPut, ArePut, sections_at}
 
 past_end : {A : Type 0} (xs : List A) (k : ℕ) → slice_get xs k ≡ None → length xs ≤ k
 past_end xs k h =

@@ -7,7 +7,7 @@ use Rattle.std.proofs.lemmas.List.Elements.{All-nil, All-cons, All-head, All-tai
 use Rattle.abc_music.specs.declared.item.Item.{Item}
 use Rattle.abc_music.specs.Item.{IsItem}
 use Rattle.abc_time.specs.declared.grains.Grains.{Grains}
-use Rattle.abc_voices.specs.Along.{IsPart, IsStage}
+use Rattle.abc_voices.specs.Turns.{IsPart, IsStage}
 use Rattle.abc_voices.specs.Arrange.{length_in, longest, total, voices_notes, end_of}
 use Rattle.abc_voices.specs.Stage.{part_of, stage_of}
 use Rattle.abc_voices.proofs.Fitting.Kept.{play_kept}

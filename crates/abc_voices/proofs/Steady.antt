@@ -10,10 +10,10 @@ use Rattle.abc_fields.specs.declared.meter.Meter.{Meter}
 use Rattle.abc_fields.specs.declared.meter.Meter.TheVariants as meters
 use Rattle.abc_voices.specs.declared.stage.Part.{Part}
 use Rattle.abc_voices.specs.declared.stage.Stage.{Stage}
-use Rattle.abc_voices.specs.Along.{IsSteady, steps_of, set_by_all, set_by_one, changes_along}
+use Rattle.abc_voices.specs.Turns.{IsSteady, steps_of, set_by_all, set_by_one, changes_along}
 use Rattle.abc_voices.specs.Arrange.{played_sections, or_else, usual_tempo}
 use Rattle.abc_voices.specs.Change.{tempo_of, meter_of, key_of, at_moment, set_from}
-use Rattle.abc_voices.specs.Conduct.{conductor}
+use Rattle.abc_voices.specs.ScoreChanges.{changes_that_stand}
 use Rattle.abc_voices.specs.Fields.{is_music, is_change, is_steady, fields}
 use Rattle.abc_voices.specs.Opening.{tempo_past, meter_past, key_past, past_all}
 use Rattle.abc_voices.specs.Section.{is_step, voice_past, part_from}
@@ -202,7 +202,7 @@ opening_is (Some other) behind usual value is same = is ∙ ap (or_else usual) s
 pub steady_changes : (given : List (Bor Item)) (first : ℕ) (stages : List Stage) (tempo : ℕ) (meter : Meter) (key : ℤ × Bool) → All IsSteady stages
     → tempo ≡ or_else usual_tempo (past_all there tempo_past None given) → meter ≡ or_else meters.Free (past_all there meter_past None given)
     → key ≡ or_else (pos 0, false) (past_all there key_past None given)
-    → conductor ((record { 0 = 0 }, tempo) ∷ []) ((record { 0 = 0 }, meter) ∷ []) ((record { 0 = 0 }, key) ∷ []) ≡ changes_along given first stages
+    → changes_that_stand ((record { 0 = 0 }, tempo) ∷ []) ((record { 0 = 0 }, meter) ∷ []) ((record { 0 = 0 }, key) ∷ []) ≡ changes_along given first stages
 steady_changes given first stages tempo meter key steady p q r =
     conductor_same _ _ _ _ _ _
     (ap (λ v. (record { 0 = 0 }, v) ∷ []) p ∙ ap (λ l. (record { 0 = 0 }, or_else usual_tempo (past_all there tempo_past None given)) ∷ l) (sym (all_set_nothing tempo_of sets_no_tempo 0 stages steady)))

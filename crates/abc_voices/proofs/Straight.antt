@@ -12,8 +12,8 @@ use Rattle.abc_repeat.specs.declared.mark.Mark.TheVariants as marks
 use Rattle.abc_repeat.specs.Mark.{is_play, is_ending, closes_common, opens_next, passes_of}
 use Rattle.abc_repeat.specs.Play.{places_from, pass_of, most_passes, strain_play, plays_from, play_of}
 use Rattle.abc_repeat.specs.Strain.{without_endings, put_first, texts_of, with_mark, strain_of}
-use Rattle.abc_voices.specs.declared.moved.Region.TheVariants.{Common}
-use Rattle.abc_voices.specs.Moved.{moved_from, moved, region_past}
+use Rattle.abc_voices.specs.declared.ending_fields.Region.TheVariants.{Common}
+use Rattle.abc_voices.specs.EndingFields.{with_fields_in_endings_from, with_fields_in_endings, region_past}
 use Rattle.abc_voices.specs.Play.{marks_of, places_of, played, are_straight, without_marks}
 use Rattle.abc_voices.specs.Step.{is_straight, mark_of}
 
@@ -98,18 +98,18 @@ play_once ms h =
     ∙ strain_once ms h
 
 -- nothing is moved
-stays : {A : Type 0} (item_of : A → Item) (steps : List A) → are_straight (marks_of item_of steps) ≡ true → moved item_of steps ≡ steps
+stays : {A : Type 0} (item_of : A → Item) (steps : List A) → are_straight (marks_of item_of steps) ≡ true → with_fields_in_endings item_of steps ≡ steps
 stays item_of [] h = refl
 stays item_of (step ∷ steps) h =
     let m = mark_of (item_of step) in
     let here : is_straight m ≡ true = and_first (is_straight m) (are_straight (marks_of item_of steps)) h in
     let rest : are_straight (marks_of item_of steps) ≡ true = and_rest (is_straight m) (are_straight (marks_of item_of steps)) h in
-    ap (λ b. cond b (step ∷ []) (step ∷ []) ++ moved_from item_of (region_past Common m) [] steps) (not_ending m here)
-    ∙ ap (λ region. step ∷ moved_from item_of region [] steps) (common m here)
+    ap (λ b. cond b (step ∷ []) (step ∷ []) ++ with_fields_in_endings_from item_of (region_past Common m) [] steps) (not_ending m here)
+    ∙ ap (λ region. step ∷ with_fields_in_endings_from item_of region [] steps) (common m here)
     ∙ ap (λ l. step ∷ l) (stays item_of steps rest)
   where
     common : (m : Mark) → is_straight m ≡ true → region_past Common m ≡ Common
-    common m h = ap (λ b. cond b Rattle.abc_voices.specs.declared.moved.Region.TheVariants.Inside Common) (not_ending m h)
+    common m h = ap (λ b. cond b Rattle.abc_voices.specs.declared.ending_fields.Region.TheVariants.Inside Common) (not_ending m h)
 
 -- what stands at the places of what is played, behind what stands before
 found_from : {A : Type 0} (item_of : A → Item) (front steps : List A)
@@ -148,7 +148,7 @@ played_straight item_of part h =
     ∙ found_from item_of [] part
 
 pub size_straight : {A : Type 0} (item_of : A → Item) (part : List A) → are_straight (marks_of item_of part) ≡ true
-    → length (places_of item_of (moved item_of part)) ≡ length (without_marks item_of part)
+    → length (places_of item_of (with_fields_in_endings item_of part)) ≡ length (without_marks item_of part)
 size_straight item_of part h =
     ap (λ steps. length (places_of item_of steps)) (stays item_of part h)
     ∙ ap length (play_once (marks_of item_of part) h)

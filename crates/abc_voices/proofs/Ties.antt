@@ -7,7 +7,7 @@ use Rattle.abc_music.specs.declared.item.Item.{Item}
 use Rattle.abc_music.specs.declared.item.Tone.{Tone}
 use Rattle.abc_voices.specs.declared.score.Sounding.{Sounding}
 use Rattle.abc_voices.specs.Arrange.{all_notes, longest, play_in, played_sections, voice_notes}
-use Rattle.abc_voices.specs.Linked.{Linked, Notes, own_note, with_note, with_key, with_tones, next_place, before, before_all, notes_from}
+use Rattle.abc_voices.specs.TiedNotes.{TokenNotes, Notes, own_note, with_note, with_key, with_tones, next_place, before, before_all, notes_from}
 use Rattle.abc_voices.specs.Step.{length_of, tones_of}
 use Rattle.abc_voices.specs.Track.{everyone, tracks}
 use Rattle.abc_voices.specs.Ties.{TimeToken, with_token, tokens_from, tokens_in, is_key, tones_with, tied_with, tone_at, end_by, chain_end, begun_by, begun_at, chains, heard, PlaysChains, VoicesPlayChains}
@@ -25,7 +25,7 @@ abbrev taken : Sounding → List Sounding → Option ℕ → Sounding × List So
 taken note next None = (note, next)
 taken note next (Some place) = (record note { off = (slice_index_or next place note).off }, remove next place)
 
-taken_by : (note : Sounding) (linked : Linked) (place : Option ℕ)
+taken_by : (note : Sounding) (linked : TokenNotes) (place : Option ℕ)
     → with_note note linked place ≡ record { begun = linked.begun ++ (taken note linked.next place).0 ∷ []; next = (taken note linked.next place).1 }
 taken_by note linked None = refl
 taken_by note linked (Some place) = refl
@@ -76,12 +76,12 @@ first_taken key note (one ∷ next) =
     ∙ taken_next key note one next (position (λ one. one.key == key) next) (one.key == key) (first_taken key note next)
 
 -- a tied tone takes the first note of its key
-with_taken : (key : ℕ) (note : Sounding) (linked : Linked)
+with_taken : (key : ℕ) (note : Sounding) (linked : TokenNotes)
     → with_note note linked (position (λ one. one.key == key) linked.next)
     ≡ record { begun = linked.begun ++ (result_of key note linked.next).0 ∷ []; next = (result_of key note linked.next).1 }
 with_taken key note linked =
     taken_by note linked (position (λ one. one.key == key) linked.next)
-    ∙ ap {B = Linked} (λ (t : Sounding × List Sounding). record { begun = linked.begun ++ t.0 ∷ []; next = t.1 }) (first_taken key note linked.next)
+    ∙ ap {B = TokenNotes} (λ (t : Sounding × List Sounding). record { begun = linked.begun ++ t.0 ∷ []; next = t.1 }) (first_taken key note linked.next)
 
 -- notes by other numbers of tied tones
 begun_same : (f g : ℕ → ℕ) → ((key : ℕ) → f key ≡ g key) → (at : ℕ) (past : List Tone) (tone : Tone) (tokens : List TimeToken) (key : Option ℕ)
@@ -271,7 +271,7 @@ alone key at past tone tokens =
     ap (λ b. cond b [] (record { key = key; on = record { 0 = at }; off = record { 0 = chain_end at tone key (tied_with key past) tokens } } ∷ []))
     (le-ltb (tones_with key past) 0 (omega arith))
 
-abbrev IsSameLinked : Linked → Linked → Type 0
+abbrev IsSameLinked : TokenNotes → TokenNotes → Type 0
 IsSameLinked a b = a ≡ b
 
 linked_by : {a b c d : List Sounding} → a ≡ b → c ≡ d → IsSameLinked (record { begun = a; next = c }) (record { begun = b; next = d })
@@ -372,7 +372,7 @@ by_chains : (tokens : List TimeToken) → by_tokens tokens ≡ record { first = 
 by_chains [] = refl
 by_chains (token ∷ tokens) =
     ap {B = Notes} (λ (notes : Notes). before_all (with_tones token.at (record { begun = []; next = notes.first }) token.tones) notes.others) (by_chains tokens)
-    ∙ ap {B = Notes} (λ (linked : Linked). before_all linked (left_over tokens))
+    ∙ ap {B = Notes} (λ (linked : TokenNotes). before_all linked (left_over tokens))
     (joined_tones token.at tokens (λ k. tied_with k token.tones) [] [] token.tones (λ k. omega arith))
 
 whole : (tied : ℕ → ℕ) (tokens : List TimeToken) → left_over tokens ++ unjoined tied tokens ≡ chains tied tokens

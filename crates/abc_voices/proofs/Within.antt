@@ -14,7 +14,7 @@ use Rattle.abc_fields.specs.Parts.{parts_of}
 use Rattle.abc_time.specs.declared.grains.Grains.{Grains}
 use Rattle.abc_voices.specs.declared.stage.Part.{Part}
 use Rattle.abc_voices.specs.declared.stage.Stage.{Stage}
-use Rattle.abc_voices.specs.Along.{IsPart, IsStage, length_along, steps_of, set_by_all, set_by_one}
+use Rattle.abc_voices.specs.Turns.{IsPart, IsStage, length_along, steps_of, set_by_all, set_by_one}
 use Rattle.abc_voices.specs.Change.{at_moment, set_from}
 use Rattle.abc_voices.specs.Opening.{order_past, past_all}
 use Rattle.abc_voices.specs.Play.{duration}

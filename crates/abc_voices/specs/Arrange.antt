@@ -16,9 +16,9 @@ use Rattle.abc_voices.specs.declared.limits.TheConstants.{LONGEST_TITLE}
 use Rattle.abc_voices.specs.declared.score.Score.{Score}
 use Rattle.abc_voices.specs.declared.score.Sounding.{Sounding}
 use Rattle.abc_voices.specs.Change.{tempo_of, meter_of, key_of, set_from}
-use Rattle.abc_voices.specs.Conduct.{conductor}
-use Rattle.abc_voices.specs.Linked.{Notes, notes_from}
-use Rattle.abc_voices.specs.Moved.{moved}
+use Rattle.abc_voices.specs.ScoreChanges.{changes_that_stand}
+use Rattle.abc_voices.specs.TiedNotes.{Notes, notes_from}
+use Rattle.abc_voices.specs.EndingFields.{with_fields_in_endings}
 use Rattle.abc_voices.specs.Opening.{tempo_past, meter_past, key_past, order_past, past_all, title_of}
 use Rattle.abc_voices.specs.Play.{places_of, played, duration}
 use Rattle.abc_voices.specs.Section.{letters, sections, part}
@@ -30,7 +30,7 @@ play_in item_of section voice = played item_of (part item_of voice section)
 
 -- How many places of a section a voice plays.
 abbrev pub size_in : {A : Type 0} → (A → Item) → List ℕ × List A → List ℕ → ℕ
-size_in item_of section voice = length (places_of item_of (moved item_of (part item_of voice section)))
+size_in item_of section voice = length (places_of item_of (with_fields_in_endings item_of (part item_of voice section)))
 
 -- How long a voice plays in a section.
 abbrev pub length_in : {A : Type 0} → (A → Item) → List ℕ × List A → List ℕ → ℕ
@@ -118,7 +118,7 @@ changes_of item_of tune =
     let voices = everyone item_of tune in
     let first = first_of (tracks item_of tune) in
     let played = played_sections item_of tune in
-    conductor
+    changes_that_stand
     ((record { 0 = 0 }, or_else usual_tempo (past_all item_of tempo_past None tune)) ∷ set_in item_of tempo_of voices voices 0 played)
     ((record { 0 = 0 }, or_else meters.Free (past_all item_of meter_past None tune)) ∷ set_in item_of meter_of voices first 0 played)
     ((record { 0 = 0 }, or_else (pos 0, false) (past_all item_of key_past None tune)) ∷ set_in item_of key_of voices first 0 played)

@@ -5,7 +5,7 @@ use Rattle.abc_music.specs.declared.item.Item.{Item}
 use Rattle.abc_repeat.specs.declared.mark.Mark.{Mark}
 use Rattle.abc_repeat.specs.Mark.{is_ending, closes_ending}
 use Rattle.abc_repeat.specs.Strain.{Ending, Strain, IsStrains}
-use Rattle.abc_voices.specs.Moved.{moved}
+use Rattle.abc_voices.specs.EndingFields.{with_fields_in_endings}
 use Rattle.abc_voices.specs.Play.{marks_of}
 use Rattle.abc_voices.specs.Step.{is_field, mark_of}
 
@@ -58,4 +58,4 @@ behind_signs waiting (one ∷ others) =
 abbrev pub MovesByStrains : Type 0
 MovesByStrains = (part : List Item) (strains : List Strain)
     → IsStrains false (marks_of (λ item. item) (without_fields part)) strains
-    → moved (λ item. item) part ≡ behind_signs [] (with_waits false (between_endings_in strains) part)
+    → with_fields_in_endings (λ item. item) part ≡ behind_signs [] (with_waits false (between_endings_in strains) part)

@@ -4,7 +4,7 @@ use Rattle.abc_music.specs.declared.item.Item.{Item}
 use Rattle.abc_repeat.specs.declared.mark.Mark.{Mark}
 use Rattle.abc_repeat.specs.Mark.{is_play}
 use Rattle.abc_repeat.specs.Play.{play_of}
-use Rattle.abc_voices.specs.Moved.{moved}
+use Rattle.abc_voices.specs.EndingFields.{with_fields_in_endings}
 use Rattle.abc_voices.specs.Step.{is_straight, mark_of, length_of}
 
 -- The marks of steps.
@@ -17,7 +17,7 @@ places_of item_of steps = play_of (marks_of item_of steps)
 
 -- What is played of a voice's steps in a section, in order of play.
 abbrev pub played : {A : Type 0} → (A → Item) → List A → List A
-played item_of part = filter_map (slice_get (moved item_of part)) (places_of item_of (moved item_of part))
+played item_of part = filter_map (slice_get (with_fields_in_endings item_of part)) (places_of item_of (with_fields_in_endings item_of part))
 
 -- Whether marks leave the order of play as it stands.
 abbrev pub are_straight : List Mark → Bool

@@ -1,13 +1,20 @@
 -- The stages of a tune in a table: at a section's place what the voices play of it, or none. Our own.
 use Rattle.std.specs.Borrow.{Bor}
-use Rattle.std.specs.Prelude.{◌≡◌, ℕ, ◌+◌, ◌≤◌, List, Option, Some, None, All, length, map, sum_by, filter_map, slice_get, slice_set, option_map}
+use Rattle.std.specs.Prelude.{◌≡◌, ℕ, ◌+◌, ◌≤◌, List, Option, Some, None, All, length, map, sum_by, filter_map, slice_get, slice_index_or, slice_set, option_map}
 use Rattle.abc_music.specs.declared.item.Item.{Item}
 use Rattle.abc_repeat.specs.declared.play.TheConstants.{MOST_PLACES}
 use Rattle.abc_voices.specs.declared.section.Section.{Section}
 use Rattle.abc_voices.specs.declared.stage.Stage.{Stage}
-use Rattle.abc_voices.specs.Along.{stage_at}
 use Rattle.abc_voices.specs.Arrange.{size_in, longest}
 use Rattle.abc_voices.specs.Stage.{content, stage_of, stage_size}
+
+-- The stage at a place of a table, if one stands there.
+abbrev pub stage_at : List (Option Stage) → ℕ → Option Stage
+stage_at table place = slice_index_or table place None
+
+-- The stages at these places of a table, in this order.
+abbrev pub at_places : List (Option Stage) → List ℕ → List Stage
+at_places table places = filter_map (stage_at table) places
 
 -- The sections at some places, in this order.
 abbrev pub sections_at : List Section → List ℕ → List (List ℕ × List (Bor Item))

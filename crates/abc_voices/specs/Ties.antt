@@ -4,7 +4,7 @@ use Rattle.abc_music.specs.declared.item.Item.{Item}
 use Rattle.abc_music.specs.declared.item.Tone.{Tone}
 use Rattle.abc_voices.specs.declared.score.Sounding.{Sounding}
 use Rattle.abc_voices.specs.Arrange.{all_notes, longest, play_in, played_sections, score_of}
-use Rattle.abc_voices.specs.Linked.{notes_from}
+use Rattle.abc_voices.specs.TiedNotes.{notes_from}
 use Rattle.abc_voices.specs.Step.{length_of, tones_of}
 use Rattle.abc_voices.specs.Track.{everyone, tracks}
 

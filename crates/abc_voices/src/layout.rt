@@ -8,26 +8,27 @@ ghost use Rattle.abc_time.specs.Grains.{grains_of_the_latest_end};
 ghost use Rattle.abc_voices.specs.declared.stage.StageFault.TheVariants.{TooMany, TooLate};
 ghost use Rattle.abc_repeat.specs.declared.order.TheConstants.{MOST_SECTIONS};
 ghost use Rattle.abc_repeat.specs.declared.play.TheConstants.{MOST_PLACES};
-ghost use Rattle.abc_voices.specs.Along.{at_places, first_place};
+ghost use Rattle.abc_voices.specs.Turns.{first_place, stages_in};
 ghost use Rattle.abc_voices.specs.Arrange.{played_sections, is_uneven, end_of, score_of, arranged_of, sections_played, places_played, is_too_long, items_in};
 ghost use Rattle.abc_voices.specs.Fields.{fields};
 ghost use Rattle.abc_voices.specs.Limits.{IsWithinLimits};
 ghost use Rattle.abc_voices.specs.Opening.{order_past, past_all};
 ghost use Rattle.abc_voices.specs.Section.{letters};
 ghost use Rattle.abc_voices.specs.Stage.{stage_of};
+ghost use Rattle.abc_voices.specs.Stages.{at_places};
 ghost use Rattle.abc_voices.specs.Track.{everyone};
 
-use crate::along::{is_uneven, length_along};
 use crate::arranged::{Arranged, BuildFault};
 use crate::fields::fields;
-use crate::laid::score_along;
 use crate::limits::are_voices_and_title_within;
 use crate::opening::order_of;
 use crate::score::Score;
 use crate::section::{letters, opening_voice, sections};
-use crate::stage::{Stage, StageFault};
-use crate::stages::stages;
+use crate::stage::{Stage, StageFault, Turn};
+use crate::stages::{in_order, stages};
 use crate::track::{everyone, nameless_plays};
+use crate::tune_score::score_along;
+use crate::turns::{is_uneven, length_along};
 use abc_music::{Item, Items};
 use abc_repeat::{OrderFault, Played, play_order};
 use std::alloc::{AllocError, Global};
@@ -114,13 +115,12 @@ fn laid_along(
     alloc: Global,
     tune: &[&Item],
     given: &[&Item],
-    table: &[Option<Stage>],
-    played: &[usize],
+    turns: &[Turn],
     count: usize,
 ) -> Result<(Score, bool), StageFault>
     requires tune { All (λ step. IsItem step.now) tune.now }
     requires given { given.now ≡ fields (λ step. step.now) tune.now }
-    requires stages { at_places table.now played.now
+    requires stages { stages_in turns.now
         ≡ map (stage_of (everyone (λ step. step.now) tune.now)) (played_sections (λ step. step.now) tune.now) }
     requires count { count ≡ length (everyone (λ step. step.now) tune.now) }
     ensures score { IfOk result (λ laid. laid.0 ≡ score_of (λ step. step.now) tune.now) }
@@ -130,13 +130,13 @@ fn laid_along(
     ensures too_many { result ≢ Err TooMany }
     ensures too_late { result ≡ Err TooLate → grains_of_the_latest_end < end_of (λ step. step.now) tune.now }
 {
-    let Some(total) = length_along(table, played) else {
+    let Some(total) = length_along(turns) else {
         return Err(StageFault::TooLate);
     };
     let first = first_track(tune, given);
-    match score_along(alloc, given, table, played, total, first, count) {
+    match score_along(alloc, given, turns, total, first, count) {
         Ok(score) => {
-            let uneven = is_uneven(table, played);
+            let uneven = is_uneven(turns);
             Ok((score, uneven))
         }
         Err(why) => Err(why),
@@ -163,7 +163,10 @@ fn laid_out(
 {
     let voices = everyone(alloc, given)?;
     match stages_of(alloc, tune, given, &voices, played) {
-        Ok(table) => laid_along(alloc, tune, given, &table, played, voices.len()),
+        Ok(table) => {
+            let turns = in_order(alloc, &table, played)?;
+            laid_along(alloc, tune, given, &turns, voices.len())
+        }
         Err(why) => Err(why),
     }
 }

@@ -2,30 +2,30 @@
 //! file is written from, and its limits.
 #![tactic(auto)]
 
-mod along;
 mod arranged;
 mod change;
-mod conduct;
+mod ending_fields;
 mod fields;
-mod laid;
 mod laws;
 mod layout;
 mod limits;
-mod linked;
-mod moved;
 mod notes;
 mod opening;
 mod play;
 mod score;
+mod score_changes;
 mod score_laws;
 mod section;
 mod setting;
-mod settle;
 mod stage;
 mod stages;
 mod step;
+mod ticks;
+mod tied_notes;
 mod timing;
 mod track;
+mod tune_score;
+mod turns;
 mod voice;
 
 pub use abc_music::MOST_VOICES;

@@ -3,13 +3,13 @@
 ghost use Rattle.std.specs.Prelude.{◌≡◌, ◌-◌, ◌≤◌, ◌++◌, [], All, Some, OnOk};
 ghost use Rattle.abc_music.specs.Item.{IsItem, IsTone};
 ghost use Rattle.abc_time.specs.Grains.{grains_of_the_latest_end};
-ghost use Rattle.abc_voices.specs.Linked.{Notes, before, notes_from};
+ghost use Rattle.abc_voices.specs.TiedNotes.{Notes, before, notes_from};
 ghost use Rattle.abc_voices.specs.Play.{duration};
 ghost use Rattle.abc_voices.specs.Step.{tones_of};
 
-use crate::linked::begin_notes;
 use crate::score::Sounding;
 use crate::step::length_of;
+use crate::tied_notes::begin_notes;
 use abc_music::{Item, Tone};
 use abc_time::Grains;
 use std::alloc::{AllocError, Global};

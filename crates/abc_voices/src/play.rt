@@ -4,10 +4,10 @@ ghost use Rattle.std.specs.Prelude.{◌≡◌, ◌<◌, ◌≤◌, min, length, 
 ghost use Rattle.abc_repeat.specs.declared.play.TheConstants.{MOST_PLACES};
 ghost use Rattle.abc_repeat.specs.declared.fault.RepeatFault.TheVariants.{TooLong};
 ghost use Rattle.abc_time.specs.Grains.{grains_of_the_latest_end};
-ghost use Rattle.abc_voices.specs.Moved.{moved};
+ghost use Rattle.abc_voices.specs.EndingFields.{with_fields_in_endings};
 ghost use Rattle.abc_voices.specs.Play.{marks_of, places_of, played, duration, are_straight, without_marks};
 
-use crate::moved::moved;
+use crate::ending_fields::with_fields_in_endings;
 use crate::step::{is_played, is_straight, length_of, mark_of};
 use abc_music::Item;
 use abc_repeat::{MOST_PLACES, Mark, RepeatFault, expand_within};
@@ -68,10 +68,10 @@ fn played_once<'a>(part: Vec<&'a Item>, room: u64) -> Result<Vec<&'a Item>, Repe
     requires { are_straight (marks_of (λ step. step.now) part.items) ≡ true }
     ensures value { IfOk result (λ items. items.items ≡ played (λ step. step.now) part.entry.items) }
     ensures size { IfOk result (λ items. length items.items
-        ≡ length (places_of (λ step. step.now) (moved (λ step. step.now) part.entry.items))) }
+        ≡ length (places_of (λ step. step.now) (with_fields_in_endings (λ step. step.now) part.entry.items))) }
     ensures within { IfOk result (λ items. length items.items ≤ min room MOST_PLACES) }
     ensures too_long { result ≡ Err TooLong
-        → min room MOST_PLACES < length (places_of (λ step. step.now) (moved (λ step. step.now) part.entry.items)) }
+        → min room MOST_PLACES < length (places_of (λ step. step.now) (with_fields_in_endings (λ step. step.now) part.entry.items)) }
 {
     let items = without_marks(part);
     if items.len() as u64 > room.min(MOST_PLACES) {
@@ -89,16 +89,16 @@ pub(crate) fn played<'a>(
 ) -> Result<Vec<&'a Item>, RepeatFault>
     ensures value { IfOk result (λ items. items.items ≡ played (λ step. step.now) part.entry.items) }
     ensures size { IfOk result (λ items. length items.items
-        ≡ length (places_of (λ step. step.now) (moved (λ step. step.now) part.entry.items))) }
+        ≡ length (places_of (λ step. step.now) (with_fields_in_endings (λ step. step.now) part.entry.items))) }
     ensures within { IfOk result (λ items. length items.items ≤ min room MOST_PLACES) }
     ensures too_long { result ≡ Err TooLong
-        → min room MOST_PLACES < length (places_of (λ step. step.now) (moved (λ step. step.now) part.entry.items)) }
+        → min room MOST_PLACES < length (places_of (λ step. step.now) (with_fields_in_endings (λ step. step.now) part.entry.items)) }
 {
     // Most music is played as it stands, and then nothing has to be put in order or counted out.
     if are_straight(&part) {
         return played_once(part, room);
     }
-    let steps = moved(alloc, &part)?;
+    let steps = with_fields_in_endings(alloc, &part)?;
     let marks = marks_of(alloc, &steps)?;
     let places = expand_within(alloc, &marks, room)?;
     let items = chosen(alloc, &steps, &places)?;

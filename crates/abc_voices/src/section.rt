@@ -1,6 +1,7 @@
 //! The sections of a tune, and what a voice has in each.
 
 ghost use Rattle.std.specs.Prelude.{◌≡◌, IfOk, map};
+ghost use Rattle.abc_voices.specs.Owned.{is_own_past};
 ghost use Rattle.abc_voices.specs.Section.{is_step, is_section, letters, voice_past, opening_voice, sections, part_from};
 
 use abc_music::Item;
@@ -64,7 +65,22 @@ pub(crate) fn opening_voice<'a>(tune: &[&'a Item]) -> &'a [u8]
     &[]
 }
 
-/// The items of a voice, of those from a place on where a voice is the current one.
+/// Whether a voice is the current one behind an item, where it is known whether it is in front of it.
+fn is_own_past(voice: &[u8], is_own: bool, item: &Item) -> bool
+    ensures { result ≡ is_own_past voice.now is_own item.now }
+{
+    match item {
+        Item::Voice {
+            opening: false,
+            name,
+        } => name.as_slice() == voice,
+        _ => is_own,
+    }
+}
+
+/// The items of a voice, of those from a place on where a voice is the current one. Names may be long, so they are
+/// compared where the current voice changes, and not at each item.
+#[tactic(auto, using(crate::proofs::Owned::part_owned))]
 pub(crate) fn part<'a>(
     alloc: Global,
     voice: &[u8],
@@ -74,12 +90,12 @@ pub(crate) fn part<'a>(
     ensures { IfOk result (λ part. part.items ≡ part_from (λ step. step.now) voice.now opening.now steps.now) }
 {
     let mut part = Vec::with_capacity(alloc, steps.len())?;
-    let mut current = opening;
+    let mut is_own = opening == voice;
     for item in steps {
-        if is_step(item) && current == voice {
+        if is_own && is_step(item) {
             part.push(*item)?;
         }
-        current = voice_past(current, item);
+        is_own = is_own_past(voice, is_own, item);
     }
     Ok(part)
 }

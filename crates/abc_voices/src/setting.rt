@@ -1,13 +1,12 @@
 //! What voices set in stages that are played one after another: tempos, meters and keys.
 
-ghost use Rattle.std.specs.Prelude.{◌≡◌, ◌+◌, ◌≤◌, ◌∷◌, ◌++◌, All, IfOk, IfSome, OnOk, Some};
+ghost use Rattle.std.specs.Prelude.{◌≡◌, ◌+◌, ◌≤◌, ◌∷◌, ◌++◌, All, IfOk, OnOk};
 ghost use Rattle.abc_time.specs.Grains.{grains_of_the_latest_end};
-ghost use Rattle.abc_voices.specs.Along.{IsStage, IsPart, stage_at, at_places, length_if, length_along, set_beside, set_by_all, set_at, set_by_one};
+ghost use Rattle.abc_voices.specs.Turns.{IsStage, IsPart, stages_in, length_along, set_beside, set_by_all, set_at, set_by_one};
 ghost use Rattle.abc_voices.specs.Change.{tempo_of, set_from};
 
-use crate::along::{length_at, stage_at};
 use crate::change::{Setting, Tempos, put_set};
-use crate::stage::{Part, Stage};
+use crate::stage::{Part, Stage, Turn};
 use abc_time::Grains;
 use std::alloc::{AllocError, Global};
 
@@ -19,7 +18,7 @@ fn put_stage_tempos(
 ) -> Result<(), AllocError>
     requires stage { IsStage stage.now }
     requires end { at.0 + stage.now.longest.0 ≤ grains_of_the_latest_end }
-    ensures { OnOk result (tempos.new.items ≡ tempos.old.items ++ set_beside tempo_of at.0 (Some stage.now)) }
+    ensures { OnOk result (tempos.new.items ≡ tempos.old.items ++ set_beside tempo_of at.0 stage.now) }
 {
     for part in stage.parts.as_slice() {
         put_set::<Tempos>(tempos, at, part.steps.as_slice())?;
@@ -27,42 +26,24 @@ fn put_stage_tempos(
     Ok(())
 }
 
-/// Puts the tempos of all voices in the stage at a place, which is played from a moment on.
-fn put_tempos_at(
-    tempos: &mut Vec<(Grains, u32)>,
-    at: Grains,
-    table: &[Option<Stage>],
-    place: usize,
-) -> Result<(), AllocError>
-    requires stage { IfSome (stage_at table.now place) IsStage }
-    requires end { at.0 + length_if (stage_at table.now place) ≤ grains_of_the_latest_end }
-    ensures { OnOk result (tempos.new.items
-        ≡ tempos.old.items ++ set_beside tempo_of at.0 (stage_at table.now place)) }
-{
-    match stage_at(table, place) {
-        Some(stage) => put_stage_tempos(tempos, at, stage),
-        None => Ok(()),
-    }
-}
-
 /// The tempos of all voices in the stages that are played, behind the one with which the tune opens.
+#[tactic(auto, unfolding(abc_time::specs::Grains::grains_of_a_whole_note, abc_time::specs::Grains::grains_of_the_latest_end))]
 pub(crate) fn tempos_along(
     alloc: Global,
-    table: &[Option<Stage>],
-    order: &[usize],
+    turns: &[Turn],
     opening: u32,
 ) -> Result<Vec<(Grains, u32)>, AllocError>
-    requires stages { All IsStage (at_places table.now order.now) }
-    requires in_time { length_along (at_places table.now order.now) ≤ grains_of_the_latest_end }
+    requires stages { All (λ turn. IsStage turn.stage.now) turns.now }
+    requires in_time { length_along (stages_in turns.now) ≤ grains_of_the_latest_end }
     ensures { IfOk result (λ tempos. tempos.items
-        ≡ (record { 0 = 0 }, opening) ∷ set_by_all tempo_of 0 (at_places table.now order.now)) }
+        ≡ (record { 0 = 0 }, opening) ∷ set_by_all tempo_of 0 (stages_in turns.now)) }
 {
     let mut tempos = Vec::new(alloc);
     tempos.push((Grains(0), opening))?;
     let mut at = Grains(0);
-    for place in order {
-        put_tempos_at(&mut tempos, at, table, *place)?;
-        at.0 += length_at(table, *place).0;
+    for turn in turns {
+        put_stage_tempos(&mut tempos, at, turn.stage)?;
+        at.0 += turn.stage.longest.0;
     }
     Ok(tempos)
 }
@@ -92,7 +73,7 @@ fn put_stage<S: Setting>(
 ) -> Result<(), AllocError>
     requires stage { IsStage stage.now }
     requires end { at.0 + stage.now.longest.0 ≤ grains_of_the_latest_end }
-    ensures { OnOk result (sets.new.items ≡ sets.old.items ++ set_at S.value_of voice at.0 (Some stage.now)) }
+    ensures { OnOk result (sets.new.items ≡ sets.old.items ++ set_at S.value_of voice at.0 stage.now) }
 {
     let parts = stage.parts.as_slice();
     match parts.get(voice) {
@@ -101,44 +82,25 @@ fn put_stage<S: Setting>(
     }
 }
 
-/// Puts what a voice sets in the stage at a place, which is played from a moment on.
-fn put_at<S: Setting>(
-    sets: &mut Vec<(Grains, S::Value)>,
-    at: Grains,
-    table: &[Option<Stage>],
-    place: usize,
-    voice: usize,
-) -> Result<(), AllocError>
-    requires stage { IfSome (stage_at table.now place) IsStage }
-    requires end { at.0 + length_if (stage_at table.now place) ≤ grains_of_the_latest_end }
-    ensures { OnOk result (sets.new.items
-        ≡ sets.old.items ++ set_at S.value_of voice at.0 (stage_at table.now place)) }
-{
-    match stage_at(table, place) {
-        Some(stage) => put_stage::<S>(sets, at, stage, voice),
-        None => Ok(()),
-    }
-}
-
 /// What a voice sets in the stages that are played, behind the one with which the tune opens.
+#[tactic(auto, unfolding(abc_time::specs::Grains::grains_of_a_whole_note, abc_time::specs::Grains::grains_of_the_latest_end))]
 pub(crate) fn one_along<S: Setting>(
     alloc: Global,
-    table: &[Option<Stage>],
-    order: &[usize],
+    turns: &[Turn],
     voice: usize,
     opening: S::Value,
 ) -> Result<Vec<(Grains, S::Value)>, AllocError>
-    requires stages { All IsStage (at_places table.now order.now) }
-    requires in_time { length_along (at_places table.now order.now) ≤ grains_of_the_latest_end }
+    requires stages { All (λ turn. IsStage turn.stage.now) turns.now }
+    requires in_time { length_along (stages_in turns.now) ≤ grains_of_the_latest_end }
     ensures { IfOk result (λ sets. sets.items
-        ≡ (record { 0 = 0 }, opening) ∷ set_by_one S.value_of voice 0 (at_places table.now order.now)) }
+        ≡ (record { 0 = 0 }, opening) ∷ set_by_one S.value_of voice 0 (stages_in turns.now)) }
 {
     let mut sets = Vec::new(alloc);
     sets.push((Grains(0), opening))?;
     let mut at = Grains(0);
-    for place in order {
-        put_at::<S>(&mut sets, at, table, *place, voice)?;
-        at.0 += length_at(table, *place).0;
+    for turn in turns {
+        put_stage::<S>(&mut sets, at, turn.stage, voice)?;
+        at.0 += turn.stage.longest.0;
     }
     Ok(sets)
 }

@@ -32,6 +32,12 @@ pub(crate) struct Stage<'t> {
     pub longest: Grains,
 }
 
+/// A stage where it is played.
+#[derive(Clone, Copy)]
+pub(crate) struct Turn<'s, 't> {
+    pub stage: &'s Stage<'t>,
+}
+
 /// Why the stages of a tune are not given.
 #[derive(Clone, Copy)]
 pub(crate) enum StageFault {

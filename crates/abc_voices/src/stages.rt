@@ -3,16 +3,26 @@
 ghost use Rattle.std.specs.Prelude.{◌≡◌, ◌+◌, ◌<◌, ◌≤◌, ◌^◌, ◌≢◌, length, map, None, sum_by, slice_get, option_copied, IfOk};
 ghost use Rattle.abc_repeat.specs.declared.play.TheConstants.{MOST_PLACES};
 ghost use Rattle.abc_time.specs.Grains.{grains_of_the_latest_end};
-ghost use Rattle.abc_voices.specs.Along.{at_places};
+ghost use Rattle.abc_voices.specs.Turns.{stages_in};
 ghost use Rattle.abc_voices.specs.Arrange.{size_in, longest};
 ghost use Rattle.abc_voices.specs.Stage.{content, stage_of, stage_size};
-ghost use Rattle.abc_voices.specs.Stages.{sections_at, size_for, longest_for, AreStages, IsNew, IsPut, ArePut};
+ghost use Rattle.abc_voices.specs.Stages.{stage_at, at_places, sections_at, size_for, longest_for, AreStages, IsNew, IsPut, ArePut};
 
-use crate::along::stage_at;
 use crate::section::Section;
-use crate::stage::{Stage, StageFault};
+use crate::stage::{Stage, StageFault, Turn};
 use abc_repeat::MOST_PLACES;
 use std::alloc::{AllocError, Global};
+
+/// The stage at a place of a table, if one stands there.
+fn stage_at<'s, 't>(table: &'s [Option<Stage<'t>>], place: usize) -> Option<&'s Stage<'t>>
+    ensures { option_copied result ≡ stage_at table.entry.now place }
+{
+    if place < table.len() {
+        table[place].as_ref()
+    } else {
+        None
+    }
+}
 
 /// How much room is left behind a stage.
 fn room_behind(stage: &Stage, room: u64) -> Result<u64, StageFault>
@@ -124,4 +134,21 @@ pub(crate) fn stages<'t>(
         room = put_stage(alloc, &mut table, sections, voices, *place, room)?;
     }
     Ok(table)
+}
+
+/// The stages of a table that are at some places, in this order.
+pub(crate) fn in_order<'s, 't>(
+    alloc: Global,
+    table: &'s [Option<Stage<'t>>],
+    places: &[usize],
+) -> Result<Vec<Turn<'s, 't>>, AllocError>
+    ensures { IfOk result (λ turns. stages_in turns.items ≡ at_places table.entry.now places.now) }
+{
+    let mut turns = Vec::with_capacity(alloc, places.len())?;
+    for place in places {
+        if let Some(stage) = stage_at(table, *place) {
+            turns.push(Turn { stage })?;
+        }
+    }
+    Ok(turns)
 }

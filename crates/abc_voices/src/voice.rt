@@ -1,15 +1,14 @@
 //! The notes of voices in stages that are played one after another.
 
-ghost use Rattle.std.specs.Prelude.{◌≡◌, ◌+◌, ◌-◌, ◌≤◌, All, IfOk, IfSome, OnOk, Some};
+ghost use Rattle.std.specs.Prelude.{◌≡◌, ◌+◌, ◌-◌, ◌≤◌, All, IfOk, OnOk};
 ghost use Rattle.abc_time.specs.Grains.{grains_of_the_latest_end};
-ghost use Rattle.abc_voices.specs.Along.{IsPart, IsStage, stage_at, at_places, length_if, length_along, before_rest, notes_along, voices_along};
+ghost use Rattle.abc_voices.specs.Turns.{IsPart, IsStage, stages_in, length_along, before_rest, notes_along, voices_along};
 ghost use Rattle.abc_voices.specs.Arrange.{all_notes};
-ghost use Rattle.abc_voices.specs.Linked.{notes_from};
+ghost use Rattle.abc_voices.specs.TiedNotes.{notes_from};
 
-use crate::along::{length_at, stage_at};
 use crate::notes::put_notes;
 use crate::score::Sounding;
-use crate::stage::{Part, Stage};
+use crate::stage::{Part, Stage, Turn};
 use abc_text::Sequence;
 use abc_time::Grains;
 use std::alloc::{AllocError, Global};
@@ -45,7 +44,7 @@ fn put_stage(
     requires stage { IsStage stage.now }
     requires end { at.0 + stage.now.longest.0 ≤ grains_of_the_latest_end }
     ensures { OnOk result (record { first = first.new.items; others = others.new.items }
-        ≡ before_rest voice at.0 (Some stage.now) (record { first = first.old.items; others = others.old.items })) }
+        ≡ before_rest voice at.0 stage.now (record { first = first.old.items; others = others.old.items })) }
 {
     let parts = stage.parts.as_slice();
     match parts.get(voice) {
@@ -54,49 +53,27 @@ fn put_stage(
     }
 }
 
-/// Puts what a voice plays of the stage at a place before the notes of what comes behind it.
-fn put_stage_at(
-    alloc: Global,
-    first: &mut Vec<Sounding>,
-    others: &mut Vec<Sounding>,
-    at: Grains,
-    table: &[Option<Stage>],
-    place: usize,
-    voice: usize,
-) -> Result<(), AllocError>
-    requires stage { IfSome (stage_at table.now place) IsStage }
-    requires end { at.0 + length_if (stage_at table.now place) ≤ grains_of_the_latest_end }
-    ensures { OnOk result (record { first = first.new.items; others = others.new.items }
-        ≡ before_rest voice at.0 (stage_at table.now place) (record { first = first.old.items; others = others.old.items })) }
-{
-    match stage_at(table, place) {
-        Some(stage) => put_stage(alloc, first, others, at, stage, voice),
-        None => Ok(()),
-    }
-}
-
 /// The notes of a voice in stages that are played from the beginning of a tune to a moment.
 fn voice_notes(
     alloc: Global,
-    table: &[Option<Stage>],
-    order: &[usize],
+    turns: &[Turn],
     end: Grains,
     voice: usize,
 ) -> Result<Sequence<Sounding>, AllocError>
-    requires stages { All IsStage (at_places table.now order.now) }
-    requires end { end.0 ≡ length_along (at_places table.now order.now) }
+    requires stages { All (λ turn. IsStage turn.stage.now) turns.now }
+    requires end { end.0 ≡ length_along (stages_in turns.now) }
     requires in_time { end.0 ≤ grains_of_the_latest_end }
-    ensures { IfOk result (λ notes. notes ≡ all_notes (notes_along voice 0 (at_places table.now order.now))) }
+    ensures { IfOk result (λ notes. notes ≡ all_notes (notes_along voice 0 (stages_in turns.now))) }
 {
     let mut first = Vec::new(alloc);
     let mut others = Vec::new(alloc);
     let mut at = end;
-    let mut left = order.len();
+    let mut left = turns.len();
     while left > 0 {
         left -= 1;
-        let place = order[left];
-        at.0 -= length_at(table, place).0;
-        put_stage_at(alloc, &mut first, &mut others, at, table, place, voice)?;
+        let stage = turns[left].stage;
+        at.0 -= stage.longest.0;
+        put_stage(alloc, &mut first, &mut others, at, stage, voice)?;
     }
     others.extend_from_slice(&first)?;
     Ok(Sequence::from(others))
@@ -105,21 +82,20 @@ fn voice_notes(
 /// The notes of the voices from the first that is counted on up to so many.
 pub(crate) fn voices_notes(
     alloc: Global,
-    table: &[Option<Stage>],
-    order: &[usize],
+    turns: &[Turn],
     end: Grains,
     first: usize,
     count: usize,
 ) -> Result<Sequence<Sequence<Sounding>>, AllocError>
-    requires stages { All IsStage (at_places table.now order.now) }
-    requires end { end.0 ≡ length_along (at_places table.now order.now) }
+    requires stages { All (λ turn. IsStage turn.stage.now) turns.now }
+    requires end { end.0 ≡ length_along (stages_in turns.now) }
     requires in_time { end.0 ≤ grains_of_the_latest_end }
     requires voices { first ≤ count }
-    ensures { IfOk result (λ voices. voices ≡ voices_along (at_places table.now order.now) first (count - first)) }
+    ensures { IfOk result (λ voices. voices ≡ voices_along (stages_in turns.now) first (count - first)) }
 {
     let mut voices = Vec::new(alloc);
     for voice in first..count {
-        let notes = voice_notes(alloc, table, order, end, voice)?;
+        let notes = voice_notes(alloc, turns, end, voice)?;
         voices.push(notes)?;
     }
     Ok(Sequence::from(voices))

@@ -9,7 +9,7 @@ ghost use Rattle.abc_repeat.specs.Strain.{strains_of};
 ghost use Rattle.abc_voices.specs.Arrange.{changes_of, end_of, is_uneven, played_sections, set_in, voices_notes};
 ghost use Rattle.abc_voices.specs.Change.{tempo_of};
 ghost use Rattle.abc_voices.specs.Endings.{between_endings_in, without_fields};
-ghost use Rattle.abc_voices.specs.Moved.{moved};
+ghost use Rattle.abc_voices.specs.EndingFields.{with_fields_in_endings};
 ghost use Rattle.abc_voices.specs.Play.{marks_of, played};
 ghost use Rattle.abc_voices.specs.Section.{part, sections};
 ghost use Rattle.abc_voices.specs.Ties.{heard, tokens_from};
@@ -54,9 +54,9 @@ pub fn fields_before_an_ending()
 /// No field is moved behind a bar that opens a strain of its own, `|:A|1B::[Q:]|2F||`, nor behind the common part's own
 /// bar, `A:|[Q:]|1B||`. Our own.
 pub fn fields_that_stay()
-    ensures opened { moved own (opening ∷ note 69 ∷ single ∷ first ∷ note 71 ∷ between ∷ tempo 1000000 ∷ single ∷ second ∷ note 66 ∷ double ∷ [])
+    ensures opened { with_fields_in_endings own (opening ∷ note 69 ∷ single ∷ first ∷ note 71 ∷ between ∷ tempo 1000000 ∷ single ∷ second ∷ note 66 ∷ double ∷ [])
         ≡ opening ∷ note 69 ∷ single ∷ first ∷ note 71 ∷ between ∷ tempo 1000000 ∷ single ∷ second ∷ note 66 ∷ double ∷ [] }
-    ensures common { moved own (note 69 ∷ closing ∷ tempo 1000000 ∷ single ∷ first ∷ note 71 ∷ double ∷ [])
+    ensures common { with_fields_in_endings own (note 69 ∷ closing ∷ tempo 1000000 ∷ single ∷ first ∷ note 71 ∷ double ∷ [])
         ≡ note 69 ∷ closing ∷ tempo 1000000 ∷ single ∷ first ∷ note 71 ∷ double ∷ [] }
 {}
 

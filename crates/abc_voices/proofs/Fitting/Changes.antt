@@ -11,7 +11,7 @@ use Rattle.abc_time.specs.Grains.{tick_at}
 use Rattle.abc_voices.specs.Arrange.{play_in, longest, set_in}
 use Rattle.abc_voices.specs.Change.{at_moment, set_from}
 use Rattle.abc_voices.specs.Opening.{past_all}
-use Rattle.abc_voices.specs.Settle.{has_tick, settled}
+use Rattle.abc_voices.specs.Ticks.{has_tick, last_of_each_tick}
 use Rattle.abc_voices.specs.Step.{length_of}
 use Rattle.abc_voices.proofs.Fitting.Kept.{either, play_kept}
 use Rattle.abc_voices.proofs.Fitting.Notes.{lasting}
@@ -23,21 +23,21 @@ pub record IsSetBy {V : Type 0} (end : ℕ) (Q : V → Type 0) (set : Grains × 
   pub value : Q set.1
 
 -- what stands of changes is among them
-pub settled_kept : {V : Type 0} (P : Grains × V → Type 0) (changes : List (Grains × V)) → All P changes → All P (settled changes)
+pub settled_kept : {V : Type 0} (P : Grains × V → Type 0) (changes : List (Grains × V)) → All P changes → All P (last_of_each_tick changes)
 settled_kept P [] all = All-nil P
 settled_kept P (change ∷ later) all =
-    let rest : All P (settled later) = settled_kept P later (All-tail P change later all) in
-    either P (has_tick (tick_at change.0.0) later) (settled later) (settled later ++ change ∷ []) rest (All-push P (settled later) change rest (All-head P change later all))
+    let rest : All P (last_of_each_tick later) = settled_kept P later (All-tail P change later all) in
+    either P (has_tick (tick_at change.0.0) later) (last_of_each_tick later) (last_of_each_tick later ++ change ∷ []) rest (All-push P (last_of_each_tick later) change rest (All-head P change later all))
 
 cond_few : {X : Type 0} (b : Bool) (xs ys : List X) (n : ℕ) → length xs ≤ n → length ys ≤ n → length (cond b xs ys) ≤ n
 cond_few true xs ys n here there = here
 cond_few false xs ys n here there = there
 
-pub settled_few : {V : Type 0} (changes : List (Grains × V)) → length (settled changes) ≤ length changes
+pub settled_few : {V : Type 0} (changes : List (Grains × V)) → length (last_of_each_tick changes) ≤ length changes
 settled_few [] = omega arith
 settled_few (change ∷ later) =
-    cond_few (has_tick (tick_at change.0.0) later) (settled later) (settled later ++ change ∷ []) (length (change ∷ later))
-    (omega (arith, settled_few later)) (omega (arith, settled_few later, length-append (settled later) (change ∷ [])))
+    cond_few (has_tick (tick_at change.0.0) later) (last_of_each_tick later) (last_of_each_tick later ++ change ∷ []) (length (change ∷ later))
+    (omega (arith, settled_few later)) (omega (arith, settled_few later, length-append (last_of_each_tick later) (change ∷ [])))
 
 one_set : {V : Type 0} (end at : ℕ) (Q : V → Type 0) (value : Option V) (sets : List (Grains × V)) → at ≤ end → IfSome value Q → All (IsSetBy end Q) sets
     → All (IsSetBy end Q) (cons_option (at_moment at value) sets)

@@ -8,11 +8,11 @@ use Rattle.abc_music.specs.declared.item.Item.{Item}
 use Rattle.abc_music.specs.declared.item.Item.TheVariants as items
 use Rattle.abc_music.specs.declared.item.Tone.{Tone}
 use Rattle.abc_voices.specs.declared.score.Sounding.{Sounding}
-use Rattle.abc_voices.specs.Linked.{Linked, Notes, own_note, lengthened, with_note, next_place, with_key, with_tones, before, notes_from}
+use Rattle.abc_voices.specs.TiedNotes.{TokenNotes, Notes, own_note, lengthened, with_note, next_place, with_key, with_tones, before, notes_from}
 use Rattle.abc_voices.specs.Step.{length_of, tones_of}
 
 -- how many notes of both kinds there are
-abbrev pub linked_notes : Linked → ℕ
+abbrev pub linked_notes : TokenNotes → ℕ
 linked_notes linked = length linked.begun + length linked.next
 
 abbrev pub notes_of : Notes → ℕ
@@ -24,15 +24,15 @@ shorter [] (suc place) = omega arith
 shorter (x ∷ xs) zero = omega arith
 shorter (x ∷ xs) (suc place) = omega (arith, shorter xs place)
 
-note_more : (note : Sounding) (linked : Linked) (place : Option ℕ) → linked_notes (with_note note linked place) ≤ linked_notes linked + 1
+note_more : (note : Sounding) (linked : TokenNotes) (place : Option ℕ) → linked_notes (with_note note linked place) ≤ linked_notes linked + 1
 note_more note linked None = omega (arith, length-append linked.begun (note ∷ []))
 note_more note linked (Some place) = omega (arith, length-append linked.begun (lengthened note linked.next place ∷ []), shorter linked.next place)
 
-key_more : (at : ℕ) (tone : Tone) (linked : Linked) (key : Option ℕ) → linked_notes (with_key at tone linked key) ≤ linked_notes linked + 1
+key_more : (at : ℕ) (tone : Tone) (linked : TokenNotes) (key : Option ℕ) → linked_notes (with_key at tone linked key) ≤ linked_notes linked + 1
 key_more at tone linked None = omega arith
 key_more at tone linked (Some key) = note_more (own_note at tone.length.0 key) linked (next_place tone.tied key linked.next)
 
-tones_more : (at : ℕ) (linked : Linked) (tones : List Tone) → linked_notes (with_tones at linked tones) ≤ linked_notes linked + length tones
+tones_more : (at : ℕ) (linked : TokenNotes) (tones : List Tone) → linked_notes (with_tones at linked tones) ≤ linked_notes linked + length tones
 tones_more at linked [] = omega arith
 tones_more at linked (tone ∷ tones) =
     omega (arith, tones_more at (with_key at tone linked tone.key) tones, key_more at tone linked tone.key)
@@ -44,7 +44,7 @@ IsFew tones = IfSome tones (λ these. length these ≤ 16)
 before_more : (at : ℕ) (tones : Option (List Tone)) (notes : Notes) → IsFew tones → notes_of (before at tones notes) ≤ notes_of notes + 16
 before_more at None notes few = omega arith
 before_more at (Some tones) notes few =
-    let linked : Linked = with_tones at (record { begun = []; next = notes.first }) tones in
+    let linked : TokenNotes = with_tones at (record { begun = []; next = notes.first }) tones in
     omega (arith, few, tones_more at (record { begun = []; next = notes.first }) tones, length-append notes.others linked.next)
 
 few_tones : (item : Item) → IsItem item → IsFew (tones_of item)

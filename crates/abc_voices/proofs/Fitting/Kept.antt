@@ -5,10 +5,10 @@ use Rattle.std.specs.List.{cons_option}
 use Rattle.std.proofs.lemmas.List.Elements.{All-nil, All-cons, All-head, All-tail, All-append, All-push}
 use Rattle.abc_music.specs.declared.item.Item.{Item}
 use Rattle.abc_repeat.specs.Mark.{is_ending}
-use Rattle.abc_voices.specs.declared.moved.Region.{Region}
-use Rattle.abc_voices.specs.declared.moved.Region.TheVariants.{Common}
+use Rattle.abc_voices.specs.declared.ending_fields.Region.{Region}
+use Rattle.abc_voices.specs.declared.ending_fields.Region.TheVariants.{Common}
 use Rattle.abc_voices.specs.Arrange.{play_in, played_sections}
-use Rattle.abc_voices.specs.Moved.{waits, set_down, region_past, moved_from, moved}
+use Rattle.abc_voices.specs.EndingFields.{waits, set_down, region_past, with_fields_in_endings_from, with_fields_in_endings}
 use Rattle.abc_voices.specs.Play.{places_of}
 use Rattle.abc_voices.specs.Section.{is_step, is_section, voice_past, opening_voice, sections_from, sections, part_from}
 use Rattle.abc_voices.specs.Step.{mark_of}
@@ -38,7 +38,7 @@ module _ {A : Type 0} (item_of : A → Item) (P : A → Type 0) where
   set_down_kept held step all is =
       either P (is_ending (mark_of (item_of step))) (step ∷ held) (held ++ step ∷ []) (All-cons P step held is all) (All-push P held step all is)
 
-  moved_kept : (region : Region) (held steps : List A) → All P held → All P steps → All P (moved_from item_of region held steps)
+  moved_kept : (region : Region) (held steps : List A) → All P held → All P steps → All P (with_fields_in_endings_from item_of region held steps)
   moved_kept region held [] waiting all = waiting
   moved_kept region held (step ∷ steps) waiting all =
       let is : P step = All-head P step steps all in
@@ -60,7 +60,7 @@ module _ {A : Type 0} (item_of : A → Item) (P : A → Type 0) where
       → All P (play_in item_of (opening, steps) voice)
   part_played opening steps voice all =
       let mine : List A = part_from item_of voice opening steps in
-      picked P (moved item_of mine) (places_of item_of (moved item_of mine)) (moved_kept Common [] mine (All-nil P) all)
+      picked P (with_fields_in_endings item_of mine) (places_of item_of (with_fields_in_endings item_of mine)) (moved_kept Common [] mine (All-nil P) all)
 
   -- what a voice plays of a section
   pub play_kept : (section : List ℕ × List A) (voice : List ℕ) → All P section.1 → All P (play_in item_of section voice)

@@ -7,7 +7,7 @@ use Rattle.abc_music.specs.declared.item.Item.{Item}
 use Rattle.abc_music.specs.declared.item.Item.TheVariants as items
 use Rattle.abc_music.specs.declared.item.Tone.{Tone}
 use Rattle.abc_voices.specs.declared.score.Sounding.{Sounding}
-use Rattle.abc_voices.specs.Linked.{Linked, Notes, own_note, lengthened, with_note, next_place, with_key, with_tones, before, notes_from}
+use Rattle.abc_voices.specs.TiedNotes.{TokenNotes, Notes, own_note, lengthened, with_note, next_place, with_key, with_tones, before, notes_from}
 use Rattle.abc_voices.specs.Step.{length_of, tones_of}
 
 -- a note that begins then or later, ends no sooner than it begins, and has a key of MIDI
@@ -38,11 +38,11 @@ All-remove : {X : Type 0} (P : X → Type 0) (xs : List X) (place : ℕ) → All
 All-remove P xs place all = All-append P (take place xs) (drop (suc place) xs) (All-take P place xs all) (All-drop P (suc place) xs all)
 
 -- notes that begin at a time token, and those behind it
-pub record AreFitting (at : ℕ) (linked : Linked) : Type 0 where
+pub record AreFitting (at : ℕ) (linked : TokenNotes) : Type 0 where
   pub begun : All (Fits at) linked.begun
   pub next : All (Fits at) linked.next
 
-with_note_fits : (at : ℕ) (note : Sounding) (linked : Linked) (place : Option ℕ) → note.on.0 ≡ at → Fits at note → AreFitting at linked → AreFitting at (with_note note linked place)
+with_note_fits : (at : ℕ) (note : Sounding) (linked : TokenNotes) (place : Option ℕ) → note.on.0 ≡ at → Fits at note → AreFitting at linked → AreFitting at (with_note note linked place)
 with_note_fits at note linked None begins own fits =
     record { begun = All-push (Fits at) linked.begun note fits.begun own; next = fits.next }
 with_note_fits at note linked (Some place) begins own fits =
@@ -51,12 +51,12 @@ with_note_fits at note linked (Some place) begins own fits =
       next = All-remove (Fits at) linked.next place fits.next;
     }
 
-with_key_fits : (at : ℕ) (tone : Tone) (linked : Linked) (key : Option ℕ) → IfSome key (λ k. k ≤ 127) → AreFitting at linked → AreFitting at (with_key at tone linked key)
+with_key_fits : (at : ℕ) (tone : Tone) (linked : TokenNotes) (key : Option ℕ) → IfSome key (λ k. k ≤ 127) → AreFitting at linked → AreFitting at (with_key at tone linked key)
 with_key_fits at tone linked None within fits = fits
 with_key_fits at tone linked (Some key) within fits =
     with_note_fits at (own_note at tone.length.0 key) linked (next_place tone.tied key linked.next) refl (own_fits at tone.length.0 key within) fits
 
-with_tones_fit : (at : ℕ) (linked : Linked) (tones : List Tone) → All IsTone tones → AreFitting at linked → AreFitting at (with_tones at linked tones)
+with_tones_fit : (at : ℕ) (linked : TokenNotes) (tones : List Tone) → All IsTone tones → AreFitting at linked → AreFitting at (with_tones at linked tones)
 with_tones_fit at linked [] all fits = fits
 with_tones_fit at linked (tone ∷ tones) all fits =
     with_tones_fit at (with_key at tone linked tone.key) tones (All-tail IsTone tone tones all)

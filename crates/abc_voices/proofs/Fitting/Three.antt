@@ -10,7 +10,7 @@ use Rattle.abc_fields.specs.declared.meter.Meter.{Meter}
 use Rattle.abc_time.specs.declared.grains.Grains.{Grains}
 use Rattle.abc_voices.specs.Arrange.{play_in, size_in, longest, set_in, first_of}
 use Rattle.abc_voices.specs.Change.{tempo_of, meter_of, key_of, at_moment, set_from}
-use Rattle.abc_voices.specs.Moved.{moved}
+use Rattle.abc_voices.specs.EndingFields.{with_fields_in_endings}
 use Rattle.abc_voices.specs.Play.{places_of}
 use Rattle.abc_voices.specs.Section.{part}
 use Rattle.abc_voices.specs.Step.{length_of}
@@ -66,7 +66,7 @@ module _ {A : Type 0} (item_of : A → Item) where
       omega (
         arith,
         steps_few at (play_in item_of section voice),
-        picked_few (moved item_of (part item_of voice section)) (places_of item_of (moved item_of (part item_of voice section))),
+        picked_few (with_fields_in_endings item_of (part item_of voice section)) (places_of item_of (with_fields_in_endings item_of (part item_of voice section))),
       )
 
   -- the tempos of all voices in a section

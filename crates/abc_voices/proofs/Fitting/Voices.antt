@@ -8,8 +8,8 @@ use Rattle.abc_music.specs.Item.{IsItem}
 use Rattle.abc_music.specs.declared.item.Item.{Item}
 use Rattle.abc_voices.specs.declared.score.Sounding.{Sounding}
 use Rattle.abc_voices.specs.Arrange.{play_in, size_in, length_in, longest, voice_notes, last_off}
-use Rattle.abc_voices.specs.Linked.{Notes}
-use Rattle.abc_voices.specs.Moved.{moved}
+use Rattle.abc_voices.specs.TiedNotes.{Notes}
+use Rattle.abc_voices.specs.EndingFields.{with_fields_in_endings}
 use Rattle.abc_voices.specs.Play.{places_of, duration}
 use Rattle.abc_voices.specs.Section.{part}
 use Rattle.abc_voices.specs.Step.{length_of}
@@ -91,7 +91,7 @@ module _ {A : Type 0} (item_of : A → Item) where
         arith,
         sum_by-cons (size_of voices) section rest,
         notes_few item_of at play behind (play_kept item_of Items section voice (All-head ItemsIn section rest all)),
-        picked_few (moved item_of (part item_of voice section)) (places_of item_of (moved item_of (part item_of voice section))),
+        picked_few (with_fields_in_endings item_of (part item_of voice section)) (places_of item_of (with_fields_in_endings item_of (part item_of voice section))),
         heard.plays section,
         voice_few voices voice heard (at + longest item_of voices section) rest (All-tail ItemsIn section rest all),
       )

@@ -25,11 +25,11 @@ use Rattle.abc_voices.specs.declared.score.Change.{Change}
 use Rattle.abc_voices.specs.declared.score.Sounding.{Sounding}
 use Rattle.abc_voices.specs.Arrange.{played_sections, voice_notes, all_notes, set_in, or_else, usual_tempo, first_of, longest, total, voices_notes, end_of, changes_of, score_of, places_played}
 use Rattle.abc_voices.specs.Change.{tempo_of, meter_of, key_of}
-use Rattle.abc_voices.specs.Conduct.{tempo_change, meter_at, meter_change, key_change, conductor}
-use Rattle.abc_voices.specs.Linked.{Notes}
+use Rattle.abc_voices.specs.ScoreChanges.{tempo_change, meter_at, meter_change, key_change, changes_that_stand}
+use Rattle.abc_voices.specs.TiedNotes.{Notes}
 use Rattle.abc_voices.specs.Limits.{is_note_within, is_voice_within, is_change_within, are_counts_within, is_within_limits}
 use Rattle.abc_voices.specs.Opening.{tempo_past, meter_past, key_past, past_all, title_of}
-use Rattle.abc_voices.specs.Settle.{settled}
+use Rattle.abc_voices.specs.Ticks.{last_of_each_tick}
 use Rattle.abc_voices.specs.Track.{everyone, tracks}
 use Rattle.abc_voices.proofs.Fitting.Changes.{IsSetBy, settled_kept, settled_few, sections_set, past_kept}
 use Rattle.abc_voices.proofs.Fitting.Kept.{one_more, played_kept}
@@ -189,15 +189,15 @@ meters_few ((at, meters.Of num den) ∷ sets) = omega (arith, meters_few sets)
 
 conductor_fits : (end : Grains) (tempos : List (Grains × ℕ)) (meters : List (Grains × Meter)) (keys : List (Grains × (ℤ × Bool)))
     → All (IsSetBy end.0 FitsInTempoEvent) tempos → All (IsSetBy end.0 IsMeterInRange) meters → All (IsSetBy end.0 IsKey) keys
-    → list_all (is_change_within end) (conductor tempos meters keys) ≡ true
+    → list_all (is_change_within end) (changes_that_stand tempos meters keys) ≡ true
 conductor_fits end tempos meters keys t m k =
     let P : Change → Type 0 = λ change. is_change_within end change ≡ true in
-    list_all-from_AllPass (is_change_within end) (conductor tempos meters keys)
-    (All-append P (map tempo_change (settled tempos) ++ filter_map meter_change (settled meters)) (map key_change (settled keys))
-    (All-append P (map tempo_change (settled tempos)) (filter_map meter_change (settled meters))
-    (All-map P tempo_change (settled tempos) (All-weaker (IsSetBy end.0 FitsInTempoEvent) (λ set. P (tempo_change set)) (tempo_fits end) (settled tempos) (settled_kept (IsSetBy end.0 FitsInTempoEvent) tempos t)))
-    (meters_fit end (settled meters) (settled_kept (IsSetBy end.0 IsMeterInRange) meters m)))
-    (All-map P key_change (settled keys) (All-weaker (IsSetBy end.0 IsKey) (λ set. P (key_change set)) (key_fits end) (settled keys) (settled_kept (IsSetBy end.0 IsKey) keys k))))
+    list_all-from_AllPass (is_change_within end) (changes_that_stand tempos meters keys)
+    (All-append P (map tempo_change (last_of_each_tick tempos) ++ filter_map meter_change (last_of_each_tick meters)) (map key_change (last_of_each_tick keys))
+    (All-append P (map tempo_change (last_of_each_tick tempos)) (filter_map meter_change (last_of_each_tick meters))
+    (All-map P tempo_change (last_of_each_tick tempos) (All-weaker (IsSetBy end.0 FitsInTempoEvent) (λ set. P (tempo_change set)) (tempo_fits end) (last_of_each_tick tempos) (settled_kept (IsSetBy end.0 FitsInTempoEvent) tempos t)))
+    (meters_fit end (last_of_each_tick meters) (settled_kept (IsSetBy end.0 IsMeterInRange) meters m)))
+    (All-map P key_change (last_of_each_tick keys) (All-weaker (IsSetBy end.0 IsKey) (λ set. P (key_change set)) (key_fits end) (last_of_each_tick keys) (settled_kept (IsSetBy end.0 IsKey) keys k))))
 
 three_lists : {X : Type 0} (xs ys zs : List X) (x y z : ℕ) → length xs ≤ x → length ys ≤ y → length zs ≤ z → length (xs ++ ys ++ zs) ≤ x + y + z
 three_lists xs ys zs x y z first second third =
@@ -206,15 +206,15 @@ three_lists xs ys zs x y z first second third =
 as_few : {X Y : Type 0} (f : X → Y) (xs : List X) (n : ℕ) → length xs ≤ n → length (map f xs) ≤ n
 as_few f xs n few = omega (arith, length-map xs f, few)
 
-meters_standing : (sets : List (Grains × Meter)) → length (filter_map meter_change (settled sets)) ≤ length sets
-meters_standing sets = omega (arith, meters_few (settled sets), settled_few sets)
+meters_standing : (sets : List (Grains × Meter)) → length (filter_map meter_change (last_of_each_tick sets)) ≤ length sets
+meters_standing sets = omega (arith, meters_few (last_of_each_tick sets), settled_few sets)
 
 pub conductor_few : (tempos : List (Grains × ℕ)) (meters : List (Grains × Meter)) (keys : List (Grains × (ℤ × Bool)))
-    → length (conductor tempos meters keys) ≤ length tempos + length meters + length keys
+    → length (changes_that_stand tempos meters keys) ≤ length tempos + length meters + length keys
 conductor_few tempos meters keys =
-    three_lists (map tempo_change (settled tempos)) (filter_map meter_change (settled meters)) (map key_change (settled keys)) (length tempos) (length meters) (length keys)
-    (as_few tempo_change (settled tempos) (length tempos) (settled_few tempos)) (meters_standing meters)
-    (as_few key_change (settled keys) (length keys) (settled_few keys))
+    three_lists (map tempo_change (last_of_each_tick tempos)) (filter_map meter_change (last_of_each_tick meters)) (map key_change (last_of_each_tick keys)) (length tempos) (length meters) (length keys)
+    (as_few tempo_change (last_of_each_tick tempos) (length tempos) (settled_few tempos)) (meters_standing meters)
+    (as_few key_change (last_of_each_tick keys) (length keys) (settled_few keys))
 
 -- what the law asks of a tune
 pub record IsShort (tune : List Item) : Type 0 where

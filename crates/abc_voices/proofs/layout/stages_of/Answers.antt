@@ -5,7 +5,7 @@ use Rattle.abc_music.specs.declared.item.Item.{Item}
 use Rattle.abc_repeat.specs.declared.play.TheConstants.{MOST_PLACES}
 use Rattle.abc_time.specs.Grains.{grains_of_the_latest_end}
 use Rattle.abc_voices.specs.declared.stage.StageFault.TheVariants.{TooMany, TooLate}
-use Rattle.abc_voices.specs.Along.{at_places}
+use Rattle.abc_voices.specs.Stages.{at_places}
 use Rattle.abc_voices.specs.Arrange.{size_in, longest}
 use Rattle.abc_voices.specs.Stage.{content, stage_of}
 use Rattle.abc_voices.proofs.Given.{opening_given}

@@ -1,5 +1,5 @@
 use Rattle.std.proofs.Common.{◌≡◌, ◌+◌, ◌-◌, ◌≤◌, [], length, take, drop}
-use Rattle.abc_voices.specs.Linked.{notes_from}
+use Rattle.abc_voices.specs.TiedNotes.{notes_from}
 use Rattle.abc_voices.specs.Play.{duration}
 use Rattle.abc_voices.proofs.notes.put_notes.Given as goal
 

@@ -1,26 +1,6 @@
-use Rattle.std.proofs.Common.{◌+◌, arith}
-use Rattle.std.proofs.lemmas.Grind.{common_steps}
-use Rattle.abc_time.specs.Grains.{grains_of_a_whole_note, grains_of_the_latest_end}
-use Rattle.abc_voices.specs.Change.{tempo_of}
-use Rattle.abc_voices.proofs.Lengths.{length_more, length_within, set_all_step, stage_played}
+use Rattle.abc_voices.proofs.Lengths.{stage_played}
 use Rattle.abc_voices.proofs.setting.tempos_along.Goals as goal
 
-pub put_tempos_at-requires-clause-stage : goal.put_tempos_at-requires-clause-stage
-put_tempos_at-requires-clause-stage c = stage_played c.args.table.now c.args.order.now c.loop-place.place-index c.loop-place-test.true c.requires.stages
-
-pub put_tempos_at-requires-clause-end : goal.put_tempos_at-requires-clause-end
-put_tempos_at-requires-clause-end c =
-    let more = length_more c.args.table.now c.args.order.now c.loop-place.place-index c.loop-place-test.true in
-    omega (arith, more, length_within c.args.table.now c.args.order.now (c.loop-place.place-index + 1))
-
-pub overflow_add-at : goal.overflow_add-at
-unfolding grains_of_a_whole_note grains_of_the_latest_end
-overflow_add-at c =
-    let more = length_more c.args.table.now c.args.order.now c.loop-place.place-index c.loop-place-test.true in
-    omega (arith, more, length_within c.args.table.now c.args.order.now (c.loop-place.place-index + 1))
-
-pub loop-place-preserved : goal.loop-place-preserved
-loop-place-preserved c =
-    let more = length_more c.args.table.now c.args.order.now c.loop-place.place-index c.loop-place-test.true in
-    let step = set_all_step tempo_of c.args.table.now c.args.order.now c.loop-place.place-index c.loop-place.at.0 c.loop-place.tempos.items _ c.loop-place-test.true c.loop-place.invariant.set in
-    record { moment = omega (arith, more); set = grind (arith, common_steps, step) }
+pub put_stage_tempos-requires-clause-stage : goal.put_stage_tempos-requires-clause-stage
+put_stage_tempos-requires-clause-stage c =
+    stage_played c.args.turns.now c.loop-turn.turn-index c.turn-item.result c.loop-turn-test.true c.turn-item.is c.requires.stages

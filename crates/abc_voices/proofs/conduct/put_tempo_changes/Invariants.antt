@@ -1,7 +1,0 @@
-use Rattle.std.proofs.Common.{◌≡◌, ◌++◌, drop, map}
-use Rattle.abc_voices.specs.Conduct.{tempo_change}
-use Rattle.abc_voices.proofs.conduct.put_tempo_changes.Given as goal
-
--- what is put, and the rest
-abbrev pub invariant-loop-at : goal.invariant-loop-at
-invariant-loop-at l = l.out.items ++ map tempo_change (drop l.at-index l.tempos) ≡ l.initial.out.items ++ map tempo_change l.tempos

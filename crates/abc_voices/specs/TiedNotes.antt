@@ -1,0 +1,62 @@
+-- The notes of time tokens: a tied tone is joined with one of its key in the next time token. ABC 2.1
+-- section 4.11; which one, where there are several, is our own.
+use Rattle.std.specs.Prelude.{ℕ, ◌+◌, ◌==◌, Bool, if◌then◌else◌, List, [], ◌∷◌, ◌++◌, Option, Some, None, slice_index_or, position, remove}
+use Rattle.abc_music.specs.declared.item.Item.{Item}
+use Rattle.abc_music.specs.declared.item.Tone.{Tone}
+use Rattle.abc_voices.specs.declared.score.Sounding.{Sounding}
+use Rattle.abc_voices.specs.Step.{length_of, tones_of}
+
+-- Notes that begin at a time token, and of those that begin at the next one what none of them is tied to.
+pub record TokenNotes : Type 0 where
+  pub begun : List Sounding
+  pub next : List Sounding
+
+-- The note of a tone that is tied to none.
+abbrev pub own_note : ℕ → ℕ → ℕ → Sounding
+own_note at grains key = record { key = key; on = record { 0 = at }; off = record { 0 = at + grains } }
+
+-- A note that lasts to the end of the one at this place.
+abbrev pub lengthened : Sounding → List Sounding → ℕ → Sounding
+lengthened note next place = record note { off = (slice_index_or next place note).off }
+
+-- One more note begins, tied to the one at this place, or to none.
+abbrev pub with_note : Sounding → TokenNotes → Option ℕ → TokenNotes
+with_note note linked None = record linked { begun = linked.begun ++ note ∷ [] }
+with_note note linked (Some place) =
+    record { begun = linked.begun ++ lengthened note linked.next place ∷ []; next = remove linked.next place }
+
+-- Where the note stands that a tone of this key is joined with: a tied one with the first of its key.
+abbrev pub next_place : Bool → ℕ → List Sounding → Option ℕ
+next_place tied key next = if tied then position (λ note. note.key == key) next else None
+
+-- One more tone, at this moment: where MIDI has no key for it, it is silent.
+abbrev pub with_key : ℕ → Tone → TokenNotes → Option ℕ → TokenNotes
+with_key at tone linked None = linked
+with_key at tone linked (Some key) =
+    with_note (own_note at tone.length.0 key) linked (next_place tone.tied key linked.next)
+
+-- More tones of a time token at this moment.
+abbrev pub with_tones : ℕ → TokenNotes → List Tone → TokenNotes
+with_tones at linked [] = linked
+with_tones at linked (tone ∷ tones) = with_tones at (with_key at tone linked tone.key) tones
+
+-- The notes of a play: those that begin at its first time token, and the others.
+pub record Notes : Type 0 where
+  pub first : List Sounding
+  pub others : List Sounding
+
+-- The notes where a time token comes before a play.
+abbrev pub before_all : TokenNotes → List Sounding → Notes
+before_all linked others = record { first = linked.begun; others = others ++ linked.next }
+
+-- The notes where something comes before a play: all but time tokens is passed over.
+abbrev pub before : ℕ → Option (List Tone) → Notes → Notes
+before at None notes = notes
+before at (Some tones) notes =
+    before_all (with_tones at (record { begun = []; next = notes.first }) tones) notes.others
+
+-- The notes of what is played from this moment on, in front of a play with these notes.
+abbrev pub notes_from : {A : Type 0} → (A → Item) → ℕ → List A → Notes → Notes
+notes_from item_of at [] notes = notes
+notes_from item_of at (step ∷ steps) notes =
+    before at (tones_of (item_of step)) (notes_from item_of (at + length_of (item_of step)) steps notes)

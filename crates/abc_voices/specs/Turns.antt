@@ -1,0 +1,115 @@
+-- Stages played one after another. Our own.
+use Rattle.std.specs.Borrow.{Bor}
+use Rattle.std.specs.Prelude.{◌≡◌, ◌≤◌, ℕ, pos, ◌+◌, ◌-◌, Bool, false, not, if◌then◌else◌, ◌&&◌, ◌==◌, zero, suc, List, [], ◌∷◌, ◌++◌, map, sum_by, All, Option, Some, None, slice_get}
+use Rattle.std.specs.List.{list_any, flat_map}
+use Rattle.abc_music.specs.declared.item.Item.{Item}
+use Rattle.abc_music.specs.Item.{IsItem}
+use Rattle.abc_fields.specs.declared.meter.Meter.TheVariants as meters
+use Rattle.abc_time.specs.declared.grains.Grains.{Grains}
+use Rattle.abc_voices.specs.declared.score.Change.{Change}
+use Rattle.abc_voices.specs.declared.score.Score.{Score}
+use Rattle.abc_voices.specs.declared.score.Sounding.{Sounding}
+use Rattle.abc_voices.specs.declared.stage.Part.{Part}
+use Rattle.abc_voices.specs.declared.stage.Stage.{Stage}
+use Rattle.abc_voices.specs.declared.stage.Turn.{Turn}
+use Rattle.abc_voices.specs.Arrange.{all_notes, takes_time, last_off, or_else, usual_tempo}
+use Rattle.abc_voices.specs.Change.{tempo_of, meter_of, key_of, set_from}
+use Rattle.abc_voices.specs.ScoreChanges.{changes_that_stand}
+use Rattle.abc_voices.specs.TiedNotes.{Notes, notes_from}
+use Rattle.abc_voices.specs.Opening.{tempo_past, meter_past, key_past, past_all, title_of}
+use Rattle.abc_voices.specs.Play.{duration}
+use Rattle.abc_voices.specs.Step.{is_field}
+use Rattle.abc_voices.specs.Track.{nameless_plays}
+
+-- A part of items that can be, which says how long it is, and is not longer than its stage.
+pub record IsPart (longest : Grains) (part : Part) : Type 0 where
+  pub items : All (λ step. IsItem step.now) part.steps
+  pub length : part.length.0 ≡ duration (λ step. step.now) part.steps
+  pub short : part.length.0 ≤ longest.0
+
+-- A stage whose parts are such.
+pub record IsStage (stage : Stage) : Type 0 where
+  pub parts : All (IsPart stage.longest) stage.parts
+
+-- A stage in which no field is played.
+abbrev pub IsSteady : Stage → Type 0
+IsSteady stage = All (λ part. All (λ step. is_field step.now ≡ false) part.steps) stage.parts
+
+-- The stages of some turns.
+abbrev pub stages_in : List Turn → List Stage
+stages_in turns = map (λ turn. turn.stage.now) turns
+
+-- How long stages are one after another.
+abbrev pub length_along : List Stage → ℕ
+length_along stages = sum_by (λ stage. stage.longest.0) stages
+
+-- What is played of a part, if there is one.
+abbrev pub steps_of : Option Part → List (Bor Item)
+steps_of None = []
+steps_of (Some part) = part.steps
+
+-- What the voice at this place plays of a stage, in front of these notes.
+abbrev pub before_rest : ℕ → ℕ → Stage → Notes → Notes
+before_rest voice at stage notes = notes_from (λ step. step.now) at (steps_of (slice_get stage.parts voice)) notes
+
+-- The notes of the voice at this place, in stages that are played from a moment on.
+abbrev pub notes_along : ℕ → ℕ → List Stage → Notes
+notes_along voice at [] = record { first = []; others = [] }
+notes_along voice at (stage ∷ stages) = before_rest voice at stage (notes_along voice (at + stage.longest.0) stages)
+
+-- The notes of so many voices, from the one at this place on.
+abbrev pub voices_along : List Stage → ℕ → ℕ → List (List Sounding)
+voices_along stages voice zero = []
+voices_along stages voice (suc count) = all_notes (notes_along voice 0 stages) ∷ voices_along stages (voice + 1) count
+
+-- What the parts of a stage set when it is played from a moment on.
+abbrev pub set_beside : {V : Type 0} → (Item → Option V) → ℕ → Stage → List (Grains × V)
+set_beside value_of at stage = flat_map (λ part. set_from (λ step. step.now) value_of at part.steps) stage.parts
+
+-- What all voices set in stages that are played from a moment on.
+abbrev pub set_by_all : {V : Type 0} → (Item → Option V) → ℕ → List Stage → List (Grains × V)
+set_by_all value_of at [] = []
+set_by_all value_of at (stage ∷ stages) = set_beside value_of at stage ++ set_by_all value_of (at + stage.longest.0) stages
+
+-- What the voice at this place sets in a stage that is played from a moment on.
+abbrev pub set_at : {V : Type 0} → (Item → Option V) → ℕ → ℕ → Stage → List (Grains × V)
+set_at value_of voice at stage = set_from (λ step. step.now) value_of at (steps_of (slice_get stage.parts voice))
+
+-- What the voice at this place sets in stages that are played from a moment on.
+abbrev pub set_by_one : {V : Type 0} → (Item → Option V) → ℕ → ℕ → List Stage → List (Grains × V)
+set_by_one value_of voice at [] = []
+set_by_one value_of voice at (stage ∷ stages) = set_at value_of voice at stage ++ set_by_one value_of voice (at + stage.longest.0) stages
+
+-- Whether two parts that play time differ in length.
+abbrev pub parts_differ : Part → Part → Bool
+parts_differ a b =
+    list_any (λ step. takes_time step.now) a.steps && list_any (λ step. takes_time step.now) b.steps && not (a.length.0 == b.length.0)
+
+-- Whether two voices that play time in a stage differ in length there.
+abbrev pub is_stage_uneven : Stage → Bool
+is_stage_uneven stage = list_any (λ a. list_any (parts_differ a) stage.parts) stage.parts
+
+-- The tempos of all voices and the meters and keys of the one at this place, behind those with which a tune opens.
+abbrev pub changes_along : List (Bor Item) → ℕ → List Stage → List Change
+changes_along tune first stages =
+    changes_that_stand
+    ((record { 0 = 0 }, or_else usual_tempo (past_all (λ step. step.now) tempo_past None tune)) ∷ set_by_all tempo_of 0 stages)
+    ((record { 0 = 0 }, or_else meters.Free (past_all (λ step. step.now) meter_past None tune)) ∷ set_by_one meter_of first 0 stages)
+    ((record { 0 = 0 }, or_else (pos 0, false) (past_all (λ step. step.now) key_past None tune)) ∷ set_by_one key_of first 0 stages)
+
+-- The place of the first voice that has a track: that without a name, or else the one behind it.
+abbrev pub first_place : List (Bor Item) → ℕ
+first_place tune = if nameless_plays (λ step. step.now) tune then 0 else 1
+
+-- When stages end: one after another, or with a note that lasts longer.
+abbrev pub end_along : List Stage → List (List Sounding) → ℕ
+end_along stages voices = last_off (length_along stages) (flat_map (λ notes. notes) voices)
+
+-- The score of stages, whose voices from the one at this place on have tracks, up to so many.
+abbrev pub score_along : List (Bor Item) → ℕ → ℕ → List Stage → Score
+score_along tune first count stages = record {
+  title = title_of (λ step. step.now) tune;
+  end = record { 0 = end_along stages (voices_along stages first (count - first)) };
+  conductor = changes_along tune first stages;
+  voices = voices_along stages first (count - first);
+}

@@ -1,0 +1,30 @@
+//! Changes of one sort, of which one stands at each tick.
+
+ghost use Rattle.std.specs.Prelude.{◌≡◌, ◌≤◌, All, IfOk};
+ghost use Rattle.abc_time.specs.Grains.{grains_of_the_latest_end};
+ghost use Rattle.abc_voices.specs.Ticks.{last_of_each_tick};
+
+use abc_time::{Grains, tick_of};
+use std::alloc::{AllocError, Global};
+use std::collections::HashSet;
+
+/// Of changes of one sort in order of play the last one of each tick, the last of all first.
+pub(crate) fn last_of_each_tick<T: Copy>(
+    alloc: Global,
+    changes: &[(Grains, T)],
+) -> Result<Vec<(Grains, T)>, AllocError>
+    requires { All (λ change. change.0.0 ≤ grains_of_the_latest_end) changes.now }
+    ensures { IfOk result (λ standing. standing.items ≡ last_of_each_tick changes.now) }
+{
+    let mut ticks = HashSet::new(alloc);
+    let mut standing = Vec::new(alloc);
+    let mut left = changes.len();
+    while left > 0 {
+        left -= 1;
+        let change = changes[left];
+        if ticks.insert(tick_of(change.0))? {
+            standing.push(change)?;
+        }
+    }
+    Ok(standing)
+}

@@ -1,0 +1,101 @@
+//! The score of stages that are played one after another.
+
+ghost use Rattle.std.specs.Prelude.{true, ◌≡◌, ◌≢◌, ◌<◌, ◌≤◌, ◌-◌, All, IfOk};
+ghost use Rattle.std.specs.List.{flat_map};
+ghost use Rattle.abc_time.specs.Grains.{grains_of_the_latest_end};
+ghost use Rattle.abc_voices.specs.declared.stage.StageFault.TheVariants.{TooMany, TooLate};
+ghost use Rattle.abc_voices.specs.Turns.{IsStage, IsSteady, stages_in, length_along, voices_along, changes_along, end_along, score_along};
+ghost use Rattle.abc_voices.specs.Arrange.{last_off};
+ghost use Rattle.abc_voices.specs.Fields.{is_steady};
+
+use crate::change::{Keys, Meters};
+use crate::fields::is_steady;
+use crate::opening::{opening_key, opening_meter, opening_tempo, title_of};
+use crate::score::{Change, Score, Sounding};
+use crate::score_changes::changes_that_stand;
+use crate::setting::{one_along, tempos_along};
+use crate::stage::{StageFault, Turn};
+use crate::timing::last_off;
+use crate::voice::voices_notes;
+use abc_fields::Meter;
+use abc_music::Item;
+use abc_text::Sequence;
+use abc_time::{Grains, LATEST_END};
+use std::alloc::{AllocError, Global};
+
+/// The microseconds of a quarter note where no tempo is set: 120 quarters a minute.
+const USUAL_TEMPO: u32 = 500_000;
+
+/// The changes of stages, by what the fields of their tune give; the voice at a place has the first track.
+fn changes_along(
+    alloc: Global,
+    given: &[&Item],
+    turns: &[Turn],
+    first: usize,
+) -> Result<Vec<Change>, AllocError>
+    requires stages { All (λ turn. IsStage turn.stage.now) turns.now }
+    requires in_time { length_along (stages_in turns.now) ≤ grains_of_the_latest_end }
+    requires steady { is_steady (λ step. step.now) given.now ≡ true → All IsSteady (stages_in turns.now) }
+    ensures { IfOk result (λ changes. changes.items ≡ changes_along given.now first (stages_in turns.now)) }
+{
+    let tempo = opening_tempo(given).unwrap_or(USUAL_TEMPO);
+    let meter = opening_meter(given).unwrap_or(Meter::Free);
+    let key = opening_key(given).unwrap_or((0, false));
+    // Most tunes go on as they open, and then what is played need not be looked through.
+    if is_steady(given) {
+        let start = Grains(0);
+        return changes_that_stand(alloc, &[(start, tempo)], &[(start, meter)], &[(start, key)]);
+    }
+    let tempos = tempos_along(alloc, turns, tempo)?;
+    let meters = one_along::<Meters>(alloc, turns, first, meter)?;
+    let keys = one_along::<Keys>(alloc, turns, first, key)?;
+    changes_that_stand(alloc, &tempos, &meters, &keys)
+}
+
+/// When a moment and the last of the notes of some voices are over.
+fn last_of_all(at: Grains, voices: &[Sequence<Sounding>]) -> Grains
+    ensures { result.0 ≡ last_off at.0 (flat_map (λ notes. notes) voices.now) }
+{
+    let mut last = at;
+    for notes in voices {
+        last = last_off(last, notes.as_slice());
+    }
+    last
+}
+
+/// The score of stages that are played up to a moment, by what the fields of their tune give; the voices from the first
+/// track on have tracks.
+#[tactic(auto, unfolding(abc_time::specs::Grains::grains_of_a_whole_note, abc_time::specs::Grains::grains_of_the_latest_end))]
+pub(crate) fn score_along(
+    alloc: Global,
+    given: &[&Item],
+    turns: &[Turn],
+    total: Grains,
+    first: usize,
+    count: usize,
+) -> Result<Score, StageFault>
+    requires stages { All (λ turn. IsStage turn.stage.now) turns.now }
+    requires total { total.0 ≡ length_along (stages_in turns.now) }
+    requires in_time { total.0 ≤ grains_of_the_latest_end }
+    requires steady { is_steady (λ step. step.now) given.now ≡ true → All IsSteady (stages_in turns.now) }
+    requires voices { first ≤ count }
+    ensures value { IfOk result (λ score. score ≡ score_along given.now first count (stages_in turns.now)) }
+    ensures in_time { IfOk result (λ score. score.end.0 ≤ grains_of_the_latest_end) }
+    ensures too_many { result ≢ Err TooMany }
+    ensures too_late { result ≡ Err TooLate
+        → grains_of_the_latest_end < end_along (stages_in turns.now) (voices_along (stages_in turns.now) first (count - first)) }
+{
+    let voices = voices_notes(alloc, turns, total, first, count)?;
+    let end = last_of_all(total, voices.as_slice());
+    if end > LATEST_END {
+        return Err(StageFault::TooLate);
+    }
+    let changes = changes_along(alloc, given, turns, first)?;
+    let title = Sequence::from_slice(alloc, title_of(given))?;
+    Ok(Score {
+        title,
+        end,
+        conductor: Sequence::from(changes),
+        voices,
+    })
+}
