@@ -8,7 +8,7 @@ use Rattle.abc_book.specs.declared.block.Block.{Block}
 use Rattle.abc_fold.proofs.Kept.{one_more}
 use Rattle.abc_chains.specs.Holding.{cells_in}
 use Rattle.abc_chains.specs.Placing.{BlocksRise, between, cell_count, placed_along, placed_from}
-use Rattle.abc_chains.specs.Rows.{Row, placed}
+use Rattle.abc_chains.specs.Rows.{CarriedRow, placed}
 use Rattle.abc_chains.proofs.Carried.{over_next}
 
 -- One more of a list.
@@ -23,19 +23,19 @@ part_next old made xs from i x e order inside is =
     ap (λ l. l ++ x ∷ []) e ∙ (append_assoc old (take (i - from) (drop from xs)) (x ∷ [])
     ∙ ap (λ l. old ++ l) (sym (one_more xs from i x order (slice_get_read xs (length xs) i x refl inside is))))
 
-pub free_next : {Cell : Type 0} (old made rows : List (Row Cell)) (from i : ℕ) (row : Row Cell) → made ≡ old ++ map (placed None) (between rows from i) → from ≤ i → i < length rows → row ≡ get_or rows i row → made ++ placed None row ∷ [] ≡ old ++ map (placed None) (between rows from (i + 1))
+pub free_next : {Cell : Type 0} (old made rows : List (CarriedRow Cell)) (from i : ℕ) (row : CarriedRow Cell) → made ≡ old ++ map (placed None) (between rows from i) → from ≤ i → i < length rows → row ≡ get_or rows i row → made ++ placed None row ∷ [] ≡ old ++ map (placed None) (between rows from (i + 1))
 free_next old made rows from i row e order inside is =
     ap (λ l. l ++ placed None row ∷ []) e ∙ (append_assoc old (map (placed None) (between rows from i)) (placed None row ∷ [])
     ∙ ap (λ l. old ++ l) (sym (ap (map (placed None)) (one_more rows from i row order (slice_get_read rows (length rows) i row refl inside is)) ∙ map-append (placed None) (between rows from i) (row ∷ []))))
 
-along_next : {Cell : Type 0} (source first : ℕ) (rows : List (Row Cell)) (row : Row Cell) → placed_along source first (rows ++ row ∷ []) ≡ placed_along source first rows ++ placed (Some (record { source = source; first = first + cell_count rows })) row ∷ []
+along_next : {Cell : Type 0} (source first : ℕ) (rows : List (CarriedRow Cell)) (row : CarriedRow Cell) → placed_along source first (rows ++ row ∷ []) ≡ placed_along source first rows ++ placed (Some (record { source = source; first = first + cell_count rows })) row ∷ []
 along_next source first [] row = let h : first ≡ first + 0 = omega arith in ap (λ n. placed (Some (record { source = source; first = n })) row ∷ []) h
 along_next source first (l ∷ rows) row =
     let more = along_next source (first + length l.cells) rows row in
     let h : first + length l.cells + cell_count rows ≡ first + cell_count (l ∷ rows) = omega (arith, length-append l.cells (flat_map cells_in rows)) in
     ap (λ r. placed (Some (record { source = source; first = first })) l ∷ r) (more ∙ ap (λ n. placed_along source (first + length l.cells) rows ++ placed (Some (record { source = source; first = n })) row ∷ []) h)
 
-pub block_next : {Cell : Type 0} (source first : ℕ) (old made rows : List (Row Cell)) (from i : ℕ) (row : Row Cell) → made ≡ old ++ placed_along source 0 (between rows from i) → first ≡ cell_count (between rows from i) → from ≤ i → i < length rows → row ≡ get_or rows i row
+pub block_next : {Cell : Type 0} (source first : ℕ) (old made rows : List (CarriedRow Cell)) (from i : ℕ) (row : CarriedRow Cell) → made ≡ old ++ placed_along source 0 (between rows from i) → first ≡ cell_count (between rows from i) → from ≤ i → i < length rows → row ≡ get_or rows i row
     → made ++ placed (Some (record { source = source; first = first })) row ∷ [] ≡ old ++ placed_along source 0 (between rows from (i + 1))
 block_next source first old made rows from i row e count order inside is =
     let own = placed (Some (record { source = source; first = first })) row in
@@ -44,7 +44,7 @@ block_next source first old made rows from i row e count order inside is =
     ∙ ap (λ l. old ++ l) (sym (ap (placed_along source 0) (one_more rows from i row order (slice_get_read rows (length rows) i row refl inside is))
     ∙ (along_next source 0 (between rows from i) row ∙ ap (λ n. placed_along source 0 (between rows from i) ++ placed (Some (record { source = source; first = n })) row ∷ []) (sym here)))))
 
-pub count_next : {Cell : Type 0} (rows : List (Row Cell)) (from i : ℕ) (row : Row Cell) (first count : ℕ) → first ≡ cell_count (between rows from i) → count ≡ length row.cells → from ≤ i → i < length rows → row ≡ get_or rows i row → first + count ≡ cell_count (between rows from (i + 1))
+pub count_next : {Cell : Type 0} (rows : List (CarriedRow Cell)) (from i : ℕ) (row : CarriedRow Cell) (first count : ℕ) → first ≡ cell_count (between rows from i) → count ≡ length row.cells → from ≤ i → i < length rows → row ≡ get_or rows i row → first + count ≡ cell_count (between rows from (i + 1))
 count_next rows from i row first count e c order inside is =
     let more = ap length (over_next cells_in rows from i row order (slice_get_read rows (length rows) i row refl inside is)) in
     omega (arith, e, c, more, length-append (flat_map cells_in (between rows from i)) row.cells)
@@ -58,7 +58,7 @@ pub rise_last : (at : ℕ) (blocks : List Block) (last : ℕ) → BlocksRise at 
 rise_last at [] last rise = rise
 rise_last at (block ∷ blocks) last rise = let more = rise_last block.to blocks last rise.2 in omega (arith, rise.0, rise.1, more)
 
-pub settle_next : {Cell : Type 0} (rows whole made made1 made2 : List (Row Cell)) (blocks : List Block) (at i : ℕ) (r : Block)
+pub settle_next : {Cell : Type 0} (rows whole made made1 made2 : List (CarriedRow Cell)) (blocks : List Block) (at i : ℕ) (r : Block)
     → made ++ placed_from rows at i (drop i blocks) ≡ whole
     → made1 ≡ made ++ map (placed None) (between rows at r.from) → made2 ≡ made1 ++ placed_along i 0 (between rows r.from r.to)
     → i < length blocks → r ≡ get_or blocks i r
@@ -84,7 +84,7 @@ drop_whole zero (x ∷ xs) h = absurd (omega arith)
 drop_whole (suc n) [] h = refl
 drop_whole (suc n) (x ∷ xs) h = drop_whole n xs (omega arith)
 
-pub settle_end : {Cell : Type 0} (rows whole made made1 : List (Row Cell)) (blocks : List Block) (at i k : ℕ)
+pub settle_end : {Cell : Type 0} (rows whole made made1 : List (CarriedRow Cell)) (blocks : List Block) (at i k : ℕ)
     → made ++ placed_from rows at k (drop i blocks) ≡ whole → made1 ≡ made ++ map (placed None) (between rows at (length rows)) → length blocks ≤ i → made1 ≡ whole
 settle_end rows whole made made1 blocks at i k e last done =
     let none : drop i blocks ≡ [] = drop_whole i blocks done in
