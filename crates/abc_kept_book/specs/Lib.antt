@@ -1,0 +1,4 @@
+pub mod Faults
+pub mod Kept
+pub mod Laws
+pub mod Outputs
