@@ -82,6 +82,10 @@ LiesBehind stretch block = stretch.to ≤ block.from
 abbrev pub LiesAmong : Stretch → Block → Type 0
 LiesAmong stretch block = (stretch.from ≤ block.from) × (block.to ≤ stretch.from + stretch.came)
 
+-- Blocks that lie in what goes.
+abbrev pub LiesAmid : Stretch → Block → Type 0
+LiesAmid stretch block = (stretch.from ≤ block.from) × (block.to ≤ stretch.to)
+
 abbrev pub MayLieBefore : Stretch → Option Block → Type 0
 MayLieBefore stretch header = (block : Block) → header ≡ Some block → LiesBefore stretch block
 
@@ -113,6 +117,7 @@ pub record IsStretch {C State Cell Items : Type 0} (s : Splice) (patch : Edited 
   pub before : All (LiesBefore patch.stretch) (take patch.stretch.front patch.on.tunes)
   pub beyond : All (LiesBehind patch.stretch) (drop patch.stretch.behind patch.on.tunes)
   pub among : All (LiesAmong patch.stretch) patch.places
+  pub amid : All (LiesAmid patch.stretch) (take (patch.stretch.behind - patch.stretch.front) (drop patch.stretch.front patch.on.tunes))
   pub header_is : IsWhole patch ⊎ KeepsHeader patch
   pub lines_before : take patch.stretch.from patch.text ≡ take patch.stretch.from patch.on.lines.text
   pub lines_behind : drop (patch.stretch.from + patch.stretch.came) patch.text ≡ drop patch.stretch.to patch.on.lines.text

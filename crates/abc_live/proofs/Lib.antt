@@ -1,4 +1,10 @@
 pub mod Books
+pub mod Changes
 pub mod Costs
+pub mod Found
+pub mod Lying
+pub mod Meets
 pub mod Memos
 pub mod Parts
+pub mod Stretches
+pub mod Zips

@@ -34,12 +34,12 @@ module _ {A : Type 0} (passes : A → Bool) where
   both true q one other = other
   both false q one other = one
 
-  all_dropped : (n : ℕ) (xs : List A) → list_all passes xs ≡ true → list_all passes (drop n xs) ≡ true
+  pub all_dropped : (n : ℕ) (xs : List A) → list_all passes xs ≡ true → list_all passes (drop n xs) ≡ true
   all_dropped zero xs all = all
   all_dropped (suc n) [] all = all
   all_dropped (suc n) (x ∷ xs) all = all_dropped n xs (and_parts (passes x) (list_all passes xs) all).1
 
-  all_taken : (n : ℕ) (xs : List A) → list_all passes xs ≡ true → list_all passes (take n xs) ≡ true
+  pub all_taken : (n : ℕ) (xs : List A) → list_all passes xs ≡ true → list_all passes (take n xs) ≡ true
   all_taken zero xs all = refl
   all_taken (suc n) [] all = all
   all_taken (suc n) (x ∷ xs) all =
