@@ -1,5 +1,4 @@
 use Rattle.std.proofs.Common.{◌≡◌, ◌+◌, filter, ap, ◌∙◌, arith}
-use Rattle.std.proofs.lemmas.List.Elements.{All-same}
 use Rattle.abc_kept_book.proofs.Shifting.{fits_behind, put_together}
 use Rattle.abc_kept_book.specs.Faults.{stands_behind}
 use Rattle.abc_kept_book.proofs.faults.faults_after.Goals as goal
@@ -9,7 +8,7 @@ put_shifted-requires c =
     let lines = c.args.lines in
     let to : c.from.result + c.from-2.result ≡ lines.from + lines.gone = omega (arith, c.from.ensures, c.from-2.ensures) in
     let are : c.deref-2.result.now ≡ filter (stands_behind (lines.from + lines.gone)) c.args.old.now = c.deref-2.ensures.value ∙ c.in_ok-behind.ensures ∙ ap (λ n. filter (stands_behind n) c.args.old.now) to in
-    All-same _ _ _ are (fits_behind lines.from lines.gone lines.came _ c.args.old.now c.requires)
+    fits_behind lines.from lines.gone lines.came _ c.args.old.now c.deref-2.result.now are c.requires
 
 pub returns : goal.returns
 returns c =
