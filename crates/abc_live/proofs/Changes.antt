@@ -13,14 +13,15 @@ use Rattle.abc_fold.specs.Chain.{Chained}
 use Rattle.abc_fold.specs.Steps.{Steps}
 use Rattle.abc_kept_book.specs.Faults.{fault_shifted, faults_after}
 use Rattle.abc_kept_book.specs.Laws.{Gives, StandsAmong, StandsBefore, StandsBehind}
+use Rattle.abc_kept_book.proofs.Following.{files_follow, titles_follow}
+use Rattle.abc_kept_book.proofs.Meeting.{faults_meet}
 use Rattle.abc_lines.specs.Text.{Splice, Text}
 use Rattle.abc_lines.specs.declared.limits.TheConstants.{MOST_LINES}
 use Rattle.abc_live.specs.Prepared.{IsBook, IsPrepared, header_faults_there}
 use Rattle.abc_live.proofs.Found.{StandsIn, header_stands, same_behind, same_header_faults, same_tunes, shifted_tunes, tunes_stand}
 use Rattle.abc_live.proofs.Lying.{LiesIn, header_lies}
-use Rattle.abc_live.proofs.Meets.{faults_meet, files_follow, titles_follow}
 use Rattle.abc_live.proofs.Parts.{fold_of, folds_of, gives_of, tune_chains}
-use Rattle.abc_live.proofs.Stretches.{first_is, made_chains, new_lie, old_lie, old_stretch, parts_lie, places_lie, stretch_inside, whole_text}
+use Rattle.abc_live.proofs.Stretches.{first_is, made_chains, new_lie, old_lie, old_stretch, parts_lie, places_lie, spliced_length}
 use Rattle.abc_outputs.specs.Output.{output_in}
 use Rattle.abc_outputs.specs.Tunes.{LiesAmong, cell_faults_by, counts_among, faults_by, faults_of_tunes}
 use Rattle.abc_outputs.specs.declared.output.Output.{Output}
@@ -61,9 +62,6 @@ module _ {State Cell Items Defaults : Type 0} (steps : Steps State Cell Items) (
   faults_three opening text xs ys zs = faults_append opening text xs (ys ++ zs) ∙ ap (λ l. tune_faults opening text xs ++ l) (faults_append opening text ys zs)
 
   module _ (text : Text) where
-    abbrev opening : State
-    opening = opening_of steps.next rules text (blocks_in rules text)
-
     -- the faults of a text, before they are put in order
     abbrev faults_found : Option Block → List Block → List Fault
     faults_found header tunes = header_faults steps.next steps.gives rules text header ++ tune_faults (opening_of steps.next rules text (blocks_in rules text)) text tunes
@@ -145,12 +143,204 @@ module _ {State Cell Items Defaults : Type 0} (steps : Steps State Cell Items) (
     new_header = header_lies rules.class patch.text patch.header is.stands.header_is
 
     -- where the stretch is the whole text
-    whole_meets : IsWhole patch → faults_after patch.stretch.from (gone patch.stretch) patch.stretch.came (book_of steps.next steps.gives rules patch.on.lines.text).faults new_faults ≡ (book_of steps.next steps.gives rules patch.text).faults
-    whole_meets whole = ?
+    module _ (whole : IsWhole patch) where
+      whole_count : length patch.text ≤ patch.stretch.came
+      whole_count =
+          let from_is = whole.from in
+          let to_is = whole.to in
+          let ends = is.narrow.ends in
+          let count = is.narrow.came in
+          let long = spliced_length steps rules s patch is in
+          omega (arith, from_is, to_is, ends, count, long)
+
+      whole_places : patch.tunes ≡ patch.places
+      whole_places =
+          is.narrow.tunes_are
+          ∙ ap (λ n. take n patch.on.tunes ++ (patch.places ++ map (moved_on patch.stretch) (drop patch.stretch.behind patch.on.tunes))) whole.front
+          ∙ ap (λ n. patch.places ++ map (moved_on patch.stretch) (drop n patch.on.tunes)) whole.behind
+          ∙ ap (λ l. patch.places ++ map (moved_on patch.stretch) l) (drop_all (length patch.on.tunes) patch.on.tunes (omega arith))
+          ∙ append-nil patch.places
+
+      whole_header : header_faults_there rules patch.stretch.from (counts_among rules.cells patch.text patch.stretch.from patch.stretch.came) first patch.header ≡ header_faults steps.next steps.gives rules patch.text patch.header
+      whole_header = header_there patch.text patch.stretch.from patch.stretch.came first patch.header (first_is steps rules s patch is first there) new_header whole.from whole_count
+
+      whole_new : new_faults ≡ faults_found patch.text patch.header patch.tunes
+      whole_new =
+          let start = opening_of steps.next rules patch.text (blocks_in rules patch.text) in
+          ap (λ l. l ++ faults_by rules patch.stretch.from (counts_among rules.cells patch.text patch.stretch.from patch.stretch.came) patch.made patch.places) whole_header
+          ∙ ap (λ l. header_faults steps.next steps.gives rules patch.text patch.header ++ l) (own_faults ∙ ap (tune_faults start patch.text) (sym whole_places))
+
+      whole_stand : All (StandsAmong patch.stretch.from patch.stretch.came) new_faults
+      whole_stand =
+          let P = StandsAmong patch.stretch.from patch.stretch.came in
+          All-append P _ _
+          (subst (All P) (sym whole_header) (header_stands steps rules patch.text P patch.header new_header
+          (λ block is_some fault stands.
+              let lies = subst (λ h. IfSome h (LiesIn (length patch.text))) is_some new_header in
+              let within = lies.within in
+              let least = stands.0 in
+              let most = stands.1 in
+              let none = whole.from in
+              let all = whole_count in
+              (omega (arith, least, none), omega (arith, most, within, all, none)))))
+          (subst (All P) (sym own_faults) own_stand)
+
+      whole_old : All (StandsAmong patch.stretch.from (gone patch.stretch)) (faults_found patch.on.lines.text patch.on.header patch.on.tunes)
+      whole_old =
+          let P = StandsAmong patch.stretch.from (gone patch.stretch) in
+          let text = patch.on.lines.text in
+          let none = whole.from in
+          let all = whole.to in
+          All-append P (header_faults steps.next steps.gives rules text patch.on.header) (tune_faults (opening_of steps.next rules text (blocks_in rules text)) text patch.on.tunes)
+          (header_stands steps rules text P patch.on.header old_header
+          (λ block is_some fault stands.
+              let lies = subst (λ h. IfSome h (LiesIn (length text))) is_some old_header in
+              let within = lies.within in
+              let least = stands.0 in
+              let most = stands.1 in
+              (omega (arith, least, none), omega (arith, most, within, all, none))))
+          (tunes_stand steps rules (opening_of steps.next rules text (blocks_in rules text)) text P patch.on.tunes (old_lie steps rules s patch is)
+          (λ k d inside. λ fault stands.
+              let within = (old_lie steps rules s patch is k d inside).within in
+              let least = stands.0 in
+              let most = stands.1 in
+              (omega (arith, least, none), omega (arith, most, within, all, none))))
+
+      whole_meets : faults_after patch.stretch.from (gone patch.stretch) patch.stretch.came (book_of steps.next steps.gives rules patch.on.lines.text).faults new_faults ≡ (book_of steps.next steps.gives rules patch.text).faults
+      whole_meets =
+          let old = faults_found patch.on.lines.text patch.on.header patch.on.tunes in
+          ap (λ faults. faults_after patch.stretch.from (gone patch.stretch) patch.stretch.came faults new_faults)
+          (book_faults patch.on.lines.text patch.on.header patch.on.tunes is.stood.header_is is.stood.tunes_are ∙ ap (sorted_once fault_cmp) (sym (append-nil old)))
+          ∙ faults_meet patch.stretch.from (gone patch.stretch) patch.stretch.came [] old [] new_faults (All-nil (StandsBefore patch.stretch.from)) whole_old (All-nil (StandsBehind (patch.stretch.from + gone patch.stretch))) whole_stand
+          ∙ ap (sorted_once fault_cmp) (append-nil new_faults ∙ whole_new)
+          ∙ sym (book_faults patch.text patch.header patch.tunes is.stands.header_is is.stands.tunes_are)
 
     -- where the file header stays
-    kept_meets : KeepsHeader patch → faults_after patch.stretch.from (gone patch.stretch) patch.stretch.came (book_of steps.next steps.gives rules patch.on.lines.text).faults new_faults ≡ (book_of steps.next steps.gives rules patch.text).faults
-    kept_meets keeps = ?
+    module _ (keeps : KeepsHeader patch) where
+      abbrev start : State
+      start = opening_of steps.next rules patch.on.lines.text (blocks_in rules patch.on.lines.text)
+
+      abbrev front_tunes : List Block
+      front_tunes = take patch.stretch.front patch.on.tunes
+
+      abbrev amid_tunes : List Block
+      amid_tunes = take (patch.stretch.behind - patch.stretch.front) (drop patch.stretch.front patch.on.tunes)
+
+      abbrev behind_tunes : List Block
+      behind_tunes = drop patch.stretch.behind patch.on.tunes
+
+      abbrev old_faults : List Block → List Fault
+      old_faults tunes = tune_faults (opening_of steps.next rules patch.on.lines.text (blocks_in rules patch.on.lines.text)) patch.on.lines.text tunes
+
+      start_same : opening_of steps.next rules patch.text (blocks_in rules patch.text) ≡ opening_of steps.next rules patch.on.lines.text (blocks_in rules patch.on.lines.text)
+      start_same =
+          ap (λ h. rules.tune (behind_header steps.next rules patch.text h)) (sym is.stands.header_is ∙ keeps.header)
+          ∙ ap rules.tune (same_behind steps rules patch.on.lines.text patch.text patch.stretch.from patch.on.header is.narrow.lines_before keeps.before old_header)
+          ∙ ap (λ h. rules.tune (behind_header steps.next rules patch.on.lines.text h)) is.stood.header_is
+
+      front_lie : All (LiesIn (length patch.on.lines.text)) (take patch.stretch.front patch.on.tunes)
+      front_lie = All-take (LiesIn (length patch.on.lines.text)) patch.stretch.front patch.on.tunes (old_lie steps rules s patch is)
+
+      amid_lie : All (LiesIn (length patch.on.lines.text)) (take (patch.stretch.behind - patch.stretch.front) (drop patch.stretch.front patch.on.tunes))
+      amid_lie =
+          let P = LiesIn (length patch.on.lines.text) in
+          All-take P (patch.stretch.behind - patch.stretch.front) (drop patch.stretch.front patch.on.tunes) (All-drop P patch.stretch.front patch.on.tunes (old_lie steps rules s patch is))
+
+      behind_lie : All (LiesIn (length patch.on.lines.text)) (drop patch.stretch.behind patch.on.tunes)
+      behind_lie = All-drop (LiesIn (length patch.on.lines.text)) patch.stretch.behind patch.on.tunes (old_lie steps rules s patch is)
+
+      end_is : patch.stretch.to ≡ patch.stretch.from + gone patch.stretch
+      end_is = let order = old_stretch steps rules s patch is in omega (arith, order)
+
+      front_stand : All (StandsBefore patch.stretch.from) (header_faults steps.next steps.gives rules patch.on.lines.text patch.on.header ++ old_faults (take patch.stretch.front patch.on.tunes))
+      front_stand =
+          let P = StandsBefore patch.stretch.from in
+          All-append P (header_faults steps.next steps.gives rules patch.on.lines.text patch.on.header) (old_faults (take patch.stretch.front patch.on.tunes))
+          (header_stands steps rules patch.on.lines.text P patch.on.header old_header
+          (λ block is_some fault stands.
+              let before = keeps.before block is_some in
+              let most = stands.1 in
+              omega (arith, before, most)))
+          (tunes_stand steps rules start patch.on.lines.text P (take patch.stretch.front patch.on.tunes) front_lie
+          (λ k d inside. λ fault stands.
+              let before = is.narrow.before k d inside in
+              let most = stands.1 in
+              omega (arith, before, most)))
+
+      amid_stand : All (StandsAmong patch.stretch.from (gone patch.stretch)) (old_faults (take (patch.stretch.behind - patch.stretch.front) (drop patch.stretch.front patch.on.tunes)))
+      amid_stand =
+          tunes_stand steps rules start patch.on.lines.text (StandsAmong patch.stretch.from (gone patch.stretch)) (take (patch.stretch.behind - patch.stretch.front) (drop patch.stretch.front patch.on.tunes)) amid_lie
+          (λ k d inside. λ fault stands.
+              let own = is.narrow.amid k d inside in
+              let behind = own.0 in
+              let before = own.1 in
+              let least = stands.0 in
+              let most = stands.1 in
+              let end = end_is in
+              (omega (arith, behind, least), omega (arith, before, most, end)))
+
+      behind_stand : All (StandsBehind (patch.stretch.from + gone patch.stretch)) (old_faults (drop patch.stretch.behind patch.on.tunes))
+      behind_stand =
+          tunes_stand steps rules start patch.on.lines.text (StandsBehind (patch.stretch.from + gone patch.stretch)) (drop patch.stretch.behind patch.on.tunes) behind_lie
+          (λ k d inside. λ fault stands.
+              let behind = is.narrow.beyond k d inside in
+              let least = stands.0 in
+              let end = end_is in
+              omega (arith, behind, least, end))
+
+      kept_new : new_faults ≡ tune_faults (opening_of steps.next rules patch.text (blocks_in rules patch.text)) patch.text patch.places
+      kept_new =
+          ap (λ l. l ++ faults_by rules patch.stretch.from (counts_among rules.cells patch.text patch.stretch.from patch.stretch.came) patch.made patch.places)
+          (header_before patch.stretch.from (counts_among rules.cells patch.text patch.stretch.from patch.stretch.came) first patch.header (λ block is_some. keeps.before block (sym keeps.header ∙ is_some)))
+          ∙ own_faults
+
+      old_is : faults_found patch.on.lines.text patch.on.header patch.on.tunes
+          ≡ (header_faults steps.next steps.gives rules patch.on.lines.text patch.on.header ++ old_faults front_tunes) ++ (old_faults amid_tunes ++ old_faults behind_tunes)
+      old_is =
+          let head = header_faults steps.next steps.gives rules patch.on.lines.text patch.on.header in
+          ap (λ tunes. head ++ old_faults tunes) (three_parts patch.stretch.front patch.stretch.behind patch.on.tunes is.narrow.order)
+          ∙ ap (λ l. head ++ l) (faults_three start patch.on.lines.text front_tunes amid_tunes behind_tunes)
+          ∙ sym (append_assoc head (old_faults front_tunes) (old_faults amid_tunes ++ old_faults behind_tunes))
+
+      new_header_is : header_faults steps.next steps.gives rules patch.text patch.header ≡ header_faults steps.next steps.gives rules patch.on.lines.text patch.on.header
+      new_header_is =
+          ap (header_faults steps.next steps.gives rules patch.text) keeps.header
+          ∙ same_header_faults steps rules patch.on.lines.text patch.text patch.stretch.from patch.on.header is.narrow.lines_before keeps.before old_header
+
+      new_front : tune_faults (opening_of steps.next rules patch.text (blocks_in rules patch.text)) patch.text front_tunes ≡ old_faults front_tunes
+      new_front =
+          ap (λ own. tune_faults own patch.text front_tunes) start_same
+          ∙ same_tunes steps rules start patch.on.lines.text patch.text patch.stretch.from front_tunes is.narrow.lines_before is.narrow.before front_lie
+
+      new_behind : tune_faults (opening_of steps.next rules patch.text (blocks_in rules patch.text)) patch.text (map (moved_on patch.stretch) behind_tunes) ≡ map (fault_shifted (gone patch.stretch) patch.stretch.came) (old_faults behind_tunes)
+      new_behind =
+          let same = is.narrow.lines_behind ∙ ap (λ n. drop n patch.on.lines.text) end_is in
+          let beyond : All (λ (block : Block). patch.stretch.from + gone patch.stretch ≤ block.from) behind_tunes = λ k d inside. let behind = is.narrow.beyond k d inside in let end = end_is in omega (arith, behind, end) in
+          ap (λ own. tune_faults own patch.text (map (moved_on patch.stretch) behind_tunes)) start_same
+          ∙ shifted_tunes steps rules start patch.on.lines.text patch.text patch.stretch.from (gone patch.stretch) patch.stretch.came behind_tunes same beyond behind_lie
+
+      new_is : faults_found patch.text patch.header patch.tunes
+          ≡ (header_faults steps.next steps.gives rules patch.on.lines.text patch.on.header ++ old_faults front_tunes) ++ (new_faults ++ map (fault_shifted (gone patch.stretch) patch.stretch.came) (old_faults behind_tunes))
+      new_is =
+          let own = opening_of steps.next rules patch.text (blocks_in rules patch.text) in
+          let head = header_faults steps.next steps.gives rules patch.on.lines.text patch.on.header in
+          let moved = map (moved_on patch.stretch) behind_tunes in
+          ap (λ l. l ++ tune_faults own patch.text patch.tunes) new_header_is
+          ∙ ap (λ tunes. head ++ tune_faults own patch.text tunes) is.narrow.tunes_are
+          ∙ ap (λ l. head ++ l) (faults_three own patch.text front_tunes patch.places moved)
+          ∙ ap (λ l. head ++ (l ++ (tune_faults own patch.text patch.places ++ tune_faults own patch.text moved))) new_front
+          ∙ ap (λ l. head ++ (old_faults front_tunes ++ (tune_faults own patch.text patch.places ++ l))) new_behind
+          ∙ ap (λ l. head ++ (old_faults front_tunes ++ (l ++ map (fault_shifted (gone patch.stretch) patch.stretch.came) (old_faults behind_tunes)))) (sym kept_new)
+          ∙ sym (append_assoc head (old_faults front_tunes) (new_faults ++ map (fault_shifted (gone patch.stretch) patch.stretch.came) (old_faults behind_tunes)))
+
+      kept_meets : faults_after patch.stretch.from (gone patch.stretch) patch.stretch.came (book_of steps.next steps.gives rules patch.on.lines.text).faults new_faults ≡ (book_of steps.next steps.gives rules patch.text).faults
+      kept_meets =
+          ap (λ faults. faults_after patch.stretch.from (gone patch.stretch) patch.stretch.came faults new_faults)
+          (book_faults patch.on.lines.text patch.on.header patch.on.tunes is.stood.header_is is.stood.tunes_are ∙ ap (sorted_once fault_cmp) old_is)
+          ∙ faults_meet patch.stretch.from (gone patch.stretch) patch.stretch.came (header_faults steps.next steps.gives rules patch.on.lines.text patch.on.header ++ old_faults front_tunes) (old_faults amid_tunes) (old_faults behind_tunes) new_faults
+          front_stand amid_stand behind_stand (subst (All (StandsAmong patch.stretch.from patch.stretch.came)) (sym kept_new) own_stand)
+          ∙ ap (sorted_once fault_cmp) (sym new_is)
+          ∙ sym (book_faults patch.text patch.header patch.tunes is.stands.header_is is.stands.tunes_are)
 
     meets : IsWhole patch ⊎ KeepsHeader patch → faults_after patch.stretch.from (gone patch.stretch) patch.stretch.came (book_of steps.next steps.gives rules patch.on.lines.text).faults new_faults ≡ (book_of steps.next steps.gives rules patch.text).faults
     meets (inl whole) = whole_meets whole

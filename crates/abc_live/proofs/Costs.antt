@@ -63,7 +63,7 @@ edit_none text edit is = ap (edited text) (sym is)
 -- those that stay are not built
 kept_unbuilt : (first count : ℕ) → made_of (kept_numbers first count) ≡ 0
 kept_unbuilt first zero = refl
-kept_unbuilt first (suc count) = sum_by-cons made_at (Some first) (kept_numbers (first + 1) count) ∙ kept_unbuilt (first + 1) count
+kept_unbuilt first (suc count) = let one = sum_by-cons made_at (Some first) (kept_numbers (first + 1) count) in let rest = kept_unbuilt (first + 1) count in omega (arith, one, rest)
 
 pub stretch_built : {C State Cell Items : Type 0} (patch : Edited C State Cell Items) → made_of (all_taken patch) ≡ made_of patch.taken
 stretch_built patch =

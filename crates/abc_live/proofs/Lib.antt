@@ -2,9 +2,10 @@ pub mod Books
 pub mod Changes
 pub mod Costs
 pub mod Found
+pub mod Lined
 pub mod Lying
-pub mod Meets
 pub mod Memos
+pub mod Outcomes
 pub mod Parts
 pub mod Stretches
 pub mod Zips
