@@ -7,5 +7,6 @@ pub mod Lying
 pub mod Memos
 pub mod Outcomes
 pub mod Parts
+pub mod Preparing
 pub mod Stretches
 pub mod Zips

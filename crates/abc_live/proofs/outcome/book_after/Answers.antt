@@ -1,8 +1,9 @@
-use Rattle.std.proofs.Common.{rules, ◌≡◌, ◌+◌, ◌-◌, ◌≤◌, ◌++◌, ap, ◌∙◌, drop, length, map, sym, arith}
+use Rattle.std.proofs.Common.{rules, ◌≡◌, ◌+◌, ◌-◌, ◌≤◌, ◌++◌, ap, ◌∙◌, drop, length, map, sym, subst, arith}
 use Rattle.abc_fold.specs.Steps.{steps_of}
 use Rattle.abc_kept_book.specs.Faults.{faults_after}
 use Rattle.abc_lines.specs.GapList.{Gapped}
-use Rattle.abc_lines.specs.Text.{seen_lines}
+use Rattle.abc_lines.specs.Lines.{Lines}
+use Rattle.abc_lines.specs.Text.{IsText, seen_lines}
 use Rattle.abc_lines.specs.declared.limits.TheConstants.{MOST_LINES}
 use Rattle.abc_live.specs.Prepared.{IsBook, header_faults_there, splice_in}
 use Rattle.abc_live.proofs.Outcomes.{behind_inside, book_now, cells_there, faults_now, few_came, few_faults, few_lines, good_lines, header_there, lines_inside, ok_both, outputs_after, own_lines, taken_over}
@@ -79,7 +80,7 @@ prepare-requires-clause-inside g c =
 pub prepare-requires-clause-few : goal.prepare-requires-clause-few
 prepare-requires-clause-few g c =
     let few = few_faults (steps_of (g.C.Fold.next c.args.text.now.compiler) (g.C.Fold.gives c.args.text.now.compiler) (g.C.Resumable.alike c.args.text.now.compiler)) (g.C.Compiler.rules c.args.text.now.compiler) (splice_in c.args.change.now) c.args.kept.now c.requires.prepared c.args.text.now c.requires.on c.stretch-stretch.result c.stretch-stretch.ensures
-    c.args.book.now.faults c.len.ensures.limits c.requires.faults in
+    c.args.book.now.faults (subst (λ (l : Lines). IsText l.text) c.lines.ensures.lines c.len.ensures.limits) c.requires.faults in
     λ k d inside behind. let small = few k d inside behind in omega (arith, small)
 
 pub returns-clause-outputs : goal.returns-clause-outputs
