@@ -1,7 +1,7 @@
 -- The book of the new text is what the stretch makes of the book of the old one.
-use Rattle.std.proofs.Common.{◌≡◌, ℕ, ◌+◌, ◌-◌, ◌<◌, ◌≤◌, if◌then◌else◌, nat_lt, List, [], ◌∷◌, ◌++◌, length, drop, map, take, Option, Some, None, slice_get, refl, sym, ap, ◌∙◌, subst, inl, inr, arith, append_assoc}
+use Rattle.std.proofs.Common.{◌≡◌, ℕ, ◌+◌, ◌-◌, ◌<◌, ◌≤◌, if◌then◌else◌, nat_lt, List, [], ◌++◌, length, drop, map, take, Option, Some, None, slice_get, refl, sym, ap, ◌∙◌, subst, inl, inr, arith, append_assoc}
 use Rattle.std.specs.List.{AllZip}
-use Rattle.std.specs.Prelude.{All, Contains, IfSome, ◌⊎◌}
+use Rattle.std.specs.Prelude.{All, IfSome, ◌⊎◌}
 use Rattle.std.proofs.lemmas.Bool.Decides.{nat_tests}
 use Rattle.std.proofs.lemmas.Grind.{flat_map-append}
 use Rattle.std.proofs.lemmas.List.{append-nil, drop-drop, drop_all, map-append, take-append-drop}
@@ -16,12 +16,11 @@ use Rattle.abc_kept_book.specs.Laws.{Gives, StandsAmong, StandsBefore, StandsBeh
 use Rattle.abc_kept_book.proofs.Following.{files_follow, titles_follow}
 use Rattle.abc_kept_book.proofs.Meeting.{faults_meet}
 use Rattle.abc_lines.specs.Text.{Splice, Text}
-use Rattle.abc_lines.specs.declared.limits.TheConstants.{MOST_LINES}
 use Rattle.abc_live.specs.Prepared.{IsBook, IsPrepared, header_faults_there}
-use Rattle.abc_live.proofs.Found.{StandsIn, header_stands, same_behind, same_header_faults, same_tunes, shifted_tunes, tunes_stand}
+use Rattle.abc_live.proofs.Found.{header_stands, same_behind, same_header_faults, same_tunes, shifted_tunes, tunes_stand}
 use Rattle.abc_live.proofs.Lying.{LiesIn, header_lies}
 use Rattle.abc_live.proofs.Parts.{fold_of, folds_of, gives_of, tune_chains}
-use Rattle.abc_live.proofs.Stretches.{first_is, made_chains, new_lie, old_lie, old_stretch, parts_lie, places_lie, spliced_length}
+use Rattle.abc_live.proofs.Stretches.{first_is, made_chains, old_lie, old_stretch, parts_lie, places_lie, spliced_length}
 use Rattle.abc_outputs.specs.Output.{output_in}
 use Rattle.abc_outputs.specs.Tunes.{LiesAmong, cell_faults_by, counts_among, faults_by, faults_of_tunes}
 use Rattle.abc_outputs.specs.declared.output.Output.{Output}
@@ -129,12 +128,12 @@ module _ {State Cell Items Defaults : Type 0} (steps : Steps State Cell Items) (
     own_stand =
         tunes_stand steps rules (opening_of steps.next rules patch.text (blocks_in rules patch.text)) patch.text (StandsAmong patch.stretch.from patch.stretch.came) patch.places (parts_lie steps rules s patch is)
         (λ k d inside. λ fault stands.
-            let lies = places_lie steps rules s patch is k d inside in
-            let behind = lies.behind in
-            let within = lies.within in
-            let least = stands.0 in
-            let most = stands.1 in
-            (omega (arith, behind, least), omega (arith, within, most)))
+        let lies = places_lie steps rules s patch is k d inside in
+        let behind = lies.behind in
+        let within = lies.within in
+        let least = stands.0 in
+        let most = stands.1 in
+        (omega (arith, behind, least), omega (arith, within, most)))
 
     old_header : IfSome patch.on.header (LiesIn (length patch.on.lines.text))
     old_header = header_lies rules.class patch.on.lines.text patch.on.header is.stood.header_is
@@ -176,13 +175,13 @@ module _ {State Cell Items Defaults : Type 0} (steps : Steps State Cell Items) (
           All-append P _ _
           (subst (All P) (sym whole_header) (header_stands steps rules patch.text P patch.header new_header
           (λ block is_some fault stands.
-              let lies = subst (λ h. IfSome h (LiesIn (length patch.text))) is_some new_header in
-              let within = lies.within in
-              let least = stands.0 in
-              let most = stands.1 in
-              let none = whole.from in
-              let all = whole_count in
-              (omega (arith, least, none), omega (arith, most, within, all, none)))))
+          let lies = subst (λ h. IfSome h (LiesIn (length patch.text))) is_some new_header in
+          let within = lies.within in
+          let least = stands.0 in
+          let most = stands.1 in
+          let none = whole.from in
+          let all = whole_count in
+          (omega (arith, least, none), omega (arith, most, within, all, none)))))
           (subst (All P) (sym own_faults) own_stand)
 
       whole_old : All (StandsAmong patch.stretch.from (gone patch.stretch)) (faults_found patch.on.lines.text patch.on.header patch.on.tunes)
@@ -194,17 +193,17 @@ module _ {State Cell Items Defaults : Type 0} (steps : Steps State Cell Items) (
           All-append P (header_faults steps.next steps.gives rules text patch.on.header) (tune_faults (opening_of steps.next rules text (blocks_in rules text)) text patch.on.tunes)
           (header_stands steps rules text P patch.on.header old_header
           (λ block is_some fault stands.
-              let lies = subst (λ h. IfSome h (LiesIn (length text))) is_some old_header in
-              let within = lies.within in
-              let least = stands.0 in
-              let most = stands.1 in
-              (omega (arith, least, none), omega (arith, most, within, all, none))))
+          let lies = subst (λ h. IfSome h (LiesIn (length text))) is_some old_header in
+          let within = lies.within in
+          let least = stands.0 in
+          let most = stands.1 in
+          (omega (arith, least, none), omega (arith, most, within, all, none))))
           (tunes_stand steps rules (opening_of steps.next rules text (blocks_in rules text)) text P patch.on.tunes (old_lie steps rules s patch is)
           (λ k d inside. λ fault stands.
-              let within = (old_lie steps rules s patch is k d inside).within in
-              let least = stands.0 in
-              let most = stands.1 in
-              (omega (arith, least, none), omega (arith, most, within, all, none))))
+          let within = (old_lie steps rules s patch is k d inside).within in
+          let least = stands.0 in
+          let most = stands.1 in
+          (omega (arith, least, none), omega (arith, most, within, all, none))))
 
       whole_meets : faults_after patch.stretch.from (gone patch.stretch) patch.stretch.came (book_of steps.next steps.gives rules patch.on.lines.text).faults new_faults ≡ (book_of steps.next steps.gives rules patch.text).faults
       whole_meets =
@@ -258,35 +257,35 @@ module _ {State Cell Items Defaults : Type 0} (steps : Steps State Cell Items) (
           All-append P (header_faults steps.next steps.gives rules patch.on.lines.text patch.on.header) (old_faults (take patch.stretch.front patch.on.tunes))
           (header_stands steps rules patch.on.lines.text P patch.on.header old_header
           (λ block is_some fault stands.
-              let before = keeps.before block is_some in
-              let most = stands.1 in
-              omega (arith, before, most)))
+          let before = keeps.before block is_some in
+          let most = stands.1 in
+          omega (arith, before, most)))
           (tunes_stand steps rules start patch.on.lines.text P (take patch.stretch.front patch.on.tunes) front_lie
           (λ k d inside. λ fault stands.
-              let before = is.narrow.before k d inside in
-              let most = stands.1 in
-              omega (arith, before, most)))
+          let before = is.narrow.before k d inside in
+          let most = stands.1 in
+          omega (arith, before, most)))
 
       amid_stand : All (StandsAmong patch.stretch.from (gone patch.stretch)) (old_faults (take (patch.stretch.behind - patch.stretch.front) (drop patch.stretch.front patch.on.tunes)))
       amid_stand =
           tunes_stand steps rules start patch.on.lines.text (StandsAmong patch.stretch.from (gone patch.stretch)) (take (patch.stretch.behind - patch.stretch.front) (drop patch.stretch.front patch.on.tunes)) amid_lie
           (λ k d inside. λ fault stands.
-              let own = is.narrow.amid k d inside in
-              let behind = own.0 in
-              let before = own.1 in
-              let least = stands.0 in
-              let most = stands.1 in
-              let end = end_is in
-              (omega (arith, behind, least), omega (arith, before, most, end)))
+          let own = is.narrow.amid k d inside in
+          let behind = own.0 in
+          let before = own.1 in
+          let least = stands.0 in
+          let most = stands.1 in
+          let end = end_is in
+          (omega (arith, behind, least), omega (arith, before, most, end)))
 
       behind_stand : All (StandsBehind (patch.stretch.from + gone patch.stretch)) (old_faults (drop patch.stretch.behind patch.on.tunes))
       behind_stand =
           tunes_stand steps rules start patch.on.lines.text (StandsBehind (patch.stretch.from + gone patch.stretch)) (drop patch.stretch.behind patch.on.tunes) behind_lie
           (λ k d inside. λ fault stands.
-              let behind = is.narrow.beyond k d inside in
-              let least = stands.0 in
-              let end = end_is in
-              omega (arith, behind, least, end))
+          let behind = is.narrow.beyond k d inside in
+          let least = stands.0 in
+          let end = end_is in
+          omega (arith, behind, least, end))
 
       kept_new : new_faults ≡ tune_faults (opening_of steps.next rules patch.text (blocks_in rules patch.text)) patch.text patch.places
       kept_new =

@@ -1,5 +1,5 @@
 -- What an edit costs, put together, and what an edit means.
-use Rattle.std.proofs.Common.{◌≡◌, ℕ, zero, suc, ◌+◌, ◌-◌, ◌≤◌, List, ◌++◌, length, Option, Some, None, Err, refl, sym, ap, ◌∙◌, subst, arith}
+use Rattle.std.proofs.Common.{◌≡◌, ℕ, zero, suc, ◌+◌, ◌-◌, ◌≤◌, List, ◌++◌, length, Option, Some, None, Err, refl, sym, ap, subst, arith}
 use Rattle.std.proofs.lemmas.List.Sums.{sum_by-append, sum_by-cons}
 use Rattle.abc_chains.specs.Standing.{Edited, IsWorkUpTo, all_taken, kept_numbers}
 use Rattle.abc_chains.specs.Taking.{TakesUntouched}

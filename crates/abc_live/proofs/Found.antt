@@ -1,8 +1,8 @@
 -- Where the faults of tunes and of a file header stand, and that they move with their lines.
-use Rattle.std.proofs.Common.{◌≡◌, ℕ, suc, ◌+◌, ◌-◌, ◌<◌, ◌≤◌, List, [], ◌∷◌, ◌++◌, length, drop, map, take, Option, Some, None, refl, sym, ap, ◌∙◌, subst, arith}
+use Rattle.std.proofs.Common.{◌≡◌, ℕ, ◌+◌, ◌-◌, ◌<◌, ◌≤◌, List, [], ◌∷◌, ◌++◌, length, drop, map, take, Option, Some, None, refl, sym, ap, ◌∙◌, arith}
 use Rattle.std.specs.Prelude.{All, IfSome}
 use Rattle.std.proofs.lemmas.List.{drop-drop, drop-take, length-drop, length-take-le, map-append, take-take}
-use Rattle.std.proofs.lemmas.List.Elements.{All-append, All-cons, All-head, All-nil, All-tail}
+use Rattle.std.proofs.lemmas.List.Elements.{All-append, All-head, All-nil, All-tail}
 use Rattle.abc_book.specs.Stretch.{shifted}
 use Rattle.abc_book.specs.declared.block.Block.{Block}
 use Rattle.abc_fold.specs.Steps.{Steps}
@@ -11,7 +11,7 @@ use Rattle.abc_lines.specs.Text.{Text}
 use Rattle.abc_live.proofs.Lying.{LiesIn, all_second}
 use Rattle.abc_outputs.specs.Tunes.{faults_of_tunes}
 use Rattle.abc_tunebook.specs.Book.{behind_header, header_faults}
-use Rattle.abc_tunebook.specs.Laws.{StandsBetween, fault_moved}
+use Rattle.abc_tunebook.specs.Laws.{fault_moved}
 use Rattle.abc_tunebook.specs.Placed.{cells_from, items_along, state_along, things}
 use Rattle.abc_tunebook.specs.Rules.{Rules}
 use Rattle.abc_tunebook.specs.Tune.{fault_of_tune, faults_along, lines_in, tune_from, tune_of}
@@ -58,9 +58,9 @@ module _ {State Cell Items Defaults : Type 0} (steps : Steps State Cell Items) (
       let between = faults_in_lines steps.next steps.gives rules (from + 1) opening line behind in
       let last : from + 1 + length behind ≡ to = omega (arith, some, count) in
       λ k d inside.
-          let least = (between k d inside).0 in
-          let most = (between k d inside).1 in
-          (omega (arith, least), omega (arith, most, last))
+      let least = (between k d inside).0 in
+      let most = (between k d inside).1 in
+      (omega (arith, least), omega (arith, most, last))
 
   lines_many : (text : Text) (block : Block) → LiesIn (length text) block → length (lines_in text block) ≡ block.to - block.from
   lines_many text block lies =

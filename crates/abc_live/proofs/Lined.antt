@@ -3,7 +3,7 @@ use Rattle.std.proofs.Common.{◌≡◌, ℕ, zero, suc, ◌+◌, ◌-◌, ◌<�
 use Rattle.std.proofs.lemmas.List.{map_push, take_more}
 use Rattle.std.proofs.lemmas.Option.{get_or_from_slice_get, slice_get_within}
 use Rattle.std.specs.Global.{Vec}
-use Rattle.abc_lines.specs.Text.{IsText, Splice, Text, lines_of, splice_from, spliced}
+use Rattle.abc_lines.specs.Text.{IsText, Text, lines_of, splice_from, spliced}
 use Rattle.abc_lines.specs.declared.limits.TheConstants.{MOST_LINES}
 use Rattle.abc_lines.proofs.ListSplices.{item_among, item_back, item_front}
 use Rattle.abc_lines.proofs.Splices.{length-lines_of, length-spliced}

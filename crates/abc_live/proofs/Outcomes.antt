@@ -1,5 +1,5 @@
 -- What the parts of a prepared edit are, as code names them.
-use Rattle.std.proofs.Common.{◌≡◌, ℕ, ◌+◌, ◌-◌, ◌<◌, ◌≤◌, ◌*◌, true, List, ◌++◌, length, drop, map, take, Option, Some, slice_get, refl, sym, ap, ◌∙◌, subst, Result, Ok, Err, arith}
+use Rattle.std.proofs.Common.{◌≡◌, ℕ, ◌+◌, ◌-◌, ◌<◌, ◌≤◌, true, List, ◌++◌, length, drop, map, take, Option, Some, slice_get, sym, ap, ◌∙◌, subst, Result, Ok, Err, arith}
 use Rattle.std.specs.List.{AllZip, list_all}
 use Rattle.std.specs.Prelude.{All, IfOk}
 use Rattle.std.proofs.lemmas.List.{length-map}
@@ -15,7 +15,7 @@ use Rattle.abc_lines.specs.declared.limits.TheConstants.{MOST_LINES}
 use Rattle.abc_live.specs.Prepared.{HeaderCells, IsBook, IsPrepared, count_in, header_faults_there}
 use Rattle.abc_live.proofs.Changes.{book_is, faults_are, faults_within}
 use Rattle.abc_live.proofs.Lying.{header_lies}
-use Rattle.abc_live.proofs.Stretches.{counts_many, counts_there, first_cells, lines_good, made_cells, new_outputs, old_count, old_lie, old_stretch, stretch_inside, takes_over}
+use Rattle.abc_live.proofs.Stretches.{counts_many, counts_there, first_cells, lines_good, made_cells, new_outputs, old_count, old_lie, stretch_inside, takes_over}
 use Rattle.abc_outputs.specs.Output.{TakesOver, output_in}
 use Rattle.abc_outputs.specs.Tunes.{HasCells, counts_among, faults_by}
 use Rattle.abc_outputs.specs.declared.output.Output.{Output}
@@ -88,10 +88,10 @@ module _ {C State Cell Items Defaults : Type 0} (steps : Steps State Cell Items)
       let all : All (λ (fault : Fault). fault.line ≤ length patch.on.lines.text) found = subst (All (λ (fault : Fault). fault.line ≤ length patch.on.lines.text)) (sym own) within in
       let long = ap (λ (k : Keeping C State Cell Items). length k.lines.text) on in
       λ k d inside behind.
-          let line = all k d inside in
-          let few = limits.count in
-          let came = few_came in
-          omega (arith, line, few, came, long)
+      let line = all k d inside in
+      let few = limits.count in
+      let came = few_came in
+      omega (arith, line, few, came, long)
 
   pub outputs_after : (outputs made : List Output) → outputs ≡ map (output_in rules) (drop 1 text.chains.items) → made ≡ map (output_in rules) patch.made
       → take stretch.front outputs ++ (made ++ drop stretch.behind outputs) ≡ map (output_in rules) (drop 1 patch.chains)

@@ -1,5 +1,5 @@
 -- The chains of a text as those of its file header and its tunes, and how many cells its lines have.
-use Rattle.std.proofs.Common.{◌≡◌, ℕ, ◌≤◌, List, [], ◌∷◌, length, drop, map, Option, Some, None, slice_get, sym, ap, ◌∙◌, refl, subst, arith}
+use Rattle.std.proofs.Common.{◌≡◌, ℕ, ◌≤◌, List, [], ◌∷◌, length, drop, map, Some, slice_get, sym, ap, ◌∙◌, refl, subst, arith}
 use Rattle.std.specs.List.{AllZip}
 use Rattle.abc_book.specs.declared.block.Block.{Block}
 use Rattle.abc_chains.specs.Keeping.{AreChains, IsChainOf, IsHeaderOf}

@@ -1,31 +1,31 @@
 -- The stretch of a prepared edit: its lines, its chains and where they lie.
-use Rattle.std.proofs.Common.{◌≡◌, ℕ, zero, suc, ◌+◌, ◌-◌, ◌<◌, ◌≤◌, true, List, [], ◌∷◌, ◌++◌, length, drop, map, take, flat_map, Option, Some, None, slice_get, refl, sym, ap, ◌∙◌, subst, inl, inr, arith}
+use Rattle.std.proofs.Common.{◌≡◌, ℕ, ◌+◌, ◌<◌, ◌≤◌, true, List, [], ◌∷◌, ◌++◌, length, drop, map, take, flat_map, Option, Some, None, slice_get, refl, sym, ap, ◌∙◌, subst, inl, inr, arith}
 use Rattle.std.specs.List.{AllZip, list_all}
 use Rattle.std.specs.Prelude.{All, IfSome, ◌⊎◌}
-use Rattle.std.proofs.lemmas.List.{drop-map, length-drop, length-map, take-map, map-append}
-use Rattle.std.proofs.lemmas.List.Elements.{All-head, All-tail, All-nil, All-cons}
+use Rattle.std.proofs.lemmas.List.{drop-map, length-map, take-map, map-append}
+use Rattle.std.proofs.lemmas.List.Elements.{All-head, All-tail}
 use Rattle.abc_book.specs.declared.block.Block.{Block}
-use Rattle.abc_chains.specs.Keeping.{AreChains, IsChainOf, IsHeaderOf, behind_chain}
-use Rattle.abc_chains.specs.Standing.{Edited, IsStretch, IsWhole, KeepsHeader, LiesAmong as LiesInNew, Stands, old_tunes}
+use Rattle.abc_chains.specs.Keeping.{IsChainOf, IsHeaderOf, behind_chain}
+use Rattle.abc_chains.specs.Standing.{Edited, IsWhole, KeepsHeader, old_tunes}
 use Rattle.abc_chains.proofs.Opening.{opening_alike}
 use Rattle.abc_compiler.specs.Lawful.{AreLawful}
 use Rattle.abc_fold.specs.Chain.{Chained}
 use Rattle.abc_fold.specs.Steps.{Steps, IsAlike, IsResumable, items_from}
 use Rattle.abc_fold.proofs.Alike.{equal_items}
-use Rattle.abc_lines.specs.Text.{IsText, Splice, Text, is_line, spliced}
+use Rattle.abc_lines.specs.Text.{Splice, Text, is_line}
 use Rattle.abc_lines.proofs.Splices.{length-spliced}
 use Rattle.abc_live.specs.Prepared.{HeaderCells, IsPrepared, count_in}
 use Rattle.abc_live.proofs.Lying.{LiesIn, all_first, all_second, header_lies, tunes_lie}
 use Rattle.abc_live.proofs.Parts.{counts_are, fold_of, folds_of, header_chain, some_chain, tune_chains}
 use Rattle.abc_live.proofs.Zips.{zip_fronts, zip_middle}
 use Rattle.abc_outputs.specs.Output.{TakesOver, counts_of, output_in}
-use Rattle.abc_outputs.specs.Tunes.{HasCells, IsFoldOf, IsTuneAt, LiesAmong, counts_among, lowered}
+use Rattle.abc_outputs.specs.Tunes.{HasCells, IsTuneAt, LiesAmong, counts_among, lowered}
 use Rattle.abc_outputs.proofs.Following.{has_cells, zipped_cells}
 use Rattle.abc_outputs.proofs.Keys.{all_dropped, all_taken}
 use Rattle.abc_outputs.proofs.Lists.{zipped_count}
 use Rattle.abc_outputs.proofs.Places.{among, among_inside}
 use Rattle.abc_outputs.proofs.Taking.{items_suffice}
-use Rattle.abc_tunebook.specs.Book.{behind_header, blocks_in, header_in, opening_of, tunes_in}
+use Rattle.abc_tunebook.specs.Book.{behind_header, blocks_in, opening_of}
 use Rattle.abc_tunebook.specs.Rules.{Rules}
 use Rattle.abc_tunebook.specs.Tune.{lines_in}
 
@@ -33,10 +33,10 @@ use Rattle.abc_tunebook.specs.Tune.{lines_in}
 lies_among : (from came count : ℕ) (places : List Block) → All (λ (place : Block). (from ≤ place.from) × (place.to ≤ from + came)) places → All (LiesIn count) places → All (LiesAmong from came) places
 lies_among from came count places there own =
     λ k d inside.
-        let behind = (there k d inside).0 in
-        let within = (there k d inside).1 in
-        let some = (own k d inside).some in
-        record { behind = behind; order = omega (arith, some); within = within }
+    let behind = (there k d inside).0 in
+    let within = (there k d inside).1 in
+    let some = (own k d inside).some in
+    record { behind = behind; order = omega (arith, some); within = within }
 
 -- a tune of a stretch gives the items that its key has
 tune_at : {State Cell Items Defaults : Type 0} (steps : Steps State Cell Items) (rules : Rules State Cell Items Defaults) (laws : IsResumable steps) (opening : State) (left : Option State) (from came : ℕ) (text : Text) (chain : Chained State Cell Items) (place : Block)
@@ -71,13 +71,13 @@ header_cells : {State Cell Items Defaults : Type 0} (steps : Steps State Cell It
 header_cells steps rules text from came first None inside lies is whole = tt
 header_cells steps rules text from came first (Some block) inside lies is whole =
     λ reaches.
-        let all = whole block refl reaches in
-        let none = all.0 in
-        let most = all.1 in
-        let some = lies.some in
-        let within = lies.within in
-        let there : LiesAmong from came block = record { behind = omega (arith, none); order = omega (arith, some); within = omega (arith, none, most, within) } in
-        has_cells steps rules.cells rules.header text first block (fold_of steps rules.cells rules.header text first block is) from came there inside
+    let all = whole block refl reaches in
+    let none = all.0 in
+    let most = all.1 in
+    let some = lies.some in
+    let within = lies.within in
+    let there : LiesAmong from came block = record { behind = omega (arith, none); order = omega (arith, some); within = omega (arith, none, most, within) } in
+    has_cells steps rules.cells rules.header text first block (fold_of steps rules.cells rules.header text first block is) from came there inside
 
 module _ {C State Cell Items Defaults : Type 0} (steps : Steps State Cell Items) (rules : Rules State Cell Items Defaults) (s : Splice) (patch : Edited C State Cell Items) (is : IsPrepared steps rules s patch) where
   pub change_inside : s.at + s.removed ≤ length patch.on.lines.text

@@ -120,7 +120,9 @@ impl<C: Compiler> LiveSession<C> {
         ensures counted { MayCost (steps_of (C.next self.old.compiler) (C.gives self.old.compiler) (C.alike self.old.compiler)) (C.rules self.old.compiler) self.old.text (Some (splice_in change.now)) (C.Work.counts work.old) (C.Work.counts work.new) }
     {
         let _ = self.text.lines();
-        let kept = self.text.prepare(change.at, change.removed, change.lines, work)?;
+        let kept = self
+            .text
+            .prepare(change.at, change.removed, change.lines, work)?;
         let memo = &mut self.memo;
         match book_after(&self.text, &self.book, &kept, change, memo, work) {
             Ok(book) => Ok(EditPatch { kept, book }),

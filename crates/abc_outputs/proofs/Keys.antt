@@ -20,7 +20,7 @@ use Rattle.abc_outputs.specs.Key.{key_by}
 use Rattle.abc_outputs.specs.Output.{TakesOver, output_in, output_of}
 use Rattle.abc_outputs.specs.Tunes.{IsTuneAt, LiesAmong, lowered}
 use Rattle.abc_outputs.specs.declared.output.Output.{Output}
-use Rattle.abc_outputs.proofs.Lists.{read_at, some_at, zipped_at, zipped_count}
+use Rattle.abc_outputs.proofs.Lists.{some_at, zipped_at, zipped_count}
 use Rattle.abc_outputs.proofs.Taking.{mapped_at}
 
 -- the lines of a place, seen where they lie

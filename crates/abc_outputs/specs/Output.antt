@@ -4,8 +4,7 @@ use Rattle.abc_fold.specs.Chain.{Chained}
 use Rattle.abc_outputs.specs.declared.output.Output.{Output}
 use Rattle.abc_tunebook.specs.Placed.{Placed, placed_at}
 use Rattle.abc_tunebook.specs.Rules.{Rules}
-use Rattle.abc_tunebook.specs.Tune.{fault_of_tune, faults_along, first_of}
-use Rattle.abc_tunebook.specs.declared.tune.Tune.{Tune}
+use Rattle.abc_tunebook.specs.Tune.{first_of}
 
 -- Whether one of the items of a tune has faults.
 abbrev pub has_faults : {State Cell Items Defaults : Type 0} → Rules State Cell Items Defaults → List Items → Bool

@@ -71,7 +71,14 @@ pub fn put_tune_faults<C: Compiler>(
     for (place, chain) in stretch.chains.iter().enumerate() {
         let output = outputs[place].get();
         let chain = chain.get();
-        put_of_place(compiler, faults, stretch, chain, stretch.places[place], output)?;
+        put_of_place(
+            compiler,
+            faults,
+            stretch,
+            chain,
+            stretch.places[place],
+            output,
+        )?;
     }
     Ok(())
 }

@@ -1,6 +1,5 @@
-use Rattle.std.proofs.Common.{rules, ◌≡◌, ◌+◌, ◌-◌, ◌≤◌, ◌++◌, ap, ◌∙◌, drop, length, map, sym, subst, arith}
+use Rattle.std.proofs.Common.{rules, ◌≡◌, ◌≤◌, ◌++◌, ap, ◌∙◌, drop, map, subst, arith}
 use Rattle.abc_fold.specs.Steps.{steps_of}
-use Rattle.abc_kept_book.specs.Faults.{faults_after}
 use Rattle.abc_lines.specs.GapList.{Gapped}
 use Rattle.abc_lines.specs.Lines.{Lines}
 use Rattle.abc_lines.specs.Text.{IsText, seen_lines}

@@ -5,7 +5,6 @@ use Rattle.std.proofs.lemmas.List.{length-map}
 use Rattle.std.specs.Borrow.{Bor}
 use Rattle.std.specs.Prelude.{ℕ, List}
 use Rattle.abc_outputs.specs.Output.{output_in}
-use Rattle.abc_outputs.specs.Tunes.{LiesAmong}
 use Rattle.abc_outputs.proofs.Building.{built_none, built_perhaps}
 use Rattle.abc_outputs.proofs.Keys.{as_many, items_of_tune, lies_there, value_there}
 use Rattle.abc_outputs.proofs.Lists.{ok_more}

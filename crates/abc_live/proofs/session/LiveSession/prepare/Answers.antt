@@ -1,4 +1,4 @@
-use Rattle.std.proofs.Common.{inl, ap, sym, ◌∙◌}
+use Rattle.std.proofs.Common.{inl}
 use Rattle.abc_fold.specs.Steps.{steps_of}
 use Rattle.abc_live.specs.Edit.{splice_of}
 use Rattle.abc_live.specs.Prepared.{splice_in}
