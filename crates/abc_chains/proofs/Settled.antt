@@ -21,7 +21,7 @@ use Rattle.abc_chains.proofs.Edits.{all_both}
 use Rattle.abc_chains.proofs.Meaning.{block_cells, map-over, read_drop}
 use Rattle.abc_chains.proofs.Rising.{places_rise}
 
-split : {A : Type 0} (xs : List A) (at to : ℕ) → at ≤ to → drop at xs ≡ take (to - at) (drop at xs) ++ drop to xs
+pub split : {A : Type 0} (xs : List A) (at to : ℕ) → at ≤ to → drop at xs ≡ take (to - at) (drop at xs) ++ drop to xs
 split xs at to h =
     let here : at + (to - at) ≡ to = omega arith in
     sym (take-append-drop (to - at) (drop at xs)) ∙ ap (λ l. take (to - at) (drop at xs) ++ l) (drop-drop (to - at) at xs ∙ ap (λ n. drop n xs) here)
