@@ -16,3 +16,5 @@ pub mod Cutting
 pub mod Parts
 pub mod Spans
 pub mod NewBlocks
+pub mod Renewed
+pub mod Outside

@@ -1,18 +1,18 @@
 -- The tunes and the file header of a text of which a stretch is replaced.
-use Rattle.std.proofs.Common.{◌≡◌, ◌⊎◌, ◌↔◌, ℕ, zero, suc, ◌+◌, ◌-◌, ◌<◌, ◌≤◌, ◌==◌, true, false, List, [], ◌∷◌, ◌++◌, map, Option, Some, None, All, length, take, drop, slice_get, refl, sym, ◌∙◌, ap, subst, arith, append_assoc, ⊎_elim, inr}
-use Rattle.std.specs.Prelude.{IsTrue}
-use Rattle.std.proofs.lemmas.Bool.{cases_Bool}
+use Rattle.std.proofs.Common.{◌≡◌, ◌⊎◌, ◌↔◌, ℕ, zero, suc, ◌+◌, ◌-◌, ◌<◌, ◌≤◌, ◌==◌, true, false, if◌then◌else◌, List, [], ◌∷◌, ◌++◌, map, Option, Some, None, All, length, take, drop, slice_get, refl, sym, ◌∙◌, ap, subst, arith, append_assoc, ⊎_elim, inr}
+use Rattle.std.specs.Prelude.{IsTrue, cond, count_by, nat_le}
+use Rattle.std.proofs.lemmas.Bool.{cases_Bool, cases_lt, eqb-true}
+use Rattle.std.proofs.lemmas.Bool.Decides.{nat_tests}
+use Rattle.std.proofs.lemmas.List.Sums.{sum_by-cons}
 use Rattle.std.proofs.lemmas.List.Elements.{All-cons, All-nil}
 use Rattle.abc_book.specs.Block.{blocks_of, is_x_line, letter_x}
-use Rattle.abc_book.specs.Laws.{RiseFromTo, moved}
-use Rattle.abc_book.specs.Pass.{blocks_from}
+use Rattle.abc_book.specs.Laws.{RiseFromTo, holds, moved}
 use Rattle.abc_book.specs.Stretch.{BeginTune, blocks_at, blocks_before, blocks_behind, shifted}
 use Rattle.abc_book.specs.declared.block.Block.{Block}
 use Rattle.abc_book.specs.declared.block.BlockKind.{BlockKind}
 use Rattle.abc_book.specs.declared.block.BlockKind.TheVariants as kinds
-use Rattle.abc_book.specs.declared.pass.Before.TheVariants.{Nothing, Inside}
 use Rattle.abc_book.proofs.Cuts.{x_line_cuts}
-use Rattle.abc_book.proofs.OnePass.{one_pass}
+use Rattle.abc_book.proofs.Lying.{each_in_one}
 use Rattle.abc_book.proofs.Rising.{blocks_rise, tunes_begin}
 use Rattle.abc_book.proofs.Stretches.{stretch_is_enough}
 use Rattle.abc_scan.specs.declared.class.LineClass.{LineClass}
@@ -73,35 +73,60 @@ begin_taken (suc k) (class ∷ own) rest h some begin = begin
 
 -- the file header
 
-kept_kind : (block : Block) (at : ℕ) (classes : List LineClass) → is_file_header block.kind ≡ false → header_in (blocks_from (Inside block) at classes) ≡ None
-kept_kind block at [] e = simp e
-kept_kind block at (Blank ∷ classes) e = simp e
-kept_kind block at (Comment ∷ classes) e = kept_kind block (at + 1) classes e
-kept_kind block at (Field letter ∷ classes) e = ⊎_elim
-    (λ (x : (letter == letter_x) ≡ true). simp (x, e))
-    (λ (x : (letter == letter_x) ≡ false). simp x (kept_kind (record block { to = at + 1 }) (at + 1) classes e))
-    (cases_Bool (letter == letter_x))
-kept_kind block at (Music ∷ classes) e = kept_kind (record block { to = at + 1 }) (at + 1) classes e
+none_hold : (at : ℕ) (blocks : List Block) (last : ℕ) → 1 ≤ at → RiseFromTo at blocks last → count_by (holds 0) blocks ≡ 0
+none_hold at [] last h rise = refl
+none_hold at (block ∷ blocks) last h rise =
+    let own : 1 ≤ block.from = omega (arith, h, rise.0) in
+    let test : nat_le block.from 0 ≡ false = grind (arith, nat_tests) in
+    let here : holds 0 block ≡ false = simp test in
+    let more = none_hold block.to blocks last (omega (arith, own, rise.1)) rise.2 in
+    sum_by-cons (λ (b : Block). cond (holds 0 b) 1 0) block blocks ∙ (λ i. cond (here i) 1 0 + more i)
 
-is_field_x : (x : LineClass) → IsTrue (is_x_line x) → (letter : ℕ) × (x ≡ Field letter) × ((letter == letter_x) ≡ true)
+begins_first : (block : Block) (blocks : List Block) (last : ℕ) → RiseFromTo 0 (block ∷ blocks) last → count_by (holds 0) (block ∷ blocks) ≡ 1 → block.from ≡ 0
+begins_first block blocks last rise one = ⊎_elim
+    (λ (h : 0 < block.from).
+    let low : 1 ≤ block.from = omega (arith, h) in
+    let same : 1 ≤ 1 = omega arith in
+    let none = none_hold 1 (block ∷ blocks) last same (low, rise.1, rise.2) in
+    absurd (omega (arith, none, one)))
+    (λ (h : block.from ≤ 0). omega (arith, h))
+    (cases_lt 0 block.from)
+
+no_tune : (kind : BlockKind) → is_file_header kind ≡ true → kind ≡ kinds.Tune → ⊥
+no_tune kinds.FileHeader e f = absurd (cc)
+no_tune kinds.Tune e f = absurd (cc)
+no_tune kinds.Free e f = absurd (cc)
+
+header_none : (classes : List LineClass) (blocks : List Block) (last : ℕ) → RiseFromTo 0 blocks last → count_by (holds 0) blocks ≡ 1
+    → All (λ (block : Block). (block.kind ≡ kinds.Tune) ↔ (slice_get classes block.from ≡ Some (Field letter_x))) blocks
+    → slice_get classes 0 ≡ Some (Field letter_x) → header_in blocks ≡ None
+header_none classes [] last rise one begin x = refl
+header_none classes (block ∷ blocks) last rise one begin x = ⊎_elim
+    (λ (e : is_file_header block.kind ≡ true).
+    let first = begins_first block blocks last rise one in
+    absurd (no_tune block.kind e ((begin 0 block (omega arith)).1 (ap (slice_get classes) first ∙ x))))
+    (λ (e : is_file_header block.kind ≡ false). simp e)
+    (cases_Bool (is_file_header block.kind))
+
+is_field_x : (x : LineClass) → IsTrue (is_x_line x) → x ≡ Field letter_x
 is_field_x Blank h = absurd (cc)
 is_field_x Comment h = absurd (cc)
-is_field_x (Field letter) h = (letter, refl, h)
+is_field_x (Field letter) h = ap (λ l. Field l) (eqb-true letter letter_x h)
 is_field_x Music h = absurd (cc)
-
-first_tune : (letter : ℕ) (classes : List LineClass) → (letter == letter_x) ≡ true → header_in (blocks_from Nothing 0 (Field letter ∷ classes)) ≡ None
-first_tune letter classes e = simp e (kept_kind (record { kind = kinds.Tune; from = 0; to = 0 + 1 }) (0 + 1) classes refl)
 
 no_header : (classes : List LineClass) → 1 ≤ length classes → BeginTune classes → header_in (blocks_of classes) ≡ None
 no_header [] some begin = absurd (omega arith)
 no_header (class ∷ classes) some begin =
     let x = is_field_x class begin in
-    ap header_in (one_pass (class ∷ classes)) ∙ (ap (λ (c : LineClass). header_in (blocks_from Nothing 0 (c ∷ classes))) x.1 ∙ first_tune x.0 classes x.2)
+    let here : slice_get (class ∷ classes) 0 ≡ Some class = refl in
+    header_none (class ∷ classes) (blocks_of (class ∷ classes)) (length (class ∷ classes)) (blocks_rise (class ∷ classes))
+    (each_in_one (class ∷ classes) 0 class here (λ (e : class ≡ Blank). let bad : Blank ≡ Field letter_x = sym e ∙ x in absurd (cc)) (λ (e : class ≡ Comment). let bad : Comment ≡ Field letter_x = sym e ∙ x in absurd (cc)))
+    (tunes_begin (class ∷ classes)) (ap (λ c. Some c) x)
 
 header_moved : (n : ℕ) (ys : List Block) → header_in ys ≡ None → header_in (map (moved n) ys) ≡ None
 header_moved n [] e = refl
 header_moved n (block ∷ ys) e = ⊎_elim
-    (λ (f : is_file_header block.kind ≡ true). absurd (let bad : Some block ≡ None = simp f e in cc))
+    (λ (f : is_file_header block.kind ≡ true). absurd (let bad : Some block ≡ None = sym (ap (λ b. if b then Some block else None) f) ∙ e in cc))
     (λ (f : is_file_header block.kind ≡ false). simp f)
     (cases_Bool (is_file_header block.kind))
 
