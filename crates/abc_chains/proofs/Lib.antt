@@ -18,3 +18,4 @@ pub mod Spans
 pub mod NewBlocks
 pub mod Renewed
 pub mod Outside
+pub mod Narrow

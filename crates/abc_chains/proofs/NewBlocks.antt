@@ -18,8 +18,9 @@ use Rattle.abc_book.proofs.Stretches.{stretch_is_enough}
 use Rattle.abc_scan.specs.declared.class.LineClass.{LineClass}
 use Rattle.abc_scan.specs.declared.class.LineClass.TheVariants.{Blank, Comment, Field, Music}
 use Rattle.abc_tunebook.specs.Book.{header_in, is_file_header, is_tune, tunes_in}
+use Rattle.abc_chains.specs.Renewing.{start_of}
 use Rattle.abc_chains.proofs.Parts.{drop_past}
-use Rattle.abc_chains.proofs.Spans.{before_are, behind_are, end_start, start_inside, start_of, tunes_before, tunes_behind, tunes_both, tunes_moved, tunes_shifted, tunes_strict}
+use Rattle.abc_chains.proofs.Spans.{before_are, behind_are, tunes_before, tunes_behind, tunes_both, tunes_moved, tunes_shifted, tunes_strict}
 
 begin_x : (classes : List LineClass) (n : ℕ) → slice_get classes n ≡ Some (Field letter_x) → BeginTune (drop n classes)
 begin_x [] n e = absurd (cc)

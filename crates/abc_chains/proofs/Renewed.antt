@@ -37,7 +37,21 @@ bare_read rules text rows read = record {
   cells = map-over cells_in bare rows ∙ read.cells;
 }
 
--- The rows of a text with all its chains, edited.
+-- The rows of a text with all its chains.
+pub placed_read : {State Cell Items Defaults : Type 0} (rules : Rules State Cell Items Defaults) (text : Text) (rows : List (Row Cell)) → AreRows rules text rows → AreRead rules text (placed_from (map bare rows) 0 0 (places_of (blocks_in rules text)))
+placed_read rules text rows are =
+    let read = bare_read rules text rows are in
+    let all = map bare rows in
+    let blocks = blocks_in rules text in
+    let same : blocks ≡ blocks_of (map class_in all) = ap blocks_of (sym read.classes) in
+    let strip = strip_from all 0 0 (places_of blocks) (places_rise all blocks same) in
+    let here = placed_from all 0 0 (places_of blocks) in
+    record {
+      classes = by_strip class_in here all strip (λ l. refl) ∙ read.classes;
+      cells = by_strip cells_in here all strip (λ l. refl) ∙ read.cells;
+    }
+
+-- Edited.
 pub renewed : {State Cell Items Defaults : Type 0} (steps : Steps State Cell Items) (rules : Rules State Cell Items Defaults) (text : Text) (s : Splice) (rows : List (Row Cell)) (old : List (Chained State Cell Items))
     → AreRows rules text rows → AreChains steps rules text old
     → AreRenewed steps rules text s old (edit_of rules s (placed_from (map bare rows) 0 0 (places_of (blocks_in rules text))))

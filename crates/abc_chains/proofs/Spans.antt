@@ -8,11 +8,7 @@ use Rattle.abc_book.specs.Stretch.{blocks_before, blocks_behind, shifted}
 use Rattle.abc_book.specs.declared.block.Block.{Block}
 use Rattle.abc_tunebook.specs.Book.{is_tune, tunes_in}
 use Rattle.abc_chains.specs.Placing.{BlocksRise}
-
--- Where the first of some blocks begins; without one, at the end.
-abbrev pub start_of : List Block → ℕ → ℕ
-start_of [] last = last
-start_of (block ∷ blocks) last = block.from
+use Rattle.abc_chains.specs.Renewing.{start_of}
 
 -- Blocks that rise do so up to where others begin, and those from there on.
 pub rise_front : (at : ℕ) (xs ys : List Block) (last : ℕ) → BlocksRise at (xs ++ ys) last → BlocksRise at xs (start_of ys last)

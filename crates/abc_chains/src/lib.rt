@@ -6,6 +6,7 @@ mod carried;
 mod folded;
 mod lines;
 mod pieces;
+mod renew;
 mod row;
 mod settle;
 mod stretch;
