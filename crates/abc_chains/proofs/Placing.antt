@@ -132,3 +132,7 @@ pub map_at : {A B : Type 0} (f : A → B) (xs : List A) (i : ℕ) (x : A) → x 
 map_at f [] i x is inside = absurd (omega arith)
 map_at f (y ∷ xs) zero x is inside = ap f is
 map_at f (y ∷ xs) (suc i) x is inside = map_at f xs i x is (omega arith)
+
+pub map_more : {A B : Type 0} (g : A → B) (old made : List B) (xs : List A) (i : ℕ) (x : A) → made ≡ old ++ map g (take i xs) → x ≡ get_or xs i x → i < length xs → made ++ g x ∷ [] ≡ old ++ map g (take (i + 1) xs)
+map_more g old made xs i x e is inside =
+    ap (λ l. l ++ g x ∷ []) e ∙ (append_assoc old (map g (take i xs)) (g x ∷ []) ∙ ap (λ l. old ++ l) (sym (map_next g xs i x is inside)))

@@ -20,6 +20,10 @@ abbrev pub start_of : List Block → ℕ → ℕ
 start_of [] last = last
 start_of (block ∷ blocks) last = block.from
 
+-- A splice of lines.
+abbrev pub splice_at : ℕ → ℕ → Text → Splice
+splice_at at removed lines = record { at = at; removed = removed; lines = lines }
+
 -- A stretch that begins with the last tune before an edit, and goes on to the first one behind it.
 pub record IsSpan (tunes : List Block) (count at removed : ℕ) (span : Span) : Type 0 where
   pub order : span.front < span.behind

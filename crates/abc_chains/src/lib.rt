@@ -5,6 +5,7 @@ mod blocks;
 mod carried;
 mod folded;
 mod lines;
+mod made;
 mod pieces;
 mod renew;
 mod row;

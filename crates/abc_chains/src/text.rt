@@ -25,12 +25,12 @@ use std::marker::Model;
 /// Contracts see all of it; that it is what the compiler gives for the text is always so.
 #[derive(Drop)]
 pub struct KeptText<C: Compiler> {
-    compiler: C,
-    lines: LineBuffer,
-    rows: GapList<Row<C::Cell>>,
-    header: Option<Block>,
-    tunes: Vec<Block>,
-    chains: GapList<Shared<Chain<C>>>,
+    pub(crate) compiler: C,
+    pub(crate) lines: LineBuffer,
+    pub(crate) rows: GapList<Row<C::Cell>>,
+    pub(crate) header: Option<Block>,
+    pub(crate) tunes: Vec<Block>,
+    pub(crate) chains: GapList<Shared<Chain<C>>>,
 }
 
 impl<C: Compiler> Model for KeptText<C> {
