@@ -19,3 +19,7 @@ pub mod NewBlocks
 pub mod Renewed
 pub mod Outside
 pub mod Narrow
+pub mod Facts
+pub mod WholeText
+pub mod Narrowed
+pub mod WholeRows

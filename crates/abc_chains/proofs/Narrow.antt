@@ -92,6 +92,7 @@ module _ {State Cell Items Defaults : Type 0} (rules : Rules State Cell Items De
     pub order : span.from ≤ span.to
     pub inside : span.to ≤ length text
     pub count : length old_run ≡ span.to - span.from
+    pub rise : BlocksRise span.from mid_tunes span.to
 
   pub narrow : AreRows rules text rows → IsSpan (tunes_in (blocks_in rules text)) (length text) s.at s.removed span
       → AreRead rules (spliced text s) (edit_of rules s (placed_from (map bare rows) 0 0 (places_of (blocks_in rules text))))
@@ -157,6 +158,7 @@ module _ {State Cell Items Defaults : Type 0} (rules : Rules State Cell Items De
         order = ordered;
         inside = among_text.inside;
         count = count;
+        rise = among_text.here;
       }
     where
       rise_past : (at : ℕ) (xs : List Block) (last : ℕ) → BlocksRise at xs last → at ≤ last

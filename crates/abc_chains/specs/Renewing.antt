@@ -81,3 +81,8 @@ pub record IsRenewed {C State Cell Items Defaults : Type 0} (steps : Steps State
   pub lines_behind : drop (stretch.from + stretch.came) (spliced on.lines.text s) ≡ drop stretch.to on.lines.text
   pub items : AllZip (HasItemsOf (drop 1 on.chains.items)) made taken
   pub untouched : TakesUntouched steps rules on.lines.text s (kept_numbers 0 stretch.front ++ (taken ++ kept_numbers stretch.behind (length on.tunes - stretch.behind)))
+
+-- A new chain of the file header comes with all tunes.
+abbrev pub MayBeAnew : {A : Type 0} → Option A → Stretch → ℕ → Type 0
+MayBeAnew None stretch chains = Unit {0}
+MayBeAnew (Some first) stretch chains = (stretch.front ≡ 0) × (stretch.behind + 1 ≡ chains)

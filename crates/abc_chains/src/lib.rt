@@ -7,6 +7,7 @@ mod folded;
 mod lines;
 mod made;
 mod pieces;
+mod place;
 mod renew;
 mod row;
 mod settle;
