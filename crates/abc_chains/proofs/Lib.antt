@@ -23,3 +23,5 @@ pub mod Facts
 pub mod WholeText
 pub mod Narrowed
 pub mod WholeRows
+pub mod Replaced
+pub mod Prepared

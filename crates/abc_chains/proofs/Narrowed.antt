@@ -2,13 +2,14 @@
 use Rattle.std.proofs.Common.{◌≡◌, ℕ, suc, ◌+◌, ◌-◌, ◌<◌, ◌≤◌, List, [], ◌∷◌, ◌++◌, map, All, length, take, drop, refl, sym, ◌∙◌, ap, subst, arith}
 use Rattle.std.proofs.lemmas.List.{length-take-le}
 use Rattle.std.proofs.lemmas.List.Elements.{All-cons, All-nil, All-take, All-drop}
+use Rattle.abc_book.specs.Block.{blocks_of}
 use Rattle.abc_book.specs.declared.block.Block.{Block}
 use Rattle.abc_fold.specs.Chain.{Chained}
 use Rattle.abc_fold.specs.Steps.{Steps}
 use Rattle.abc_lines.specs.Text.{Text}
 use Rattle.abc_tunebook.specs.Book.{blocks_in, tunes_in}
 use Rattle.abc_tunebook.specs.Rules.{Rules}
-use Rattle.abc_chains.specs.Holding.{IsCarried, class_in}
+use Rattle.abc_chains.specs.Holding.{IsCarried, LiesWithin, class_in}
 use Rattle.abc_chains.specs.Keeping.{places_of}
 use Rattle.abc_chains.specs.Placing.{BlocksRise, placed_from, placed_until}
 use Rattle.abc_chains.specs.Renewing.{IsSpan, splice_at}
@@ -19,7 +20,9 @@ use Rattle.abc_chains.proofs.Edits.{all_both, fresh_row}
 use Rattle.abc_chains.proofs.Meaning.{length-over, map-over}
 use Rattle.abc_chains.proofs.Narrow.{IsNarrow, narrow, old_run}
 use Rattle.abc_chains.proofs.Renewed.{all_mid, bare_read, renewed, stretch_rows}
+use Rattle.abc_chains.proofs.Rising.{tunes_within}
 use Rattle.abc_chains.proofs.Settled.{settled_carried}
+use Rattle.abc_chains.proofs.WholeTunes.{chains_count}
 
 pub bare_carried : {State Cell Items : Type 0} (chains : List (Chained State Cell Items)) (rows : List (Row Cell)) → All (IsCarried chains) (map bare rows)
 bare_carried chains [] = All-nil (IsCarried chains)
@@ -33,6 +36,16 @@ edited_carried chains old new at end all =
 
 pub rows_count : {State Cell Items Defaults : Type 0} (steps : Steps State Cell Items) (rules : Rules State Cell Items Defaults) {C : Type 0} (on : Keeping C State Cell Items) → Stands steps rules on.lines.text on.rows.items on.header on.tunes on.chains.items → length on.rows.items ≡ length on.lines.text
 rows_count steps rules on stands = sym (length-over row_class on.rows.items) ∙ (ap length stands.read.classes ∙ length-over rules.class on.lines.text)
+
+pub tunes_inside : {State Cell Items Defaults : Type 0} (steps : Steps State Cell Items) (rules : Rules State Cell Items Defaults) {C : Type 0} (on : Keeping C State Cell Items) → Stands steps rules on.lines.text on.rows.items on.header on.tunes on.chains.items → All (LiesWithin (length on.lines.text)) on.tunes
+tunes_inside steps rules on stands =
+    let read = bare_read rules on.lines.text on.rows.items stands.read in
+    let same : blocks_in rules on.lines.text ≡ blocks_of (map class_in (map bare on.rows.items)) = ap blocks_of (sym read.classes) in
+    subst (λ n. All (LiesWithin n) on.tunes) (length-over bare on.rows.items ∙ rows_count steps rules on stands)
+    (subst (All (LiesWithin (length (map bare on.rows.items)))) (sym stands.tunes_are) (tunes_within (map bare on.rows.items) (blocks_in rules on.lines.text) same))
+
+pub chain_total : {State Cell Items Defaults : Type 0} (steps : Steps State Cell Items) (rules : Rules State Cell Items Defaults) {C : Type 0} (on : Keeping C State Cell Items) → Stands steps rules on.lines.text on.rows.items on.header on.tunes on.chains.items → length on.chains.items ≡ length on.tunes + 1
+chain_total steps rules on stands = chains_count steps rules on.lines.text on.chains.items stands.chains_are ∙ ap (λ (t : List Block). length t + 1) (sym stands.tunes_are)
 
 module _ {C State Cell Items Defaults : Type 0} (steps : Steps State Cell Items) (rules : Rules State Cell Items Defaults) (on : Keeping C State Cell Items) (at removed : ℕ) (span : Span)
     (stands : Stands steps rules on.lines.text on.rows.items on.header on.tunes on.chains.items) (is : IsSpan on.tunes (length on.lines.text) at removed span) where

@@ -136,3 +136,25 @@ map_at f (y ∷ xs) (suc i) x is inside = map_at f xs i x is (omega arith)
 pub map_more : {A B : Type 0} (g : A → B) (old made : List B) (xs : List A) (i : ℕ) (x : A) → made ≡ old ++ map g (take i xs) → x ≡ get_or xs i x → i < length xs → made ++ g x ∷ [] ≡ old ++ map g (take (i + 1) xs)
 map_more g old made xs i x e is inside =
     ap (λ l. l ++ g x ∷ []) e ∙ (append_assoc old (map g (take i xs)) (g x ∷ []) ∙ ap (λ l. old ++ l) (sym (map_next g xs i x is inside)))
+
+pub between_next : {A B : Type 0} (g : A → B) (old made : List B) (xs : List A) (from i : ℕ) (x : A) → made ≡ old ++ map g (take (i - from) (drop from xs)) → from ≤ i → i < length xs → x ≡ get_or xs i x → made ++ g x ∷ [] ≡ old ++ map g (take (i + 1 - from) (drop from xs))
+between_next g old made xs from i x e order inside is =
+    ap (λ l. l ++ g x ∷ []) e ∙ (append_assoc old (map g (take (i - from) (drop from xs))) (g x ∷ [])
+    ∙ ap (λ l. old ++ l) (sym (ap (map g) (one_more xs from i x order (slice_get_read xs (length xs) i x refl inside is)) ∙ map-append g (take (i - from) (drop from xs)) (x ∷ []))))
+
+pub between_end : {A B : Type 0} (g : A → B) (xs : List A) (from i : ℕ) → from ≤ length xs → length xs ≤ i → map g (take (i - from) (drop from xs)) ≡ map g (drop from xs)
+between_end g xs from i h done = ap (map g) (take_whole (i - from) (drop from xs) (let e = length-drop from xs in omega (arith, e, done, h)))
+
+pub copy_next : {A : Type 0} (old made xs : List A) (i : ℕ) (x : A) → made ≡ old ++ take i xs → x ≡ get_or xs i x → i < length xs → made ++ x ∷ [] ≡ old ++ take (i + 1) xs
+copy_next old made xs i x e is inside =
+    ap (λ l. l ++ x ∷ []) e ∙ (append_assoc old (take i xs) (x ∷ []) ∙ ap (λ l. old ++ l) (ap (λ y. take i xs ++ y ∷ []) is ∙ sym (take_more xs i x inside)))
+
+pub copy_end : {A : Type 0} (xs : List A) (i : ℕ) → length xs ≤ i → take i xs ≡ xs
+copy_end xs i done = take_whole i xs done
+
+-- What holds of all behind a place holds of each there.
+pub beyond_at : {A : Type 0} (P : A → Type 0) (xs : List A) (from i : ℕ) (d : A) → ((k : ℕ) (e : A) → k < length (drop from xs) → P (get_or (drop from xs) k e)) → from ≤ i → i < length xs → P (get_or xs i d)
+beyond_at P [] from i d all order inside = absurd (omega arith)
+beyond_at P (x ∷ xs) zero i d all order inside = all i d inside
+beyond_at P (x ∷ xs) (suc from) zero d all order inside = absurd (omega arith)
+beyond_at P (x ∷ xs) (suc from) (suc i) d all order inside = beyond_at P xs from i d all (omega arith) (omega arith)

@@ -15,7 +15,7 @@ use crate::folded::{header_chain, opening_behind};
 use crate::renew::{Folded, folded_tunes};
 use crate::row::Row;
 use crate::settle::settled;
-use crate::stretch::{Span, Stretch};
+use crate::stretch::{Span, Stretch, span_of};
 use crate::text::KeptText;
 use abc_book::Block;
 use abc_compiler::Compiler;
@@ -176,5 +176,25 @@ impl<C: Compiler> KeptText<C> {
             first: Some(first),
             folded,
         })
+    }
+
+    /// What an edit makes anew.
+    pub(crate) fn renewed(
+        &self,
+        at: usize,
+        removed: usize,
+        new: &[Row<C::Cell>],
+        work: &mut C::Work,
+    ) -> Result<Renewed<C>, AllocError>
+        requires { at + removed ≤ length self.now.lines.text }
+        ensures renewed { let c = self.now.compiler in (lines : Text) → new.now ≡ map (new_row (C.rules c)) lines →
+            IfOk result (λ r. IsRenewed (steps_of (C.next c) (C.gives c) (C.alike c)) (C.rules c) self.now (splice_at at removed lines) r.stretch r.header r.first r.folded.tunes.items r.folded.made.items r.folded.taken.items) }
+        ensures counted { let c = self.now.compiler in (lines : Text) → new.now ≡ map (new_row (C.rules c)) lines →
+            IsRaisedUpTo (fresh_after (steps_of (C.next c) (C.gives c) (C.alike c)) (C.rules c) self.now.lines.text (splice_at at removed lines)) (C.Work.counts work.old) (C.Work.counts work.new) }
+    {
+        match span_of(&self.tunes, self.lines.len(), at, removed) {
+            None => self.whole(at, removed, new, work),
+            Some(span) => self.narrow(span, at, removed, new, work),
+        }
     }
 }

@@ -6,6 +6,7 @@ ghost use Rattle.abc_chains.specs.Holding.{LiesWithin};
 ghost use Rattle.abc_chains.specs.Renewing.{MayBeAnew, chains_after, tunes_after};
 ghost use Rattle.abc_chains.specs.Standing.{LiesBehind, gone, moved_on};
 ghost use Rattle.abc_lines.specs.GapList.{replaced_run};
+ghost use Rattle.abc_lines.specs.declared.limits.TheConstants.{MOST_LINES};
 
 use crate::made::Renewed;
 use crate::row::Row;
@@ -126,6 +127,7 @@ impl<C: Compiler> KeptText<C> {
         ensures after { IfOk result (λ patch. patch.after.items ≡ chains_after first.now stretch self.now.chains.items made.now) }
     {
         let alloc = self.lines.allocator();
+        let all = self.chains.len();
         let mut new = Vec::new(alloc);
         match first {
             None => {
@@ -136,7 +138,7 @@ impl<C: Compiler> KeptText<C> {
             Some(first) => {
                 new.push(first.share()?)?;
                 append_shares(&mut new, made)?;
-                self.chains.splice_prepare(alloc, 0, self.chains.len(), new)
+                self.chains.splice_prepare(alloc, 0, all, new)
             }
         }
     }
@@ -156,7 +158,7 @@ impl<C: Compiler> KeptText<C> {
         requires beyond { All (LiesBehind renewed.now.stretch) (drop renewed.now.stretch.behind self.now.tunes) }
         requires within { All (LiesWithin renewed.now.stretch.came) renewed.now.folded.tunes.items }
         requires anew { MayBeAnew renewed.now.first renewed.now.stretch (length self.now.chains.items) }
-        requires numbers { length self.now.lines.text + renewed.now.stretch.came ≤ usize.MAX }
+        requires numbers { renewed.now.stretch.came ≤ MOST_LINES }
         requires from { renewed.now.stretch.from ≤ length self.now.lines.text }
         ensures rows_on { IfOk result (λ placed. placed.rows.on ≡ self.now.rows) }
         ensures rows { IfOk result (λ placed. placed.rows.after.items ≡ replaced_run self.now.rows.items at removed new.items) }

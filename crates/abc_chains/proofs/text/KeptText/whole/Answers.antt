@@ -158,9 +158,9 @@ returns-clause-renewed g c = λ lines new.
     let begun : own ≡ rules'.tune (behind_chain c.header_in-header.result first) = c.opening_behind-opening.ensures ∙ ap (λ (x : Chained g.row.C-State.Denot g.row.C-Cell.Denot g.row.C-Items.Denot). rules'.tune (behind_chain c.header_in-header.result x)) c.get.ensures in
     let head = subst (λ (r : List (CarriedRow g.row.C-Cell.Denot)). IsHeader steps rules'.header r first c.header_in-header.result) (c.deref-6.ensures.value ∙ sym c.deref-7.ensures.value) c.in_ok-first.ensures.chain in
     let folded = c.in_ok-folded.folded in
-    let came : c.len-came.result ≡ length c.deref-7.result.now = c.len-came.ensures ∙ sym (ap length c.deref-7.ensures.value) in
+    let came : c.len-came.result ≡ length c.deref-7.result.now = c.len-came.ensures ∙ sym c.deref-7.ensures.len in
     let to : c.len-count.result ≡ length c.self.inside.lines.text = c.len-count.ensures.count ∙ rows_count steps rules' on c.self.invariant in
-    let behind : c.len.result ≡ length c.self.inside.tunes.items = c.len.ensures in
+    let behind : c.len.result ≡ length c.self.inside.tunes.items = c.len.ensures ∙ (sym c.deref.ensures.len ∙ ap length c.deref.ensures.value) in
     let stretch : Stretch = record { front = 0; behind = c.len.result; from = 0; to = c.len-count.result; came = c.len-came.result } in
     let same : stretch ≡ record { front = 0; behind = length c.self.inside.tunes.items; from = 0; to = length c.self.inside.lines.text; came = length c.deref-7.result.now } = λ i. record { front = 0; behind = behind i; from = 0; to = to i; came = came i } in
     let made = whole_renewed steps rules' on (splice_at c.args.at c.args.removed lines) laws lawful c.self.invariant inside c.deref-7.result.now runs own first c.header_in-header.result c.in_ok-blocks.blocks.items folded.tunes.items folded.made.items folded.taken.items stretch same blocks header head begun (c.in_ok-folded.ensures.tunes ∙ ap tunes_in c.deref-8.ensures.value) c.in_ok-folded.ensures.chains c.in_ok-folded.ensures.items c.in_ok-folded.ensures.along in
