@@ -44,7 +44,7 @@ new_same : {State Cell Items Defaults A : Type 0} (rules : Rules State Cell Item
 new_same rules f h [] each = refl
 new_same rules f h (line ∷ lines) each = λ i. each line i ∷ new_same rules f h lines each i
 
-spliced_is : (text : Text) (s : Splice) → spliced text s ≡ take s.at text ++ (s.lines ++ drop (s.at + s.removed) text)
+pub spliced_is : (text : Text) (s : Splice) → spliced text s ≡ take s.at text ++ (s.lines ++ drop (s.at + s.removed) text)
 unfolding spliced
 spliced_is text s = append_assoc (take s.at text) s.lines (drop (s.at + s.removed) text)
 

@@ -56,7 +56,7 @@ chain_made steps read own opening text rows chain block laws alike cells made = 
   cells = made.cells ∙ block_cells read rows text block cells;
 }
 
-tunes_made : {State Cell Items : Type 0} (steps : Steps State Cell Items) (read : List ℕ → List Cell) (own opening : State) (text : Text) (rows : List (CarriedRow Cell)) (chains : List (Chained State Cell Items)) (blocks : List Block)
+pub tunes_made : {State Cell Items : Type 0} (steps : Steps State Cell Items) (read : List ℕ → List Cell) (own opening : State) (text : Text) (rows : List (CarriedRow Cell)) (chains : List (Chained State Cell Items)) (blocks : List Block)
     → IsResumable steps → IsAlike steps own opening → map cells_in rows ≡ map read text → AllZip (IsChain steps own rows) chains blocks → AllZip (IsChainOf steps read opening text) chains blocks
 tunes_made steps read own opening text rows [] [] laws alike cells made = tt
 tunes_made steps read own opening text rows [] (block ∷ blocks) laws alike cells made = absurd made

@@ -21,7 +21,7 @@ use Rattle.abc_chains.proofs.Edits.{all_both}
 use Rattle.abc_chains.proofs.Meaning.{block_cells, map-over, read_drop}
 use Rattle.abc_chains.proofs.Rising.{places_rise}
 
-split : {A : Type 0} (xs : List A) (at to : ℕ) → at ≤ to → drop at xs ≡ take (to - at) (drop at xs) ++ drop to xs
+pub split : {A : Type 0} (xs : List A) (at to : ℕ) → at ≤ to → drop at xs ≡ take (to - at) (drop at xs) ++ drop to xs
 split xs at to h =
     let here : at + (to - at) ≡ to = omega arith in
     sym (take-append-drop (to - at) (drop at xs)) ∙ ap (λ l. take (to - at) (drop at xs) ++ l) (drop-drop (to - at) at xs ∙ ap (λ n. drop n xs) here)
@@ -36,7 +36,7 @@ strip_along : {Cell : Type 0} (source first : ℕ) (rows : List (CarriedRow Cell
 strip_along source first [] = refl
 strip_along source first (row ∷ rows) = ap (λ l. placed None row ∷ l) (strip_along source (first + length row.cells) rows)
 
-strip_from : {Cell : Type 0} (rows : List (CarriedRow Cell)) (at source : ℕ) (blocks : List Block) → BlocksRise at blocks (length rows) → map (placed None) (placed_from rows at source blocks) ≡ map (placed None) (drop at rows)
+pub strip_from : {Cell : Type 0} (rows : List (CarriedRow Cell)) (at source : ℕ) (blocks : List Block) → BlocksRise at blocks (length rows) → map (placed None) (placed_from rows at source blocks) ≡ map (placed None) (drop at rows)
 strip_from rows at source [] rise = strip_free (drop at rows)
 strip_from rows at source (block ∷ blocks) rise =
     let a = between rows at block.from in
@@ -48,7 +48,7 @@ strip_from rows at source (block ∷ blocks) rise =
     ∙ (ap (λ l. map (placed None) a ++ l) (sym (map-append (placed None) b (drop block.to rows)) ∙ ap (map (placed None)) (sym (split rows block.from block.to rise.1)))
     ∙ (sym (map-append (placed None) a (drop block.from rows)) ∙ ap (map (placed None)) (sym (split rows at block.from rise.0))))))
 
-by_strip : {Cell A : Type 0} (h : CarriedRow Cell → A) (xs ys : List (CarriedRow Cell)) → map (placed None) xs ≡ map (placed None) ys → ((l : CarriedRow Cell) → h (placed None l) ≡ h l) → map h xs ≡ map h ys
+pub by_strip : {Cell A : Type 0} (h : CarriedRow Cell → A) (xs ys : List (CarriedRow Cell)) → map (placed None) xs ≡ map (placed None) ys → ((l : CarriedRow Cell) → h (placed None l) ≡ h l) → map h xs ≡ map h ys
 by_strip h xs ys e same = sym (each h xs same) ∙ (sym (map-over h (placed None) xs) ∙ (ap (map h) e ∙ (map-over h (placed None) ys ∙ each h ys same)))
   where
     each : {Cell A : Type 0} (h : CarriedRow Cell → A) (xs : List (CarriedRow Cell)) → ((l : CarriedRow Cell) → h (placed None l) ≡ h l) → map (λ l. h (placed None l)) xs ≡ map h xs
@@ -102,7 +102,7 @@ header_cells : {State Cell Items : Type 0} (steps : Steps State Cell Items) (rea
 header_cells {State = State} {Cell = Cell} {Items = Items} steps read first text rows chain None e own = ap (λ (c : Chained State Cell Items). c.cells) own
 header_cells steps read first text rows chain (Some block) e own = own.cells ∙ sym (block_cells read rows text block e)
 
-settled_carried : {State Cell Items Defaults : Type 0} (steps : Steps State Cell Items) (rules : Rules State Cell Items Defaults) (text : Text) (rows : List (CarriedRow Cell)) (chains : List (Chained State Cell Items))
+pub settled_carried : {State Cell Items Defaults : Type 0} (steps : Steps State Cell Items) (rules : Rules State Cell Items Defaults) (text : Text) (rows : List (CarriedRow Cell)) (chains : List (Chained State Cell Items))
     → map cells_in rows ≡ map rules.cells text → AreChains steps rules text chains → All (IsCarried chains) (placed_from rows 0 0 (places_of (blocks_in rules text)))
 settled_carried steps rules text rows [] e own = absurd own
 settled_carried steps rules text rows (chain ∷ chains) e own =
@@ -132,7 +132,7 @@ between_read : {Cell : Type 0} (read : List ℕ → List Cell) (rows : List (Car
 between_read read rows text from to e =
     sym (take-map cells_in (to - from) (drop from rows)) ∙ (ap (take (to - from)) (read_drop read from rows text e) ∙ take-map read (to - from) (drop from text))
 
-from_origins : {State Cell : Type 0} (read : List ℕ → List Cell) (opening : State) (rows : List (CarriedRow Cell)) (text : Text) (at source : ℕ) (blocks : List Block) → map cells_in rows ≡ map read text → map origin_in (placed_from rows at source blocks) ≡ origins_from read text at (tune_chains source opening blocks)
+pub from_origins : {State Cell : Type 0} (read : List ℕ → List Cell) (opening : State) (rows : List (CarriedRow Cell)) (text : Text) (at source : ℕ) (blocks : List Block) → map cells_in rows ≡ map read text → map origin_in (placed_from rows at source blocks) ≡ origins_from read text at (tune_chains source opening blocks)
 from_origins read opening rows text at source [] e = free_origins read (drop at rows) (drop at text) (read_drop read at rows text e)
 from_origins read opening rows text at source (block ∷ blocks) e =
     let a = between rows at block.from in
@@ -145,6 +145,6 @@ from_origins read opening rows text at source (block ∷ blocks) e =
     ∙ ((λ i. free i ++ map-append origin_in (placed_along source 0 b) tail i)
     ∙ ap (λ l. no_origins (take (block.from - at) (drop at text)) ++ l) (λ i. own i ++ from_origins read opening rows text block.to (source + 1) blocks e i))
 
-all_origins : {State Cell : Type 0} (read : List ℕ → List Cell) (first opening : State) (text : Text) (header : Option Block) (blocks : List Block) → origins_from read text 0 (tune_chains 0 opening (header_place header ∷ blocks)) ≡ origins_from read text 0 (header_chain first header ++ tune_chains 1 opening blocks)
+pub all_origins : {State Cell : Type 0} (read : List ℕ → List Cell) (first opening : State) (text : Text) (header : Option Block) (blocks : List Block) → origins_from read text 0 (tune_chains 0 opening (header_place header ∷ blocks)) ≡ origins_from read text 0 (header_chain first header ++ tune_chains 1 opening blocks)
 all_origins read first opening text None blocks = refl
 all_origins read first opening text (Some block) blocks = refl

@@ -20,6 +20,13 @@ placed_from rows at source (block ∷ blocks) =
     map (placed None) (between rows at block.from)
     ++ (placed_along source 0 (between rows block.from block.to) ++ placed_from rows block.to (source + 1) blocks)
 
+-- The same, up to another line.
+abbrev pub placed_until : {Cell : Type 0} → List (CarriedRow Cell) → ℕ → ℕ → ℕ → List Block → List (CarriedRow Cell)
+placed_until rows at to source [] = map (placed None) (between rows at to)
+placed_until rows at to source (block ∷ blocks) =
+    map (placed None) (between rows at block.from)
+    ++ (placed_along source 0 (between rows block.from block.to) ++ placed_until rows block.to to (source + 1) blocks)
+
 -- Blocks follow one another within so many lines.
 abbrev pub BlocksRise : ℕ → List Block → ℕ → Type 0
 BlocksRise at [] last = at ≤ last

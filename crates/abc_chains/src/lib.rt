@@ -1,10 +1,19 @@
 //! A text with its file header and tunes folded: what is kept of them from edit to edit.
 #![tactic(auto)]
 
+mod blocks;
+mod carried;
+mod folded;
 mod lines;
+mod made;
+mod pieces;
+mod place;
+mod renew;
 mod row;
+mod settle;
 mod stretch;
 mod text;
+mod whole;
 
 pub use row::{Row, read};
 pub use stretch::Stretch;

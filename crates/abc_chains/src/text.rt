@@ -1,17 +1,22 @@
 //! A text that is kept with the chains of its file header and its tunes, and edits of it in two steps: one that needs
 //! memory and changes nothing, and one that needs none and changes the text.
 
-ghost use Rattle.std.specs.Prelude.{◌≡◌, ◌≢◌, ◌≤◌, [], ◌∷◌, IfOk, IfErr, Ok, None, drop, length, option_copied, slice_get};
+ghost use Rattle.std.specs.Prelude.{◌≡◌, ◌≢◌, ◌+◌, ◌≤◌, [], ◌∷◌, IfOk, IfErr, Ok, None, drop, length, map, option_copied, slice_get};
 ghost use Rattle.std.specs.List.{AllZip};
-ghost use Rattle.abc_chains.specs.Standing.{IsStretch, IsWorkUpTo, Stands, all_taken};
+ghost use Rattle.abc_chains.specs.Standing.{AreRows, IsStretch, IsWorkUpTo, Stands, all_taken};
+ghost use Rattle.abc_book.specs.Laws.{moved};
+ghost use Rattle.abc_chains.specs.Renewing.{IsRenewed, chains_after, tunes_after};
 ghost use Rattle.abc_chains.specs.Taking.{HasItemsOf, TakesUntouched};
 ghost use Rattle.abc_fold.specs.Chain.{no_cells};
 ghost use Rattle.abc_fold.specs.Steps.{steps_of};
 ghost use Rattle.abc_lines.specs.Edits.{Refuses, replaced};
-ghost use Rattle.abc_lines.specs.Text.{IsText, splice_from};
+ghost use Rattle.abc_lines.specs.Text.{IsText, splice_from, spliced};
 ghost use Rattle.abc_rework.specs.Fresh.{fresh_after};
 
-use crate::row::Row;
+use crate::made::Renewed;
+use crate::place::Placed;
+use crate::renew::Folded;
+use crate::row::{Row, read};
 use crate::stretch::Stretch;
 use abc_book::Block;
 use abc_compiler::Compiler;
@@ -25,12 +30,12 @@ use std::marker::Model;
 /// Contracts see all of it; that it is what the compiler gives for the text is always so.
 #[derive(Drop)]
 pub struct KeptText<C: Compiler> {
-    compiler: C,
-    lines: LineBuffer,
-    rows: GapList<Row<C::Cell>>,
-    header: Option<Block>,
-    tunes: Vec<Block>,
-    chains: GapList<Shared<Chain<C>>>,
+    pub(crate) compiler: C,
+    pub(crate) lines: LineBuffer,
+    pub(crate) rows: GapList<Row<C::Cell>>,
+    pub(crate) header: Option<Block>,
+    pub(crate) tunes: Vec<Block>,
+    pub(crate) chains: GapList<Shared<Chain<C>>>,
 }
 
 impl<C: Compiler> Model for KeptText<C> {
@@ -68,6 +73,12 @@ impl<C: Compiler> Model for KeptPatch<C> {
     ghost view = { λ p. record { on = p.on.value; text = p.lines.after; rows = p.rows.after.items; header = p.header; tunes = p.tunes.items; chains = p.chains.after.items; stretch = p.stretch; made = p.made.items; places = p.places.items; taken = p.taken.items } };
 
     ghost invariant = { λ p. IsPatch (steps_of (C.next p.on.value.compiler) (C.gives p.on.value.compiler) (C.alike p.on.value.compiler)) (C.rules p.on.value.compiler) p.on.value p.lines p.rows p.header p.tunes.items p.chains };
+}
+
+/// What an edit makes anew, and what it puts in place.
+struct Made<C: Compiler> {
+    placed: Placed<C>,
+    renewed: Renewed<C>,
 }
 
 impl<C: Compiler> KeptText<C> {
@@ -131,6 +142,36 @@ impl<C: Compiler> KeptText<C> {
         self.chains.get(i)
     }
 
+    /// What an edit makes anew, and what it puts in the place of what is kept, prepared. Each new line is read once, and
+    /// each step folds a fresh cell.
+    fn made(
+        &self,
+        at: usize,
+        removed: usize,
+        lines: &[Vec<u8>],
+        work: &mut C::Work,
+    ) -> Result<Made<C>, AllocError>
+        requires inside { at + removed ≤ length self.now.lines.text }
+        requires limits { IsText (spliced self.now.lines.text (splice_from at removed lines.now)) }
+        ensures renewed { let c = self.now.compiler in
+            IfOk result (λ made. IsRenewed (steps_of (C.next c) (C.gives c) (C.alike c)) (C.rules c) self.now (splice_from at removed lines.now) made.renewed.stretch made.renewed.header made.renewed.first made.renewed.folded.tunes.items made.renewed.folded.made.items made.renewed.folded.taken.items) }
+        ensures rows_on { IfOk result (λ made. made.placed.rows.on ≡ self.now.rows) }
+        ensures rows { let c = self.now.compiler in
+            IfOk result (λ made. AreRows (C.rules c) (spliced self.now.lines.text (splice_from at removed lines.now)) made.placed.rows.after.items) }
+        ensures chains_on { IfOk result (λ made. made.placed.chains.on ≡ self.now.chains) }
+        ensures chains { IfOk result (λ made. made.placed.chains.after.items ≡ chains_after made.renewed.first made.renewed.stretch self.now.chains.items made.renewed.folded.made.items) }
+        ensures tunes { IfOk result (λ made. made.placed.tunes.items ≡ tunes_after made.renewed.stretch self.now.tunes made.renewed.folded.tunes.items) }
+        ensures places { IfOk result (λ made. made.placed.places.items ≡ map (moved made.renewed.stretch.from) made.renewed.folded.tunes.items) }
+        ensures counted { let c = self.now.compiler in
+            IsWorkUpTo (length lines.now) (fresh_after (steps_of (C.next c) (C.gives c) (C.alike c)) (C.rules c) self.now.lines.text (splice_from at removed lines.now)) (C.Work.counts work.old) (C.Work.counts work.new) }
+    {
+        let alloc = self.lines.allocator();
+        let new = read(alloc, &self.compiler, lines, work)?;
+        let renewed = self.renewed(at, removed, &new, work)?;
+        let placed = self.place(at, removed, new, &renewed)?;
+        Ok(Made { placed, renewed })
+    }
+
     /// Prepares to leave out the `removed` lines that follow the first `at`, and to put copies of `lines` in their
     /// place. Nothing changes. Each new line is scanned at most once, and no step is folded but of a fresh cell, also
     /// where memory is wanting.
@@ -156,8 +197,44 @@ impl<C: Compiler> KeptText<C> {
             IsWorkUpTo (length lines.now) (fresh_after (steps_of (C.next c) (C.gives c) (C.alike c)) (C.rules c) self.now.lines.text (splice_from at removed lines.now)) (C.Work.counts work.old) (C.Work.counts work.new) }
     {
         let patch = self.lines.splice_prepare(at, removed, lines)?;
-        patch.drop_patch();
-        Err(EditError::OutOfMemory)
+        match self.made(at, removed, lines, work) {
+            Ok(made) => {
+                let Made { placed, renewed } = made;
+                let Placed {
+                    rows,
+                    chains,
+                    tunes,
+                    places,
+                } = placed;
+                let Renewed {
+                    stretch,
+                    header,
+                    first: _,
+                    folded,
+                } = renewed;
+                let Folded {
+                    tunes: _,
+                    made,
+                    taken,
+                } = folded;
+                Ok(KeptPatch {
+                    on: Seen::of(self),
+                    lines: patch,
+                    rows,
+                    header,
+                    tunes,
+                    chains,
+                    stretch,
+                    made,
+                    places,
+                    taken,
+                })
+            }
+            Err(_) => {
+                patch.drop_patch();
+                Err(EditError::OutOfMemory)
+            }
+        }
     }
 
     /// Puts a prepared text in place, without memory. The patch belongs to the text as it is now.
