@@ -20,7 +20,7 @@ use Rattle.abc_chains.specs.Keeping.{AreChains, IsHeaderOf, behind_chain, places
 use Rattle.abc_chains.specs.Placing.{placed_from}
 use Rattle.abc_chains.specs.Renewing.{IsRenewed, IsSpan, chains_after, tunes_after}
 use Rattle.abc_chains.specs.Rows.{CarriedRow, Row, bare}
-use Rattle.abc_chains.specs.Standing.{AreRows, Keeping, LiesBefore, LiesBehind, Stands, kept_numbers}
+use Rattle.abc_chains.specs.Standing.{AreRows, Keeping, LiesAmid, LiesBefore, LiesBehind, Stands, kept_numbers}
 use Rattle.abc_chains.specs.Taking.{GoesAlong, HasItemsOf, TakesUntouched}
 use Rattle.abc_chains.specs.declared.stretch.Span.{Span}
 use Rattle.abc_chains.specs.declared.stretch.Stretch.{Stretch}
@@ -32,7 +32,7 @@ use Rattle.abc_chains.proofs.Outside.{HeaderEnds, StartsFrom, chains_stay, kept_
 use Rattle.abc_chains.proofs.Parts.{zip_both, zip_given, zip_same}
 use Rattle.abc_chains.proofs.Renewed.{AreRenewed, Parted, all_mid, chain_moved, renewed, rows_moved, steps_moved, stretch_rows}
 use Rattle.abc_chains.proofs.Rising.{tunes_within}
-use Rattle.abc_chains.proofs.Spans.{Ends}
+use Rattle.abc_chains.proofs.Spans.{Ends, rise_amid}
 use Rattle.abc_chains.proofs.Untouched.{takes_untouched}
 use Rattle.abc_chains.proofs.WholeTunes.{zip_length}
 use Rattle.std.proofs.lemmas.List.Sums.{sum_by-cons}
@@ -212,6 +212,7 @@ module _ {C State Cell Items Defaults : Type 0} (steps : Steps State Cell Items)
         before = all_as (Ends span.from) (LiesBefore span_stretch) (take span.front on.tunes) (λ b h. h.1) before;
         beyond = all_as (StartsFrom span.to) (LiesBehind span_stretch) (drop span.behind on.tunes) (λ b h. h.0) behind;
         among = within;
+        amid = subst (λ (t : List Block). All (LiesAmid span_stretch) (take (span.behind - span.front) (drop span.front t))) (sym same) (rise_amid span.from span.from _ span.to (omega arith) facts.rise);
         keeps = inl (record {
           none = refl;
           header_stays = refl;

@@ -82,6 +82,7 @@ module _ {C State Cell Items Defaults : Type 0} (steps : Steps State Cell Items)
         before = renewed.before;
         beyond = renewed.beyond;
         among = subst (All (LiesAmong stretch)) (sym p) (all_among stretch tunes renewed.among);
+        amid = renewed.amid;
         header_is = ⊎_elim
             (λ (stays : Stays first header on.header stretch). inr (record {
               header = stays.header_stays;

@@ -25,6 +25,13 @@ pub rise_to : (at : ℕ) (blocks : List Block) (last : ℕ) → BlocksRise at bl
 rise_to at [] last rise = rise
 rise_to at (block ∷ blocks) last rise = let more = rise_to block.to blocks last rise.2 in omega (arith, rise.0, rise.1, more)
 
+-- Each lies between where they begin and where they end.
+pub rise_amid : (low at : ℕ) (blocks : List Block) (last : ℕ) → low ≤ at → BlocksRise at blocks last → All (λ (block : Block). (low ≤ block.from) × (block.to ≤ last)) blocks
+rise_amid low at [] last least rise = All-nil (λ (block : Block). (low ≤ block.from) × (block.to ≤ last))
+rise_amid low at (block ∷ blocks) last least rise =
+    All-cons (λ (block : Block). (low ≤ block.from) × (block.to ≤ last)) block blocks (omega (arith, least, rise.0), rise_to block.to blocks last rise.2)
+    (rise_amid low block.to blocks last (omega (arith, least, rise.0, rise.1)) rise.2)
+
 pub start_inside : (at : ℕ) (xs ys : List Block) (last : ℕ) → BlocksRise at (xs ++ ys) last → (at ≤ start_of ys last) × (start_of ys last ≤ last)
 start_inside at xs ys last rise = (rise_to at xs (start_of ys last) (rise_front at xs ys last rise), rise_to (start_of ys last) ys last (rise_back at xs ys last rise))
 

@@ -1,7 +1,7 @@
 -- A text whose file header may change is made anew as a whole.
 use Rattle.std.proofs.Common.{◌≡◌, ◌⊎◌, ℕ, zero, suc, ◌+◌, ◌-◌, ◌<◌, ◌≤◌, List, [], ◌∷◌, ◌++◌, map, Option, Some, None, All, IsSome, length, take, drop, get_or, refl, sym, ◌∙◌, ap, subst, arith, append_assoc, length-append, length-drop, inl, inr}
 use Rattle.std.proofs.lemmas.List.{length-take-le}
-use Rattle.std.proofs.lemmas.List.Elements.{All-nil}
+use Rattle.std.proofs.lemmas.List.Elements.{All-drop, All-nil, All-take}
 use Rattle.std.specs.List.{AllZip, sum_by}
 use Rattle.abc_book.specs.Block.{blocks_of}
 use Rattle.abc_book.specs.Laws.{moved}
@@ -18,12 +18,13 @@ use Rattle.abc_chains.specs.Keeping.{AreChains, IsHeader, behind_chain, places_o
 use Rattle.abc_chains.specs.Placing.{between, placed_along, placed_from, placed_until}
 use Rattle.abc_chains.specs.Renewing.{IsRenewed, chains_after, tunes_after}
 use Rattle.abc_chains.specs.Rows.{CarriedRow, Row, bare, placed}
-use Rattle.abc_chains.specs.Standing.{Keeping, LiesBefore, LiesBehind, Stands, kept_numbers, moved_on}
+use Rattle.abc_chains.specs.Standing.{Keeping, LiesAmid, LiesBefore, LiesBehind, Stands, kept_numbers, moved_on}
 use Rattle.abc_chains.specs.Taking.{GoesAlong, HasItemsOf}
 use Rattle.abc_chains.specs.declared.stretch.Stretch.{Stretch}
 use Rattle.abc_chains.proofs.Edits.{edit_of, spliced_is}
 use Rattle.abc_chains.proofs.Facts.{taken_all}
 use Rattle.abc_chains.proofs.Meaning.{length-over}
+use Rattle.abc_chains.proofs.Narrowed.{tunes_inside}
 use Rattle.abc_chains.proofs.Opening.{chains_made, folds_alike, own_opening}
 use Rattle.abc_chains.proofs.Outside.{lines_behind}
 use Rattle.abc_chains.proofs.Parts.{zip_same}
@@ -125,6 +126,7 @@ module _ {C State Cell Items Defaults : Type 0} (steps : Steps State Cell Items)
       let counted = count_run in
       let behind_lines = lines_behind text s stretch.from (stretch.to - stretch.from) stretch.came (omega (arith, from)) (omega (arith, from, to, inside)) (omega (arith, from, to)) (omega (arith, came, counted, from, to)) in
       let sum : stretch.from + (stretch.to - stretch.from) ≡ stretch.to = omega (arith, from) in
+      let amid : All (LiesAmid stretch) on.tunes = λ k d there. let within = tunes_inside steps rules on stands k d there in (omega (arith, from), omega (arith, to, within.1)) in
       record {
         order = omega (arith, front);
         most = omega (arith, behind);
@@ -139,6 +141,7 @@ module _ {C State Cell Items Defaults : Type 0} (steps : Steps State Cell Items)
         before = subst (λ n. All (LiesBefore stretch) (take n on.tunes)) (sym front) (All-nil (LiesBefore stretch));
         beyond = subst (λ (l : List Block). All (LiesBehind stretch) l) (sym (ap (λ n. drop n on.tunes) behind ∙ dropped on.tunes)) (All-nil (LiesBehind stretch));
         among = subst (λ n. All (LiesWithin n) tunes) (sym came) within;
+        amid = All-take (LiesAmid stretch) (stretch.behind - stretch.front) (drop stretch.front on.tunes) (All-drop (LiesAmid stretch) stretch.front on.tunes amid);
         keeps = inr (record { some = refl; front = front; behind = behind; from = from; to = to });
         lines_before = ap (λ n. take n new) from ∙ sym (ap (λ n. take n text) from);
         lines_behind = behind_lines ∙ ap (λ n. drop n text) sum;

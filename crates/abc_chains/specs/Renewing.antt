@@ -10,7 +10,7 @@ use Rattle.abc_tunebook.specs.Book.{blocks_in, header_in, tunes_in}
 use Rattle.abc_tunebook.specs.Rules.{Rules}
 use Rattle.abc_chains.specs.Holding.{LiesWithin}
 use Rattle.abc_chains.specs.Keeping.{AreChains}
-use Rattle.abc_chains.specs.Standing.{Keeping, LiesBefore, LiesBehind, MayLieBefore, gone, kept_numbers, moved_on}
+use Rattle.abc_chains.specs.Standing.{Keeping, LiesAmid, LiesBefore, LiesBehind, MayLieBefore, gone, kept_numbers, moved_on}
 use Rattle.abc_chains.specs.Taking.{HasItemsOf, TakesUntouched}
 use Rattle.abc_chains.specs.declared.stretch.Stretch.{Stretch}
 use Rattle.abc_chains.specs.declared.stretch.Span.{Span}
@@ -76,6 +76,7 @@ pub record IsRenewed {C State Cell Items Defaults : Type 0} (steps : Steps State
   pub before : All (LiesBefore stretch) (take stretch.front on.tunes)
   pub beyond : All (LiesBehind stretch) (drop stretch.behind on.tunes)
   pub among : All (LiesWithin stretch.came) tunes
+  pub amid : All (LiesAmid stretch) (take (stretch.behind - stretch.front) (drop stretch.front on.tunes))
   pub keeps : Stays first header on.header stretch ⊎ IsAnew first on.tunes on.lines.text stretch
   pub lines_before : take stretch.from (spliced on.lines.text s) ≡ take stretch.from on.lines.text
   pub lines_behind : drop (stretch.from + stretch.came) (spliced on.lines.text s) ≡ drop stretch.to on.lines.text
