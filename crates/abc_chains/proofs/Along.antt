@@ -10,11 +10,11 @@ use Rattle.abc_fold.specs.Steps.{Steps, AreAlike, IsAlike, IsResumable, items_fr
 use Rattle.abc_fold.proofs.Alike.{alike_states, equal_items}
 use Rattle.abc_rework.specs.Origins.{Origin}
 use Rattle.abc_chains.specs.Holding.{IsCarried, IsChain, IsFolded, IsHeldAt, cells_at, cells_in, cells_over, rows_in}
-use Rattle.abc_chains.specs.Rows.{Row}
+use Rattle.abc_chains.specs.Rows.{CarriedRow}
 use Rattle.abc_chains.specs.Taking.{GoesAlong, HasItemsOf, are_alike_both, continues, first_source, is_along, is_origin}
 
 -- Where there are more cells than there should be.
-pub too_far : {Cell : Type 0} (source count place : ℕ) (rows : List (Row Cell)) → count < place → is_along source count place rows ≡ false
+pub too_far : {Cell : Type 0} (source count place : ℕ) (rows : List (CarriedRow Cell)) → count < place → is_along source count place rows ≡ false
 too_far source count place [] far = ne_eqb place count (λ e. omega (arith, e, far))
 too_far source count place (row ∷ rows) far =
     ⊎_elim
@@ -66,7 +66,7 @@ held_own chains all cells source (Some p) own held o e s = λ k h.
     let there : all ≡ cells_at chains p.source = sym own ∙ ap (cells_at chains) (sym s ∙ ap (λ (q : Origin). q.source) (sym same)) in
     (λ i. slice_get (there i) (first i + k)) ∙ held k h
 
-row_along : {State Cell Items : Type 0} (chains : List (Chained State Cell Items)) (all : List Cell) (source place : ℕ) (row : Row Cell) → cells_at chains source ≡ all → IsCarried chains row → continues source place row ≡ true
+row_along : {State Cell Items : Type 0} (chains : List (Chained State Cell Items)) (all : List Cell) (source place : ℕ) (row : CarriedRow Cell) → cells_at chains source ≡ all → IsCarried chains row → continues source place row ≡ true
     → (k : ℕ) → k < length row.cells → slice_get (drop place all) k ≡ slice_get row.cells k
 row_along chains all source place row own held e = λ k h. ⊎_elim
     (λ (z : (length row.cells == 0) ≡ true). absurd (let none = eqb-true (length row.cells) 0 z in omega (arith, none, h)))
@@ -76,7 +76,7 @@ row_along chains all source place row own held e = λ k h. ⊎_elim
     (cases_Bool (length row.cells == 0))
 
 -- The cells of lines that go along an old chain to its end.
-cells_along : {State Cell Items : Type 0} (chains : List (Chained State Cell Items)) (all : List Cell) (source place : ℕ) (rows : List (Row Cell)) → cells_at chains source ≡ all → All (IsCarried chains) rows
+cells_along : {State Cell Items : Type 0} (chains : List (Chained State Cell Items)) (all : List Cell) (source place : ℕ) (rows : List (CarriedRow Cell)) → cells_at chains source ≡ all → All (IsCarried chains) rows
     → is_along source (length all) place rows ≡ true → flat_map cells_in rows ≡ drop place all
 cells_along chains all source place [] own held e = all_gone place all (eqb-true place (length all) e)
 cells_along chains all source place (row ∷ rows) own held e =
@@ -106,17 +106,17 @@ all_items : {State Cell Items : Type 0} (steps : Steps State Cell Items) (a b : 
 all_items steps a b cells laws alike = equal_items steps laws a b cells alike
 
 -- from one line to the next
-pub step_far : {Cell : Type 0} (source count place : ℕ) (row : Row Cell) (rows : List (Row Cell)) → count < place + length row.cells → is_along source count place (row ∷ rows) ≡ false
+pub step_far : {Cell : Type 0} (source count place : ℕ) (row : CarriedRow Cell) (rows : List (CarriedRow Cell)) → count < place + length row.cells → is_along source count place (row ∷ rows) ≡ false
 step_far source count place row rows far = and_right (continues source place row) (is_along source count (place + length row.cells) rows) (too_far source count (place + length row.cells) rows far)
   where
     and_right : (a b : Bool) → b ≡ false → (a && b) ≡ false
     and_right true b e = e
     and_right false b e = refl
 
-pub step_stop : {Cell : Type 0} (source count place : ℕ) (row : Row Cell) (rows : List (Row Cell)) → false ≡ continues source place row → is_along source count place (row ∷ rows) ≡ false
+pub step_stop : {Cell : Type 0} (source count place : ℕ) (row : CarriedRow Cell) (rows : List (CarriedRow Cell)) → false ≡ continues source place row → is_along source count place (row ∷ rows) ≡ false
 step_stop source count place row rows e = ap (λ b. b && is_along source count (place + length row.cells) rows) (sym e)
 
-pub step_on : {Cell : Type 0} (source count place : ℕ) (row : Row Cell) (rows : List (Row Cell)) → true ≡ continues source place row → is_along source count place (row ∷ rows) ≡ is_along source count (place + length row.cells) rows
+pub step_on : {Cell : Type 0} (source count place : ℕ) (row : CarriedRow Cell) (rows : List (CarriedRow Cell)) → true ≡ continues source place row → is_along source count place (row ∷ rows) ≡ is_along source count (place + length row.cells) rows
 step_on source count place row rows e = ap (λ b. b && is_along source count (place + length row.cells) rows) (sym e)
 
 pub next_row : {A : Type 0} (rows : List A) (i : ℕ) (row : A) → row ≡ get_or rows i row → i < length rows → drop i rows ≡ row ∷ drop (i + 1) rows
@@ -146,7 +146,7 @@ same_items steps opening was chain laws (inr (begun, own)) folds cells e =
     own.items ∙ (all_items steps begun opening was.cells laws alike ∙ (ap (items_from steps opening) (sym cells) ∙ sym folds.items))
 
 -- What goes along an old tune, and begins alike, has its items.
-pub taken_items : {State Cell Items : Type 0} (steps : Steps State Cell Items) (old : List (Chained State Cell Items)) (rows : List (Row Cell)) (source : ℕ) (was chain : Chained State Cell Items) → IsResumable steps → All (IsCarried old) rows → All (IsFolded steps) old
+pub taken_items : {State Cell Items : Type 0} (steps : Steps State Cell Items) (old : List (Chained State Cell Items)) (rows : List (CarriedRow Cell)) (source : ℕ) (was chain : Chained State Cell Items) → IsResumable steps → All (IsCarried old) rows → All (IsFolded steps) old
     → slice_get old source ≡ Some was → (source ≡ 0 → ⊥) → is_along source (length was.cells) 0 rows ≡ true → are_alike_both steps.alike (slice_get was.entries 0) (slice_get chain.entries 0) ≡ true
     → (opening : State) → Folds steps opening chain → chain.cells ≡ flat_map cells_in rows → HasItemsOf (drop 1 old) chain (Some (source - 1))
 taken_items steps old rows source was chain laws carried folded there some along alike opening folds cells =
@@ -154,7 +154,7 @@ taken_items steps old rows source was chain laws carried folded there some along
     (was, one_less old source was some there, same_items steps opening was chain laws (all_at (IsFolded steps) old source was folded there) folds (cells ∙ own) alike)
 
 -- A tune that goes along an old one begins as that does.
-pub begins_so : {State Cell Items : Type 0} (steps : Steps State Cell Items) (old : List (Chained State Cell Items)) (rows : List (Row Cell)) (source : ℕ) (was chain : Chained State Cell Items) → IsResumable steps
+pub begins_so : {State Cell Items : Type 0} (steps : Steps State Cell Items) (old : List (Chained State Cell Items)) (rows : List (CarriedRow Cell)) (source : ℕ) (was chain : Chained State Cell Items) → IsResumable steps
     → first_source rows ≡ Some source → slice_get old source ≡ Some was → (opening : State) → Folds steps opening chain → GoesAlong steps old opening rows
     → are_alike_both steps.alike (slice_get was.entries 0) (slice_get chain.entries 0) ≡ true
 begins_so {State = State} {Cell = Cell} {Items = Items} steps old rows source was chain laws from there opening folds goes =
@@ -220,18 +220,18 @@ whole_folds {State = State} {Cell = Cell} {Items = Items} steps old source was o
     (all_at (IsFolded steps) old source was folded there)
 
 -- It has just their cells.
-pub whole_cells : {State Cell Items : Type 0} (old : List (Chained State Cell Items)) (rows : List (Row Cell)) (source : ℕ) (was : Chained State Cell Items) → All (IsCarried old) rows
+pub whole_cells : {State Cell Items : Type 0} (old : List (Chained State Cell Items)) (rows : List (CarriedRow Cell)) (source : ℕ) (was : Chained State Cell Items) → All (IsCarried old) rows
     → slice_get old source ≡ Some was → is_along source (length was.cells) 0 rows ≡ true → was.cells ≡ flat_map cells_in rows
 whole_cells old rows source was carried there along = sym (cells_along old was.cells source 0 rows (cells_there old source was there) carried along)
 
 -- An old chain that is shared is the chain of a block.
-pub shared_chain : {State Cell Items E : Type 0} (steps : Steps State Cell Items) (opening : State) (rows : List (Row Cell)) (block : Block) (was : Chained State Cell Items) (result : Result (Chained State Cell Items) E)
+pub shared_chain : {State Cell Items E : Type 0} (steps : Steps State Cell Items) (opening : State) (rows : List (CarriedRow Cell)) (block : Block) (was : Chained State Cell Items) (result : Result (Chained State Cell Items) E)
     → IfOk result (λ chain. chain ≡ was) → Folds steps opening was → was.cells ≡ cells_over rows block → IfOk result (λ chain. IsChain steps opening rows chain block)
 shared_chain steps opening rows block was (Err error) same folds cells = tt
 shared_chain steps opening rows block was (Ok chain) same folds cells = subst (λ x. IsChain steps opening rows x block) (sym same) (record { folds = folds; cells = cells })
 
 -- And so is a new one that is shared.
-pub shared_new : {State Cell Items E : Type 0} (steps : Steps State Cell Items) (opening : State) (rows : List (Row Cell)) (block : Block) (was : Chained State Cell Items) (result : Result (Chained State Cell Items) E)
+pub shared_new : {State Cell Items E : Type 0} (steps : Steps State Cell Items) (opening : State) (rows : List (CarriedRow Cell)) (block : Block) (was : Chained State Cell Items) (result : Result (Chained State Cell Items) E)
     → IfOk result (λ chain. chain ≡ was) → IsChain steps opening rows was block → IfOk result (λ chain. IsChain steps opening rows chain block)
 shared_new steps opening rows block was (Err error) same own = tt
 shared_new steps opening rows block was (Ok chain) same own = subst (λ x. IsChain steps opening rows x block) (sym same) own

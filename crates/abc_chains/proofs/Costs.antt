@@ -16,7 +16,7 @@ use Rattle.abc_tunebook.specs.Book.{blocks_in, header_in, opening_of, tunes_in}
 use Rattle.abc_tunebook.specs.Rules.{Rules}
 use Rattle.abc_chains.specs.Holding.{class_in, origin_in, steps_taken}
 use Rattle.abc_chains.specs.Keeping.{AreChains, AreRead, IsHeader, behind_chain, header_steps}
-use Rattle.abc_chains.specs.Rows.{Row}
+use Rattle.abc_chains.specs.Rows.{CarriedRow}
 use Rattle.abc_chains.proofs.Meaning.{edit_steps}
 use Rattle.abc_chains.proofs.Opening.{own_opening}
 use Rattle.abc_chains.proofs.Scanning.{raised_more}
@@ -40,7 +40,7 @@ raised_both j k before now after first second = record {
       omega (arith, step, sum, second.most);
 }
 
-module _ {State Cell Items Defaults : Type 0} (steps : Steps State Cell Items) (rules : Rules State Cell Items Defaults) (old : List (Chained State Cell Items)) (rows : List (Row Cell)) (blocks : List Block) where
+module _ {State Cell Items Defaults : Type 0} (steps : Steps State Cell Items) (rules : Rules State Cell Items Defaults) (old : List (Chained State Cell Items)) (rows : List (CarriedRow Cell)) (blocks : List Block) where
   -- Where no more than the file header has been folded.
   pub header_cost : (before after : Counters) → IsResumable steps → blocks ≡ blocks_of (map class_in rows)
       → IsRaisedUpTo (header_steps steps rules.header old rows (header_in blocks)) before after

@@ -13,7 +13,7 @@ use Rattle.abc_fold.specs.Piece.{IsKept, cells_of, steps_needed}
 use Rattle.abc_fold.specs.Steps.{Steps, IsAlike, IsResumable}
 use Rattle.abc_rework.specs.Kept.{steps_over}
 use Rattle.abc_chains.specs.Holding.{cells_over, helds_in, helds_over, steps_taken}
-use Rattle.abc_chains.specs.Rows.{Row}
+use Rattle.abc_chains.specs.Rows.{CarriedRow}
 
 same_test : {State Cell Items : Type 0} (steps : Steps State Cell Items) (laws : IsResumable steps) (e a b : State) → IsAlike steps a b → steps.alike e a ≡ steps.alike e b
 same_test steps laws e a b h = ⊎_elim
@@ -46,7 +46,7 @@ steps_are_over {F = F} {State = State} {Cell = Cell} {Items = Items} {Work = Wor
     (cases_Bool (steps.alike entered b))
 
 -- The steps of the pieces of a block.
-pub block_pieces : {F State Cell Items Work : Type 0} (steps : Steps State Cell Items) (laws : IsResumable steps) (opening : State) (old : List (Chained State Cell Items)) (rows : List (Row Cell)) (block : Block) (pieces : List (Piece F State Cell Items Work))
+pub block_pieces : {F State Cell Items Work : Type 0} (steps : Steps State Cell Items) (laws : IsResumable steps) (opening : State) (old : List (Chained State Cell Items)) (rows : List (CarriedRow Cell)) (block : Block) (pieces : List (Piece F State Cell Items Work))
     → ((k : ℕ) (d : Piece F State Cell Items Work) → k < length pieces → IsKept steps (get_or pieces k d))
     → cells_of pieces ≡ cells_over rows block → helds_in pieces ≡ helds_over old rows block
     → steps_needed steps opening pieces ≡ steps_taken steps opening old rows block

@@ -1,5 +1,5 @@
 pub mod Scanning
-pub mod Carried
+pub mod Carrying
 pub mod Placing
 pub mod Meaning
 pub mod Opening
@@ -12,3 +12,16 @@ pub mod Working
 pub mod Along
 pub mod Untouched
 pub mod WholeTunes
+pub mod Cutting
+pub mod Parts
+pub mod Spans
+pub mod NewBlocks
+pub mod Renewed
+pub mod Outside
+pub mod Narrow
+pub mod Facts
+pub mod WholeText
+pub mod Narrowed
+pub mod WholeRows
+pub mod Replaced
+pub mod Prepared

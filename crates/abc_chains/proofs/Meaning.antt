@@ -24,7 +24,7 @@ use Rattle.abc_tunebook.specs.Rules.{Rules}
 use Rattle.abc_tunebook.specs.Tune.{lines_in}
 use Rattle.abc_chains.specs.Holding.{cells_in, cells_over, entries_at, helds_over, origin_in, steps_taken}
 use Rattle.abc_chains.specs.Keeping.{AreChains, AreRead, IsChainOf, IsHeaderOf, header_steps}
-use Rattle.abc_chains.specs.Rows.{Row}
+use Rattle.abc_chains.specs.Rows.{CarriedRow}
 
 pub length-over : {A B : Type 0} (g : A → B) (xs : List A) → length (map g xs) ≡ length xs
 length-over g [] = refl
@@ -53,7 +53,7 @@ pub length-addresses : {Cell : Type 0} (o : Option Origin) (cells : List Cell) �
 length-addresses None cells = length-none cells
 length-addresses (Some o) cells = length-numbered o.source o.first cells
 
-cells_walk : {Cell : Type 0} (read : List ℕ → List Cell) (n : ℕ) (rows : List (Row Cell)) (text : Text) → map cells_in rows ≡ map read text → flat_map cells_in (take n rows) ≡ flat_map read (take n text)
+cells_walk : {Cell : Type 0} (read : List ℕ → List Cell) (n : ℕ) (rows : List (CarriedRow Cell)) (text : Text) → map cells_in rows ≡ map read text → flat_map cells_in (take n rows) ≡ flat_map read (take n text)
 cells_walk read zero rows text e = refl
 cells_walk read (suc n) [] [] e = refl
 cells_walk read (suc n) [] (bytes ∷ text) e = absurd (cc)
@@ -63,18 +63,18 @@ cells_walk read (suc n) (row ∷ rows) (bytes ∷ text) e =
     let others : map cells_in rows ≡ map read text = cc in
     λ i. here i ++ cells_walk read n rows text others i
 
-pub read_drop : {Cell : Type 0} (read : List ℕ → List Cell) (n : ℕ) (rows : List (Row Cell)) (text : Text) → map cells_in rows ≡ map read text → map cells_in (drop n rows) ≡ map read (drop n text)
+pub read_drop : {Cell : Type 0} (read : List ℕ → List Cell) (n : ℕ) (rows : List (CarriedRow Cell)) (text : Text) → map cells_in rows ≡ map read text → map cells_in (drop n rows) ≡ map read (drop n text)
 read_drop read n rows text e = sym (drop-map cells_in n rows) ∙ (ap (drop n) e ∙ drop-map read n text)
 
 -- The cells of the rows of a block are those of its lines.
-pub block_cells : {Cell : Type 0} (read : List ℕ → List Cell) (rows : List (Row Cell)) (text : Text) (block : Block) → map cells_in rows ≡ map read text → cells_over rows block ≡ flat_map read (lines_in text block)
+pub block_cells : {Cell : Type 0} (read : List ℕ → List Cell) (rows : List (CarriedRow Cell)) (text : Text) (block : Block) → map cells_in rows ≡ map read text → cells_over rows block ≡ flat_map read (lines_in text block)
 block_cells read rows text block e =
     cells_walk read (block.to - block.from) (drop block.from rows) (drop block.from text) (read_drop read block.from rows text e)
 
-helds_walk : {State Cell : Type 0} (read : List ℕ → List Cell) (hold : Option (ℕ × ℕ) → Option (Held State)) (n : ℕ) (rows : List (Row Cell)) (text : Text) (pasts : List (List (Option (Past State))))
+helds_walk : {State Cell : Type 0} (read : List ℕ → List Cell) (hold : Option (ℕ × ℕ) → Option (Held State)) (n : ℕ) (rows : List (CarriedRow Cell)) (text : Text) (pasts : List (List (Option (Past State))))
     → map cells_in rows ≡ map read text
-    → map (λ row. map address_of row) pasts ≡ map (λ (r : Row Cell). addresses r.origin r.cells) rows
-    → map (λ piece. hold (address_of piece)) (pasts_over read (take n text) pasts) ≡ flat_map (λ (r : Row Cell). map hold (addresses r.origin r.cells)) (take n rows)
+    → map (λ row. map address_of row) pasts ≡ map (λ (r : CarriedRow Cell). addresses r.origin r.cells) rows
+    → map (λ piece. hold (address_of piece)) (pasts_over read (take n text) pasts) ≡ flat_map (λ (r : CarriedRow Cell). map hold (addresses r.origin r.cells)) (take n rows)
 helds_walk read hold zero rows text pasts c e = refl
 helds_walk read hold (suc n) [] [] pasts c e = refl
 helds_walk read hold (suc n) [] (bytes ∷ text) pasts c e = absurd (cc)
@@ -84,7 +84,7 @@ helds_walk {State = State} {Cell = Cell} read hold (suc n) (row ∷ rows) (bytes
     let own_cells : row.cells ≡ read bytes = cc in
     let other_cells : map cells_in rows ≡ map read text = cc in
     let here : map address_of past ≡ addresses row.origin row.cells = cc in
-    let others : map (λ row. map address_of row) pasts ≡ map (λ (r : Row Cell). addresses r.origin r.cells) rows = cc in
+    let others : map (λ row. map address_of row) pasts ≡ map (λ (r : CarriedRow Cell). addresses r.origin r.cells) rows = cc in
     let count : length past ≡ length (read bytes) =
     sym (length-over address_of past) ∙ (ap length here ∙ (length-addresses row.origin row.cells ∙ ap length own_cells)) in
     let own : map (λ piece. hold (address_of piece)) past ≡ map hold (addresses row.origin row.cells) = sym (map-over hold address_of past) ∙ ap (map hold) here in
@@ -93,7 +93,7 @@ helds_walk {State = State} {Cell = Cell} read hold (suc n) (row ∷ rows) (bytes
     ∙ (ap (λ l. map (λ piece. hold (address_of piece)) l ++ map (λ piece. hold (address_of piece)) tail) (beside_whole (read bytes) past count)
     ∙ (λ i. own i ++ helds_walk read hold n rows text pasts other_cells others i))
 
-beside_rows : {Cell : Type 0} (read : List ℕ → List Cell) (rows : List (Row Cell)) (text : Text) → map cells_in rows ≡ map read text → addresses_beside read (map origin_in rows) text ≡ map (λ (r : Row Cell). addresses r.origin r.cells) rows
+beside_rows : {Cell : Type 0} (read : List ℕ → List Cell) (rows : List (CarriedRow Cell)) (text : Text) → map cells_in rows ≡ map read text → addresses_beside read (map origin_in rows) text ≡ map (λ (r : CarriedRow Cell). addresses r.origin r.cells) rows
 beside_rows read [] text e = refl
 beside_rows read (row ∷ rows) [] e = absurd (cc)
 beside_rows read (row ∷ rows) (bytes ∷ text) e =
@@ -102,26 +102,26 @@ beside_rows read (row ∷ rows) (bytes ∷ text) e =
     λ i. addresses row.origin (here i) ∷ beside_rows read rows text others i
 
 -- The rows of an edited text have the addresses of its pasts.
-pub addresses_are : {State Cell Items : Type 0} (steps : Steps State Cell Items) (read : List ℕ → List Cell) (laid : Laid State) (s : Splice) (rows : List (Row Cell))
+pub addresses_are : {State Cell Items : Type 0} (steps : Steps State Cell Items) (read : List ℕ → List Cell) (laid : Laid State) (s : Splice) (rows : List (CarriedRow Cell))
     → LiesInOrder laid → s.at + s.removed ≤ length laid.text → map cells_in rows ≡ map read (spliced laid.text s) → map origin_in rows ≡ origins read laid s
-    → map (λ row. map (address_of {State = State}) row) (pasts steps read laid s) ≡ map (λ (r : Row Cell). addresses r.origin r.cells) rows
+    → map (λ row. map (address_of {State = State}) row) (pasts steps read laid s) ≡ map (λ (r : CarriedRow Cell). addresses r.origin r.cells) rows
 addresses_are steps read laid s rows lies inside cells from =
     origins_stand steps read laid s lies inside ∙ (ap (λ o. addresses_beside read o (spliced laid.text s)) (sym from) ∙ beside_rows read rows (spliced laid.text s) cells)
 
 -- What is held of the cells of a block is what is held at the addresses of their pasts.
-block_helds : {State Cell Items : Type 0} (steps : Steps State Cell Items) (read : List ℕ → List Cell) (laid : Laid State) (s : Splice) (old : List (Chained State Cell Items)) (rows : List (Row Cell)) (source : ℕ) (opening : State) (block : Block)
+block_helds : {State Cell Items : Type 0} (steps : Steps State Cell Items) (read : List ℕ → List Cell) (laid : Laid State) (s : Splice) (old : List (Chained State Cell Items)) (rows : List (CarriedRow Cell)) (source : ℕ) (opening : State) (block : Block)
     → LiesInOrder laid → s.at + s.removed ≤ length laid.text → map cells_in rows ≡ map read (spliced laid.text s) → map origin_in rows ≡ origins read laid s
     → helds_over old rows block ≡ map (λ piece. held_at (entries_at old) (address_of piece)) (pieces_of read (spliced laid.text s) (pasts steps read laid s) (chain_at source opening block))
 block_helds {State = State} {Cell = Cell} steps read laid s old rows source opening block lies inside cells from =
     let text = spliced laid.text s in
     let all = pasts steps read laid s in
     let by : List (Option (Past State)) → List (Option (ℕ × ℕ)) = λ row. map address_of row in
-    let dropped : map by (drop block.from all) ≡ map (λ (r : Row Cell). addresses r.origin r.cells) (drop block.from rows) =
-    sym (drop-map by block.from all) ∙ (ap (drop block.from) (addresses_are steps read laid s rows lies inside cells from) ∙ drop-map (λ (r : Row Cell). addresses r.origin r.cells) block.from rows) in
+    let dropped : map by (drop block.from all) ≡ map (λ (r : CarriedRow Cell). addresses r.origin r.cells) (drop block.from rows) =
+    sym (drop-map by block.from all) ∙ (ap (drop block.from) (addresses_are steps read laid s rows lies inside cells from) ∙ drop-map (λ (r : CarriedRow Cell). addresses r.origin r.cells) block.from rows) in
     sym (helds_walk read (held_at (entries_at old)) (block.to - block.from) (drop block.from rows) (drop block.from text) (drop block.from all) (read_drop read block.from rows text cells) dropped)
 
 -- The steps over a block are the fresh cells of its chain.
-pub block_steps : {State Cell Items : Type 0} (steps : Steps State Cell Items) (read : List ℕ → List Cell) (laid : Laid State) (s : Splice) (old : List (Chained State Cell Items)) (rows : List (Row Cell)) (source : ℕ) (own opening : State) (block : Block)
+pub block_steps : {State Cell Items : Type 0} (steps : Steps State Cell Items) (read : List ℕ → List Cell) (laid : Laid State) (s : Splice) (old : List (Chained State Cell Items)) (rows : List (CarriedRow Cell)) (source : ℕ) (own opening : State) (block : Block)
     → IsResumable steps → LiesInOrder laid → s.at + s.removed ≤ length laid.text → AreKept steps read laid (entries_at old)
     → map cells_in rows ≡ map read (spliced laid.text s) → map origin_in rows ≡ origins read laid s → IsAlike steps own opening
     → steps_taken steps own old rows block ≡ fresh_of steps read (spliced laid.text s) (pasts steps read laid s) (chain_at source opening block)
@@ -133,7 +133,7 @@ block_steps steps read laid s old rows source own opening block laws lies inside
     (λ i. steps_over steps own (same i) (held i))
     ∙ steps_are_fresh steps read text (pasts steps read laid s) chain own _ laws alike (helds_stand steps read laid s chain (entries_at old) lies inside kept)
 
-tunes_steps : {State Cell Items : Type 0} (steps : Steps State Cell Items) (read : List ℕ → List Cell) (laid : Laid State) (s : Splice) (old : List (Chained State Cell Items)) (rows : List (Row Cell)) (source : ℕ) (own opening : State) (blocks : List Block)
+tunes_steps : {State Cell Items : Type 0} (steps : Steps State Cell Items) (read : List ℕ → List Cell) (laid : Laid State) (s : Splice) (old : List (Chained State Cell Items)) (rows : List (CarriedRow Cell)) (source : ℕ) (own opening : State) (blocks : List Block)
     → IsResumable steps → LiesInOrder laid → s.at + s.removed ≤ length laid.text → AreKept steps read laid (entries_at old)
     → map cells_in rows ≡ map read (spliced laid.text s) → map origin_in rows ≡ origins read laid s → IsAlike steps own opening
     → sum_by (steps_taken steps own old rows) blocks ≡ sum_by (fresh_of steps read (spliced laid.text s) (pasts steps read laid s)) (tune_chains source opening blocks)
@@ -146,7 +146,7 @@ tunes_steps steps read laid s old rows source own opening (block ∷ blocks) law
     ∙ sym (sum_by-cons fresh (chain_at source opening block) (tune_chains (source + 1) opening blocks)))
 
 -- The steps over the file header and the tunes.
-all_steps : {State Cell Items : Type 0} (steps : Steps State Cell Items) (read : List ℕ → List Cell) (laid : Laid State) (s : Splice) (old : List (Chained State Cell Items)) (rows : List (Row Cell)) (first own opening : State) (header : Option Block) (blocks : List Block)
+all_steps : {State Cell Items : Type 0} (steps : Steps State Cell Items) (read : List ℕ → List Cell) (laid : Laid State) (s : Splice) (old : List (Chained State Cell Items)) (rows : List (CarriedRow Cell)) (first own opening : State) (header : Option Block) (blocks : List Block)
     → IsResumable steps → LiesInOrder laid → s.at + s.removed ≤ length laid.text → AreKept steps read laid (entries_at old)
     → map cells_in rows ≡ map read (spliced laid.text s) → map origin_in rows ≡ origins read laid s → IsAlike steps own opening
     → header_steps steps first old rows header + sum_by (steps_taken steps own old rows) blocks ≡ sum_by (fresh_of steps read (spliced laid.text s) (pasts steps read laid s)) (header_chain first header ++ tune_chains 1 opening blocks)
@@ -219,7 +219,7 @@ are_kept steps rules text (chain ∷ chains) own =
     kept_all steps rules.cells rules.header (opening_of steps.next rules text (blocks_in rules text)) text chain chains (header_in (blocks_in rules text)) (tunes_in (blocks_in rules text)) own.0 own.1
 
 -- The steps over the blocks of a new text are its fresh cells.
-pub edit_steps : {State Cell Items Defaults : Type 0} (steps : Steps State Cell Items) (rules : Rules State Cell Items Defaults) (text : Text) (s : Splice) (old : List (Chained State Cell Items)) (rows : List (Row Cell)) (own : State)
+pub edit_steps : {State Cell Items Defaults : Type 0} (steps : Steps State Cell Items) (rules : Rules State Cell Items Defaults) (text : Text) (s : Splice) (old : List (Chained State Cell Items)) (rows : List (CarriedRow Cell)) (own : State)
     → IsResumable steps → s.at + s.removed ≤ length text → AreChains steps rules text old → AreRead rules (spliced text s) rows
     → map origin_in rows ≡ origins rules.cells (laid_in steps rules text) s
     → IsAlike steps own (opening_of steps.next rules (spliced text s) (blocks_in rules (spliced text s)))

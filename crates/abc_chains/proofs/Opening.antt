@@ -16,7 +16,7 @@ use Rattle.abc_tunebook.specs.Rules.{Rules}
 use Rattle.abc_tunebook.specs.Tune.{cells_in as placed_in}
 use Rattle.abc_chains.specs.Holding.{IsChain, cells_in, class_in}
 use Rattle.abc_chains.specs.Keeping.{AreChains, AreRead, IsChainOf, IsHeader, IsHeaderOf, behind_chain}
-use Rattle.abc_chains.specs.Rows.{Row}
+use Rattle.abc_chains.specs.Rows.{CarriedRow}
 use Rattle.abc_chains.proofs.Meaning.{block_cells}
 
 -- A chain is the fold from every state alike to its opening.
@@ -49,14 +49,14 @@ opening_alike {State = State} {Cell = Cell} steps rules text chain (Some block) 
     subst (λ (after : Option State). IsAlike steps (rules.tune after) (rules.tune (Some behind))) (sym here)
     (lawful.alike_openings last.0 behind (lawful.equal_defaults last.0 behind last.2))
 
-chain_made : {State Cell Items : Type 0} (steps : Steps State Cell Items) (read : List ℕ → List Cell) (own opening : State) (text : Text) (rows : List (Row Cell)) (chain : Chained State Cell Items) (block : Block)
+chain_made : {State Cell Items : Type 0} (steps : Steps State Cell Items) (read : List ℕ → List Cell) (own opening : State) (text : Text) (rows : List (CarriedRow Cell)) (chain : Chained State Cell Items) (block : Block)
     → IsResumable steps → IsAlike steps own opening → map cells_in rows ≡ map read text → IsChain steps own rows chain block → IsChainOf steps read opening text chain block
 chain_made steps read own opening text rows chain block laws alike cells made = record {
   folds = folds_alike steps own opening chain laws alike made.folds;
   cells = made.cells ∙ block_cells read rows text block cells;
 }
 
-tunes_made : {State Cell Items : Type 0} (steps : Steps State Cell Items) (read : List ℕ → List Cell) (own opening : State) (text : Text) (rows : List (Row Cell)) (chains : List (Chained State Cell Items)) (blocks : List Block)
+pub tunes_made : {State Cell Items : Type 0} (steps : Steps State Cell Items) (read : List ℕ → List Cell) (own opening : State) (text : Text) (rows : List (CarriedRow Cell)) (chains : List (Chained State Cell Items)) (blocks : List Block)
     → IsResumable steps → IsAlike steps own opening → map cells_in rows ≡ map read text → AllZip (IsChain steps own rows) chains blocks → AllZip (IsChainOf steps read opening text) chains blocks
 tunes_made steps read own opening text rows [] [] laws alike cells made = tt
 tunes_made steps read own opening text rows [] (block ∷ blocks) laws alike cells made = absurd made
@@ -64,13 +64,13 @@ tunes_made steps read own opening text rows (chain ∷ chains) [] laws alike cel
 tunes_made steps read own opening text rows (chain ∷ chains) (block ∷ blocks) laws alike cells made =
     (chain_made steps read own opening text rows chain block laws alike cells made.0, tunes_made steps read own opening text rows chains blocks laws alike cells made.1)
 
-header_made : {State Cell Items : Type 0} (steps : Steps State Cell Items) (read : List ℕ → List Cell) (first : State) (text : Text) (rows : List (Row Cell)) (chain : Chained State Cell Items) (header : Option Block)
+header_made : {State Cell Items : Type 0} (steps : Steps State Cell Items) (read : List ℕ → List Cell) (first : State) (text : Text) (rows : List (CarriedRow Cell)) (chain : Chained State Cell Items) (header : Option Block)
     → IsResumable steps → map cells_in rows ≡ map read text → IsHeader steps first rows chain header → IsHeaderOf steps read first text chain header
 header_made steps read first text rows chain None laws cells made = made
 header_made steps read first text rows chain (Some block) laws cells made = chain_made steps read first first text rows chain block laws (laws.reflexive first) cells made
 
 -- The opening that the chain of the file header gives.
-pub own_opening : {State Cell Items Defaults : Type 0} (steps : Steps State Cell Items) (rules : Rules State Cell Items Defaults) (text : Text) (rows : List (Row Cell)) (blocks : List Block) (chain : Chained State Cell Items) (own : State)
+pub own_opening : {State Cell Items Defaults : Type 0} (steps : Steps State Cell Items) (rules : Rules State Cell Items Defaults) (text : Text) (rows : List (CarriedRow Cell)) (blocks : List Block) (chain : Chained State Cell Items) (own : State)
     → IsResumable steps → AreLawful steps rules → AreRead rules text rows → blocks ≡ blocks_of (map class_in rows)
     → IsHeader steps rules.header rows chain (header_in blocks) → own ≡ rules.tune (behind_chain (header_in blocks) chain)
     → IsAlike steps own (opening_of steps.next rules text (blocks_in rules text))
@@ -80,7 +80,7 @@ own_opening steps rules text rows blocks chain own laws lawful read are made is 
     (rw is (opening_alike steps rules text chain (header_in blocks) laws lawful (header_made steps rules.cells rules.header text rows chain (header_in blocks) laws read.cells made)))
 
 -- The chains that are made are those of the text.
-pub chains_made : {State Cell Items Defaults : Type 0} (steps : Steps State Cell Items) (rules : Rules State Cell Items Defaults) (text : Text) (rows : List (Row Cell)) (blocks : List Block) (chain : Chained State Cell Items) (own : State) (chains : List (Chained State Cell Items))
+pub chains_made : {State Cell Items Defaults : Type 0} (steps : Steps State Cell Items) (rules : Rules State Cell Items Defaults) (text : Text) (rows : List (CarriedRow Cell)) (blocks : List Block) (chain : Chained State Cell Items) (own : State) (chains : List (Chained State Cell Items))
     → IsResumable steps → AreRead rules text rows → blocks ≡ blocks_of (map class_in rows)
     → IsAlike steps own (opening_of steps.next rules text (blocks_in rules text))
     → IsHeader steps rules.header rows chain (header_in blocks) → AllZip (IsChain steps own rows) chains (tunes_in blocks)

@@ -12,7 +12,7 @@ use Rattle.abc_tunebook.specs.Book.{header_in, is_file_header, is_tune, tunes_in
 use Rattle.abc_chains.specs.Holding.{LiesWithin, class_in}
 use Rattle.abc_chains.specs.Keeping.{header_place, places_of}
 use Rattle.abc_chains.specs.Placing.{BlocksRise}
-use Rattle.abc_chains.specs.Rows.{Row}
+use Rattle.abc_chains.specs.Rows.{CarriedRow}
 use Rattle.abc_chains.proofs.Meaning.{length-over}
 
 lower : (low first : ℕ) (blocks : List Block) (last : ℕ) → low ≤ first → BlocksRise first blocks last → BlocksRise low blocks last
@@ -46,7 +46,7 @@ rise_places (block ∷ blocks) last h =
     (cases_Bool (is_file_header block.kind))
 
 -- The places of a text follow one another within it.
-pub places_rise : {Cell : Type 0} (rows : List (Row Cell)) (blocks : List Block) → blocks ≡ blocks_of (map class_in rows) → BlocksRise 0 (places_of blocks) (length rows)
+pub places_rise : {Cell : Type 0} (rows : List (CarriedRow Cell)) (blocks : List Block) → blocks ≡ blocks_of (map class_in rows) → BlocksRise 0 (places_of blocks) (length rows)
 places_rise rows blocks are =
     subst (λ n. BlocksRise 0 (places_of blocks) n) (length-over class_in rows)
     (rise_places blocks (length (map class_in rows)) (subst (λ (b : List Block). RiseFromTo 0 b (length (map class_in rows))) (sym are) (blocks_rise (map class_in rows))))
@@ -65,12 +65,12 @@ own_place : (n : ℕ) (header : Option Block) → LiesWithin n (header_place hea
 own_place n None h = tt
 own_place n (Some block) h = h
 
-pub header_within : {Cell : Type 0} (rows : List (Row Cell)) (blocks : List Block) → blocks ≡ blocks_of (map class_in rows) → IfSome (header_in blocks) (LiesWithin (length rows))
+pub header_within : {Cell : Type 0} (rows : List (CarriedRow Cell)) (blocks : List Block) → blocks ≡ blocks_of (map class_in rows) → IfSome (header_in blocks) (LiesWithin (length rows))
 header_within rows blocks are =
     let rise = places_rise rows blocks are in
     own_place (length rows) (header_in blocks) (rise.1, rise_end (header_place (header_in blocks)).to (tunes_in blocks) (length rows) rise.2)
 
-pub tunes_within : {Cell : Type 0} (rows : List (Row Cell)) (blocks : List Block) → blocks ≡ blocks_of (map class_in rows) → All (LiesWithin (length rows)) (tunes_in blocks)
+pub tunes_within : {Cell : Type 0} (rows : List (CarriedRow Cell)) (blocks : List Block) → blocks ≡ blocks_of (map class_in rows) → All (LiesWithin (length rows)) (tunes_in blocks)
 tunes_within rows blocks are =
     let rise = places_rise rows blocks are in
     rise_within (header_place (header_in blocks)).to (tunes_in blocks) (length rows) rise.2

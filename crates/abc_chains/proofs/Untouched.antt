@@ -32,7 +32,7 @@ use Rattle.abc_tunebook.specs.Book.{blocks_in, is_tune, opening_of, tunes_in}
 use Rattle.abc_tunebook.specs.Rules.{Rules}
 use Rattle.abc_chains.specs.Holding.{cells_in, cells_over, entries_at, helds_of, helds_over, origin_in, rows_in}
 use Rattle.abc_chains.specs.Keeping.{AreChains, AreRead, IsChainOf}
-use Rattle.abc_chains.specs.Rows.{Row}
+use Rattle.abc_chains.specs.Rows.{CarriedRow}
 use Rattle.abc_chains.specs.Taking.{GoesAlong, TakesUntouched, continues, first_source, is_along, is_origin}
 use Rattle.abc_chains.proofs.Meaning.{addresses_are, are_kept, beside_whole, block_steps, length-addresses, length-over, read_drop}
 
@@ -54,10 +54,10 @@ addresses_up source place (suc n) (Some past ∷ others) e =
     λ i. Some (s i, p i) ∷ addresses_up source (place + 1) n others both.1 i
 
 -- The addresses of the pasts of a block are those of its rows.
-walk : {State Cell : Type 0} (read : List ℕ → List Cell) (n : ℕ) (rows : List (Row Cell)) (text : Text) (all : List (List (Option (Past State))))
+walk : {State Cell : Type 0} (read : List ℕ → List Cell) (n : ℕ) (rows : List (CarriedRow Cell)) (text : Text) (all : List (List (Option (Past State))))
     → map cells_in rows ≡ map read text
-    → map (λ row. map (address_of {State = State}) row) all ≡ map (λ (r : Row Cell). addresses r.origin r.cells) rows
-    → map (address_of {State = State}) (pasts_over read (take n text) all) ≡ flat_map (λ (r : Row Cell). addresses r.origin r.cells) (take n rows)
+    → map (λ row. map (address_of {State = State}) row) all ≡ map (λ (r : CarriedRow Cell). addresses r.origin r.cells) rows
+    → map (address_of {State = State}) (pasts_over read (take n text) all) ≡ flat_map (λ (r : CarriedRow Cell). addresses r.origin r.cells) (take n rows)
 walk read zero rows text all c e = refl
 walk read (suc n) [] [] all c e = refl
 walk read (suc n) [] (bytes ∷ text) all c e = absurd (cc)
@@ -67,7 +67,7 @@ walk {State = State} {Cell = Cell} read (suc n) (row ∷ rows) (bytes ∷ text) 
     let own_cells : row.cells ≡ read bytes = cc in
     let other_cells : map cells_in rows ≡ map read text = cc in
     let here : map (address_of {State = State}) past ≡ addresses row.origin row.cells = cc in
-    let others : map (λ row. map (address_of {State = State}) row) all ≡ map (λ (r : Row Cell). addresses r.origin r.cells) rows = cc in
+    let others : map (λ row. map (address_of {State = State}) row) all ≡ map (λ (r : CarriedRow Cell). addresses r.origin r.cells) rows = cc in
     let count : length past ≡ length (read bytes) =
     sym (length-over (address_of {State = State}) past) ∙ (ap length here ∙ (length-addresses row.origin row.cells ∙ ap length own_cells)) in
     let tail = pasts_over read (take n text) all in
@@ -75,15 +75,15 @@ walk {State = State} {Cell = Cell} read (suc n) (row ∷ rows) (bytes ∷ text) 
     ∙ (ap (λ l. map (address_of {State = State}) l ++ map (address_of {State = State}) tail) (beside_whole (read bytes) past count)
     ∙ (λ i. here i ++ walk read n rows text all other_cells others i))
 
-block_addresses : {State Cell Items : Type 0} (steps : Steps State Cell Items) (read : List ℕ → List Cell) (laid : Laid State) (s : Splice) (rows : List (Row Cell)) (source : ℕ) (opening : State) (block : Block)
+block_addresses : {State Cell Items : Type 0} (steps : Steps State Cell Items) (read : List ℕ → List Cell) (laid : Laid State) (s : Splice) (rows : List (CarriedRow Cell)) (source : ℕ) (opening : State) (block : Block)
     → LiesInOrder laid → s.at + s.removed ≤ length laid.text → map cells_in rows ≡ map read (spliced laid.text s) → map origin_in rows ≡ origins read laid s
-    → map (address_of {State = State}) (pieces_of read (spliced laid.text s) (pasts steps read laid s) (chain_at source opening block)) ≡ flat_map (λ (r : Row Cell). addresses r.origin r.cells) (rows_in rows block)
+    → map (address_of {State = State}) (pieces_of read (spliced laid.text s) (pasts steps read laid s) (chain_at source opening block)) ≡ flat_map (λ (r : CarriedRow Cell). addresses r.origin r.cells) (rows_in rows block)
 block_addresses {State = State} {Cell = Cell} steps read laid s rows source opening block lies inside cells from =
     let text = spliced laid.text s in
     let all = pasts steps read laid s in
     let by : List (Option (Past State)) → List (Option (ℕ × ℕ)) = λ row. map address_of row in
-    let dropped : map by (drop block.from all) ≡ map (λ (r : Row Cell). addresses r.origin r.cells) (drop block.from rows) =
-    sym (drop-map by block.from all) ∙ (ap (drop block.from) (addresses_are steps read laid s rows lies inside cells from) ∙ drop-map (λ (r : Row Cell). addresses r.origin r.cells) block.from rows) in
+    let dropped : map by (drop block.from all) ≡ map (λ (r : CarriedRow Cell). addresses r.origin r.cells) (drop block.from rows) =
+    sym (drop-map by block.from all) ∙ (ap (drop block.from) (addresses_are steps read laid s rows lies inside cells from) ∙ drop-map (λ (r : CarriedRow Cell). addresses r.origin r.cells) block.from rows) in
     walk read (block.to - block.from) (drop block.from rows) (drop block.from text) (drop block.from all) (read_drop read block.from rows text cells) dropped
 
 -- rows whose cells are so many of a chain
@@ -124,7 +124,7 @@ row_continues source place n (Some o) (cell ∷ cells) last e =
     let same = head_source o.source o.first source place n (numbered o.source (o.first + 1) cells ++ last) e in
     inr (both_same o.source source o.first place same.0 same.1)
 
-continues_if : {Cell : Type 0} (source place : ℕ) (row : Row Cell) → (length row.cells ≡ 0) ⊎ (is_origin source place row.origin ≡ true) → continues source place row ≡ true
+continues_if : {Cell : Type 0} (source place : ℕ) (row : CarriedRow Cell) → (length row.cells ≡ 0) ⊎ (is_origin source place row.origin ≡ true) → continues source place row ≡ true
 continues_if source place row e = ⊎_elim
     (λ (z : (length row.cells == 0) ≡ true). let is = z in simp is)
     (λ (z : (length row.cells == 0) ≡ false). ⊎_elim
@@ -133,11 +133,11 @@ continues_if source place row e = ⊎_elim
     e)
     (cases_Bool (length row.cells == 0))
 
-along : {Cell : Type 0} (source n place : ℕ) (rows : List (Row Cell)) → flat_map (λ (r : Row Cell). addresses r.origin r.cells) rows ≡ places_up source place n → is_along source (place + n) place rows ≡ true
+along : {Cell : Type 0} (source n place : ℕ) (rows : List (CarriedRow Cell)) → flat_map (λ (r : CarriedRow Cell). addresses r.origin r.cells) rows ≡ places_up source place n → is_along source (place + n) place rows ≡ true
 along source zero place [] e = self_same place (place + 0) (omega arith)
 along source (suc n) place [] e = absurd (cc)
 along {Cell = Cell} source n place (row ∷ rows) e =
-    let last = flat_map (λ (r : Row Cell). addresses r.origin r.cells) rows in
+    let last = flat_map (λ (r : CarriedRow Cell). addresses r.origin r.cells) rows in
     let here = continues_if source place row (row_continues source place n row.origin row.cells last e) in
     let more = peel_row source place n row.origin row.cells last e in
     let count = more.1 in
@@ -214,7 +214,7 @@ no_step steps state cell cells helds (Some held) first none = ⊎_elim
     absurd (omega (arith, bad)))
     (cases_Bool (steps.alike held.entry state))
 
-begins_held : {State Cell Items : Type 0} (steps : Steps State Cell Items) (own : State) (old : List (Chained State Cell Items)) (row : Row Cell) (others : List (Row Cell)) (o : Origin) (cell : Cell) (cells : List Cell)
+begins_held : {State Cell Items : Type 0} (steps : Steps State Cell Items) (own : State) (old : List (Chained State Cell Items)) (row : CarriedRow Cell) (others : List (CarriedRow Cell)) (o : Origin) (cell : Cell) (cells : List Cell)
     → row.origin ≡ Some o → row.cells ≡ cell ∷ cells
     → steps_over steps own (flat_map cells_in (row ∷ others)) (flat_map (helds_of old) (row ∷ others)) ≡ 0
     → (held : Held State) × (held_at (entries_at old) (Some (o.source, o.first)) ≡ Some held) × (steps.alike held.entry own ≡ true)
@@ -239,7 +239,7 @@ abbrev first_source_of : Option Origin → Option ℕ
 first_source_of origin = option_map (λ (o : Origin). o.source) origin
 
 -- An untouched tune goes along an old one.
-pub goes_along : {State Cell Items Defaults : Type 0} (steps : Steps State Cell Items) (rules : Rules State Cell Items Defaults) (text : Text) (s : Splice) (header : Chained State Cell Items) (tunes : List (Chained State Cell Items)) (rows : List (Row Cell)) (opening : State) (source : ℕ) (block : Block) (row : Row Cell) (others : List (Row Cell)) (cell : Cell) (cells : List Cell)
+pub goes_along : {State Cell Items Defaults : Type 0} (steps : Steps State Cell Items) (rules : Rules State Cell Items Defaults) (text : Text) (s : Splice) (header : Chained State Cell Items) (tunes : List (Chained State Cell Items)) (rows : List (CarriedRow Cell)) (opening : State) (source : ℕ) (block : Block) (row : CarriedRow Cell) (others : List (CarriedRow Cell)) (cell : Cell) (cells : List Cell)
     → IsResumable steps → s.at + s.removed ≤ length text → AreChains steps rules text (header ∷ tunes) → map cells_in rows ≡ map rules.cells (spliced text s)
     → map origin_in rows ≡ origins rules.cells (laid_in steps rules text) s
     → rows_in rows block ≡ row ∷ others → row.cells ≡ cell ∷ cells
@@ -263,13 +263,13 @@ goes_along {State = State} {Cell = Cell} {Items = Items} steps rules text s head
     let there = tune_there steps read_cells laid.opening text tunes laid.tunes any.0 any.1 chains.1 any.2 in
     let was = there.0 in
     let count = cell_count steps read_cells text laid.opening (1 + any.0) was any.1 there.2 in
-    let places : flat_map (λ (r : Row Cell). addresses r.origin r.cells) (rows_in rows block) ≡ places_up (1 + any.0) 0 (length (entered_of steps read_cells text (chain_at (1 + any.0) laid.opening any.1))) =
+    let places : flat_map (λ (r : CarriedRow Cell). addresses r.origin r.cells) (rows_in rows block) ≡ places_up (1 + any.0) 0 (length (entered_of steps read_cells text (chain_at (1 + any.0) laid.opening any.1))) =
     sym (block_addresses steps read_cells laid s rows source opening block lies inside read from) ∙ addresses_up (1 + any.0) 0 (length (entered_of steps read_cells text (chain_at (1 + any.0) laid.opening any.1))) pieces any.3 in
     let number : 1 + any.0 ≡ suc any.0 = omega arith in
-    let up : flat_map (λ (r : Row Cell). addresses r.origin r.cells) (rows_in rows block) ≡ places_up (suc any.0) 0 (length was.cells) = places ∙ (λ i. places_up (number i) 0 (count i)) in
-    let own_row : addresses row.origin row.cells ++ flat_map (λ (r : Row Cell). addresses r.origin r.cells) others ≡ places_up (suc any.0) 0 (length was.cells) = sym (ap (flat_map (λ (r : Row Cell). addresses r.origin r.cells)) rows_are) ∙ up in
+    let up : flat_map (λ (r : CarriedRow Cell). addresses r.origin r.cells) (rows_in rows block) ≡ places_up (suc any.0) 0 (length was.cells) = places ∙ (λ i. places_up (number i) 0 (count i)) in
+    let own_row : addresses row.origin row.cells ++ flat_map (λ (r : CarriedRow Cell). addresses r.origin r.cells) others ≡ places_up (suc any.0) 0 (length was.cells) = sym (ap (flat_map (λ (r : CarriedRow Cell). addresses r.origin r.cells)) rows_are) ∙ up in
     let some : 1 ≤ length row.cells = rw cells_are (omega arith) in
-    let first = first_from (suc any.0) 0 (length was.cells) row.origin row.cells (flat_map (λ (r : Row Cell). addresses r.origin r.cells) others) own_row some in
+    let first = first_from (suc any.0) 0 (length was.cells) row.origin row.cells (flat_map (λ (r : CarriedRow Cell). addresses r.origin r.cells) others) own_row some in
     let held = begins_held steps opening old row others first.0 cell cells first.1 cells_are (sym (λ i. steps_over steps opening (flat_map cells_in (rows_are i)) (flat_map (helds_of old) (rows_are i))) ∙ none) in
     let zero_length : 0 + length was.cells ≡ length was.cells = omega arith in
     record {
@@ -285,23 +285,23 @@ goes_along {State = State} {Cell = Cell} {Items = Items} steps rules text s head
 
 -- the first cell of a tune
 
-record FirstCell {Cell : Type 0} (rows : List (Row Cell)) (block : Block) : Type 0 where
-  pub row : Row Cell
-  pub others : List (Row Cell)
+record FirstCell {Cell : Type 0} (rows : List (CarriedRow Cell)) (block : Block) : Type 0 where
+  pub row : CarriedRow Cell
+  pub others : List (CarriedRow Cell)
   pub cell : Cell
   pub cells : List Cell
   pub rows_are : rows_in rows block ≡ row ∷ others
   pub cells_are : row.cells ≡ cell ∷ cells
 
-record FoundRow {State Cell Items Defaults : Type 0} (rules : Rules State Cell Items Defaults) (class : LineClass) (rows : List (Row Cell)) (n : ℕ) : Type 0 where
-  pub row : Row Cell
+record FoundRow {State Cell Items Defaults : Type 0} (rules : Rules State Cell Items Defaults) (class : LineClass) (rows : List (CarriedRow Cell)) (n : ℕ) : Type 0 where
+  pub row : CarriedRow Cell
   pub line : List ℕ
-  pub others : List (Row Cell)
+  pub others : List (CarriedRow Cell)
   pub there : drop n rows ≡ row ∷ others
   pub classed : rules.class line ≡ class
   pub read : row.cells ≡ rules.cells line
 
-find_row : {State Cell Items Defaults : Type 0} (rules : Rules State Cell Items Defaults) (class : LineClass) (rows : List (Row Cell)) (text : Text) (n : ℕ) → map cells_in rows ≡ map rules.cells text → slice_get (map rules.class text) n ≡ Some class → FoundRow {State = State} {Items = Items} {Defaults = Defaults} rules class rows n
+find_row : {State Cell Items Defaults : Type 0} (rules : Rules State Cell Items Defaults) (class : LineClass) (rows : List (CarriedRow Cell)) (text : Text) (n : ℕ) → map cells_in rows ≡ map rules.cells text → slice_get (map rules.class text) n ≡ Some class → FoundRow {State = State} {Items = Items} {Defaults = Defaults} rules class rows n
 find_row rules class rows [] n cells e = absurd (cc)
 find_row rules class [] (line ∷ text) n cells e = absurd (cc)
 find_row rules class (row ∷ rows) (line ∷ text) zero cells e = record {
@@ -321,7 +321,7 @@ some_cell : {Cell : Type 0} (cells : List Cell) → (cells ≡ [] → ⊥) → (
 some_cell [] some = absurd (some refl)
 some_cell (cell ∷ cells) some = (cell, cells, refl)
 
-first_cell : {State Cell Items Defaults : Type 0} (steps : Steps State Cell Items) (rules : Rules State Cell Items Defaults) (rows : List (Row Cell)) (text : Text) (block : Block) → AreLawful steps rules → map cells_in rows ≡ map rules.cells text
+first_cell : {State Cell Items Defaults : Type 0} (steps : Steps State Cell Items) (rules : Rules State Cell Items Defaults) (rows : List (CarriedRow Cell)) (text : Text) (block : Block) → AreLawful steps rules → map cells_in rows ≡ map rules.cells text
     → slice_get (map rules.class text) block.from ≡ Some (Field letter_x) → block.from < block.to → FirstCell rows block
 first_cell steps rules rows text block lawful cells e some =
     let found = find_row rules (Field letter_x) rows text block.from cells e in
@@ -345,7 +345,7 @@ tune_kind kinds.FileHeader e = absurd (cc)
 tune_kind kinds.Tune e = refl
 tune_kind kinds.Free e = absurd (cc)
 
-first_cells : {State Cell Items Defaults : Type 0} (steps : Steps State Cell Items) (rules : Rules State Cell Items Defaults) (rows : List (Row Cell)) (text : Text) (blocks : List Block) (first last : ℕ) → AreLawful steps rules → map cells_in rows ≡ map rules.cells text
+first_cells : {State Cell Items Defaults : Type 0} (steps : Steps State Cell Items) (rules : Rules State Cell Items Defaults) (rows : List (CarriedRow Cell)) (text : Text) (blocks : List Block) (first last : ℕ) → AreLawful steps rules → map cells_in rows ≡ map rules.cells text
     → All (λ (block : Block). (block.kind ≡ kinds.Tune) ↔ (slice_get (map rules.class text) block.from ≡ Some (Field letter_x))) blocks → RiseFromTo first blocks last → All (FirstCell rows) (tunes_in blocks)
 first_cells steps rules rows text [] first last lawful cells begin rise = All-nil (FirstCell rows)
 first_cells steps rules rows text (block ∷ blocks) first last lawful cells begin rise =
@@ -359,7 +359,7 @@ first_cells steps rules rows text (block ∷ blocks) first last lawful cells beg
 
 -- all tunes at once
 
-all_untouched : {State Cell Items Defaults : Type 0} (steps : Steps State Cell Items) (rules : Rules State Cell Items Defaults) (text : Text) (s : Splice) (header : Chained State Cell Items) (tunes : List (Chained State Cell Items)) (rows : List (Row Cell)) (opening : State) (source : ℕ) (blocks : List Block) (taken : List (Option ℕ))
+all_untouched : {State Cell Items Defaults : Type 0} (steps : Steps State Cell Items) (rules : Rules State Cell Items Defaults) (text : Text) (s : Splice) (header : Chained State Cell Items) (tunes : List (Chained State Cell Items)) (rows : List (CarriedRow Cell)) (opening : State) (source : ℕ) (blocks : List Block) (taken : List (Option ℕ))
     → IsResumable steps → s.at + s.removed ≤ length text → AreChains steps rules text (header ∷ tunes) → map cells_in rows ≡ map rules.cells (spliced text s)
     → map origin_in rows ≡ origins rules.cells (laid_in steps rules text) s → All (FirstCell rows) blocks
     → AllZip (λ tune one. GoesAlong steps (header ∷ tunes) opening (rows_in rows tune) → IsSome one) blocks taken
@@ -374,7 +374,7 @@ all_untouched steps rules text s header tunes rows opening source (block ∷ blo
     )
 
 -- Where what goes along an old tune is taken over, each untouched tune is.
-pub takes_untouched : {State Cell Items Defaults : Type 0} (steps : Steps State Cell Items) (rules : Rules State Cell Items Defaults) (text : Text) (s : Splice) (old : List (Chained State Cell Items)) (rows : List (Row Cell)) (taken : List (Option ℕ))
+pub takes_untouched : {State Cell Items Defaults : Type 0} (steps : Steps State Cell Items) (rules : Rules State Cell Items Defaults) (text : Text) (s : Splice) (old : List (Chained State Cell Items)) (rows : List (CarriedRow Cell)) (taken : List (Option ℕ))
     → IsResumable steps → AreLawful steps rules → s.at + s.removed ≤ length text → AreChains steps rules text old → AreRead rules (spliced text s) rows
     → map origin_in rows ≡ origins rules.cells (laid_in steps rules text) s
     → AllZip (λ tune one. GoesAlong steps old (opening_of steps.next rules (spliced text s) (blocks_in rules (spliced text s))) (rows_in rows tune) → IsSome one) (tunes_in (blocks_in rules (spliced text s))) taken

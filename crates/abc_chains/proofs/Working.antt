@@ -1,6 +1,5 @@
 -- What an edit costs, and the text with no lines.
-use Rattle.std.proofs.Common.{◌≡◌, ℕ, ◌≤◌, List, [], ◌∷◌, refl, sym, ◌∙◌, subst, arith}
-use Rattle.std.proofs.lemmas.List.Elements.{All-nil}
+use Rattle.std.proofs.Common.{◌≡◌, ℕ, ◌≤◌, List, [], ◌∷◌, Option, None, ap, refl, sym, ◌∙◌, subst, arith}
 use Rattle.abc_book.specs.declared.block.Block.{Block}
 use Rattle.abc_book.proofs.OnePass.{one_pass}
 use Rattle.abc_fold.specs.Chain.{Chained, no_cells}
@@ -8,11 +7,8 @@ use Rattle.abc_fold.specs.Steps.{Steps}
 use Rattle.abc_fold.specs.Work.{Counters, IsRaisedUpTo, raised}
 use Rattle.abc_fold.proofs.Raised.{raised-least}
 use Rattle.abc_lines.specs.Text.{Text}
-use Rattle.abc_rework.specs.Laid.{Laid}
-use Rattle.abc_rework.specs.Origins.{origins_of}
 use Rattle.abc_tunebook.specs.Book.{blocks_in, header_in, opening_of, tunes_in}
 use Rattle.abc_tunebook.specs.Rules.{Rules}
-use Rattle.abc_chains.specs.Holding.{IsCarried}
 use Rattle.abc_chains.specs.Keeping.{IsChainOf, IsHeaderOf}
 use Rattle.abc_chains.specs.Rows.{IsScannedUpTo, Row}
 use Rattle.abc_chains.specs.Standing.{IsWorkUpTo, Stands}
@@ -52,21 +48,15 @@ empty_chains : {State Cell Items Defaults : Type 0} (steps : Steps State Cell It
 empty_chains steps rules [] e = (refl, tt)
 empty_chains steps rules (block ∷ blocks) e = absurd (cc)
 
-empty_origins : {State Cell Items Defaults : Type 0} (steps : Steps State Cell Items) (rules : Rules State Cell Items Defaults) (blocks : List Block) → blocks ≡ []
-    → [] ≡ origins_of rules.cells (let laid : Laid State = record { text = []; header = header_in blocks; tunes = tunes_in blocks; first = rules.header; opening = opening_of steps.next rules [] blocks } in laid)
-empty_origins steps rules [] e = refl
-empty_origins steps rules (block ∷ blocks) e = absurd (cc)
-
 -- What is kept of the text with no lines.
-pub empty_stands : {State Cell Items Defaults : Type 0} (steps : Steps State Cell Items) (rules : Rules State Cell Items Defaults) (text : Text) (rows : List (Row Cell)) (blocks : List Block) (chains : List (Chained State Cell Items))
-    → text ≡ [] → rows ≡ [] → blocks ≡ [] → chains ≡ no_cells ∷ [] → Stands steps rules text rows blocks chains
-empty_stands {State = State} {Cell = Cell} {Items = Items} steps rules text rows blocks chains t r b c =
+pub empty_stands : {State Cell Items Defaults : Type 0} (steps : Steps State Cell Items) (rules : Rules State Cell Items Defaults) (text : Text) (rows : List (Row Cell)) (header : Option Block) (tunes : List Block) (chains : List (Chained State Cell Items))
+    → text ≡ [] → rows ≡ [] → header ≡ None → tunes ≡ [] → chains ≡ no_cells ∷ [] → Stands steps rules text rows header tunes chains
+empty_stands {State = State} {Cell = Cell} {Items = Items} steps rules text rows header tunes chains t r h b c =
     let none : blocks_in rules [] ≡ [] = one_pass [] in
-    let all : Stands steps rules [] [] [] (no_cells ∷ []) = record {
+    let all : Stands steps rules [] [] None [] (no_cells ∷ []) = record {
       read = record { classes = refl; cells = refl };
-      blocks_are = sym none;
+      header_is = sym (ap header_in none);
+      tunes_are = sym (ap tunes_in none);
       chains_are = empty_chains steps rules (blocks_in rules []) none;
-      carried = All-nil (IsCarried {State = State} {Cell = Cell} {Items = Items} (no_cells ∷ []));
-      origins_are = empty_origins steps rules (blocks_in rules []) none;
     } in
-    rw (t, r, b, c) all
+    rw (t, r, h, b, c) all

@@ -9,7 +9,7 @@ use Rattle.abc_fold.specs.Steps.{Steps}
 use Rattle.abc_rework.specs.Kept.{Held, held_at, steps_over}
 use Rattle.abc_rework.specs.Origins.{Origin, addresses}
 use Rattle.abc_scan.specs.declared.class.LineClass.{LineClass}
-use Rattle.abc_chains.specs.Rows.{Row}
+use Rattle.abc_chains.specs.Rows.{CarriedRow}
 
 -- What a piece holds of an old chain.
 abbrev pub held_in : {F State Cell Items Work : Type 0} → Piece F State Cell Items Work → Option (Held State)
@@ -39,7 +39,7 @@ abbrev pub IsHeldAt : {State Cell Items : Type 0} → List (Chained State Cell I
 IsHeldAt chains cells None = Unit {0}
 IsHeldAt chains cells (Some origin) = (k : ℕ) → k < length cells → slice_get (cells_at chains origin.source) (origin.first + k) ≡ slice_get cells k
 
-abbrev pub IsCarried : {State Cell Items : Type 0} → List (Chained State Cell Items) → Row Cell → Type 0
+abbrev pub IsCarried : {State Cell Items : Type 0} → List (Chained State Cell Items) → CarriedRow Cell → Type 0
 IsCarried chains row = IsHeldAt chains row.cells row.origin
 
 -- The chain and the place that hold the kth cell of a line.
@@ -51,34 +51,34 @@ address_from k (Some origin) = Some (origin.source, origin.first + k)
 abbrev pub helds_at : {State Cell Items : Type 0} → List (Chained State Cell Items) → Option Origin → List Cell → List (Option (Held State))
 helds_at chains origin cells = map (held_at (entries_at chains)) (addresses origin cells)
 
-abbrev pub helds_of : {State Cell Items : Type 0} → List (Chained State Cell Items) → Row Cell → List (Option (Held State))
+abbrev pub helds_of : {State Cell Items : Type 0} → List (Chained State Cell Items) → CarriedRow Cell → List (Option (Held State))
 helds_of chains row = helds_at chains row.origin row.cells
 
-abbrev pub class_in : {Cell : Type 0} → Row Cell → LineClass
+abbrev pub class_in : {Cell : Type 0} → CarriedRow Cell → LineClass
 class_in row = row.class
 
-abbrev pub cells_in : {Cell : Type 0} → Row Cell → List Cell
+abbrev pub cells_in : {Cell : Type 0} → CarriedRow Cell → List Cell
 cells_in row = row.cells
 
-abbrev pub origin_in : {Cell : Type 0} → Row Cell → Option Origin
+abbrev pub origin_in : {Cell : Type 0} → CarriedRow Cell → Option Origin
 origin_in row = row.origin
 
 -- The rows of a block.
-abbrev pub rows_in : {Cell : Type 0} → List (Row Cell) → Block → List (Row Cell)
+abbrev pub rows_in : {Cell : Type 0} → List (CarriedRow Cell) → Block → List (CarriedRow Cell)
 rows_in rows block = take (block.to - block.from) (drop block.from rows)
 
-abbrev pub cells_over : {Cell : Type 0} → List (Row Cell) → Block → List Cell
+abbrev pub cells_over : {Cell : Type 0} → List (CarriedRow Cell) → Block → List Cell
 cells_over rows block = flat_map cells_in (rows_in rows block)
 
-abbrev pub helds_over : {State Cell Items : Type 0} → List (Chained State Cell Items) → List (Row Cell) → Block → List (Option (Held State))
+abbrev pub helds_over : {State Cell Items : Type 0} → List (Chained State Cell Items) → List (CarriedRow Cell) → Block → List (Option (Held State))
 helds_over chains rows block = flat_map (helds_of chains) (rows_in rows block)
 
 -- The steps that the chain of a block takes, begun in this state.
-abbrev pub steps_taken : {State Cell Items : Type 0} → Steps State Cell Items → State → List (Chained State Cell Items) → List (Row Cell) → Block → ℕ
+abbrev pub steps_taken : {State Cell Items : Type 0} → Steps State Cell Items → State → List (Chained State Cell Items) → List (CarriedRow Cell) → Block → ℕ
 steps_taken steps opening chains rows block = steps_over steps opening (cells_over rows block) (helds_over chains rows block)
 
 -- A chain is the fold over the cells of a block, from an opening.
-pub record IsChain {State Cell Items : Type 0} (steps : Steps State Cell Items) (opening : State) (rows : List (Row Cell)) (chain : Chained State Cell Items) (block : Block) : Type 0 where
+pub record IsChain {State Cell Items : Type 0} (steps : Steps State Cell Items) (opening : State) (rows : List (CarriedRow Cell)) (chain : Chained State Cell Items) (block : Block) : Type 0 where
   pub folds : Folds steps opening chain
   pub cells : chain.cells ≡ cells_over rows block
 

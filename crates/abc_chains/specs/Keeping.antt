@@ -10,20 +10,20 @@ use Rattle.abc_tunebook.specs.Book.{blocks_in, header_in, opening_of, tunes_in}
 use Rattle.abc_tunebook.specs.Rules.{Rules}
 use Rattle.abc_tunebook.specs.Tune.{lines_in}
 use Rattle.abc_chains.specs.Holding.{IsChain, cells_in, class_in, steps_taken}
-use Rattle.abc_chains.specs.Rows.{Row}
+use Rattle.abc_chains.specs.Rows.{CarriedRow}
 
 -- Rows have the classes and the cells of the lines of a text.
-pub record AreRead {State Cell Items Defaults : Type 0} (rules : Rules State Cell Items Defaults) (text : Text) (rows : List (Row Cell)) : Type 0 where
+pub record AreRead {State Cell Items Defaults : Type 0} (rules : Rules State Cell Items Defaults) (text : Text) (rows : List (CarriedRow Cell)) : Type 0 where
   pub classes : map class_in rows ≡ map rules.class text
   pub cells : map cells_in rows ≡ map rules.cells text
 
 -- The chain of a file header, by rows; where there is none, it has no cells and no states.
-abbrev pub IsHeader : {State Cell Items : Type 0} → Steps State Cell Items → State → List (Row Cell) → Chained State Cell Items → Option Block → Type 0
+abbrev pub IsHeader : {State Cell Items : Type 0} → Steps State Cell Items → State → List (CarriedRow Cell) → Chained State Cell Items → Option Block → Type 0
 IsHeader steps first rows chain None = chain ≡ no_cells
 IsHeader steps first rows chain (Some block) = IsChain steps first rows chain block
 
 -- The steps that it takes.
-abbrev pub header_steps : {State Cell Items : Type 0} → Steps State Cell Items → State → List (Chained State Cell Items) → List (Row Cell) → Option Block → ℕ
+abbrev pub header_steps : {State Cell Items : Type 0} → Steps State Cell Items → State → List (Chained State Cell Items) → List (CarriedRow Cell) → Option Block → ℕ
 header_steps steps first old rows None = 0
 header_steps steps first old rows (Some block) = steps_taken steps first old rows block
 

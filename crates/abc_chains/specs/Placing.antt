@@ -3,22 +3,29 @@ use Rattle.std.specs.Prelude.{ℕ, ◌+◌, ◌-◌, ◌≤◌, List, [], ◌∷
 use Rattle.std.specs.List.{flat_map}
 use Rattle.abc_book.specs.declared.block.Block.{Block}
 use Rattle.abc_chains.specs.Holding.{cells_in}
-use Rattle.abc_chains.specs.Rows.{Row, placed}
+use Rattle.abc_chains.specs.Rows.{CarriedRow, placed}
 
 -- The lines of a chain, the first of which holds its cells from this place on.
-abbrev pub placed_along : {Cell : Type 0} → ℕ → ℕ → List (Row Cell) → List (Row Cell)
+abbrev pub placed_along : {Cell : Type 0} → ℕ → ℕ → List (CarriedRow Cell) → List (CarriedRow Cell)
 placed_along source first [] = []
 placed_along source first (row ∷ rows) = placed (Some (record { source = source; first = first })) row ∷ placed_along source (first + length row.cells) rows
 
-abbrev pub between : {Cell : Type 0} → List (Row Cell) → ℕ → ℕ → List (Row Cell)
+abbrev pub between : {Cell : Type 0} → List (CarriedRow Cell) → ℕ → ℕ → List (CarriedRow Cell)
 between rows from to = take (to - from) (drop from rows)
 
 -- The lines of a text from one on, where chains of these numbers hold them.
-abbrev pub placed_from : {Cell : Type 0} → List (Row Cell) → ℕ → ℕ → List Block → List (Row Cell)
+abbrev pub placed_from : {Cell : Type 0} → List (CarriedRow Cell) → ℕ → ℕ → List Block → List (CarriedRow Cell)
 placed_from rows at source [] = map (placed None) (drop at rows)
 placed_from rows at source (block ∷ blocks) =
     map (placed None) (between rows at block.from)
     ++ (placed_along source 0 (between rows block.from block.to) ++ placed_from rows block.to (source + 1) blocks)
+
+-- The same, up to another line.
+abbrev pub placed_until : {Cell : Type 0} → List (CarriedRow Cell) → ℕ → ℕ → ℕ → List Block → List (CarriedRow Cell)
+placed_until rows at to source [] = map (placed None) (between rows at to)
+placed_until rows at to source (block ∷ blocks) =
+    map (placed None) (between rows at block.from)
+    ++ (placed_along source 0 (between rows block.from block.to) ++ placed_until rows block.to to (source + 1) blocks)
 
 -- Blocks follow one another within so many lines.
 abbrev pub BlocksRise : ℕ → List Block → ℕ → Type 0
@@ -26,5 +33,5 @@ BlocksRise at [] last = at ≤ last
 BlocksRise at (block ∷ blocks) last = (at ≤ block.from) × (block.from ≤ block.to) × BlocksRise block.to blocks last
 
 -- How many cells lines have.
-abbrev pub cell_count : {Cell : Type 0} → List (Row Cell) → ℕ
+abbrev pub cell_count : {Cell : Type 0} → List (CarriedRow Cell) → ℕ
 cell_count rows = length (flat_map cells_in rows)

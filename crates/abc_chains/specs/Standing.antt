@@ -1,46 +1,135 @@
 -- What contracts see of a text that is kept with its chains, and of an edit of it that has been prepared. Our own.
-use Rattle.std.specs.Prelude.{◌≡◌, ℕ, ◌≤◌, List, Option, map, All}
+use Rattle.std.specs.Prelude.{◌≡◌, ◌⊎◌, ℕ, zero, suc, ◌+◌, ◌-◌, ◌≤◌, All, List, [], ◌∷◌, ◌++◌, drop, length, map, take, Option, Some}
+use Rattle.abc_book.specs.Stretch.{shifted}
 use Rattle.abc_book.specs.declared.block.Block.{Block}
 use Rattle.abc_fold.specs.Chain.{Chained}
 use Rattle.abc_fold.specs.Steps.{Steps}
 use Rattle.abc_fold.specs.Work.{Counters, raised}
-use Rattle.abc_lines.specs.Lines.{Lines}
-use Rattle.abc_lines.specs.Text.{Text}
-use Rattle.abc_rework.specs.Laid.{laid_in}
-use Rattle.abc_rework.specs.Origins.{origins_of}
-use Rattle.abc_tunebook.specs.Book.{blocks_in}
+use Rattle.abc_lines.specs.GapList.{Gapped}
+use Rattle.abc_lines.specs.Lines.{Lines, Prepared}
+use Rattle.abc_lines.specs.ListSplice.{Patched}
+use Rattle.abc_lines.specs.Text.{Splice, Text}
+use Rattle.abc_tunebook.specs.Book.{blocks_in, header_in, tunes_in}
 use Rattle.abc_tunebook.specs.Rules.{Rules}
-use Rattle.abc_chains.specs.Holding.{IsCarried, origin_in}
-use Rattle.abc_chains.specs.Keeping.{AreChains, AreRead}
-use Rattle.abc_chains.specs.Rows.{Row}
+use Rattle.abc_chains.specs.Keeping.{AreChains}
+use Rattle.abc_chains.specs.Rows.{Row, row_cells, row_class}
+use Rattle.abc_chains.specs.declared.stretch.Stretch.{Stretch}
 
--- The rows, the blocks and the chains are those of a text: the rows have the classes and the cells of its lines, and
--- the places in the chains that hold these cells; the chains, that of the file header first, are the folds over their
--- blocks from the states in which these begin.
-pub record Stands {State Cell Items Defaults : Type 0} (steps : Steps State Cell Items) (rules : Rules State Cell Items Defaults) (text : Text) (rows : List (Row Cell)) (blocks : List Block) (chains : List (Chained State Cell Items)) : Type 0 where
-  pub read : AreRead rules text rows
-  pub blocks_are : blocks ≡ blocks_in rules text
+-- Rows have the classes and the cells of the lines of a text.
+pub record AreRows {State Cell Items Defaults : Type 0} (rules : Rules State Cell Items Defaults) (text : Text) (rows : List (Row Cell)) : Type 0 where
+  pub classes : map row_class rows ≡ map rules.class text
+  pub cells : map row_cells rows ≡ map rules.cells text
+
+-- The rows, the file header, the tunes and the chains are those of a text: the rows have the classes and the cells of
+-- its lines; the chains, that of the file header first, are the folds over their blocks from the states in which these
+-- begin.
+pub record Stands {State Cell Items Defaults : Type 0} (steps : Steps State Cell Items) (rules : Rules State Cell Items Defaults) (text : Text) (rows : List (Row Cell)) (header : Option Block) (tunes : List Block) (chains : List (Chained State Cell Items)) : Type 0 where
+  pub read : AreRows rules text rows
+  pub header_is : header ≡ header_in (blocks_in rules text)
+  pub tunes_are : tunes ≡ tunes_in (blocks_in rules text)
   pub chains_are : AreChains steps rules text chains
-  pub carried : All (IsCarried chains) rows
-  pub origins_are : map origin_in rows ≡ origins_of rules.cells (laid_in steps rules text)
 
--- A compiler, a text with its room, and what is kept of the text.
+-- A compiler, a text with its room, and what is kept of the text: its rows, where its file header and its tunes lie, and
+-- their chains.
 pub record Keeping (C State Cell Items : Type 0) : Type 0 where
   pub compiler : C
   pub lines : Lines
-  pub rows : List (Row Cell)
-  pub blocks : List Block
-  pub chains : List (Chained State Cell Items)
+  pub rows : Gapped (Row Cell)
+  pub header : Option Block
+  pub tunes : List Block
+  pub chains : Gapped (Chained State Cell Items)
 
--- A kept text, the text that is to take its place, what would be kept of that, and which of its tunes have the items of
--- old ones.
+-- A kept text, the text that is to take its place, what would be kept of that, and the stretch of lines outside which all
+-- stays: the chains and the places of its tunes, and which of these have the items of old ones.
 pub record Edited (C State Cell Items : Type 0) : Type 0 where
   pub on : Keeping C State Cell Items
   pub text : Text
   pub rows : List (Row Cell)
-  pub blocks : List Block
+  pub header : Option Block
+  pub tunes : List Block
   pub chains : List (Chained State Cell Items)
+  pub stretch : Stretch
+  pub made : List (Chained State Cell Items)
+  pub places : List Block
   pub taken : List (Option ℕ)
+
+-- A prepared edit belongs to a kept text, and what it would put there is what is kept of the new text.
+pub record IsPatch {C State Cell Items Defaults : Type 0} (steps : Steps State Cell Items) (rules : Rules State Cell Items Defaults) (on : Keeping C State Cell Items) (lines : Prepared) (rows : Patched (Row Cell)) (header : Option Block) (tunes : List Block) (chains : Patched (Chained State Cell Items)) : Type 0 where
+  pub lines_on : lines.on ≡ on.lines
+  pub rows_on : rows.on ≡ on.rows
+  pub chains_on : chains.on ≡ on.chains
+  pub stands : Stands steps rules lines.after rows.after.items header tunes chains.after.items
+
+-- The chains of the tunes: the file header's stands before them.
+abbrev pub old_tunes : {C State Cell Items : Type 0} → Edited C State Cell Items → List (Chained State Cell Items)
+old_tunes patch = drop 1 patch.on.chains.items
+
+-- How many lines the stretch had.
+abbrev pub gone : Stretch → ℕ
+gone stretch = stretch.to - stretch.from
+
+-- A block behind a stretch, where it lies after the edit.
+abbrev pub moved_on : Stretch → Block → Block
+moved_on stretch block = shifted (gone stretch) stretch.came block
+
+-- Blocks that lie before a stretch, behind it, and in what takes its place.
+abbrev pub LiesBefore : Stretch → Block → Type 0
+LiesBefore stretch block = block.to ≤ stretch.from
+
+abbrev pub LiesBehind : Stretch → Block → Type 0
+LiesBehind stretch block = stretch.to ≤ block.from
+
+abbrev pub LiesAmong : Stretch → Block → Type 0
+LiesAmong stretch block = (stretch.from ≤ block.from) × (block.to ≤ stretch.from + stretch.came)
+
+-- Blocks that lie in what goes.
+abbrev pub LiesAmid : Stretch → Block → Type 0
+LiesAmid stretch block = (stretch.from ≤ block.from) × (block.to ≤ stretch.to)
+
+abbrev pub MayLieBefore : Stretch → Option Block → Type 0
+MayLieBefore stretch header = (block : Block) → header ≡ Some block → LiesBefore stretch block
+
+-- The stretch is the whole text.
+pub record IsWhole {C State Cell Items : Type 0} (patch : Edited C State Cell Items) : Type 0 where
+  pub front : patch.stretch.front ≡ 0
+  pub behind : patch.stretch.behind ≡ length patch.on.tunes
+  pub from : patch.stretch.from ≡ 0
+  pub to : patch.stretch.to ≡ length patch.on.lines.text
+
+-- The file header lies before the stretch, and stays.
+pub record KeepsHeader {C State Cell Items : Type 0} (patch : Edited C State Cell Items) : Type 0 where
+  pub header : patch.header ≡ patch.on.header
+  pub chain : take 1 patch.chains ≡ take 1 patch.on.chains.items
+  pub before : MayLieBefore patch.stretch patch.on.header
+
+-- All lines of a splice lie in the stretch of an edit, and nothing outside the stretch changes but the numbers of the
+-- lines behind it.
+pub record IsStretch {C State Cell Items : Type 0} (s : Splice) (patch : Edited C State Cell Items) : Type 0 where
+  pub order : patch.stretch.front ≤ patch.stretch.behind
+  pub count : patch.stretch.behind ≤ length patch.on.tunes
+  pub begins : patch.stretch.from ≤ s.at
+  pub ends : s.at + s.removed ≤ patch.stretch.to
+  pub inside : patch.stretch.to ≤ length patch.on.lines.text
+  pub came : patch.stretch.came ≡ gone patch.stretch - s.removed + length s.lines
+  pub chains_are : drop 1 patch.chains ≡ take patch.stretch.front (old_tunes patch) ++ (patch.made ++ drop patch.stretch.behind (old_tunes patch))
+  pub tunes_are : patch.tunes ≡ take patch.stretch.front patch.on.tunes ++ (patch.places ++ map (moved_on patch.stretch) (drop patch.stretch.behind patch.on.tunes))
+  pub places_count : length patch.places ≡ length patch.made
+  pub before : All (LiesBefore patch.stretch) (take patch.stretch.front patch.on.tunes)
+  pub beyond : All (LiesBehind patch.stretch) (drop patch.stretch.behind patch.on.tunes)
+  pub among : All (LiesAmong patch.stretch) patch.places
+  pub amid : All (LiesAmid patch.stretch) (take (patch.stretch.behind - patch.stretch.front) (drop patch.stretch.front patch.on.tunes))
+  pub header_is : IsWhole patch ⊎ KeepsHeader patch
+  pub lines_before : take patch.stretch.from patch.text ≡ take patch.stretch.from patch.on.lines.text
+  pub lines_behind : drop (patch.stretch.from + patch.stretch.came) patch.text ≡ drop patch.stretch.to patch.on.lines.text
+
+-- So many numbers in order, each of an old tune that stays.
+abbrev pub kept_numbers : ℕ → ℕ → List (Option ℕ)
+kept_numbers first zero = []
+kept_numbers first (suc count) = Some first ∷ kept_numbers (first + 1) count
+
+-- For each tune of the new text the old one that has its items, if one is known: those outside the stretch stay.
+abbrev pub all_taken : {C State Cell Items : Type 0} → Edited C State Cell Items → List (Option ℕ)
+all_taken patch = kept_numbers 0 patch.stretch.front ++ (patch.taken ++ kept_numbers patch.stretch.behind (length patch.on.tunes - patch.stretch.behind))
 
 -- The lines scanned have risen by so many at most, and the steps folded by so many; no tune has been built.
 pub record IsWorkUpTo (lines steps : ℕ) (before after : Counters) : Type 0 where

@@ -10,7 +10,7 @@ use Rattle.abc_rework.specs.Fresh.{is_untouched}
 use Rattle.abc_rework.specs.Laid.{laid_in, tune_chains}
 use Rattle.abc_rework.specs.Origins.{Origin}
 use Rattle.abc_tunebook.specs.Rules.{Rules}
-use Rattle.abc_chains.specs.Rows.{Row}
+use Rattle.abc_chains.specs.Rows.{CarriedRow}
 
 -- An old chain of this number has the items of a chain.
 abbrev pub HasItemsOf : {State Cell Items : Type 0} → List (Chained State Cell Items) → Chained State Cell Items → Option ℕ → Type 0
@@ -27,16 +27,16 @@ is_origin source place (Some origin) = (origin.source == source) && (origin.firs
 
 -- Whether the old chain of a number holds the cells of a line from a place on; it holds those of a line without cells
 -- everywhere.
-abbrev pub continues : {Cell : Type 0} → ℕ → ℕ → Row Cell → Bool
+abbrev pub continues : {Cell : Type 0} → ℕ → ℕ → CarriedRow Cell → Bool
 continues source place row = if length row.cells == 0 then true else is_origin source place row.origin
 
 -- Whether the cells of lines are those of the old chain of a number, from a place to the end of so many.
-abbrev pub is_along : {Cell : Type 0} → ℕ → ℕ → ℕ → List (Row Cell) → Bool
+abbrev pub is_along : {Cell : Type 0} → ℕ → ℕ → ℕ → List (CarriedRow Cell) → Bool
 is_along source count place [] = place == count
 is_along source count place (row ∷ rows) = continues source place row && is_along source count (place + length row.cells) rows
 
 -- The old chain that holds the first of some lines.
-abbrev pub first_source : {Cell : Type 0} → List (Row Cell) → Option ℕ
+abbrev pub first_source : {Cell : Type 0} → List (CarriedRow Cell) → Option ℕ
 first_source [] = None
 first_source (row ∷ rows) = option_map (λ origin. origin.source) row.origin
 
@@ -47,7 +47,7 @@ are_alike_both alike (Some state) None = false
 are_alike_both alike (Some state) (Some other) = alike state other
 
 -- The cells of lines are those of an old tune, from its first to its last, and it began in a state alike to this one.
-pub record GoesAlong {State Cell Items : Type 0} (steps : Steps State Cell Items) (old : List (Chained State Cell Items)) (opening : State) (rows : List (Row Cell)) : Type 0 where
+pub record GoesAlong {State Cell Items : Type 0} (steps : Steps State Cell Items) (old : List (Chained State Cell Items)) (opening : State) (rows : List (CarriedRow Cell)) : Type 0 where
   pub number : ℕ
   pub was : Chained State Cell Items
   pub there : slice_get old (suc number) ≡ Some was

@@ -1,12 +1,12 @@
 //! Where the file header and the tunes of a text lie.
 
-ghost use Rattle.std.specs.Prelude.{◌≡◌, ◌++◌, IfOk, length, map};
+ghost use Rattle.std.specs.Prelude.{◌≡◌, ◌∷◌, IfOk, map};
 ghost use Rattle.abc_book.specs.Block.{blocks_of};
 ghost use Rattle.abc_chains.specs.Holding.{class_in};
-ghost use Rattle.abc_chains.specs.Keeping.{header_place, places_of};
+ghost use Rattle.abc_chains.specs.Keeping.{header_place};
 ghost use Rattle.abc_tunebook.specs.Book.{header_in, is_file_header, is_tune, tunes_in};
 
-use crate::row::Row;
+use crate::carried::CarriedRow;
 use abc_book::{Block, BlockKind, blocks};
 use abc_scan::LineClass;
 use std::alloc::{AllocError, Global};
@@ -32,7 +32,7 @@ fn is_tune(kind: BlockKind) -> bool
 }
 
 /// The file header, if there is one: no other block comes before it.
-pub fn header_in(blocks: &[Block]) -> Option<Block>
+pub(crate) fn header_in(blocks: &[Block]) -> Option<Block>
     ensures { result ≡ header_in blocks.now }
 {
     match blocks {
@@ -48,7 +48,7 @@ pub fn header_in(blocks: &[Block]) -> Option<Block>
 }
 
 /// The tunes of a text in the order in which they stand.
-pub fn tunes_in(alloc: Global, blocks: &[Block]) -> Result<Vec<Block>, AllocError>
+pub(crate) fn tunes_in(alloc: Global, blocks: &[Block]) -> Result<Vec<Block>, AllocError>
     ensures { IfOk result (λ tunes. tunes.items ≡ tunes_in blocks.now) }
 {
     blocks
@@ -59,7 +59,7 @@ pub fn tunes_in(alloc: Global, blocks: &[Block]) -> Result<Vec<Block>, AllocErro
 }
 
 /// The blocks of a text with these rows.
-pub(crate) fn blocks_of<K: Drop>(alloc: Global, rows: &[Row<K>]) -> Result<Vec<Block>, AllocError>
+pub(crate) fn blocks_of<K: Drop>(alloc: Global, rows: &[CarriedRow<K>]) -> Result<Vec<Block>, AllocError>
     ensures { IfOk result (λ blocks. blocks.items ≡ blocks_of (map class_in rows.now)) }
 {
     let mut classes: Vec<LineClass> = Vec::with_capacity(alloc, rows.len())?;
@@ -84,12 +84,11 @@ fn header_place(header: Option<Block>) -> Block
 }
 
 /// Where the chains of a text lie, in order.
-pub(crate) fn places_of(alloc: Global, blocks: &[Block]) -> Result<Vec<Block>, AllocError>
-    ensures { IfOk result (λ places. places.items ≡ places_of blocks.now) }
+pub(crate) fn places_of(alloc: Global, header: Option<Block>, tunes: &[Block]) -> Result<Vec<Block>, AllocError>
+    ensures { IfOk result (λ places. places.items ≡ header_place header ∷ tunes.now) }
 {
-    let mut tunes = tunes_in(alloc, blocks)?;
     let mut places = Vec::new(alloc);
-    places.push(header_place(header_in(blocks)))?;
-    places.append(&mut tunes)?;
+    places.push(header_place(header))?;
+    places.extend_from_slice(tunes)?;
     Ok(places)
 }

@@ -16,7 +16,8 @@ ghost use Rattle.abc_tunebook.specs.Book.{blocks_in};
 
 use crate::blocks::{header_in, tunes_in};
 use crate::pieces::pieces_of;
-use crate::row::Row;
+use crate::carried::CarriedRow;
+use abc_lines::GapList;
 use crate::whole::whole_chain;
 use abc_book::Block;
 use abc_compiler::Compiler;
@@ -25,20 +26,20 @@ use std::alloc::{AllocError, Global};
 
 /// A new chain of a block, begun in this state.
 fn chain_of<F: Resumable>(
-    alloc: Global,
     fold: &F,
     opening: &F::State,
-    old: &[Shared<Chain<F>>],
-    rows: &[Row<F::Cell>],
+    old: &GapList<Shared<Chain<F>>>,
+    rows: &[CarriedRow<F::Cell>],
     block: &Block,
     work: &mut F::Work,
 ) -> Result<Chain<F>, AllocError>
-    requires carried { All (IsCarried old.now) rows.now }
-    requires folded { All (IsFolded (steps_of (F.next fold.now) (F.gives fold.now) (F.alike fold.now))) old.now }
+    requires carried { All (IsCarried old.now.items) rows.now }
+    requires folded { All (IsFolded (steps_of (F.next fold.now) (F.gives fold.now) (F.alike fold.now))) old.now.items }
     requires within { LiesWithin (length rows.now) block.now }
     ensures chain { IfOk result (λ chain. IsChain (steps_of (F.next fold.now) (F.gives fold.now) (F.alike fold.now)) opening.now rows.now chain block.now) }
-    ensures counted { IsRaisedUpTo (steps_taken (steps_of (F.next fold.now) (F.gives fold.now) (F.alike fold.now)) opening.now old.now rows.now block.now) (F.Work.counts work.old) (F.Work.counts work.new) }
+    ensures counted { IsRaisedUpTo (steps_taken (steps_of (F.next fold.now) (F.gives fold.now) (F.alike fold.now)) opening.now old.now.items rows.now block.now) (F.Work.counts work.old) (F.Work.counts work.new) }
 {
+    let alloc = old.allocator();
     let pieces = pieces_of(alloc, fold, old, rows, block)?;
     let mut chain = Chain::new(alloc)?;
     let patch = chain.prepare(fold, opening, &pieces, work)?;
@@ -48,48 +49,46 @@ fn chain_of<F: Resumable>(
 
 /// The chain of a block, begun in this state: an old one, where one holds just the cells of its lines and begins alike.
 fn chain_over<F: Resumable>(
-    alloc: Global,
     fold: &F,
     opening: &F::State,
-    old: &[Shared<Chain<F>>],
-    rows: &[Row<F::Cell>],
+    old: &GapList<Shared<Chain<F>>>,
+    rows: &[CarriedRow<F::Cell>],
     block: &Block,
     work: &mut F::Work,
 ) -> Result<Shared<Chain<F>>, AllocError>
-    requires carried { All (IsCarried old.now) rows.now }
-    requires folded { All (IsFolded (steps_of (F.next fold.now) (F.gives fold.now) (F.alike fold.now))) old.now }
+    requires carried { All (IsCarried old.now.items) rows.now }
+    requires folded { All (IsFolded (steps_of (F.next fold.now) (F.gives fold.now) (F.alike fold.now))) old.now.items }
     requires within { LiesWithin (length rows.now) block.now }
     ensures chain { IfOk result (λ chain. IsChain (steps_of (F.next fold.now) (F.gives fold.now) (F.alike fold.now)) opening.now rows.now chain block.now) }
-    ensures counted { IsRaisedUpTo (steps_taken (steps_of (F.next fold.now) (F.gives fold.now) (F.alike fold.now)) opening.now old.now rows.now block.now) (F.Work.counts work.old) (F.Work.counts work.new) }
+    ensures counted { IsRaisedUpTo (steps_taken (steps_of (F.next fold.now) (F.gives fold.now) (F.alike fold.now)) opening.now old.now.items rows.now block.now) (F.Work.counts work.old) (F.Work.counts work.new) }
 {
     match whole_chain(fold, old, opening, &rows[block.from..block.to]) {
         Some(chain) => chain.share(),
         None => {
-            let chain = chain_of(alloc, fold, opening, old, rows, block, work)?;
-            Shared::new(alloc, chain)
+            let chain = chain_of(fold, opening, old, rows, block, work)?;
+            Shared::new(old.allocator(), chain)
         }
     }
 }
 
 /// The chains of tunes, each begun in this state.
-fn tune_chains<F: Resumable>(
-    alloc: Global,
+pub(crate) fn tune_chains<F: Resumable>(
     fold: &F,
     opening: &F::State,
-    old: &[Shared<Chain<F>>],
-    rows: &[Row<F::Cell>],
+    old: &GapList<Shared<Chain<F>>>,
+    rows: &[CarriedRow<F::Cell>],
     blocks: &[Block],
     work: &mut F::Work,
 ) -> Result<Vec<Shared<Chain<F>>>, AllocError>
-    requires carried { All (IsCarried old.now) rows.now }
-    requires folded { All (IsFolded (steps_of (F.next fold.now) (F.gives fold.now) (F.alike fold.now))) old.now }
+    requires carried { All (IsCarried old.now.items) rows.now }
+    requires folded { All (IsFolded (steps_of (F.next fold.now) (F.gives fold.now) (F.alike fold.now))) old.now.items }
     requires within { All (LiesWithin (length rows.now)) blocks.now }
     ensures chains { IfOk result (λ chains. AllZip (IsChain (steps_of (F.next fold.now) (F.gives fold.now) (F.alike fold.now)) opening.now rows.now) chains.items blocks.now) }
-    ensures counted { IsRaisedUpTo (sum_by (steps_taken (steps_of (F.next fold.now) (F.gives fold.now) (F.alike fold.now)) opening.now old.now rows.now) blocks.now) (F.Work.counts work.old) (F.Work.counts work.new) }
+    ensures counted { IsRaisedUpTo (sum_by (steps_taken (steps_of (F.next fold.now) (F.gives fold.now) (F.alike fold.now)) opening.now old.now.items rows.now) blocks.now) (F.Work.counts work.old) (F.Work.counts work.new) }
 {
-    let mut chains = Vec::new(alloc);
+    let mut chains = Vec::new(old.allocator());
     for block in blocks {
-        let chain = chain_over(alloc, fold, opening, old, rows, block, work)?;
+        let chain = chain_over(fold, opening, old, rows, block, work)?;
         chains.push(chain)?;
     }
     Ok(chains)
@@ -104,31 +103,31 @@ fn no_chain<F: Resumable>(alloc: Global) -> Result<Shared<Chain<F>>, AllocError>
 }
 
 /// The chain of the file header; where there is none, one without cells and states.
-fn header_chain<C: Compiler>(
+pub(crate) fn header_chain<C: Compiler>(
     alloc: Global,
     compiler: &C,
-    old: &[Shared<Chain<C>>],
-    rows: &[Row<C::Cell>],
+    old: &GapList<Shared<Chain<C>>>,
+    rows: &[CarriedRow<C::Cell>],
     header: Option<Block>,
     work: &mut C::Work,
 ) -> Result<Shared<Chain<C>>, AllocError>
-    requires carried { All (IsCarried old.now) rows.now }
-    requires folded { All (IsFolded (steps_of (C.next compiler.now) (C.gives compiler.now) (C.alike compiler.now))) old.now }
+    requires carried { All (IsCarried old.now.items) rows.now }
+    requires folded { All (IsFolded (steps_of (C.next compiler.now) (C.gives compiler.now) (C.alike compiler.now))) old.now.items }
     requires within { IfSome header (LiesWithin (length rows.now)) }
     ensures chain { IfOk result (λ chain. IsHeader (steps_of (C.next compiler.now) (C.gives compiler.now) (C.alike compiler.now)) (C.rules compiler.now).header rows.now chain header) }
-    ensures counted { IsRaisedUpTo (header_steps (steps_of (C.next compiler.now) (C.gives compiler.now) (C.alike compiler.now)) (C.rules compiler.now).header old.now rows.now header) (C.Work.counts work.old) (C.Work.counts work.new) }
+    ensures counted { IsRaisedUpTo (header_steps (steps_of (C.next compiler.now) (C.gives compiler.now) (C.alike compiler.now)) (C.rules compiler.now).header old.now.items rows.now header) (C.Work.counts work.old) (C.Work.counts work.new) }
 {
     match header {
         None => no_chain(alloc),
         Some(block) => {
             let first = compiler.header(alloc);
-            chain_over(alloc, compiler, &first, old, rows, &block, work)
+            chain_over(compiler, &first, old, rows, &block, work)
         }
     }
 }
 
 /// The state in which the tunes begin, by the chain of the file header.
-fn opening_behind<C: Compiler>(
+pub(crate) fn opening_behind<C: Compiler>(
     alloc: Global,
     compiler: &C,
     header: Option<Block>,
@@ -141,35 +140,4 @@ fn opening_behind<C: Compiler>(
         Some(_) => chain.entry(chain.len()),
     };
     compiler.tune(alloc, after)
-}
-
-/// The chains of a text with these rows and blocks, the file header's first, and then the tunes'. Each step is one of
-/// a fresh cell.
-pub(crate) fn chains_of<C: Compiler>(
-    alloc: Global,
-    compiler: &C,
-    old: &[Shared<Chain<C>>],
-    rows: &[Row<C::Cell>],
-    blocks: &[Block],
-    work: &mut C::Work,
-) -> Result<Vec<Shared<Chain<C>>>, AllocError>
-    requires carried { All (IsCarried old.now) rows.now }
-    requires folded { All (IsFolded (steps_of (C.next compiler.now) (C.gives compiler.now) (C.alike compiler.now))) old.now }
-    requires blocks { blocks.now ≡ blocks_of (map class_in rows.now) }
-    ensures chains { (text : Text) → AreRead (C.rules compiler.now) text rows.now →
-        IfOk result (λ chains. AreChains (steps_of (C.next compiler.now) (C.gives compiler.now) (C.alike compiler.now)) (C.rules compiler.now) text chains.items) }
-    ensures counted { let steps = steps_of (C.next compiler.now) (C.gives compiler.now) (C.alike compiler.now) in let rules = C.rules compiler.now in
-        (text : Text) (s : Splice) → s.at + s.removed ≤ length text → AreChains steps rules text old.now
-        → AreRead rules (spliced text s) rows.now → map origin_in rows.now ≡ origins rules.cells (laid_in steps rules text) s
-        → IsRaisedUpTo (fresh_after steps rules text s) (C.Work.counts work.old) (C.Work.counts work.new) }
-{
-    let header = header_in(blocks);
-    let first = header_chain(alloc, compiler, old, rows, header, work)?;
-    let opening = opening_behind(alloc, compiler, header, first.get());
-    let tunes = tunes_in(alloc, blocks)?;
-    let mut others = tune_chains(alloc, compiler, &opening, old, rows, &tunes, work)?;
-    let mut chains = Vec::new(alloc);
-    chains.push(first)?;
-    chains.append(&mut others)?;
-    Ok(chains)
 }

@@ -2,14 +2,19 @@
 #![tactic(auto)]
 
 mod blocks;
+mod carried;
 mod folded;
 mod lines;
+mod made;
 mod pieces;
+mod place;
+mod renew;
 mod row;
 mod settle;
+mod stretch;
 mod text;
 mod whole;
 
-pub use blocks::{header_in, tunes_in};
-pub use row::{Origin, Row, read};
+pub use row::{Row, read};
+pub use stretch::Stretch;
 pub use text::{KeptPatch, KeptText};

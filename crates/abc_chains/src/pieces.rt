@@ -7,7 +7,8 @@ ghost use Rattle.abc_fold.specs.Piece.{IsKept, cell_of, cells_of};
 ghost use Rattle.abc_fold.specs.Steps.{IsResumable, Steps, steps_of};
 ghost use Rattle.abc_rework.specs.Kept.{held_at};
 
-use crate::row::Row;
+use crate::carried::{CarriedRow, item_at};
+use abc_lines::GapList;
 use abc_book::Block;
 use abc_fold::{Chain, Fold, Piece, Resumable, Shared};
 use std::alloc::{AllocError, Global};
@@ -33,15 +34,15 @@ fn kept_at<F: Resumable>(chain: &Shared<Chain<F>>, i: usize) -> Result<Piece<F>,
 fn piece_at<F: Resumable>(
     alloc: Global,
     fold: &F,
-    chains: &[Shared<Chain<F>>],
-    row: &Row<F::Cell>,
+    chains: &GapList<Shared<Chain<F>>>,
+    row: &CarriedRow<F::Cell>,
     k: usize,
 ) -> Result<Piece<F>, AllocError>
     requires inside { k < length row.now.cells }
-    requires carried { IsCarried chains.now row.now }
-    requires folded { All (IsFolded (steps_of (F.next fold.now) (F.gives fold.now) (F.alike fold.now))) chains.now }
+    requires carried { IsCarried chains.now.items row.now }
+    requires folded { All (IsFolded (steps_of (F.next fold.now) (F.gives fold.now) (F.alike fold.now))) chains.now.items }
     ensures cell { IfOk result (λ piece. slice_get row.now.cells k ≡ Some (cell_of piece)) }
-    ensures held { IfOk result (λ piece. held_in piece ≡ held_at (entries_at chains.now) (address_from k row.now.origin)) }
+    ensures held { IfOk result (λ piece. held_in piece ≡ held_at (entries_at chains.now.items) (address_from k row.now.origin)) }
     ensures kept { IfOk result (λ piece. IsKept (steps_of (F.next fold.now) (F.gives fold.now) (F.alike fold.now)) piece) }
 {
     match &row.origin {
@@ -50,7 +51,7 @@ fn piece_at<F: Resumable>(
             Ok(Piece::New(cell))
         }
         Some(origin) => {
-            let chain = &chains[origin.source];
+            let chain = item_at(chains, origin.source);
             let count = count_of(chain);
             kept_at(chain, origin.first + k)
         }
@@ -61,15 +62,15 @@ fn piece_at<F: Resumable>(
 fn append_row<F: Resumable>(
     alloc: Global,
     fold: &F,
-    chains: &[Shared<Chain<F>>],
-    row: &Row<F::Cell>,
+    chains: &GapList<Shared<Chain<F>>>,
+    row: &CarriedRow<F::Cell>,
     pieces: &mut Vec<Piece<F>>,
 ) -> Result<(), AllocError>
-    requires carried { IsCarried chains.now row.now }
-    requires folded { All (IsFolded (steps_of (F.next fold.now) (F.gives fold.now) (F.alike fold.now))) chains.now }
+    requires carried { IsCarried chains.now.items row.now }
+    requires folded { All (IsFolded (steps_of (F.next fold.now) (F.gives fold.now) (F.alike fold.now))) chains.now.items }
     requires kept { All (IsKept (steps_of (F.next fold.now) (F.gives fold.now) (F.alike fold.now))) pieces.old.items }
     ensures cells { OnOk result (cells_of pieces.new.items ≡ cells_of pieces.old.items ++ row.now.cells) }
-    ensures helds { OnOk result (helds_in pieces.new.items ≡ helds_in pieces.old.items ++ helds_of chains.now row.now) }
+    ensures helds { OnOk result (helds_in pieces.new.items ≡ helds_in pieces.old.items ++ helds_of chains.now.items row.now) }
     ensures kept { All (IsKept (steps_of (F.next fold.now) (F.gives fold.now) (F.alike fold.now))) pieces.new.items }
 {
     let count = row.cells().len();
@@ -84,15 +85,15 @@ fn append_row<F: Resumable>(
 pub(crate) fn pieces_of<F: Resumable>(
     alloc: Global,
     fold: &F,
-    chains: &[Shared<Chain<F>>],
-    rows: &[Row<F::Cell>],
+    chains: &GapList<Shared<Chain<F>>>,
+    rows: &[CarriedRow<F::Cell>],
     block: &Block,
 ) -> Result<Vec<Piece<F>>, AllocError>
-    requires carried { All (IsCarried chains.now) rows.now }
-    requires folded { All (IsFolded (steps_of (F.next fold.now) (F.gives fold.now) (F.alike fold.now))) chains.now }
+    requires carried { All (IsCarried chains.now.items) rows.now }
+    requires folded { All (IsFolded (steps_of (F.next fold.now) (F.gives fold.now) (F.alike fold.now))) chains.now.items }
     requires within { LiesWithin (length rows.now) block.now }
     ensures cells { IfOk result (λ pieces. cells_of pieces.items ≡ cells_over rows.now block.now) }
-    ensures helds { IfOk result (λ pieces. helds_in pieces.items ≡ helds_over chains.now rows.now block.now) }
+    ensures helds { IfOk result (λ pieces. helds_in pieces.items ≡ helds_over chains.now.items rows.now block.now) }
     ensures kept { IfOk result (λ pieces. All (IsKept (steps_of (F.next fold.now) (F.gives fold.now) (F.alike fold.now))) pieces.items) }
 {
     let mut pieces = Vec::new(alloc);

@@ -1,7 +1,7 @@
 //! What is kept of a line beside its bytes.
 
 ghost use Rattle.std.specs.Prelude.{◌≡◌, IfOk, length, map};
-ghost use Rattle.abc_chains.specs.Rows.{IsScannedUpTo, new_row, placed};
+ghost use Rattle.abc_chains.specs.Rows.{IsScannedUpTo, new_row};
 ghost use Rattle.abc_lines.specs.Text.{lines_of};
 
 use abc_compiler::Compiler;
@@ -11,28 +11,11 @@ use abc_text::Sequence;
 use std::alloc::{AllocError, Global};
 use std::marker::Model;
 
-/// Which chain holds the cells of a line, and the place in it of the first of them. Chain 0 is that of the file
-/// header, and the tunes are counted from 1.
-#[derive(Drop)]
-pub struct Origin {
-    pub(crate) source: usize,
-    pub(crate) first: usize,
-}
-
-impl Model for Origin {
-    ghost use Rattle.abc_rework.specs.Origins.{Origin};
-
-    ghost Value = { Origin };
-
-    ghost view = { λ o. record { source = o.source; first = o.first } };
-}
-
-/// What a line is and its cells, by its own bytes alone, and which chain holds the cells, if one does.
+/// What a line is and its cells, by its own bytes alone.
 #[derive(Drop)]
 pub struct Row<K: Drop> {
     pub(crate) class: LineClass,
     pub(crate) cells: Shared<Sequence<K>>,
-    pub(crate) origin: Option<Origin>,
 }
 
 impl<K: Drop> Model for Row<K> {
@@ -40,7 +23,7 @@ impl<K: Drop> Model for Row<K> {
 
     ghost Value = { Row K };
 
-    ghost view = { λ r. record { class = r.class; cells = r.cells; origin = r.origin } };
+    ghost view = { λ r. record { class = r.class; cells = r.cells } };
 }
 
 impl<K: Drop> Row<K> {
@@ -57,34 +40,9 @@ impl<K: Drop> Row<K> {
     {
         self.cells.get().as_slice()
     }
-
-    /// The same line, with another origin.
-    pub(crate) fn at(&self, origin: Option<Origin>) -> Result<Row<K>, AllocError>
-        ensures { IfOk result (λ row. row ≡ placed origin self.now) }
-    {
-        Ok(Row {
-            class: self.class,
-            cells: self.cells.share()?,
-            origin,
-        })
-    }
-
-    /// The same line.
-    pub(crate) fn share(&self) -> Result<Row<K>, AllocError>
-        ensures { IfOk result (λ row. row ≡ self.now) }
-    {
-        let origin = match &self.origin {
-            None => None,
-            Some(origin) => Some(Origin {
-                source: origin.source,
-                first: origin.first,
-            }),
-        };
-        self.at(origin)
-    }
 }
 
-/// A line that has been read, and that no chain holds.
+/// A line that has been read.
 fn read_line<C: Compiler>(
     alloc: Global,
     compiler: &C,
@@ -97,14 +55,10 @@ fn read_line<C: Compiler>(
     let class = compiler.class(line);
     let cells = compiler.cells(alloc, line, work)?;
     let cells = Shared::new(alloc, Sequence::from(cells))?;
-    Ok(Row {
-        class,
-        cells,
-        origin: None,
-    })
+    Ok(Row { class, cells })
 }
 
-/// Lines that have been read, each once, and that no chain holds.
+/// Lines that have been read, each once.
 pub fn read<C: Compiler>(
     alloc: Global,
     compiler: &C,

@@ -1,38 +1,41 @@
 //! A text that is kept with the chains of its file header and its tunes, and edits of it in two steps: one that needs
 //! memory and changes nothing, and one that needs none and changes the text.
 
-ghost use Rattle.std.specs.Prelude.{◌≡◌, ◌≢◌, ◌+◌, ◌-◌, ◌≤◌, [], ◌∷◌, ◌++◌, IfOk, IfErr, OnOk, Ok, drop, take, length, map};
+ghost use Rattle.std.specs.Prelude.{◌≡◌, ◌≢◌, ◌+◌, ◌≤◌, [], ◌∷◌, IfOk, IfErr, Ok, None, drop, length, map, option_copied, slice_get};
 ghost use Rattle.std.specs.List.{AllZip};
-ghost use Rattle.abc_chains.specs.Standing.{IsWorkUpTo, Stands};
+ghost use Rattle.abc_chains.specs.Standing.{AreRows, IsStretch, IsWorkUpTo, Stands, all_taken};
+ghost use Rattle.abc_book.specs.Laws.{moved};
+ghost use Rattle.abc_chains.specs.Renewing.{IsRenewed, chains_after, tunes_after};
 ghost use Rattle.abc_chains.specs.Taking.{HasItemsOf, TakesUntouched};
 ghost use Rattle.abc_fold.specs.Chain.{no_cells};
 ghost use Rattle.abc_fold.specs.Steps.{steps_of};
 ghost use Rattle.abc_lines.specs.Edits.{Refuses, replaced};
-ghost use Rattle.abc_lines.specs.Text.{IsText, lines_of, splice_from, spliced};
+ghost use Rattle.abc_lines.specs.Text.{IsText, splice_from, spliced};
 ghost use Rattle.abc_rework.specs.Fresh.{fresh_after};
 
-use crate::blocks::{blocks_of, places_of, tunes_in};
-use crate::folded::chains_of;
+use crate::made::Renewed;
+use crate::place::Placed;
+use crate::renew::Folded;
 use crate::row::{Row, read};
-use crate::settle::settled;
-use crate::whole::taken_of;
+use crate::stretch::Stretch;
 use abc_book::Block;
 use abc_compiler::Compiler;
 use abc_fold::{Chain, Counts, Fold, Resumable, Shared};
-use abc_lines::{EditError, LineBuffer, LinePatch};
+use abc_lines::{EditError, GapList, LineBuffer, LinePatch, SplicePatch};
 use abc_text::Seen;
 use std::alloc::{AllocError, Global};
 use std::marker::Model;
 
-/// A text, the classes and the cells of its lines, its blocks, and the chains of its file header and its tunes. Contracts
-/// see all of it; that it is what the compiler gives for the text is always so.
+/// A text, the classes and the cells of its lines, where its file header and its tunes lie, and the chains of these.
+/// Contracts see all of it; that it is what the compiler gives for the text is always so.
 #[derive(Drop)]
 pub struct KeptText<C: Compiler> {
-    compiler: C,
-    lines: LineBuffer,
-    rows: Vec<Row<C::Cell>>,
-    blocks: Vec<Block>,
-    chains: Vec<Shared<Chain<C>>>,
+    pub(crate) compiler: C,
+    pub(crate) lines: LineBuffer,
+    pub(crate) rows: GapList<Row<C::Cell>>,
+    pub(crate) header: Option<Block>,
+    pub(crate) tunes: Vec<Block>,
+    pub(crate) chains: GapList<Shared<Chain<C>>>,
 }
 
 impl<C: Compiler> Model for KeptText<C> {
@@ -41,76 +44,41 @@ impl<C: Compiler> Model for KeptText<C> {
 
     ghost Value = { Keeping C C.State C.Cell C.Items };
 
-    ghost view = { λ t. record { compiler = t.compiler; lines = t.lines; rows = t.rows.items; blocks = t.blocks.items; chains = t.chains.items } };
+    ghost view = { λ t. record { compiler = t.compiler; lines = t.lines; rows = t.rows; header = t.header; tunes = t.tunes.items; chains = t.chains } };
 
-    ghost invariant = { λ t. Stands (steps_of (C.next t.compiler) (C.gives t.compiler) (C.alike t.compiler)) (C.rules t.compiler) t.lines.text t.rows.items t.blocks.items t.chains.items };
+    ghost invariant = { λ t. Stands (steps_of (C.next t.compiler) (C.gives t.compiler) (C.alike t.compiler)) (C.rules t.compiler) t.lines.text t.rows.items t.header t.tunes.items t.chains.items };
 }
 
 /// An edit of a text that has been prepared. It must be spent, by `commit` of its text or by `drop_patch`. Contracts see
-/// the text that it was prepared on, and what would take its place.
+/// the text that it was prepared on, what would take its place, and the stretch outside which all stays.
 pub struct KeptPatch<C: Compiler> {
     on: Seen<KeptText<C>>,
     pub(crate) lines: LinePatch,
-    rows: Vec<Row<C::Cell>>,
-    blocks: Vec<Block>,
-    chains: Vec<Shared<Chain<C>>>,
+    rows: SplicePatch<Row<C::Cell>>,
+    header: Option<Block>,
+    tunes: Vec<Block>,
+    chains: SplicePatch<Shared<Chain<C>>>,
+    stretch: Stretch,
+    made: Vec<Shared<Chain<C>>>,
+    places: Vec<Block>,
     taken: Vec<Option<usize>>,
 }
 
 impl<C: Compiler> Model for KeptPatch<C> {
-    ghost use Rattle.std.specs.Prelude.{◌≡◌};
-    ghost use Rattle.abc_chains.specs.Standing.{Edited, Stands};
+    ghost use Rattle.abc_chains.specs.Standing.{Edited, IsPatch};
     ghost use Rattle.abc_fold.specs.Steps.{steps_of};
 
     ghost Value = { Edited C C.State C.Cell C.Items };
 
-    ghost view = { λ p. record { on = p.on.value; text = p.lines.after; rows = p.rows.items; blocks = p.blocks.items; chains = p.chains.items; taken = p.taken.items } };
+    ghost view = { λ p. record { on = p.on.value; text = p.lines.after; rows = p.rows.after.items; header = p.header; tunes = p.tunes.items; chains = p.chains.after.items; stretch = p.stretch; made = p.made.items; places = p.places.items; taken = p.taken.items } };
 
-    ghost invariant = { λ p. (p.lines.on ≡ p.on.value.lines) × Stands (steps_of (C.next p.on.value.compiler) (C.gives p.on.value.compiler) (C.alike p.on.value.compiler)) (C.rules p.on.value.compiler) p.lines.after p.rows.items p.blocks.items p.chains.items };
+    ghost invariant = { λ p. IsPatch (steps_of (C.next p.on.value.compiler) (C.gives p.on.value.compiler) (C.alike p.on.value.compiler)) (C.rules p.on.value.compiler) p.on.value p.lines p.rows p.header p.tunes.items p.chains };
 }
 
-/// What is made of a new text.
+/// What an edit makes anew, and what it puts in place.
 struct Made<C: Compiler> {
-    rows: Vec<Row<C::Cell>>,
-    blocks: Vec<Block>,
-    chains: Vec<Shared<Chain<C>>>,
-    taken: Vec<Option<usize>>,
-}
-
-/// Appends rows.
-fn append_rows<K: Drop>(
-    rows: &mut Vec<Row<K>>,
-    more: &[Row<K>],
-    from: usize,
-    to: usize,
-) -> Result<(), AllocError>
-    requires order { from ≤ to }
-    requires inside { to ≤ length more.now }
-    ensures { OnOk result (rows.new.items ≡ rows.old.items ++ take (to - from) (drop from more.now)) }
-{
-    for i in from..to {
-        let row = more[i].share()?;
-        rows.push(row)?;
-    }
-    Ok(())
-}
-
-/// The rows after an edit.
-fn edited<K: Drop>(
-    alloc: Global,
-    old: &[Row<K>],
-    at: usize,
-    removed: usize,
-    new: &[Row<K>],
-) -> Result<Vec<Row<K>>, AllocError>
-    requires { at + removed ≤ length old.now }
-    ensures { IfOk result (λ rows. rows.items ≡ take at old.now ++ (new.now ++ drop (at + removed) old.now)) }
-{
-    let mut rows = Vec::new(alloc);
-    append_rows(&mut rows, old, 0, at)?;
-    append_rows(&mut rows, new, 0, new.len())?;
-    append_rows(&mut rows, old, at + removed, old.len())?;
-    Ok(rows)
+    placed: Placed<C>,
+    renewed: Renewed<C>,
 }
 
 impl<C: Compiler> KeptText<C> {
@@ -118,20 +86,21 @@ impl<C: Compiler> KeptText<C> {
     pub fn new(alloc: Global, compiler: C) -> Result<KeptText<C>, AllocError>
         ensures compiler { IfOk result (λ text. text.compiler ≡ compiler) }
         ensures empty { IfOk result (λ text. text.lines.text ≡ []) }
-        ensures tunes { IfOk result (λ text. text.chains ≡ no_cells ∷ []) }
+        ensures header { IfOk result (λ text. text.header ≡ None) }
+        ensures tunes { IfOk result (λ text. text.tunes ≡ []) }
+        ensures chains { IfOk result (λ text. text.chains.items ≡ no_cells ∷ []) }
     {
         let lines = LineBuffer::new(alloc)?;
-        let mut chains = Vec::new(alloc);
-        let none = Chain::new(alloc)?;
-        let first = Shared::new(alloc, none)?;
-        chains.push(first)?;
-        let rows = Vec::new(alloc);
-        let blocks = Vec::new(alloc);
+        let rows = GapList::with_room(alloc, 0)?;
+        let first = Shared::new(alloc, Chain::new(alloc)?)?;
+        let mut chains = GapList::with_room(alloc, 1)?;
+        chains.insert(0, first);
         Ok(KeptText {
             compiler,
             lines,
             rows,
-            blocks,
+            header: None,
+            tunes: Vec::new(alloc),
             chains,
         })
     }
@@ -143,37 +112,38 @@ impl<C: Compiler> KeptText<C> {
         &self.compiler
     }
 
-    /// The lines.
+    /// The lines. All that is kept is that of the text.
     pub fn lines(&self) -> &LineBuffer
-        ensures { result.now ≡ self.now.lines }
+        ensures lines { result.now ≡ self.now.lines }
+        ensures stands { Stands (steps_of (C.next self.now.compiler) (C.gives self.now.compiler) (C.alike self.now.compiler)) (C.rules self.now.compiler) self.now.lines.text self.now.rows.items self.now.header self.now.tunes self.now.chains.items }
     {
         &self.lines
     }
 
-    /// What is kept of each line beside its bytes.
-    pub fn rows(&self) -> &[Row<C::Cell>]
-        ensures { result.now ≡ self.now.rows }
+    /// Where the file header lies, if there is one.
+    pub fn header(&self) -> Option<Block>
+        ensures { result ≡ self.now.header }
     {
-        &self.rows
+        self.header
     }
 
-    /// The blocks of the text.
-    pub fn blocks(&self) -> &[Block]
-        ensures { result.now ≡ self.now.blocks }
+    /// Where the tunes lie.
+    pub fn tunes(&self) -> &[Block]
+        ensures { result.now ≡ self.now.tunes }
     {
-        &self.blocks
+        &self.tunes
     }
 
-    /// The chain of the file header, which has no states where there is none, and then those of the tunes. All that is
-    /// kept is that of the text.
-    pub fn chains(&self) -> &[Shared<Chain<C>>]
-        ensures chains { result.now ≡ self.now.chains }
-        ensures stands { Stands (steps_of (C.next self.now.compiler) (C.gives self.now.compiler) (C.alike self.now.compiler)) (C.rules self.now.compiler) self.now.lines.text self.now.rows self.now.blocks self.now.chains }
+    /// The chain of this number: 0 is that of the file header, which has no states where there is none, and the tunes are
+    /// counted from 1.
+    pub fn chain(&self, i: usize) -> Option<&Shared<Chain<C>>>
+        ensures { option_copied result ≡ slice_get self.now.chains.items i }
     {
-        &self.chains
+        self.chains.get(i)
     }
 
-    /// What would be kept of the text behind a splice of it. Each new line is read once, and each step folds a fresh cell.
+    /// What an edit makes anew, and what it puts in the place of what is kept, prepared. Each new line is read once, and
+    /// each step folds a fresh cell.
     fn made(
         &self,
         at: usize,
@@ -181,30 +151,25 @@ impl<C: Compiler> KeptText<C> {
         lines: &[Vec<u8>],
         work: &mut C::Work,
     ) -> Result<Made<C>, AllocError>
-        requires { at + removed ≤ length self.now.lines.text }
-        ensures stands { let c = self.now.compiler in
-            IfOk result (λ made. Stands (steps_of (C.next c) (C.gives c) (C.alike c)) (C.rules c) (spliced self.now.lines.text (splice_from at removed lines.now)) made.rows.items made.blocks.items made.chains.items) }
-        ensures items { IfOk result (λ made. AllZip (HasItemsOf (drop 1 self.now.chains)) (drop 1 made.chains.items) made.taken.items) }
-        ensures untouched { let c = self.now.compiler in
-            IfOk result (λ made. TakesUntouched (steps_of (C.next c) (C.gives c) (C.alike c)) (C.rules c) self.now.lines.text (splice_from at removed lines.now) made.taken.items) }
+        requires inside { at + removed ≤ length self.now.lines.text }
+        requires limits { IsText (spliced self.now.lines.text (splice_from at removed lines.now)) }
+        ensures renewed { let c = self.now.compiler in
+            IfOk result (λ made. IsRenewed (steps_of (C.next c) (C.gives c) (C.alike c)) (C.rules c) self.now (splice_from at removed lines.now) made.renewed.stretch made.renewed.header made.renewed.first made.renewed.folded.tunes.items made.renewed.folded.made.items made.renewed.folded.taken.items) }
+        ensures rows_on { IfOk result (λ made. made.placed.rows.on ≡ self.now.rows) }
+        ensures rows { let c = self.now.compiler in
+            IfOk result (λ made. AreRows (C.rules c) (spliced self.now.lines.text (splice_from at removed lines.now)) made.placed.rows.after.items) }
+        ensures chains_on { IfOk result (λ made. made.placed.chains.on ≡ self.now.chains) }
+        ensures chains { IfOk result (λ made. made.placed.chains.after.items ≡ chains_after made.renewed.first made.renewed.stretch self.now.chains.items made.renewed.folded.made.items) }
+        ensures tunes { IfOk result (λ made. made.placed.tunes.items ≡ tunes_after made.renewed.stretch self.now.tunes made.renewed.folded.tunes.items) }
+        ensures places { IfOk result (λ made. made.placed.places.items ≡ map (moved made.renewed.stretch.from) made.renewed.folded.tunes.items) }
         ensures counted { let c = self.now.compiler in
             IsWorkUpTo (length lines.now) (fresh_after (steps_of (C.next c) (C.gives c) (C.alike c)) (C.rules c) self.now.lines.text (splice_from at removed lines.now)) (C.Work.counts work.old) (C.Work.counts work.new) }
     {
         let alloc = self.lines.allocator();
         let new = read(alloc, &self.compiler, lines, work)?;
-        let rows = edited(alloc, &self.rows, at, removed, &new)?;
-        let blocks = blocks_of(alloc, &rows)?;
-        let chains = chains_of(alloc, &self.compiler, &self.chains, &rows, &blocks, work)?;
-        let places = places_of(alloc, &blocks)?;
-        let placed = settled(alloc, &rows, &places)?;
-        let tunes = tunes_in(alloc, &blocks)?;
-        let taken = taken_of(alloc, &self.compiler, &self.chains, &chains, &rows, &tunes)?;
-        Ok(Made {
-            rows: placed,
-            blocks,
-            chains,
-            taken,
-        })
+        let renewed = self.renewed(at, removed, &new, work)?;
+        let placed = self.place(at, removed, new, &renewed)?;
+        Ok(Made { placed, renewed })
     }
 
     /// Prepares to leave out the `removed` lines that follow the first `at`, and to put copies of `lines` in their
@@ -220,11 +185,12 @@ impl<C: Compiler> KeptText<C> {
         ensures on { IfOk result (λ patch. patch.on ≡ self.now) }
         ensures text { IfOk result (λ patch. replaced self.now.lines.text (splice_from at removed lines.now) ≡ Ok patch.text) }
         ensures stands { let c = self.now.compiler in
-            IfOk result (λ patch. Stands (steps_of (C.next c) (C.gives c) (C.alike c)) (C.rules c) patch.text patch.rows patch.blocks patch.chains) }
-        ensures items { IfOk result (λ patch. AllZip (HasItemsOf (drop 1 self.now.chains)) (drop 1 patch.chains) patch.taken) }
+            IfOk result (λ patch. Stands (steps_of (C.next c) (C.gives c) (C.alike c)) (C.rules c) patch.text patch.rows patch.header patch.tunes patch.chains) }
+        ensures stretch { IfOk result (λ patch. IsStretch (splice_from at removed lines.now) patch) }
+        ensures items { IfOk result (λ patch. AllZip (HasItemsOf (drop 1 self.now.chains.items)) patch.made patch.taken) }
         ensures limits { IfOk result (λ patch. IsText patch.text) }
         ensures untouched { let c = self.now.compiler in
-            IfOk result (λ patch. TakesUntouched (steps_of (C.next c) (C.gives c) (C.alike c)) (C.rules c) self.now.lines.text (splice_from at removed lines.now) patch.taken) }
+            IfOk result (λ patch. TakesUntouched (steps_of (C.next c) (C.gives c) (C.alike c)) (C.rules c) self.now.lines.text (splice_from at removed lines.now) (all_taken patch)) }
         ensures refused { IfErr result (λ e. Refuses e (replaced self.now.lines.text (splice_from at removed lines.now))) }
         ensures uncounted { IfErr result (λ e. e ≢ EditError.OutOfMemory → work.new ≡ work.old) }
         ensures counted { let c = self.now.compiler in
@@ -233,18 +199,34 @@ impl<C: Compiler> KeptText<C> {
         let patch = self.lines.splice_prepare(at, removed, lines)?;
         match self.made(at, removed, lines, work) {
             Ok(made) => {
-                let Made {
+                let Made { placed, renewed } = made;
+                let Placed {
                     rows,
-                    blocks,
                     chains,
+                    tunes,
+                    places,
+                } = placed;
+                let Renewed {
+                    stretch,
+                    header,
+                    first: _,
+                    folded,
+                } = renewed;
+                let Folded {
+                    tunes: _,
+                    made,
                     taken,
-                } = made;
+                } = folded;
                 Ok(KeptPatch {
                     on: Seen::of(self),
                     lines: patch,
                     rows,
-                    blocks,
+                    header,
+                    tunes,
                     chains,
+                    stretch,
+                    made,
+                    places,
                     taken,
                 })
             }
@@ -260,52 +242,82 @@ impl<C: Compiler> KeptText<C> {
         requires { patch.on ≡ self.old }
         ensures compiler { self.new.compiler ≡ self.old.compiler }
         ensures text { self.new.lines.text ≡ patch.text }
-        ensures rows { self.new.rows ≡ patch.rows }
-        ensures blocks { self.new.blocks ≡ patch.blocks }
-        ensures chains { self.new.chains ≡ patch.chains }
+        ensures rows { self.new.rows.items ≡ patch.rows }
+        ensures header { self.new.header ≡ patch.header }
+        ensures tunes { self.new.tunes ≡ patch.tunes }
+        ensures chains { self.new.chains.items ≡ patch.chains }
     {
         let KeptPatch {
             on: _,
             lines,
             rows,
-            blocks,
+            header,
+            tunes,
             chains,
+            stretch: _,
+            made: _,
+            places: _,
             taken: _,
         } = patch;
         self.lines.commit(lines);
-        self.rows = rows;
-        self.blocks = blocks;
-        self.chains = chains;
+        self.rows.commit(rows);
+        self.header = header;
+        self.tunes = tunes;
+        self.chains.commit(chains);
     }
 }
 
 impl<C: Compiler> KeptPatch<C> {
-    /// What would be kept of each line beside its bytes.
-    pub fn rows(&self) -> &[Row<C::Cell>]
-        ensures { result.now ≡ self.now.rows }
+    /// The stretch of the text outside which all stays.
+    pub fn stretch(&self) -> Stretch
+        ensures { result ≡ self.now.stretch }
     {
-        &self.rows
+        self.stretch
     }
 
-    /// The blocks that the text would have.
-    pub fn blocks(&self) -> &[Block]
-        ensures { result.now ≡ self.now.blocks }
+    /// Where the file header would lie, if there were one.
+    pub fn header(&self) -> Option<Block>
+        ensures { result ≡ self.now.header }
     {
-        &self.blocks
+        self.header
     }
 
-    /// The chains that the text would have.
-    pub fn chains(&self) -> &[Shared<Chain<C>>]
-        ensures { result.now ≡ self.now.chains }
+    /// The chains of the tunes that would stand in the stretch.
+    pub fn made(&self) -> &[Shared<Chain<C>>]
+        ensures { result.now ≡ self.now.made }
     {
-        &self.chains
+        &self.made
     }
 
-    /// For each tune that the text would have, the old one that has just its items, counted from 0, if one is known.
+    /// Where they would lie.
+    pub fn places(&self) -> &[Block]
+        ensures { result.now ≡ self.now.places }
+    {
+        &self.places
+    }
+
+    /// For each of them, the old tune that has just its items, counted from 0, if one is known.
     pub fn taken(&self) -> &[Option<usize>]
         ensures { result.now ≡ self.now.taken }
     {
         &self.taken
+    }
+
+    /// The chain that would have this number: 0 is that of the file header, and the tunes are counted from 1. The patch
+    /// belongs to the text as it is now.
+    pub fn chain<'a>(&'a self, text: &'a KeptText<C>, i: usize) -> Option<&'a Shared<Chain<C>>>
+        requires { self.now.on ≡ text.now }
+        ensures { option_copied result ≡ slice_get self.now.chains i }
+    {
+        self.chains.get(&text.chains, i)
+    }
+
+    /// What would be kept of the line with `i` lines before it. The patch belongs to the text as it is now.
+    pub fn row<'a>(&'a self, text: &'a KeptText<C>, i: usize) -> Option<&'a Row<C::Cell>>
+        requires { self.now.on ≡ text.now }
+        ensures { option_copied result ≡ slice_get self.now.rows i }
+    {
+        self.rows.get(&text.rows, i)
     }
 
     /// Gives the patch up.
@@ -313,11 +325,17 @@ impl<C: Compiler> KeptPatch<C> {
         let KeptPatch {
             on: _,
             lines,
-            rows: _,
-            blocks: _,
-            chains: _,
+            rows,
+            header: _,
+            tunes: _,
+            chains,
+            stretch: _,
+            made: _,
+            places: _,
             taken: _,
         } = self;
         lines.drop_patch();
+        rows.drop_patch();
+        chains.drop_patch();
     }
 }

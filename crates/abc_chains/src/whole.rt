@@ -7,13 +7,14 @@ ghost use Rattle.abc_chains.specs.Taking.{GoesAlong, HasItemsOf, are_alike_both,
 ghost use Rattle.abc_fold.specs.Chain.{Folds};
 ghost use Rattle.abc_fold.specs.Steps.{steps_of};
 
-use crate::row::Row;
+use crate::carried::CarriedRow;
+use abc_lines::GapList;
 use abc_book::Block;
 use abc_fold::{Chain, Fold, Resumable, Shared};
 use std::alloc::{AllocError, Global};
 
 /// Whether the old chain of a number holds the cells of a line from a place on.
-fn continues<K: Drop>(row: &Row<K>, source: usize, place: usize) -> bool
+fn continues<K: Drop>(row: &CarriedRow<K>, source: usize, place: usize) -> bool
     ensures { result ≡ continues source place row.now }
 {
     if row.cells().len() == 0 {
@@ -26,7 +27,7 @@ fn continues<K: Drop>(row: &Row<K>, source: usize, place: usize) -> bool
 }
 
 /// Whether the cells of lines are all those of the old chain of a number, which has so many.
-fn is_along<K: Drop>(rows: &[Row<K>], source: usize, count: usize) -> bool
+fn is_along<K: Drop>(rows: &[CarriedRow<K>], source: usize, count: usize) -> bool
     ensures { result ≡ is_along source count 0 rows.now }
 {
     let mut place: usize = 0;
@@ -44,7 +45,7 @@ fn is_along<K: Drop>(rows: &[Row<K>], source: usize, count: usize) -> bool
 }
 
 /// The old chain that holds the first of some lines.
-fn first_source<K: Drop>(rows: &[Row<K>]) -> Option<usize>
+fn first_source<K: Drop>(rows: &[CarriedRow<K>]) -> Option<usize>
     ensures { result ≡ first_source rows.now }
 {
     match rows {
@@ -83,12 +84,12 @@ fn begins_in<F: Resumable>(fold: &F, chain: &Chain<F>, opening: &F::State) -> bo
 /// from this one.
 pub(crate) fn whole_chain<'a, F: Resumable>(
     fold: &F,
-    old: &'a [Shared<Chain<F>>],
+    old: &'a GapList<Shared<Chain<F>>>,
     opening: &F::State,
-    rows: &[Row<F::Cell>],
+    rows: &[CarriedRow<F::Cell>],
 ) -> Option<&'a Shared<Chain<F>>>
-    requires carried { All (IsCarried old.now) rows.now }
-    requires folded { All (IsFolded (steps_of (F.next fold.now) (F.gives fold.now) (F.alike fold.now))) old.now }
+    requires carried { All (IsCarried old.now.items) rows.now }
+    requires folded { All (IsFolded (steps_of (F.next fold.now) (F.gives fold.now) (F.alike fold.now))) old.now.items }
     ensures folds { IfSome result (λ chain. Folds (steps_of (F.next fold.now) (F.gives fold.now) (F.alike fold.now)) opening.now chain.now) }
     ensures cells { IfSome result (λ chain. chain.now.cells ≡ flat_map cells_in rows.now) }
 {
@@ -107,16 +108,16 @@ pub(crate) fn whole_chain<'a, F: Resumable>(
 /// The old tune that a tune is, counted from 0, if the cells of its lines are all those of that one, and it begins alike.
 fn tune_taken<F: Resumable>(
     fold: &F,
-    old: &[Shared<Chain<F>>],
+    old: &GapList<Shared<Chain<F>>>,
     chain: &Chain<F>,
-    rows: &[Row<F::Cell>],
+    rows: &[CarriedRow<F::Cell>],
 ) -> Option<usize>
-    requires carried { All (IsCarried old.now) rows.now }
-    requires folded { All (IsFolded (steps_of (F.next fold.now) (F.gives fold.now) (F.alike fold.now))) old.now }
+    requires carried { All (IsCarried old.now.items) rows.now }
+    requires folded { All (IsFolded (steps_of (F.next fold.now) (F.gives fold.now) (F.alike fold.now))) old.now.items }
     ensures items { (opening : F.State) → Folds (steps_of (F.next fold.now) (F.gives fold.now) (F.alike fold.now)) opening chain.now
-        → chain.now.cells ≡ flat_map cells_in rows.now → HasItemsOf (drop 1 old.now) chain.now result }
+        → chain.now.cells ≡ flat_map cells_in rows.now → HasItemsOf (drop 1 old.now.items) chain.now result }
     ensures along { (opening : F.State) → Folds (steps_of (F.next fold.now) (F.gives fold.now) (F.alike fold.now)) opening chain.now
-        → GoesAlong (steps_of (F.next fold.now) (F.gives fold.now) (F.alike fold.now)) old.now opening rows.now → IsSome result }
+        → GoesAlong (steps_of (F.next fold.now) (F.gives fold.now) (F.alike fold.now)) old.now.items opening rows.now → IsSome result }
 {
     let source = first_source(rows)?;
     if source == 0 {
@@ -134,22 +135,22 @@ fn tune_taken<F: Resumable>(
 }
 
 /// The old tunes that tunes are, of which these are the chains, and where they lie among lines.
-fn tunes_taken<F: Resumable>(
+pub(crate) fn tunes_taken<F: Resumable>(
     alloc: Global,
     fold: &F,
-    old: &[Shared<Chain<F>>],
+    old: &GapList<Shared<Chain<F>>>,
     chains: &[Shared<Chain<F>>],
-    rows: &[Row<F::Cell>],
+    rows: &[CarriedRow<F::Cell>],
     tunes: &[Block],
 ) -> Result<Vec<Option<usize>>, AllocError>
-    requires carried { All (IsCarried old.now) rows.now }
-    requires folded { All (IsFolded (steps_of (F.next fold.now) (F.gives fold.now) (F.alike fold.now))) old.now }
+    requires carried { All (IsCarried old.now.items) rows.now }
+    requires folded { All (IsFolded (steps_of (F.next fold.now) (F.gives fold.now) (F.alike fold.now))) old.now.items }
     requires within { All (LiesWithin (length rows.now)) tunes.now }
     requires count { length chains.now ≡ length tunes.now }
     ensures items { (opening : F.State) → AllZip (IsChain (steps_of (F.next fold.now) (F.gives fold.now) (F.alike fold.now)) opening rows.now) chains.now tunes.now
-        → IfOk result (λ taken. AllZip (HasItemsOf (drop 1 old.now)) chains.now taken.items) }
+        → IfOk result (λ taken. AllZip (HasItemsOf (drop 1 old.now.items)) chains.now taken.items) }
     ensures along { (opening : F.State) → AllZip (IsChain (steps_of (F.next fold.now) (F.gives fold.now) (F.alike fold.now)) opening rows.now) chains.now tunes.now
-        → IfOk result (λ taken. AllZip (λ tune one. GoesAlong (steps_of (F.next fold.now) (F.gives fold.now) (F.alike fold.now)) old.now opening (rows_in rows.now tune) → IsSome one) tunes.now taken.items) }
+        → IfOk result (λ taken. AllZip (λ tune one. GoesAlong (steps_of (F.next fold.now) (F.gives fold.now) (F.alike fold.now)) old.now.items opening (rows_in rows.now tune) → IsSome one) tunes.now taken.items) }
 {
     let mut taken = Vec::new(alloc);
     for (place, chain) in chains.iter().enumerate() {
@@ -159,25 +160,4 @@ fn tunes_taken<F: Resumable>(
         taken.push(one)?;
     }
     Ok(taken)
-}
-
-/// The old tunes that tunes are, of which these are the chains, the file header's before them.
-pub(crate) fn taken_of<F: Resumable>(
-    alloc: Global,
-    fold: &F,
-    old: &[Shared<Chain<F>>],
-    chains: &[Shared<Chain<F>>],
-    rows: &[Row<F::Cell>],
-    tunes: &[Block],
-) -> Result<Vec<Option<usize>>, AllocError>
-    requires carried { All (IsCarried old.now) rows.now }
-    requires folded { All (IsFolded (steps_of (F.next fold.now) (F.gives fold.now) (F.alike fold.now))) old.now }
-    requires within { All (LiesWithin (length rows.now)) tunes.now }
-    requires count { length chains.now ≡ length tunes.now + 1 }
-    requires made { (opening : F.State) × AllZip (IsChain (steps_of (F.next fold.now) (F.gives fold.now) (F.alike fold.now)) opening rows.now) (drop 1 chains.now) tunes.now }
-    ensures items { IfOk result (λ taken. AllZip (HasItemsOf (drop 1 old.now)) (drop 1 chains.now) taken.items) }
-    ensures along { (opening : F.State) → AllZip (IsChain (steps_of (F.next fold.now) (F.gives fold.now) (F.alike fold.now)) opening rows.now) (drop 1 chains.now) tunes.now
-        → IfOk result (λ taken. AllZip (λ tune one. GoesAlong (steps_of (F.next fold.now) (F.gives fold.now) (F.alike fold.now)) old.now opening (rows_in rows.now tune) → IsSome one) tunes.now taken.items) }
-{
-    tunes_taken(alloc, fold, old, &chains[1..], rows, tunes)
 }

@@ -1,19 +1,18 @@
 -- What an edit costs, put together, and what an edit means.
-use Rattle.std.proofs.Common.{◌≡◌, ℕ, ◌≤◌, List, length, Option, Some, None, Result, Ok, Err, refl, sym, ap, subst, arith}
-use Rattle.abc_chains.specs.Standing.{IsWorkUpTo}
+use Rattle.std.proofs.Common.{◌≡◌, ℕ, zero, suc, ◌+◌, ◌-◌, ◌≤◌, List, ◌++◌, length, Option, Some, None, Err, refl, sym, ap, subst, arith}
+use Rattle.std.proofs.lemmas.List.Sums.{sum_by-append, sum_by-cons}
+use Rattle.abc_chains.specs.Standing.{Edited, IsWorkUpTo, all_taken, kept_numbers}
 use Rattle.abc_chains.specs.Taking.{TakesUntouched}
 use Rattle.abc_fold.specs.Steps.{Steps}
 use Rattle.abc_fold.specs.Work.{Counters, raised}
 use Rattle.abc_fold.proofs.Raised.{raised-least, raised-mono}
 use Rattle.abc_lines.specs.Edits.{edited, replaced}
 use Rattle.abc_lines.specs.Text.{Splice, Text, spliced}
-use Rattle.abc_lines.specs.declared.edit_error.EditError.{EditError}
 use Rattle.abc_lines.specs.declared.edit_error.EditError.TheVariants.{BadRange}
-use Rattle.abc_outputs.specs.Built.{IsBuiltUpTo, made_of}
+use Rattle.abc_outputs.specs.Built.{IsBuiltUpTo, made_at, made_of}
 use Rattle.abc_rework.specs.Fresh.{fresh_after, is_untouched, touched_after}
 use Rattle.abc_tunebook.specs.Rules.{Rules}
-use Rattle.abc_live.specs.Counting.{HasRisen, IsWorkedUpTo, MayCost, MayFold}
-use Rattle.std.specs.Prelude.{IfOk, IfSome}
+use Rattle.abc_live.specs.Counting.{HasRisen, IsWorkedUpTo, MayCost}
 use Rattle.abc_outputs.proofs.Taking.{made_least}
 use Rattle.abc_rework.specs.Entered.{entered_of}
 use Rattle.abc_rework.specs.Laid.{laid_in, tune_chains}
@@ -61,37 +60,39 @@ pub edit_none : (text : Text) (edit : Option Splice) → None ≡ edit → edite
 unfolding edited
 edit_none text edit is = ap (edited text) (sym is)
 
-ok_none : (text new : Text) → edited text None ≡ Ok new → ⊥
-unfolding edited
-ok_none text new is = subst (λ (r : Result Text EditError). elim r as (λ _. Type 0) [ Ok t ↦ ⊥ | Err e ↦ Unit {0} ]) is tt
+-- those that stay are not built
+kept_unbuilt : (first count : ℕ) → made_of (kept_numbers first count) ≡ 0
+kept_unbuilt first zero = refl
+kept_unbuilt first (suc count) = let one = sum_by-cons made_at (Some first) (kept_numbers (first + 1) count) in let rest = kept_unbuilt (first + 1) count in omega (arith, one, rest)
+
+pub stretch_built : {C State Cell Items : Type 0} (patch : Edited C State Cell Items) → made_of (all_taken patch) ≡ made_of patch.taken
+stretch_built patch =
+    let front = kept_numbers 0 patch.stretch.front in
+    let behind = kept_numbers patch.stretch.behind (length patch.on.tunes - patch.stretch.behind) in
+    let all = sum_by-append made_at front (patch.taken ++ behind) in
+    let rest = sum_by-append made_at patch.taken behind in
+    let no_front = kept_unbuilt 0 patch.stretch.front in
+    let no_behind = kept_unbuilt patch.stretch.behind (length patch.on.tunes - patch.stretch.behind) in
+    omega (arith, all, rest, no_front, no_behind)
 
 module _ {State Cell Items Defaults : Type 0} (steps : Steps State Cell Items) (rules : Rules State Cell Items Defaults) (text : Text) where
-  pub fold_is : (edit : Option Splice) (s : Splice) (count : ℕ) (before after : Counters) → Some s ≡ edit → count ≡ length s.lines
-      → IsWorkUpTo count (fresh_after steps rules text s) before after → MayFold steps rules text edit before after
-  fold_is edit s count before after is same worked =
-      subst (λ e. MayFold steps rules text e before after) is (subst (λ n. IsWorkUpTo n (fresh_after steps rules text s) before after) same worked)
+  pub cost_is : (edit : Option Splice) (s : Splice) (before after : Counters) → Some s ≡ edit → MayCost steps rules text (Some s) before after → MayCost steps rules text edit before after
+  cost_is edit s before after is cost = subst (λ e. MayCost steps rules text e before after) is cost
 
-  pub fold_none : (edit : Option Splice) (now : Counters) → None ≡ edit → MayFold steps rules text edit now now
-  fold_none edit now is = subst (λ e. MayFold steps rules text e now now) is refl
+  pub cost_none : (edit : Option Splice) (now : Counters) → None ≡ edit → MayCost steps rules text edit now now
+  cost_none edit now is = subst (λ e. MayCost steps rules text e now now) is refl
 
-  pub takes_is : (edit : Option Splice) (s : Splice) (taken : List (Option ℕ)) → Some s ≡ edit → TakesUntouched steps rules text s taken → IfSome edit (λ s. TakesUntouched steps rules text s taken)
-  takes_is edit s taken is takes = subst (λ e. IfSome e (λ s. TakesUntouched steps rules text s taken)) is takes
+  module _ (s : Splice) (count : ℕ) (lines : count ≡ length s.lines) (before between after : Counters) (folds : IsWorkUpTo count (fresh_after steps rules text s) before between) where
+    folds_lines : IsWorkUpTo (length s.lines) (fresh_after steps rules text s) before between
+    folds_lines = subst (λ n. IsWorkUpTo n (fresh_after steps rules text s) before between) lines folds
 
-  -- where nothing is built
-  pub fold_only : (edit : Option Splice) (before after : Counters) → MayFold steps rules text edit before after → MayCost steps rules text edit before after
-  fold_only None before after folds = folds
-  fold_only (Some s) before after folds = worked_more (length s.lines) (fresh_after steps rules text s) (touched_after steps rules text s) before after folds
+    -- where nothing is built
+    pub fold_only : MayCost steps rules text (Some s) before between
+    fold_only = worked_more (length s.lines) (fresh_after steps rules text s) (touched_after steps rules text s) before between folds_lines
 
-  -- where the tunes that take nothing over are built
-  pub fold_build : (edit : Option Splice) (new : Text) (taken : List (Option ℕ)) (before between after : Counters) → edited text edit ≡ Ok new → IfSome edit (λ s. TakesUntouched steps rules text s taken)
-      → MayFold steps rules text edit before between → IsBuiltUpTo (made_of taken) between after → MayCost steps rules text edit before after
-  fold_build None new taken before between after is takes folds builds = absurd (ok_none text new is)
-  fold_build (Some s) new taken before between after is takes folds builds =
-      let laid = laid_in steps rules (spliced text s) in
-      let fewer : made_of taken ≤ touched_after steps rules text s = made_least (λ tune. is_untouched steps rules.cells (laid_in steps rules text) s (entered_of steps rules.cells (spliced text s) tune)) (tune_chains 1 laid.opening laid.tunes) taken takes in
-      worked_built (length s.lines) (fresh_after steps rules text s) (made_of taken) (touched_after steps rules text s) before between after fewer folds builds
-
-  pub takes_if : {P E : Type 0} (taken_of : P → List (Option ℕ)) (edit : Option Splice) (s : Splice) (result : Result P E) → Some s ≡ edit → IfOk result (λ patch. TakesUntouched steps rules text s (taken_of patch))
-      → IfOk result (λ patch. IfSome edit (λ s. TakesUntouched steps rules text s (taken_of patch)))
-  takes_if taken_of edit s (Ok patch) is takes = takes_is edit s (taken_of patch) is takes
-  takes_if taken_of edit s (Err e) is takes = tt
+    -- where the tunes of the stretch that take nothing over are built
+    pub fold_build : (taken made : List (Option ℕ)) → TakesUntouched steps rules text s taken → made_of taken ≡ made_of made → IsBuiltUpTo (made_of made) between after → MayCost steps rules text (Some s) before after
+    fold_build taken made takes same builds =
+        let laid = laid_in steps rules (spliced text s) in
+        let fewer : made_of taken ≤ touched_after steps rules text s = made_least (λ tune. is_untouched steps rules.cells (laid_in steps rules text) s (entered_of steps rules.cells (spliced text s) tune)) (tune_chains 1 laid.opening laid.tunes) taken takes in
+        worked_built (length s.lines) (fresh_after steps rules text s) (made_of made) (touched_after steps rules text s) before between after (omega (arith, fewer, same)) folds_lines builds

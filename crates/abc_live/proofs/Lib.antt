@@ -1,4 +1,12 @@
 pub mod Books
+pub mod Changes
 pub mod Costs
+pub mod Found
+pub mod Lined
+pub mod Lying
 pub mod Memos
+pub mod Outcomes
 pub mod Parts
+pub mod Preparing
+pub mod Stretches
+pub mod Zips

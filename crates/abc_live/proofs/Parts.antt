@@ -1,35 +1,31 @@
 -- The chains of a text as those of its file header and its tunes, and how many cells its lines have.
-use Rattle.std.proofs.Common.{◌≡◌, ℕ, ◌≤◌, List, [], ◌∷◌, length, map, Option, Some, None, ap, ◌∙◌, refl, subst, arith}
+use Rattle.std.proofs.Common.{◌≡◌, ℕ, ◌≤◌, List, [], ◌∷◌, length, drop, map, Some, slice_get, sym, ap, ◌∙◌, refl, subst, arith}
 use Rattle.std.specs.List.{AllZip}
-use Rattle.std.specs.Prelude.{IfSome}
 use Rattle.abc_book.specs.declared.block.Block.{Block}
-use Rattle.abc_chains.specs.Holding.{cells_in}
-use Rattle.abc_chains.specs.Keeping.{AreChains, AreRead, IsChainOf, IsHeaderOf}
-use Rattle.abc_chains.specs.Rows.{Row}
-use Rattle.abc_chains.specs.Standing.{Stands}
+use Rattle.abc_chains.specs.Keeping.{AreChains, IsChainOf, IsHeaderOf}
+use Rattle.abc_chains.specs.Rows.{Row, row_cells}
+use Rattle.abc_chains.specs.Standing.{AreRows}
 use Rattle.abc_fold.specs.Chain.{Chained}
 use Rattle.abc_fold.specs.Steps.{Steps}
-use Rattle.abc_live.specs.Session.{count_in}
+use Rattle.abc_kept_book.specs.Laws.{Gives}
+use Rattle.abc_live.specs.Prepared.{count_in}
 use Rattle.abc_lines.specs.Text.{Text}
-use Rattle.abc_outputs.specs.Output.{counts_of}
-use Rattle.abc_outputs.specs.Tunes.{AreFoldsOf, HasCells, IsFoldOf, given_by_chains}
-use Rattle.abc_outputs.proofs.Following.{all_cells, book_follows}
-use Rattle.abc_tunebook.specs.Book.{blocks_in, book_from, book_of, header_in, opening_of, tunes_in}
+use Rattle.abc_outputs.specs.Output.{counts_of, output_in}
+use Rattle.abc_outputs.specs.Tunes.{IsFoldOf}
+use Rattle.abc_outputs.proofs.Following.{output_follows}
+use Rattle.abc_tunebook.specs.Book.{blocks_in, header_in, opening_of, tunes_in}
 use Rattle.abc_tunebook.specs.Rules.{Rules}
+use Rattle.abc_tunebook.specs.Tune.{tune_of}
 
 module _ {State Cell Items : Type 0} (steps : Steps State Cell Items) (read : List ℕ → List Cell) (opening : State) (text : Text) where
-  fold_of : (chain : Chained State Cell Items) (block : Block) → IsChainOf steps read opening text chain block → IsFoldOf steps read opening text chain block
+  pub fold_of : (chain : Chained State Cell Items) (block : Block) → IsChainOf steps read opening text chain block → IsFoldOf steps read opening text chain block
   fold_of chain block is = record { folds = is.folds; cells = is.cells }
 
-  header_fold : (chain : Chained State Cell Items) (block : Option Block) → IsHeaderOf steps read opening text chain block → IfSome block (IsFoldOf steps read opening text chain)
-  header_fold chain None is = tt
-  header_fold chain (Some block) is = fold_of chain block is
-
-  tune_folds : (chains : List (Chained State Cell Items)) (blocks : List Block) → AllZip (IsChainOf steps read opening text) chains blocks → AllZip (IsFoldOf steps read opening text) chains blocks
-  tune_folds [] [] all = tt
-  tune_folds [] (block ∷ blocks) all = absurd all
-  tune_folds (chain ∷ chains) [] all = absurd all
-  tune_folds (chain ∷ chains) (block ∷ blocks) all = (fold_of chain block all.0, tune_folds chains blocks all.1)
+  pub folds_of : (chains : List (Chained State Cell Items)) (blocks : List Block) → AllZip (IsChainOf steps read opening text) chains blocks → AllZip (IsFoldOf steps read opening text) chains blocks
+  folds_of [] [] all = tt
+  folds_of [] (block ∷ blocks) all = absurd all
+  folds_of (chain ∷ chains) [] all = absurd all
+  folds_of (chain ∷ chains) (block ∷ blocks) all = (fold_of chain block all.0, folds_of chains blocks all.1)
 
 module _ {State Cell Items Defaults : Type 0} (steps : Steps State Cell Items) (rules : Rules State Cell Items Defaults) (text : Text) where
   -- there is a chain of the file header
@@ -37,17 +33,30 @@ module _ {State Cell Items Defaults : Type 0} (steps : Steps State Cell Items) (
   some_chain [] are = absurd are
   some_chain (chain ∷ chains) are = omega arith
 
-  -- the chains are folds over their blocks
-  pub folds_of : (chains : List (Chained State Cell Items)) (first : Chained State Cell Items) (tunes : List (Chained State Cell Items)) → chains ≡ first ∷ tunes → AreChains steps rules text chains → AreFoldsOf steps rules text first tunes
-  folds_of chains first tunes is are =
-      let own : AreChains steps rules text (first ∷ tunes) = subst (AreChains steps rules text) is are in
-      record {
-        first = header_fold steps rules.cells rules.header text first (header_in (blocks_in rules text)) own.0;
-        tunes = tune_folds steps rules.cells (opening_of steps.next rules text (blocks_in rules text)) text tunes (tunes_in (blocks_in rules text)) own.1;
-      }
+  -- it is that of the file header
+  pub header_chain : (chains : List (Chained State Cell Items)) (first : Chained State Cell Items) → AreChains steps rules text chains → slice_get chains 0 ≡ Some first
+      → IsHeaderOf steps rules.cells rules.header text first (header_in (blocks_in rules text))
+  header_chain [] first are is = absurd are
+  header_chain (chain ∷ chains) first are is = let same : chain ≡ first = cc in subst (λ (c : Chained State Cell Items). IsHeaderOf steps rules.cells rules.header text c (header_in (blocks_in rules text))) same are.0
+
+  -- and the others are those of the tunes
+  pub tune_chains : (chains : List (Chained State Cell Items)) → AreChains steps rules text chains
+      → AllZip (IsChainOf steps rules.cells (opening_of steps.next rules text (blocks_in rules text)) text) (drop 1 chains) (tunes_in (blocks_in rules text))
+  tune_chains [] are = absurd are
+  tune_chains (chain ∷ chains) are = are.1
+
+  -- which give their tunes
+  pub gives_of : (opening : State) (chains : List (Chained State Cell Items)) (blocks : List Block) → AllZip (IsChainOf steps rules.cells opening text) chains blocks
+      → AllZip Gives (map (tune_of steps.next steps.gives rules opening text) blocks) (map (output_in rules) chains)
+  gives_of opening [] [] all = tt
+  gives_of opening [] (block ∷ blocks) all = absurd all
+  gives_of opening (chain ∷ chains) [] all = absurd all
+  gives_of opening (chain ∷ chains) (block ∷ blocks) all =
+      let tells = output_follows steps rules opening text chain block (fold_of steps rules.cells opening text chain block all.0) in
+      (record { number = sym tells.number; title = sym tells.title; bytes = sym tells.bytes }, gives_of opening chains blocks all.1)
 
 module _ {Cell : Type 0} where
-  row_counts : (rows : List (Row Cell)) → map count_in rows ≡ map length (map cells_in rows)
+  row_counts : (rows : List (Row Cell)) → map count_in rows ≡ map length (map row_cells rows)
   row_counts [] = refl
   row_counts (row ∷ rows) = ap (λ l. length row.cells ∷ l) (row_counts rows)
 
@@ -56,29 +65,5 @@ module _ {Cell : Type 0} where
   line_counts read (line ∷ text) = ap (λ l. length (read line) ∷ l) (line_counts read text)
 
 -- the rows have as many cells as the lines
-pub counts_are : {State Cell Items Defaults : Type 0} (rules : Rules State Cell Items Defaults) (text : Text) (rows : List (Row Cell)) → AreRead rules text rows → map count_in rows ≡ counts_of rules.cells text
+pub counts_are : {State Cell Items Defaults : Type 0} (rules : Rules State Cell Items Defaults) (text : Text) (rows : List (Row Cell)) → AreRows rules text rows → map count_in rows ≡ counts_of rules.cells text
 counts_are rules text rows are = row_counts rows ∙ ap (map length) are.cells ∙ line_counts rules.cells text
-
-module _ {State Cell Items Defaults : Type 0} (steps : Steps State Cell Items) (rules : Rules State Cell Items Defaults) (text : Text) (rows : List (Row Cell)) (blocks : List Block) (chains : List (Chained State Cell Items)) (stands : Stands steps rules text rows blocks chains) (first : Chained State Cell Items) (tunes : List (Chained State Cell Items)) (counts : List ℕ) (header : Option Block) (places : List Block) (parts : chains ≡ first ∷ tunes) (counts_is : counts ≡ map count_in rows) (header_is : header ≡ header_in blocks) (places_is : places ≡ tunes_in blocks) where
-  pub all_folds : AreFoldsOf steps rules text first tunes
-  all_folds = folds_of steps rules text chains first tunes parts stands.chains_are
-
-  counts_same : counts ≡ counts_of rules.cells text
-  counts_same = counts_is ∙ counts_are rules text rows stands.read
-
-  pub header_same : header ≡ header_in (blocks_in rules text)
-  header_same = header_is ∙ ap header_in stands.blocks_are
-
-  pub places_same : places ≡ tunes_in (blocks_in rules text)
-  places_same = places_is ∙ ap tunes_in stands.blocks_are
-
-  -- the chains have the cells of their lines
-  pub header_cells : IfSome header (HasCells counts first)
-  header_cells = rw (header_same, counts_same) (all_cells steps rules text first tunes all_folds).0
-
-  pub tune_cells : AllZip (HasCells counts) tunes places
-  tune_cells = rw (places_same, counts_same) (all_cells steps rules text first tunes all_folds).1
-
-  -- they give the book of the text
-  pub book_is : book_from (given_by_chains rules counts first tunes header places) ≡ book_of steps.next steps.gives rules text
-  book_is = rw (header_same, counts_same, places_same) (book_follows steps rules text first tunes all_folds)

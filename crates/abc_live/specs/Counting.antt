@@ -1,6 +1,5 @@
 -- How much work an edit may cost. Our own.
 use Rattle.std.specs.Prelude.{◌≡◌, ℕ, ◌≤◌, length, Option, Some, None}
-use Rattle.abc_chains.specs.Standing.{IsWorkUpTo}
 use Rattle.abc_fold.specs.Steps.{Steps}
 use Rattle.abc_fold.specs.Work.{Counters, raised}
 use Rattle.abc_lines.specs.Text.{Splice, Text}
@@ -22,8 +21,3 @@ pub record IsWorkedUpTo (scanned folded built : ℕ) (before after : Counters) :
 abbrev pub MayCost : {State Cell Items Defaults : Type 0} → Steps State Cell Items → Rules State Cell Items Defaults → Text → Option Splice → Counters → Counters → Type 0
 MayCost steps rules text None before after = after ≡ before
 MayCost steps rules text (Some s) before after = IsWorkedUpTo (length s.lines) (fresh_after steps rules text s) (touched_after steps rules text s) before after
-
--- What it may cost before tunes are built.
-abbrev pub MayFold : {State Cell Items Defaults : Type 0} → Steps State Cell Items → Rules State Cell Items Defaults → Text → Option Splice → Counters → Counters → Type 0
-MayFold steps rules text None before after = after ≡ before
-MayFold steps rules text (Some s) before after = IsWorkUpTo (length s.lines) (fresh_after steps rules text s) before after

@@ -1,3 +1,4 @@
 pub mod Counting
 pub mod Edit
+pub mod Prepared
 pub mod Session

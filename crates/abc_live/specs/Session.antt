@@ -1,21 +1,22 @@
 -- What contracts see of a session: its compiler and its text, which say all else, and what is kept of the text. Our own.
-use Rattle.std.specs.Prelude.{ℕ, List, length}
-use Rattle.abc_chains.specs.Rows.{Row}
 use Rattle.abc_chains.specs.Standing.{Keeping}
+use Rattle.std.specs.Prelude.{List}
+use Rattle.abc_kept_book.specs.Kept.{Kept}
 use Rattle.abc_lines.specs.Text.{Text}
 use Rattle.abc_tunebook.specs.Book.{Book, blocks_in, book_of, given_by}
 use Rattle.abc_tunebook.specs.Rules.{Rules}
 use Rattle.abc_tunebook.specs.declared.report.Report.{Report}
 use Rattle.abc_tunebook.specs.declared.tune.Tune.{Tune}
 
--- A compiler of tunes, a text, and both with all that is kept of the text.
+-- A compiler of tunes, a text, and both with all that is kept of the text and of its book.
 pub record Live (C State Cell Items : Type 0) : Type 0 where
   pub compiler : C
   pub text : Text
   pub kept : Keeping C State Cell Items
+  pub book : Kept
 
-abbrev pub live : {C State Cell Items : Type 0} → Keeping C State Cell Items → Live C State Cell Items
-live kept = record { compiler = kept.compiler; text = kept.lines.text; kept = kept }
+abbrev pub live : {C State Cell Items : Type 0} → Keeping C State Cell Items → Kept → Live C State Cell Items
+live kept book = record { compiler = kept.compiler; text = kept.lines.text; kept = kept; book = book }
 
 -- The book of a session's text, by the definitions of its compiler.
 abbrev pub book_in : {C State Cell Items Defaults : Type 0} → (C → State → Cell → State) → (C → State → Cell → Items) → (C → Rules State Cell Items Defaults) → Live C State Cell Items → Book
@@ -30,7 +31,3 @@ pub record EditPatched (C State Cell Items : Type 0) : Type 0 where
   pub on : Live C State Cell Items
   pub text : Text
   pub report : Report
-
--- How many cells a line has.
-abbrev pub count_in : {Cell : Type 0} → Row Cell → ℕ
-count_in row = length row.cells

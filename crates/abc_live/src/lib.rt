@@ -7,6 +7,7 @@ mod change;
 mod edit;
 mod outcome;
 mod session;
+mod stretch;
 
 pub use abc::Session;
 pub use abc_lines::EditError;

@@ -1,106 +1,132 @@
-//! What a prepared text gives: the output of each tune, the book, and how the files differ.
+//! What a prepared text gives to the book: what the tunes of its stretch give, and their faults.
 
-ghost use Rattle.std.specs.Prelude.{◌≡◌, ◌≤◌, ◌∷◌, IfOk, drop, length, map};
+ghost use Rattle.std.specs.Prelude.{◌≡◌, ◌+◌, ◌≤◌, ◌++◌, IfOk, Some, drop, length, map, option_copied, slice_get};
 ghost use Rattle.std.specs.List.{AllZip};
-ghost use Rattle.abc_chains.specs.Standing.{Stands};
-ghost use Rattle.abc_chains.specs.Taking.{HasItemsOf};
+ghost use Rattle.abc_chains.specs.Keeping.{behind_chain};
 ghost use Rattle.abc_fold.specs.Steps.{steps_of};
-ghost use Rattle.abc_lines.specs.Text.{IsText};
-ghost use Rattle.abc_live.specs.Session.{count_in};
+ghost use Rattle.abc_kept_book.specs.Outputs.{files_of};
+ghost use Rattle.abc_lines.specs.declared.limits.TheConstants.{MOST_LINES};
+ghost use Rattle.abc_live.specs.Prepared.{HeaderCells, IsBook, IsPrepared, header_faults_there, splice_in};
 ghost use Rattle.abc_memo.specs.Memo.{Remembers};
 ghost use Rattle.abc_outputs.specs.Built.{IsBuiltUpTo, made_of};
 ghost use Rattle.abc_outputs.specs.Output.{output_in};
+ghost use Rattle.abc_outputs.specs.Tunes.{HasCells, faults_by};
 ghost use Rattle.abc_tunebook.specs.Book.{book_of};
 ghost use Rattle.abc_tunebook.specs.Report.{Reports};
 
-use abc_chains::{KeptPatch, KeptText, Row, header_in, tunes_in};
+use crate::change::Change;
+use crate::stretch::{counts_of, lines_of};
+use abc_book::Block;
+use abc_chains::{KeptPatch, KeptText};
 use abc_compiler::Compiler;
 use abc_fold::{Chain, Shared};
+use abc_kept_book::{BookPatch, KeptBook, NewTunes};
 use abc_memo::TuneMemo;
-use abc_outputs::{FoldedText, Output, TakenOver, book_by, outputs_of};
-use abc_tunebook::{Book, Report};
+use abc_outputs::{FoldedStretch, Output, TakenOver, outputs_of, put_cell_faults, put_tune_faults};
+use abc_tunebook::Fault;
 use std::alloc::{AllocError, Global};
 
-/// What a text gives: what each tune gives, its book, and how the files differ from those of another.
-#[derive(Drop)]
-pub(crate) struct Outcome {
-    pub(crate) outputs: Vec<Shared<Output>>,
-    pub(crate) book: Book,
-    pub(crate) report: Report,
+/// The chain that the file header would have. The edit belongs to the text as it is now.
+fn first_chain<'a, C: Compiler>(text: &'a KeptText<C>, kept: &'a KeptPatch<C>) -> &'a Chain<C>
+    requires on { kept.now.on ≡ text.now }
+    requires some { 1 ≤ length kept.now.chains }
+    ensures { slice_get kept.now.chains 0 ≡ Some result.now }
+{
+    kept.chain(text, 0).unwrap().get()
 }
 
-/// How many cells each line has.
-fn counts_of<K: Drop>(alloc: Global, rows: &[Row<K>]) -> Result<Vec<usize>, AllocError>
-    ensures { IfOk result (λ counts. counts.items ≡ map count_in rows.now) }
+/// The state in which a file header, if there is one, leaves its last cell.
+fn left_by<C: Compiler>(header: Option<Block>, chain: &Chain<C>) -> Option<&C::State>
+    ensures { option_copied result ≡ behind_chain header chain.now }
 {
-    let mut counts: Vec<usize> = Vec::with_capacity(alloc, rows.len())?;
-    for row in rows {
-        counts.push(row.cells().len())?;
+    match header {
+        Some(_) => chain.entry(chain.len()),
+        None => None,
     }
-    Ok(counts)
 }
 
-/// The chain of the file header, and those of the tunes.
-fn parted<C: Compiler>(chains: &[Shared<Chain<C>>]) -> (&Shared<Chain<C>>, &[Shared<Chain<C>>])
-    requires { 1 ≤ length chains.now }
-    ensures parts { chains.now ≡ result.0.now ∷ result.1.now }
-    ensures tunes { result.1.now ≡ drop 1 chains.now }
-{
-    (&chains[0], &chains[1..])
-}
-
-/// What a prepared text gives, by what the tunes of the present one give. The memo is asked for the tunes that take
-/// nothing over, and at most these are built.
-pub(crate) fn outcome_of<C: Compiler>(
-    text: &KeptText<C>,
+/// The faults of a stretch: those of the file header, if it lies there, and those of the tunes, which give these.
+fn faults_of<C: Compiler>(
+    compiler: &C,
+    alloc: Global,
+    header: Option<Block>,
+    first: &Chain<C>,
+    stretch: &FoldedStretch<C>,
     outputs: &[Shared<Output>],
-    book: &Book,
+) -> Result<Vec<Fault>, AllocError>
+    requires few { stretch.now.before + length stretch.now.counts.now ≤ MOST_LINES }
+    requires header { HeaderCells stretch.now.before stretch.now.counts.now first.now header }
+    requires cells { AllZip (HasCells stretch.now.before stretch.now.counts.now) stretch.now.chains.now stretch.now.places.now }
+    requires outputs { outputs.now ≡ map (output_in (C.rules compiler.now)) stretch.now.chains.now }
+    ensures { let rules = C.rules compiler.now in
+        IfOk result (λ faults. faults.items ≡ header_faults_there rules stretch.now.before stretch.now.counts.now first.now header ++ faults_by rules stretch.now.before stretch.now.counts.now stretch.now.chains.now stretch.now.places.now) }
+{
+    let mut faults = Vec::new(alloc);
+    if let Some(block) = header {
+        if stretch.before < block.to {
+            put_cell_faults(compiler, &mut faults, stretch, first, block)?;
+        }
+    }
+    put_tune_faults(compiler, &mut faults, stretch, outputs)?;
+    Ok(faults)
+}
+
+/// What a prepared edit makes of the book, prepared. The memo is asked for the tunes of the stretch that take nothing
+/// over, and at most these are built.
+pub(crate) fn book_after<C: Compiler>(
+    text: &KeptText<C>,
+    book: &KeptBook,
     kept: &KeptPatch<C>,
+    change: &Change,
     memo: &mut TuneMemo<C>,
     work: &mut C::Work,
-) -> Result<Outcome, AllocError>
+) -> Result<BookPatch, AllocError>
     requires on { kept.now.on ≡ text.now }
-    requires limits { IsText kept.now.text }
-    requires stands { let c = text.now.compiler in
-        Stands (steps_of (C.next c) (C.gives c) (C.alike c)) (C.rules c) kept.now.text kept.now.rows kept.now.blocks kept.now.chains }
-    requires items { AllZip (HasItemsOf (drop 1 text.now.chains)) (drop 1 kept.now.chains) kept.now.taken }
-    requires outputs { outputs.now ≡ map (output_in (C.rules text.now.compiler)) (drop 1 text.now.chains) }
+    requires prepared { let c = text.now.compiler in
+        IsPrepared (steps_of (C.next c) (C.gives c) (C.alike c)) (C.rules c) (splice_in change.now) kept.now }
+    requires outputs { book.now.outputs.items ≡ map (output_in (C.rules text.now.compiler)) (drop 1 text.now.chains.items) }
+    requires faults { let c = text.now.compiler in
+        book.now.faults ≡ (book_of (C.next c) (C.gives c) (C.rules c) text.now.lines.text).faults }
     requires remembers { let c = text.now.compiler in
         Remembers (steps_of (C.next c) (C.gives c) (C.alike c)) (C.rules c) memo.old }
-    ensures outputs { IfOk result (λ given. given.outputs.items ≡ map (output_in (C.rules text.now.compiler)) (drop 1 kept.now.chains)) }
+    ensures on { IfOk result (λ patch. patch.on ≡ book.now) }
+    ensures outputs { IfOk result (λ patch. patch.outputs ≡ map (output_in (C.rules text.now.compiler)) (drop 1 kept.now.chains)) }
     ensures book { let c = text.now.compiler in
-        IfOk result (λ given. given.book ≡ book_of (C.next c) (C.gives c) (C.rules c) kept.now.text) }
-    ensures report { let c = text.now.compiler in
-        IfOk result (λ given. Reports book.now.files (book_of (C.next c) (C.gives c) (C.rules c) kept.now.text).files given.report) }
+        IfOk result (λ patch. IsBook patch.outputs patch.faults (book_of (C.next c) (C.gives c) (C.rules c) kept.now.text)) }
+    ensures report { IfOk result (λ patch. Reports (files_of book.now.outputs.items) (files_of patch.outputs) patch.report) }
     ensures remembers { let c = text.now.compiler in
         Remembers (steps_of (C.next c) (C.gives c) (C.alike c)) (C.rules c) memo.new }
     ensures counted { IsBuiltUpTo (made_of kept.now.taken) (C.Work.counts work.old) (C.Work.counts work.new) }
 {
+    let _ = text.lines().len();
     let alloc = text.lines().allocator();
     let compiler = text.compiler();
-    let lines = kept.lines(text)?;
-    let (first, tunes) = parted(kept.chains());
-    let blocks = kept.blocks();
-    let places = tunes_in(alloc, blocks)?;
-    let counts = counts_of(alloc, kept.rows())?;
-    let folded = FoldedText {
+    let stretch = kept.stretch();
+    let first = first_chain(text, kept);
+    let lines = lines_of(text.lines(), change, stretch)?;
+    let counts = counts_of(alloc, text, kept)?;
+    let folded = FoldedStretch {
         lines: &lines,
-        header: header_in(blocks),
-        first: first.get(),
-        blocks: &places,
-        chains: tunes,
+        before: stretch.from,
+        left: left_by(kept.header(), first),
+        places: kept.places(),
+        chains: kept.made(),
         counts: &counts,
     };
     let old = TakenOver {
         taken: kept.taken(),
-        outputs,
+        outputs: book.outputs(),
     };
-    let made = outputs_of(compiler, alloc, &folded, &old, memo, work)?;
-    let new_book = book_by(compiler, alloc, &folded, &made)?;
-    let report = book.changes(alloc, &new_book)?;
-    Ok(Outcome {
-        outputs: made,
-        book: new_book,
-        report,
-    })
+    let outputs = outputs_of(compiler, alloc, &folded, &old, memo, work)?;
+    let faults = faults_of(compiler, alloc, kept.header(), first, &folded, &outputs)?;
+    let tunes = NewTunes {
+        front: stretch.front,
+        behind: stretch.behind,
+        outputs,
+        faults,
+        from: stretch.from as u32,
+        gone: (stretch.to - stretch.from) as u32,
+        came: stretch.came as u32,
+    };
+    book.prepare(alloc, tunes)
 }

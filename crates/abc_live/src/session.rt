@@ -1,29 +1,29 @@
 //! A tune book that is edited, for any compiler of its tunes.
 
-ghost use Rattle.std.specs.Prelude.{◌≡◌, ◌≢◌, ◌↔◌, ℕ, ◌≤◌, [], Contains, IfErr, IfOk, IsSome, MatchResult, Ok, length, option_copied};
+ghost use Rattle.std.specs.Prelude.{◌≡◌, ◌≢◌, ◌↔◌, ℕ, ◌≤◌, [], Contains, IfErr, IfOk, IsSome, MatchResult, Ok, Some, length, option_copied};
 ghost use Rattle.std.specs.List.Sorted.{IsStrictlyIncreasing, IsStrictlySortedBy};
 ghost use Rattle.std.specs.Map.{keys_of};
 ghost use Rattle.abc_fold.specs.Steps.{steps_of};
-ghost use Rattle.abc_lines.specs.Edits.{Refuses, edited};
+ghost use Rattle.abc_lines.specs.Edits.{Refuses, edited, replaced};
 ghost use Rattle.abc_lines.specs.declared.limits.TheConstants.{MOST_LINES};
 ghost use Rattle.abc_live.specs.Counting.{MayCost};
 ghost use Rattle.abc_live.specs.Edit.{line_at, splice_of};
+ghost use Rattle.abc_live.specs.Prepared.{splice_in};
 ghost use Rattle.abc_live.specs.Session.{book_in, tunes_given};
 ghost use Rattle.abc_tunebook.specs.Book.{book_of};
 ghost use Rattle.abc_tunebook.specs.Fault.{fault_cmp};
 ghost use Rattle.abc_tunebook.specs.Files.{file_at, first_file};
 ghost use Rattle.abc_tunebook.specs.Report.{Reports};
 
-use crate::change::prepared;
+use crate::change::{Change, change_of};
 use crate::edit::Edit;
-use crate::outcome::outcome_of;
+use crate::outcome::book_after;
 use abc_chains::{KeptPatch, KeptText};
 use abc_compiler::Compiler;
-use abc_fold::Shared;
+use abc_kept_book::{BookPatch, KeptBook};
 use abc_lines::EditError;
 use abc_memo::TuneMemo;
-use abc_outputs::Output;
-use abc_tunebook::{Book, Fault, Report, Title};
+use abc_tunebook::{Fault, Report, Title};
 use std::alloc::{AllocError, Global};
 use std::marker::Model;
 
@@ -33,14 +33,14 @@ use std::marker::Model;
 #[derive(Drop)]
 pub struct LiveSession<C: Compiler> {
     text: KeptText<C>,
-    outputs: Vec<Shared<Output>>,
-    book: Book,
+    book: KeptBook,
     memo: TuneMemo<C>,
 }
 
 impl<C: Compiler> Model for LiveSession<C> {
     ghost use Rattle.std.specs.Prelude.{◌≡◌, drop, map};
     ghost use Rattle.abc_fold.specs.Steps.{steps_of};
+    ghost use Rattle.abc_live.specs.Prepared.{IsBook};
     ghost use Rattle.abc_live.specs.Session.{Live, live};
     ghost use Rattle.abc_memo.specs.Memo.{Remembers};
     ghost use Rattle.abc_outputs.specs.Output.{output_in};
@@ -48,31 +48,30 @@ impl<C: Compiler> Model for LiveSession<C> {
 
     ghost Value = { Live C C.State C.Cell C.Items };
 
-    ghost view = { λ s. live s.text };
+    ghost view = { λ s. live s.text s.book };
 
-    ghost invariant = { λ s. (s.outputs.items ≡ map (output_in (C.rules s.text.compiler)) (drop 1 s.text.chains)) × (s.book ≡ book_of (C.next s.text.compiler) (C.gives s.text.compiler) (C.rules s.text.compiler) s.text.lines.text) × Remembers (steps_of (C.next s.text.compiler) (C.gives s.text.compiler) (C.alike s.text.compiler)) (C.rules s.text.compiler) s.memo };
+    ghost invariant = { λ s. (s.book.outputs.items ≡ map (output_in (C.rules s.text.compiler)) (drop 1 s.text.chains.items)) × IsBook s.book.outputs.items s.book.faults (book_of (C.next s.text.compiler) (C.gives s.text.compiler) (C.rules s.text.compiler) s.text.lines.text) × Remembers (steps_of (C.next s.text.compiler) (C.gives s.text.compiler) (C.alike s.text.compiler)) (C.rules s.text.compiler) s.memo };
 }
 
 /// An edit that has been prepared: what the session would be, and how its files would differ. It must be spent, by
 /// `commit` of the session as it is or by `drop_patch`.
 pub struct EditPatch<C: Compiler> {
     kept: KeptPatch<C>,
-    outputs: Vec<Shared<Output>>,
-    book: Book,
-    report: Report,
+    book: BookPatch,
 }
 
 impl<C: Compiler> Model for EditPatch<C> {
     ghost use Rattle.std.specs.Prelude.{◌≡◌, drop, map};
+    ghost use Rattle.abc_live.specs.Prepared.{IsBook};
     ghost use Rattle.abc_live.specs.Session.{EditPatched, live};
     ghost use Rattle.abc_outputs.specs.Output.{output_in};
     ghost use Rattle.abc_tunebook.specs.Book.{book_of};
 
     ghost Value = { EditPatched C C.State C.Cell C.Items };
 
-    ghost view = { λ p. record { on = live p.kept.on; text = p.kept.text; report = p.report } };
+    ghost view = { λ p. record { on = live p.kept.on p.book.on; text = p.kept.text; report = p.book.report } };
 
-    ghost invariant = { λ p. (p.outputs.items ≡ map (output_in (C.rules p.kept.on.compiler)) (drop 1 p.kept.chains)) × (p.book ≡ book_of (C.next p.kept.on.compiler) (C.gives p.kept.on.compiler) (C.rules p.kept.on.compiler) p.kept.text) };
+    ghost invariant = { λ p. (p.book.outputs ≡ map (output_in (C.rules p.kept.on.compiler)) (drop 1 p.kept.chains)) × IsBook p.book.outputs p.book.faults (book_of (C.next p.kept.on.compiler) (C.gives p.kept.on.compiler) (C.rules p.kept.on.compiler) p.kept.text) };
 }
 
 impl<C: Compiler> LiveSession<C> {
@@ -83,13 +82,8 @@ impl<C: Compiler> LiveSession<C> {
     {
         let memo = TuneMemo::new(alloc)?;
         let text = KeptText::new(alloc, compiler)?;
-        let book = Book::of(alloc, Vec::new(alloc), Vec::new(alloc))?;
-        Ok(LiveSession {
-            text,
-            outputs: Vec::new(alloc),
-            book,
-            memo,
-        })
+        let book = KeptBook::new(alloc)?;
+        Ok(LiveSession { text, book, memo })
     }
 
     /// Prepares an edit. Nothing changes but the counters and what is remembered: the counters rise by the new lines, the
@@ -104,15 +98,34 @@ impl<C: Compiler> LiveSession<C> {
         ensures uncounted { IfErr result (λ e. e ≢ EditError.OutOfMemory → work.new ≡ work.old) }
         ensures counted { MayCost (steps_of (C.next self.old.compiler) (C.gives self.old.compiler) (C.alike self.old.compiler)) (C.rules self.old.compiler) self.old.text (splice_of edit.now) (C.Work.counts work.old) (C.Work.counts work.new) }
     {
-        let kept = prepared(&self.text, edit, work)?;
+        match change_of(edit) {
+            Some(change) => self.prepare_change(&change, work),
+            None => Err(EditError::BadRange),
+        }
+    }
+
+    /// Prepares that a run of lines is replaced.
+    fn prepare_change(
+        &mut self,
+        change: &Change,
+        work: &mut C::Work,
+    ) -> Result<EditPatch<C>, EditError>
+        ensures unchanged { self.new ≡ self.old }
+        ensures on { IfOk result (λ patch. patch.on ≡ self.old) }
+        ensures text { IfOk result (λ patch. replaced self.old.text (splice_in change.now) ≡ Ok patch.text) }
+        ensures report { let c = self.old.compiler in
+            IfOk result (λ patch. Reports (book_in C.next C.gives C.rules self.old).files (book_of (C.next c) (C.gives c) (C.rules c) patch.text).files patch.report) }
+        ensures refused { IfErr result (λ e. Refuses e (replaced self.old.text (splice_in change.now))) }
+        ensures uncounted { IfErr result (λ e. e ≢ EditError.OutOfMemory → work.new ≡ work.old) }
+        ensures counted { MayCost (steps_of (C.next self.old.compiler) (C.gives self.old.compiler) (C.alike self.old.compiler)) (C.rules self.old.compiler) self.old.text (Some (splice_in change.now)) (C.Work.counts work.old) (C.Work.counts work.new) }
+    {
+        let _ = self.text.lines();
+        let kept = self
+            .text
+            .prepare(change.at, change.removed, change.lines, work)?;
         let memo = &mut self.memo;
-        match outcome_of(&self.text, &self.outputs, &self.book, &kept, memo, work) {
-            Ok(given) => Ok(EditPatch {
-                kept,
-                outputs: given.outputs,
-                book: given.book,
-                report: given.report,
-            }),
+        match book_after(&self.text, &self.book, &kept, change, memo, work) {
+            Ok(book) => Ok(EditPatch { kept, book }),
             Err(refused) => {
                 kept.drop_patch();
                 Err(EditError::from(refused))
@@ -128,16 +141,9 @@ impl<C: Compiler> LiveSession<C> {
         ensures compiler { self.new.compiler ≡ self.old.compiler }
         ensures report { result ≡ patch.report }
     {
-        let EditPatch {
-            kept,
-            outputs,
-            book,
-            report,
-        } = patch;
+        let EditPatch { kept, book } = patch;
         self.text.commit(kept);
-        self.outputs = outputs;
-        self.book = book;
-        report
+        self.book.commit(book)
     }
 
     /// Edits the text, and answers which files that changed. After an error the session is unchanged. The counters rise
@@ -211,12 +217,8 @@ impl<C: Compiler> LiveSession<C> {
 impl<C: Compiler> EditPatch<C> {
     /// Gives the edit up: the session stays as it is.
     pub fn drop_patch(self) {
-        let EditPatch {
-            kept,
-            outputs: _,
-            book: _,
-            report: _,
-        } = self;
+        let EditPatch { kept, book } = self;
         kept.drop_patch();
+        book.drop_patch();
     }
 }

@@ -1,8 +1,13 @@
--- Tunes of which no cell has faults.
+-- Cells without faults.
 use Rattle.std.proofs.Common.{◌≡◌, ℕ, zero, suc, ◌+◌, ◌==◌, if◌then◌else◌, Bool, true, false, List, [], ◌∷◌, ◌++◌, map, length, take, drop, refl, sym, ◌∙◌, ap, arith}
 use Rattle.std.proofs.lemmas.Bool.{eqb-true}
 use Rattle.std.proofs.lemmas.Grind.{flat_map-append}
-use Rattle.abc_outputs.specs.Output.{has_faults, output_of, placed_from, tune_at}
+use Rattle.std.proofs.lemmas.List.{append-nil}
+use Rattle.abc_book.specs.declared.block.Block.{Block}
+use Rattle.abc_fields.specs.declared.fault.FaultCode.{FaultCode}
+use Rattle.abc_fold.specs.Chain.{Chained}
+use Rattle.abc_outputs.specs.Output.{has_faults, output_in, placed_from}
+use Rattle.abc_outputs.specs.Tunes.{counts_in, tune_faults_by}
 use Rattle.abc_outputs.specs.declared.output.Output.{Output}
 use Rattle.abc_tunebook.specs.Placed.{Placed, placed_at}
 use Rattle.abc_tunebook.specs.Rules.{Rules}
@@ -43,10 +48,13 @@ module _ {State Cell Items Defaults : Type 0} (rules : Rules State Cell Items De
       flat_map-append (λ (one : Placed Items). map (fault_in one.line) (rules.faults one.here)) (map (placed_at line) (take count items)) (placed_from (line + 1) counts (drop count items))
       ∙ (λ i. line_none line (take count items) (take_none count items e) i ++ lines_none (line + 1) counts (drop count items) (drop_none count items e) i)
 
-  -- Where its lines stand makes no difference to it.
-  pub faultless : (line : ℕ) (output : Output) (counts : List ℕ) (items : List Items) → output ≡ output_of rules items → output.faulty ≡ false
-      → tune_at rules line output (placed_from line [] items) ≡ tune_at rules line output (placed_from line counts items)
-  faultless line output counts items is none =
-      let clean : has_faults rules items ≡ false = sym (ap (λ (o : Output). o.faulty) is) ∙ none in
-      ap (λ (faults : List Fault). record { number = output.number; title = output.title; bytes = output.built.bytes; faults = map (fault_of_tune line) output.built.faults ++ faults })
-      (sym (lines_none line counts items clean))
+  -- Of a tune of which no cell has faults, those as a whole are all.
+  pub faultless : (output : Output) (chain : Chained State Cell Items) (before : ℕ) (counts : List ℕ) (place : Block) (codes : List FaultCode) (old new : List Fault) → output ≡ output_in rules chain → output.faulty ≡ false → codes ≡ output.built.faults
+      → new ≡ old ++ map (fault_of_tune (place.from + 1)) codes → new ≡ old ++ tune_faults_by rules before counts chain place
+  faultless output chain before counts place codes old new is none own put =
+      let clean : has_faults rules chain.items ≡ false = sym (ap (λ (o : Output). o.faulty) is) ∙ none in
+      let whole = map (fault_of_tune (place.from + 1)) (output_in rules chain).built.faults in
+      put
+      ∙ ap (λ codes. old ++ map (fault_of_tune (place.from + 1)) codes) (own ∙ ap (λ (o : Output). o.built.faults) is)
+      ∙ ap (λ l. old ++ l) (sym (append-nil whole))
+      ∙ ap (λ l. old ++ (whole ++ l)) (sym (lines_none (place.from + 1) (counts_in before counts place) chain.items clean))

@@ -1,38 +1,36 @@
 -- What a chain gives, placed in the lines of its cells, is what the definitions give along them.
-use Rattle.std.proofs.Common.{◌≡◌, ℕ, suc, ◌+◌, ◌-◌, ◌≤◌, List, [], ◌∷◌, ◌++◌, length, take, drop, map, flat_map, Option, Some, None, refl, sym, ap, ◌∙◌, arith, length-append}
+use Rattle.std.proofs.Common.{◌≡◌, ℕ, suc, ◌+◌, ◌-◌, ◌≤◌, List, [], ◌∷◌, ◌++◌, length, take, drop, map, flat_map, Some, refl, sym, ap, ◌∙◌, arith, length-append}
 use Rattle.std.specs.List.{AllZip, sum_by}
-use Rattle.std.specs.Prelude.{All, IfSome}
-use Rattle.std.proofs.lemmas.List.Elements.{All-head, All-tail}
-use Rattle.abc_outputs.proofs.Blocks.{header_within, text_blocks_within, tunes_lie_within}
+use Rattle.std.specs.Prelude.{All}
 use Rattle.std.proofs.lemmas.List.{drop-map, length-map, map-append, take-map}
-use Rattle.std.proofs.Math.Seq.{take-append_seam, drop-append_seam}
+use Rattle.std.proofs.lemmas.List.Elements.{All-head, All-tail}
 use Rattle.std.proofs.lemmas.List.Sums.{sum_by-cons}
+use Rattle.std.proofs.Math.Seq.{take-append_seam, drop-append_seam}
 use Rattle.abc_book.specs.declared.block.Block.{Block}
 use Rattle.abc_fold.specs.Chain.{Chained}
 use Rattle.abc_fold.specs.Steps.{Steps, items_from}
 use Rattle.abc_lines.specs.Text.{Text}
-use Rattle.abc_outputs.specs.Output.{counts_of, output_of, placed_from, tune_at}
-use Rattle.abc_outputs.specs.Tunes.{AreFoldsOf, HasCells, IsFoldOf, LiesWithin, counts_in, given_by_chains, tune_by, tunes_by, header_faults_by}
-use Rattle.abc_tunebook.specs.Book.{blocks_in, book_from, book_of, given_of, header_faults, header_in, opening_of, tunes_in}
+use Rattle.abc_outputs.specs.Output.{counts_of, output_in, placed_from}
+use Rattle.abc_outputs.specs.Tunes.{HasCells, IsFoldOf, LiesAmong, OutputTells, cell_faults_by, counts_among, counts_in, faults_by, faults_of_tunes, tune_faults_by}
+use Rattle.abc_outputs.proofs.Places.{among, among_inside}
+use Rattle.abc_tunebook.specs.Book.{header_faults}
 use Rattle.abc_tunebook.specs.Placed.{Placed, cells_from, items_along, placed_at, things}
 use Rattle.abc_tunebook.specs.Rules.{Rules}
-use Rattle.abc_tunebook.specs.Tune.{faults_along, lines_in, tune_from, tune_of}
-use Rattle.abc_tunebook.specs.declared.tune.Tune.{Tune}
+use Rattle.abc_tunebook.specs.Tune.{fault_of_tune, faults_along, first_of, lines_in, tune_of}
 
--- the counts of a block's lines
-pub counts_there : {Cell : Type 0} (read : List ℕ → List Cell) (text : Text) (block : Block) → counts_in (counts_of read text) block ≡ counts_of read (lines_in text block)
-counts_there read text block =
-    ap (take (block.to - block.from)) (drop-map (λ line. length (read line)) block.from text) ∙ take-map (λ line. length (read line)) (block.to - block.from) (drop block.from text)
+-- the counts of a place's lines
+counts_there : {Cell : Type 0} (read : List ℕ → List Cell) (text : Text) (before count : ℕ) (place : Block) → LiesAmong before count place
+    → counts_in before (counts_among read text before count) place ≡ counts_of read (lines_in text place)
+counts_there read text before count place lies =
+    among (counts_of read text) before count place.from place.to lies.behind lies.order lies.within
+    ∙ ap (take (place.to - place.from)) (drop-map (λ line. length (read line)) place.from text)
+    ∙ take-map (λ line. length (read line)) (place.to - place.from) (drop place.from text)
 
 -- as many as there are cells
 pub counts_sum : {Cell : Type 0} (read : List ℕ → List Cell) (lines : Text) → sum_by (λ count. count) (counts_of read lines) ≡ length (flat_map read lines)
 counts_sum read [] = refl
 counts_sum read (line ∷ lines) =
     sum_by-cons (λ (count : ℕ). count) (length (read line)) (counts_of read lines) ∙ ap (λ n. length (read line) + n) (counts_sum read lines) ∙ sym (length-append (read line) (flat_map read lines))
-
--- a tune of what its items give, with or without their places
-abbrev tune_parts : {State Cell Items Defaults : Type 0} → Rules State Cell Items Defaults → ℕ → List Items → List (Placed Items) → Tune
-tune_parts rules line items placed = tune_at rules line (output_of rules items) placed
 
 module _ {State Cell Items : Type 0} (steps : Steps State Cell Items) where
   -- the state behind cells, without their places
@@ -95,89 +93,80 @@ module _ {State Cell Items : Type 0} (steps : Steps State Cell Items) where
       ∙ ap (λ l. items_from steps state cells ++ l) (things_along read (line + 1) behind lines)
       ∙ sym (items_append state cells (flat_map read lines))
 
-  module _ (read : List ℕ → List Cell) (opening : State) (text : Text) (chain : Chained State Cell Items) (block : Block) (is : IsFoldOf steps read opening text chain block) where
-    items_are : chain.items ≡ items_from steps opening (flat_map read (lines_in text block))
+  module _ (read : List ℕ → List Cell) (opening : State) (text : Text) (chain : Chained State Cell Items) (place : Block) (is : IsFoldOf steps read opening text chain place) where
+    items_are : chain.items ≡ items_from steps opening (flat_map read (lines_in text place))
     items_are = is.folds.items ∙ ap (items_from steps opening) is.cells
 
-    -- the items of a chain in the lines of its block
-    pub placed_there : (line : ℕ) → placed_from line (counts_in (counts_of read text) block) chain.items ≡ items_along steps.next steps.gives opening (cells_from read line (lines_in text block))
-    placed_there line =
-        ap (λ counts. placed_from line counts chain.items) (counts_there read text block)
-        ∙ ap (placed_from line (counts_of read (lines_in text block))) items_are
-        ∙ placed_along read line opening (lines_in text block)
+    things_there : (line : ℕ) → chain.items ≡ things (items_along steps.next steps.gives opening (cells_from read line (lines_in text place)))
+    things_there line = items_are ∙ sym (things_along read line opening (lines_in text place))
 
-    pub things_there : (line : ℕ) → chain.items ≡ things (items_along steps.next steps.gives opening (cells_from read line (lines_in text block)))
-    things_there line = items_are ∙ sym (things_along read line opening (lines_in text block))
+    module _ (before count : ℕ) (lies : LiesAmong before count place) where
+      -- the items of a chain in the lines of its place
+      placed_there : (line : ℕ) → placed_from line (counts_in before (counts_among read text before count) place) chain.items ≡ items_along steps.next steps.gives opening (cells_from read line (lines_in text place))
+      placed_there line =
+          ap (λ counts. placed_from line counts chain.items) (counts_there read text before count place lies)
+          ∙ ap (placed_from line (counts_of read (lines_in text place))) items_are
+          ∙ placed_along read line opening (lines_in text place)
 
-    pub has_cells : block.from ≤ block.to → block.to ≤ length text → HasCells (counts_of read text) chain block
-    has_cells order within =
-        let many : length (counts_of read text) ≡ length text = length-map text (λ line. length (read line)) in
-        let own : sum_by (λ count. count) (counts_in (counts_of read text) block) ≡ length chain.cells =
-        ap (sum_by (λ (count : ℕ). count)) (counts_there read text block) ∙ counts_sum read (lines_in text block) ∙ sym (ap length is.cells) in
+      pub has_cells : before + count ≤ length text → HasCells before (counts_among read text before count) chain place
+      has_cells inside =
+          let many : length (counts_among read text before count) ≡ count = among_inside (counts_of read text) before count (omega (arith, inside, length-map text (λ line. length (read line)))) in
+          let own : sum_by (λ count. count) (counts_in before (counts_among read text before count) place) ≡ length chain.cells =
+          ap (sum_by (λ (count : ℕ). count)) (counts_there read text before count place lies) ∙ counts_sum read (lines_in text place) ∙ sym (ap length is.cells) in
+          let within = lies.within in
+          record {
+            lies = record { behind = lies.behind; order = lies.order; within = omega (arith, many, within) };
+            shape = ap length is.folds.items ∙ given_each opening chain.cells;
+            all = omega (arith, own);
+          }
+
+  module _ {Defaults : Type 0} (rules : Rules State Cell Items Defaults) (opening : State) (text : Text) where
+    -- what the chain of a place gives wherever its lines stand
+    pub output_follows : (chain : Chained State Cell Items) (place : Block) → IsFoldOf steps rules.cells opening text chain place
+        → OutputTells (output_in rules chain) (tune_of steps.next steps.gives rules opening text place)
+    unfolding tune_of
+    output_follows chain place is =
+        let same = things_there rules.cells opening text chain place is (place.from + 1) in
         record {
-          order = order;
-          within = omega (arith, many, within);
-          shape = ap length is.folds.items ∙ given_each opening chain.cells;
-          all = omega (arith, own);
+          number = ap (first_of rules.number 0) same;
+          title = ap (first_of rules.title []) same;
+          bytes = ap rules.bytes same;
         }
 
-  module _ {Defaults : Type 0} (rules : Rules State Cell Items Defaults) where
-    tune_same : (line : ℕ) (items : List Items) (placed others : List (Placed Items)) → items ≡ things others → placed ≡ others
-        → tune_parts rules line items placed ≡ tune_from rules line others
-    tune_same line items placed others same there = ap (λ l. tune_parts rules line l placed) same ∙ ap (tune_parts rules line (things others)) there
+    -- the faults of its cells
+    pub cells_fault : (before count : ℕ) (chain : Chained State Cell Items) (place : Block) → IsFoldOf steps rules.cells opening text chain place → LiesAmong before count place
+        → cell_faults_by rules before (counts_among rules.cells text before count) chain place ≡ faults_along rules.faults (items_along steps.next steps.gives opening (cells_from rules.cells (place.from + 1) (lines_in text place)))
+    cells_fault before count chain place is lies = ap (faults_along rules.faults) (placed_there rules.cells opening text chain place is before count lies (place.from + 1))
 
-    -- what the chain of a block gives
-    pub tune_follows : (opening : State) (text : Text) (chain : Chained State Cell Items) (block : Block) → IsFoldOf steps rules.cells opening text chain block
-        → tune_by rules (counts_of rules.cells text) chain block ≡ tune_of steps.next steps.gives rules opening text block
+    -- and those of the tune as a whole
+    tune_faults : (before count : ℕ) (chain : Chained State Cell Items) (place : Block) → IsFoldOf steps rules.cells opening text chain place → LiesAmong before count place
+        → tune_faults_by rules before (counts_among rules.cells text before count) chain place ≡ (tune_of steps.next steps.gives rules opening text place).faults
     unfolding tune_of
-    tune_follows opening text chain block is =
-        tune_same (block.from + 1) chain.items _ _ (things_there rules.cells opening text chain block is (block.from + 1)) (placed_there rules.cells opening text chain block is (block.from + 1))
+    tune_faults before count chain place is lies =
+        ap (λ items. map (fault_of_tune (place.from + 1)) (rules.build_faults items) ++ cell_faults_by rules before (counts_among rules.cells text before count) chain place) (things_there rules.cells opening text chain place is (place.from + 1))
+        ∙ ap (λ faults. map (fault_of_tune (place.from + 1)) (rules.build_faults (things (items_along steps.next steps.gives opening (cells_from rules.cells (place.from + 1) (lines_in text place))))) ++ faults) (cells_fault before count chain place is lies)
 
-    -- what the chains of blocks give
-    pub tunes_follow : (opening : State) (text : Text) (chains : List (Chained State Cell Items)) (blocks : List Block) → AllZip (IsFoldOf steps rules.cells opening text) chains blocks
-        → tunes_by rules (counts_of rules.cells text) chains blocks ≡ map (tune_of steps.next steps.gives rules opening text) blocks
-    tunes_follow opening text [] [] all = refl
-    tunes_follow opening text [] (block ∷ blocks) all = absurd all
-    tunes_follow opening text (chain ∷ chains) [] all = absurd all
-    tunes_follow opening text (chain ∷ chains) (block ∷ blocks) all =
-        ap (λ tune. tune ∷ tunes_by rules (counts_of rules.cells text) chains blocks) (tune_follows opening text chain block all.0)
-        ∙ ap (λ tunes. tune_of steps.next steps.gives rules opening text block ∷ tunes) (tunes_follow opening text chains blocks all.1)
+    -- those of all tunes
+    pub faults_follow : (before count : ℕ) (chains : List (Chained State Cell Items)) (places : List Block) → AllZip (IsFoldOf steps rules.cells opening text) chains places → All (LiesAmong before count) places
+        → faults_by rules before (counts_among rules.cells text before count) chains places ≡ faults_of_tunes (map (tune_of steps.next steps.gives rules opening text) places)
+    faults_follow before count [] [] all lie = refl
+    faults_follow before count [] (place ∷ places) all lie = absurd all
+    faults_follow before count (chain ∷ chains) [] all lie = absurd all
+    faults_follow before count (chain ∷ chains) (place ∷ places) all lie =
+        ap (λ faults. faults ++ faults_by rules before (counts_among rules.cells text before count) chains places) (tune_faults before count chain place all.0 (All-head (LiesAmong before count) place places lie))
+        ∙ ap (λ faults. (tune_of steps.next steps.gives rules opening text place).faults ++ faults) (faults_follow before count chains places all.1 (All-tail (LiesAmong before count) place places lie))
 
-    -- the faults of a file header
-    pub header_follows : (text : Text) (chain : Chained State Cell Items) (block : Block) → IsFoldOf steps rules.cells rules.header text chain block
-        → header_faults_by rules (counts_of rules.cells text) chain (Some block) ≡ header_faults steps.next steps.gives rules text (Some block)
-    header_follows text chain block is = ap (faults_along rules.faults) (placed_there rules.cells rules.header text chain block is (block.from + 1))
+    pub zipped_cells : (before count : ℕ) (chains : List (Chained State Cell Items)) (places : List Block) → AllZip (IsFoldOf steps rules.cells opening text) chains places → All (LiesAmong before count) places → before + count ≤ length text
+        → AllZip (HasCells before (counts_among rules.cells text before count)) chains places
+    zipped_cells before count [] [] all lie inside = tt
+    zipped_cells before count [] (place ∷ places) all lie inside = absurd all
+    zipped_cells before count (chain ∷ chains) [] all lie inside = absurd all
+    zipped_cells before count (chain ∷ chains) (place ∷ places) all lie inside = (
+      has_cells rules.cells opening text chain place all.0 before count (All-head (LiesAmong before count) place places lie) inside,
+      zipped_cells before count chains places all.1 (All-tail (LiesAmong before count) place places lie) inside,
+    )
 
-    -- the chains of a text have the cells of its lines
-    zipped_cells : (opening : State) (text : Text) (chains : List (Chained State Cell Items)) (blocks : List Block) → All (LiesWithin (length text)) blocks
-        → AllZip (IsFoldOf steps rules.cells opening text) chains blocks → AllZip (HasCells (counts_of rules.cells text)) chains blocks
-    zipped_cells opening text [] [] within all = tt
-    zipped_cells opening text [] (block ∷ blocks) within all = absurd all
-    zipped_cells opening text (chain ∷ chains) [] within all = absurd all
-    zipped_cells opening text (chain ∷ chains) (block ∷ blocks) within all =
-        let own = All-head (LiesWithin (length text)) block blocks within in
-        (has_cells rules.cells opening text chain block all.0 own.0 own.1, zipped_cells opening text chains blocks (All-tail (LiesWithin (length text)) block blocks within) all.1)
-
-    module _ (text : Text) (header : Chained State Cell Items) (chains : List (Chained State Cell Items)) (are : AreFoldsOf steps rules text header chains) where
-      first_cells : (block : Option Block) → IfSome block (LiesWithin (length text)) → IfSome block (IsFoldOf steps rules.cells rules.header text header) → IfSome block (HasCells (counts_of rules.cells text) header)
-      first_cells None within is = tt
-      first_cells (Some block) within is = has_cells rules.cells rules.header text header block is within.0 within.1
-
-      pub all_cells : IfSome (header_in (blocks_in rules text)) (HasCells (counts_of rules.cells text) header) × AllZip (HasCells (counts_of rules.cells text)) chains (tunes_in (blocks_in rules text))
-      all_cells =
-          let all = text_blocks_within rules.class text in (
-            first_cells (header_in (blocks_in rules text)) (header_within (length text) (blocks_in rules text) all) are.first,
-            zipped_cells (opening_of steps.next rules text (blocks_in rules text)) text chains (tunes_in (blocks_in rules text)) (tunes_lie_within (length text) (blocks_in rules text) (tunes_in (blocks_in rules text)) all refl) are.tunes,
-          )
-
-      first_faults : (block : Option Block) → IfSome block (IsFoldOf steps rules.cells rules.header text header)
-          → header_faults_by rules (counts_of rules.cells text) header block ≡ header_faults steps.next steps.gives rules text block
-      first_faults None is = refl
-      first_faults (Some block) is = header_follows text header block is
-
-      pub book_follows : book_from (given_by_chains rules (counts_of rules.cells text) header chains (header_in (blocks_in rules text)) (tunes_in (blocks_in rules text))) ≡ book_of steps.next steps.gives rules text
-      unfolding book_of
-      book_follows =
-          let blocks = blocks_in rules text in
-          ap (λ faults. book_from (given_of faults (tunes_by rules (counts_of rules.cells text) chains (tunes_in blocks)))) (first_faults (header_in blocks) are.first)
-          ∙ ap (λ tunes. book_from (given_of (header_faults steps.next steps.gives rules text (header_in blocks)) tunes)) (tunes_follow (opening_of steps.next rules text blocks) text chains (tunes_in blocks) are.tunes)
+  -- the faults of a file header
+  pub header_follows : {Defaults : Type 0} (rules : Rules State Cell Items Defaults) (text : Text) (before count : ℕ) (chain : Chained State Cell Items) (place : Block) → IsFoldOf steps rules.cells rules.header text chain place → LiesAmong before count place
+      → cell_faults_by rules before (counts_among rules.cells text before count) chain place ≡ header_faults steps.next steps.gives rules text (Some place)
+  header_follows rules text before count chain place is lies = cells_fault rules rules.header text before count chain place is lies

@@ -1,11 +1,10 @@
--- What the items of a tune give, wherever its lines stand, and what they give where they stand. Our own.
+-- What the items of a tune give, wherever its lines stand. Our own.
 use Rattle.std.specs.Prelude.{◌≡◌, ℕ, ◌+◌, ◌==◌, if◌then◌else◌, Bool, true, false, List, [], ◌∷◌, ◌++◌, length, map, take, drop, Option, Some, IfSome, slice_get}
 use Rattle.abc_fold.specs.Chain.{Chained}
 use Rattle.abc_outputs.specs.declared.output.Output.{Output}
 use Rattle.abc_tunebook.specs.Placed.{Placed, placed_at}
 use Rattle.abc_tunebook.specs.Rules.{Rules}
-use Rattle.abc_tunebook.specs.Tune.{fault_of_tune, faults_along, first_of}
-use Rattle.abc_tunebook.specs.declared.tune.Tune.{Tune}
+use Rattle.abc_tunebook.specs.Tune.{first_of}
 
 -- Whether one of the items of a tune has faults.
 abbrev pub has_faults : {State Cell Items Defaults : Type 0} → Rules State Cell Items Defaults → List Items → Bool
@@ -33,15 +32,6 @@ placed_from line (count ∷ counts) all = map (placed_at line) (take count all) 
 -- How many cells each line has.
 abbrev pub counts_of : {Cell : Type 0} → (List ℕ → List Cell) → List (List ℕ) → List ℕ
 counts_of read lines = map (λ line. length (read line)) lines
-
--- A tune whose first line has this number, by what its items give wherever they stand, and by the lines of its items.
-abbrev pub tune_at : {State Cell Items Defaults : Type 0} → Rules State Cell Items Defaults → ℕ → Output → List (Placed Items) → Tune
-tune_at rules line output items = record {
-  number = output.number;
-  title = output.title;
-  bytes = output.built.bytes;
-  faults = map (fault_of_tune line) output.built.faults ++ faults_along rules.faults items;
-}
 
 -- A tune that takes over what an old one gives has its items.
 abbrev pub TakesOver : {State Cell Items Defaults : Type 0} → Rules State Cell Items Defaults → List Output → Chained State Cell Items → Option ℕ → Type 0

@@ -1,103 +1,102 @@
--- The tunes of a text by their chains, and the faults of its file header by its. Our own.
-use Rattle.std.specs.Prelude.{◌≡◌, ℕ, ◌+◌, ◌-◌, ◌≤◌, List, [], ◌∷◌, map, take, drop, length, Option, Some, None, IfSome}
+-- The tunes that lie among some lines of a text, by their chains, and their faults. Our own.
+use Rattle.std.specs.Prelude.{◌≡◌, ℕ, ◌+◌, ◌-◌, ◌≤◌, List, [], ◌∷◌, ◌++◌, map, take, drop, length, All, Option, Some}
 use Rattle.std.specs.List.{AllZip, flat_map, sum_by}
 use Rattle.abc_book.specs.declared.block.Block.{Block}
 use Rattle.abc_fold.specs.Chain.{Chained, Folds}
-use Rattle.abc_fold.specs.Steps.{Steps}
+use Rattle.abc_fold.specs.Steps.{Steps, items_from}
 use Rattle.abc_lines.specs.Text.{Text}
-use Rattle.abc_outputs.specs.Output.{counts_of, output_in, placed_from, tune_at}
-use Rattle.abc_tunebook.specs.Book.{Given, blocks_in, book_from, book_of, given_of, header_faults, header_in, opening_of, tunes_in}
+use Rattle.abc_outputs.specs.declared.output.Output.{Output}
+use Rattle.abc_outputs.specs.Output.{counts_of, output_in, placed_from}
+use Rattle.abc_tunebook.specs.Book.{header_faults}
 use Rattle.abc_tunebook.specs.Rules.{Rules}
-use Rattle.abc_tunebook.specs.Tune.{faults_along, lines_in, tune_of}
+use Rattle.abc_tunebook.specs.Tune.{fault_of_tune, faults_along, lines_in, tune_of}
 use Rattle.abc_tunebook.specs.declared.fault.Fault.{Fault}
 use Rattle.abc_tunebook.specs.declared.tune.Tune.{Tune}
 
--- A block lies within so many lines.
-abbrev pub LiesWithin : ℕ → Block → Type 0
-LiesWithin count block = (block.from ≤ block.to) × (block.to ≤ count)
+-- A place in a text among the lines that are left where so many are taken away before them.
+abbrev pub lowered : ℕ → Block → Block
+lowered before place = record { kind = place.kind; from = place.from - before; to = place.to - before }
 
--- How many cells each line of a block has.
-abbrev pub counts_in : List ℕ → Block → List ℕ
-counts_in counts block = take (block.to - block.from) (drop block.from counts)
+-- A place of a text lies among so many lines that have so many before them.
+pub record LiesAmong (before count : ℕ) (place : Block) : Type 0 where
+  pub behind : before ≤ place.from
+  pub order : place.from ≤ place.to
+  pub within : place.to ≤ before + count
 
--- A block lies among lines with so many cells, and a chain has them and what each gives.
-pub record HasCells {State Cell Items : Type 0} (counts : List ℕ) (chain : Chained State Cell Items) (block : Block) : Type 0 where
-  pub order : block.from ≤ block.to
-  pub within : block.to ≤ length counts
+-- A chain gives what the definitions give along the lines of a place, begun behind a file header that leaves its last cell
+-- in this state, if there is one: the place lies among lines that have so many before them.
+pub record IsTuneAt {State Cell Items Defaults : Type 0} (steps : Steps State Cell Items) (rules : Rules State Cell Items Defaults) (left : Option State) (before : ℕ) (lines : Text) (chain : Chained State Cell Items) (place : Block) : Type 0 where
+  pub lies : LiesAmong before (length lines) place
+  pub items : chain.items ≡ items_from steps (rules.tune left) (flat_map rules.cells (lines_in lines (lowered before place)))
+
+-- How many cells each line of a place has.
+abbrev pub counts_in : ℕ → List ℕ → Block → List ℕ
+counts_in before counts place = take (place.to - before - (place.from - before)) (drop (place.from - before) counts)
+
+-- A place lies among lines with so many cells, which have so many lines before them, and a chain has the cells and what
+-- each gives.
+pub record HasCells {State Cell Items : Type 0} (before : ℕ) (counts : List ℕ) (chain : Chained State Cell Items) (place : Block) : Type 0 where
+  pub lies : LiesAmong before (length counts) place
   pub shape : length chain.items ≡ length chain.cells
-  pub all : sum_by (λ count. count) (counts_in counts block) ≤ length chain.cells
+  pub all : sum_by (λ count. count) (counts_in before counts place) ≤ length chain.cells
 
--- What the chain of a block gives, of which its lines have so many cells.
-abbrev pub tune_by : {State Cell Items Defaults : Type 0} → Rules State Cell Items Defaults → List ℕ → Chained State Cell Items → Block → Tune
-tune_by rules counts chain block =
-    tune_at rules (block.from + 1) (output_in rules chain) (placed_from (block.from + 1) (counts_in counts block) chain.items)
+-- The faults of the cells of a chain where they stand, of which the lines of its place have so many.
+abbrev pub cell_faults_by : {State Cell Items Defaults : Type 0} → Rules State Cell Items Defaults → ℕ → List ℕ → Chained State Cell Items → Block → List Fault
+cell_faults_by rules before counts chain place = faults_along rules.faults (placed_from (place.from + 1) (counts_in before counts place) chain.items)
 
--- What chains give, each with its block.
-abbrev pub tunes_by : {State Cell Items Defaults : Type 0} → Rules State Cell Items Defaults → List ℕ → List (Chained State Cell Items) → List Block → List Tune
-tunes_by rules counts [] blocks = []
-tunes_by rules counts (chain ∷ chains) [] = []
-tunes_by rules counts (chain ∷ chains) (block ∷ blocks) = tune_by rules counts chain block ∷ tunes_by rules counts chains blocks
+-- The faults of the tune of a chain: those as a whole, and those of its cells.
+abbrev pub tune_faults_by : {State Cell Items Defaults : Type 0} → Rules State Cell Items Defaults → ℕ → List ℕ → Chained State Cell Items → Block → List Fault
+tune_faults_by rules before counts chain place =
+    map (fault_of_tune (place.from + 1)) (output_in rules chain).built.faults ++ cell_faults_by rules before counts chain place
 
--- The faults of a file header's chain.
-abbrev pub header_faults_by : {State Cell Items Defaults : Type 0} → Rules State Cell Items Defaults → List ℕ → Chained State Cell Items → Option Block → List Fault
-header_faults_by rules counts chain None = []
-header_faults_by rules counts chain (Some block) = faults_along rules.faults (placed_from (block.from + 1) (counts_in counts block) chain.items)
+-- The faults of the tunes of chains, each with its place.
+abbrev pub faults_by : {State Cell Items Defaults : Type 0} → Rules State Cell Items Defaults → ℕ → List ℕ → List (Chained State Cell Items) → List Block → List Fault
+faults_by rules before counts [] places = []
+faults_by rules before counts (chain ∷ chains) [] = []
+faults_by rules before counts (chain ∷ chains) (place ∷ places) = tune_faults_by rules before counts chain place ++ faults_by rules before counts chains places
 
--- A chain is the fold over the cells of the lines of a block.
-pub record IsFoldOf {State Cell Items : Type 0} (steps : Steps State Cell Items) (read : List ℕ → List Cell) (opening : State) (text : Text) (chain : Chained State Cell Items) (block : Block) : Type 0 where
+-- A chain is the fold over the cells of the lines of a place.
+pub record IsFoldOf {State Cell Items : Type 0} (steps : Steps State Cell Items) (read : List ℕ → List Cell) (opening : State) (text : Text) (chain : Chained State Cell Items) (place : Block) : Type 0 where
   pub folds : Folds steps opening chain
-  pub cells : chain.cells ≡ flat_map read (lines_in text block)
+  pub cells : chain.cells ≡ flat_map read (lines_in text place)
 
--- Such a chain has the cells of its lines.
+-- How many cells each of so many lines of a text has that have so many before them.
+abbrev pub counts_among : {Cell : Type 0} → (List ℕ → List Cell) → Text → ℕ → ℕ → List ℕ
+counts_among read text before count = take count (drop before (counts_of read text))
+
+-- The faults of tunes.
+abbrev pub faults_of_tunes : List Tune → List Fault
+faults_of_tunes tunes = flat_map (λ tune. tune.faults) tunes
+
+-- A chain that is the fold over the lines of a place has the cells of these lines.
 abbrev pub CellsFollow : Type 0 → Type 0 → Type 0 → Type 0
 CellsFollow State Cell Items =
-    (steps : Steps State Cell Items) (read : List ℕ → List Cell) (opening : State) (text : Text) (chain : Chained State Cell Items) (block : Block)
-    → IsFoldOf steps read opening text chain block → block.from ≤ block.to → block.to ≤ length text
-    → HasCells (counts_of read text) chain block
+    (steps : Steps State Cell Items) (read : List ℕ → List Cell) (opening : State) (text : Text) (before count : ℕ) (chain : Chained State Cell Items) (place : Block)
+    → IsFoldOf steps read opening text chain place → LiesAmong before count place → before + count ≤ length text
+    → HasCells before (counts_among read text before count) chain place
 
--- What it gives is the definition's tune of the block.
-abbrev pub TuneFollows : Type 0 → Type 0 → Type 0 → Type 0 → Type 0
-TuneFollows State Cell Items Defaults =
-    (steps : Steps State Cell Items) (rules : Rules State Cell Items Defaults) (opening : State) (text : Text) (chain : Chained State Cell Items) (block : Block)
-    → IsFoldOf steps rules.cells opening text chain block
-    → tune_by rules (counts_of rules.cells text) chain block ≡ tune_of steps.next steps.gives rules opening text block
+-- What it gives, wherever the lines stand, is what the definition's tune of the place has.
+pub record OutputTells (output : Output) (tune : Tune) : Type 0 where
+  pub number : output.number ≡ tune.number
+  pub title : output.title ≡ tune.title
+  pub bytes : output.built.bytes ≡ tune.bytes
 
--- What the chains of blocks give are their tunes by definition.
-abbrev pub TunesFollow : Type 0 → Type 0 → Type 0 → Type 0 → Type 0
-TunesFollow State Cell Items Defaults =
-    (steps : Steps State Cell Items) (rules : Rules State Cell Items Defaults) (opening : State) (text : Text) (chains : List (Chained State Cell Items)) (blocks : List Block)
-    → AllZip (IsFoldOf steps rules.cells opening text) chains blocks
-    → tunes_by rules (counts_of rules.cells text) chains blocks ≡ map (tune_of steps.next steps.gives rules opening text) blocks
+abbrev pub OutputFollows : Type 0 → Type 0 → Type 0 → Type 0 → Type 0
+OutputFollows State Cell Items Defaults =
+    (steps : Steps State Cell Items) (rules : Rules State Cell Items Defaults) (opening : State) (text : Text) (chain : Chained State Cell Items) (place : Block)
+    → IsFoldOf steps rules.cells opening text chain place
+    → OutputTells (output_in rules chain) (tune_of steps.next steps.gives rules opening text place)
+
+-- The faults of chains are those of their tunes by definition.
+abbrev pub FaultsFollow : Type 0 → Type 0 → Type 0 → Type 0 → Type 0
+FaultsFollow State Cell Items Defaults =
+    (steps : Steps State Cell Items) (rules : Rules State Cell Items Defaults) (opening : State) (text : Text) (before count : ℕ) (chains : List (Chained State Cell Items)) (places : List Block)
+    → AllZip (IsFoldOf steps rules.cells opening text) chains places → All (LiesAmong before count) places
+    → faults_by rules before (counts_among rules.cells text before count) chains places ≡ faults_of_tunes (map (tune_of steps.next steps.gives rules opening text) places)
 
 -- The faults of a file header's chain are those of the file header by definition.
 abbrev pub HeaderFollows : Type 0 → Type 0 → Type 0 → Type 0 → Type 0
 HeaderFollows State Cell Items Defaults =
-    (steps : Steps State Cell Items) (rules : Rules State Cell Items Defaults) (text : Text) (chain : Chained State Cell Items) (block : Block)
-    → IsFoldOf steps rules.cells rules.header text chain block
-    → header_faults_by rules (counts_of rules.cells text) chain (Some block) ≡ header_faults steps.next steps.gives rules text (Some block)
-
--- What the chains of a text give: the faults of its file header, and its tunes.
-abbrev pub given_by_chains : {State Cell Items Defaults : Type 0} → Rules State Cell Items Defaults → List ℕ → Chained State Cell Items → List (Chained State Cell Items) → Option Block → List Block → Given
-given_by_chains rules counts header chains block blocks =
-    given_of (header_faults_by rules counts header block) (tunes_by rules counts chains blocks)
-
--- The chains of a text are those of its blocks, each begun as the definitions say.
-pub record AreFoldsOf {State Cell Items Defaults : Type 0} (steps : Steps State Cell Items) (rules : Rules State Cell Items Defaults) (text : Text) (header : Chained State Cell Items) (chains : List (Chained State Cell Items)) : Type 0 where
-  pub first : IfSome (header_in (blocks_in rules text)) (IsFoldOf steps rules.cells rules.header text header)
-  pub tunes : AllZip (IsFoldOf steps rules.cells (opening_of steps.next rules text (blocks_in rules text)) text) chains (tunes_in (blocks_in rules text))
-
--- They have the cells of their lines.
-abbrev pub AllCellsFollow : Type 0 → Type 0 → Type 0 → Type 0 → Type 0
-AllCellsFollow State Cell Items Defaults =
-    (steps : Steps State Cell Items) (rules : Rules State Cell Items Defaults) (text : Text) (header : Chained State Cell Items) (chains : List (Chained State Cell Items))
-    → AreFoldsOf steps rules text header chains
-    → IfSome (header_in (blocks_in rules text)) (HasCells (counts_of rules.cells text) header)
-    × AllZip (HasCells (counts_of rules.cells text)) chains (tunes_in (blocks_in rules text))
-
--- The book of what they give is the book of the text by definition.
-abbrev pub BookFollows : Type 0 → Type 0 → Type 0 → Type 0 → Type 0
-BookFollows State Cell Items Defaults =
-    (steps : Steps State Cell Items) (rules : Rules State Cell Items Defaults) (text : Text) (header : Chained State Cell Items) (chains : List (Chained State Cell Items))
-    → AreFoldsOf steps rules text header chains
-    → book_from (given_by_chains rules (counts_of rules.cells text) header chains (header_in (blocks_in rules text)) (tunes_in (blocks_in rules text)))
-    ≡ book_of steps.next steps.gives rules text
+    (steps : Steps State Cell Items) (rules : Rules State Cell Items Defaults) (text : Text) (before count : ℕ) (chain : Chained State Cell Items) (place : Block)
+    → IsFoldOf steps rules.cells rules.header text chain place → LiesAmong before count place
+    → cell_faults_by rules before (counts_among rules.cells text before count) chain place ≡ header_faults steps.next steps.gives rules text (Some place)

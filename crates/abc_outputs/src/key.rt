@@ -1,31 +1,22 @@
 //! What the tunes of a text are known by.
 
-ghost use Rattle.std.specs.Prelude.{◌≡◌, ◌≤◌, IfOk, length};
+ghost use Rattle.std.specs.Prelude.{◌≡◌, IfOk, length, option_copied};
 ghost use Rattle.abc_lines.specs.Text.{seen_lines};
 ghost use Rattle.abc_memo.specs.Bytes.{bytes_of_lines};
 ghost use Rattle.abc_outputs.specs.Key.{defaults_by, key_by};
+ghost use Rattle.abc_outputs.specs.Tunes.{LiesAmong, lowered};
 
-use crate::book::FoldedText;
+use crate::stretch::FoldedStretch;
 use abc_book::Block;
 use abc_compiler::Compiler;
-use abc_fold::Chain;
 use abc_memo::{TuneKey, put_line};
 use abc_text::Sequence;
 use std::alloc::{AllocError, Global};
 
-/// What a file header, if there is one, sets for all tunes, by its chain.
-fn defaults_by<C: Compiler>(
-    compiler: &C,
-    alloc: Global,
-    header: Option<Block>,
-    chain: &Chain<C>,
-) -> C::Defaults
-    ensures { result ≡ defaults_by (C.rules compiler.now) header chain.now }
+/// What a file header, if there is one, sets for all tunes, by the state in which it leaves its last cell.
+fn defaults_by<C: Compiler>(compiler: &C, alloc: Global, left: Option<&C::State>) -> C::Defaults
+    ensures { result ≡ defaults_by (C.rules compiler.now) (option_copied left.entry) }
 {
-    let left = match header {
-        None => None,
-        Some(_) => chain.entry(chain.len()),
-    };
     match left {
         Some(state) => compiler.defaults(state),
         None => compiler.defaults(&compiler.header(alloc)),
@@ -47,18 +38,19 @@ fn bytes_of<C: Compiler>(
     Ok(Sequence::from(bytes))
 }
 
-/// What the tune of a block is known by.
+/// What the tune of a place is known by.
 pub(crate) fn key_of<C: Compiler>(
     compiler: &C,
     alloc: Global,
-    text: &FoldedText<C>,
-    block: Block,
+    stretch: &FoldedStretch<C>,
+    place: Block,
 ) -> Result<TuneKey<C::Defaults>, AllocError>
-    requires order { block.from ≤ block.to }
-    requires within { block.to ≤ length text.now.lines.now }
-    ensures { IfOk result (λ key. key ≡ key_by (C.rules compiler.now) (seen_lines text.now.lines.now) text.now.header text.now.first.now block) }
+    requires { LiesAmong stretch.now.before (length stretch.now.lines.now) place }
+    ensures { IfOk result (λ key. key ≡ key_by (C.rules compiler.now) (option_copied stretch.now.left) (seen_lines stretch.now.lines.now) (lowered stretch.now.before place)) }
 {
-    let bytes = bytes_of(compiler, alloc, &text.lines[block.from..block.to])?;
-    let defaults = defaults_by(compiler, alloc, text.header, text.first);
+    let from = place.from - stretch.before;
+    let to = place.to - stretch.before;
+    let bytes = bytes_of(compiler, alloc, &stretch.lines[from..to])?;
+    let defaults = defaults_by(compiler, alloc, stretch.left);
     Ok(TuneKey { defaults, bytes })
 }

@@ -1,24 +1,19 @@
 //! What chains give is what the definitions of their compiler give. Each function has no body: its contract is the law.
 
 ghost use Rattle.abc_outputs.specs.Taken.{ItemsSuffice, TouchedSuffice};
-ghost use Rattle.abc_outputs.specs.Tunes.{AllCellsFollow, BookFollows, CellsFollow, HeaderFollows, TuneFollows, TunesFollow};
+ghost use Rattle.abc_outputs.specs.Tunes.{CellsFollow, FaultsFollow, HeaderFollows, OutputFollows};
 
-/// A chain that is the fold over the lines of a block has the cells of these lines.
+/// A chain that is the fold over the lines of a place has the cells of these lines.
 pub fn cells_follow<State, Cell, Items>()
     ensures { CellsFollow State Cell Items }
 {}
 
-/// The chains of the blocks of a text give its tunes, and that of the file header its faults.
+/// The chains of places give the number, the title and the bytes of their tunes, the faults of these, and those of the
+/// file header.
 pub fn tunes_follow<State, Cell, Items, Defaults>()
-    ensures tune { TuneFollows State Cell Items Defaults }
-    ensures tunes { TunesFollow State Cell Items Defaults }
+    ensures output { OutputFollows State Cell Items Defaults }
+    ensures faults { FaultsFollow State Cell Items Defaults }
     ensures header { HeaderFollows State Cell Items Defaults }
-{}
-
-/// The chains of a text have the cells of its lines, and the book of what they give is its book.
-pub fn book_follows<State, Cell, Items, Defaults>()
-    ensures cells { AllCellsFollow State Cell Items Defaults }
-    ensures book { BookFollows State Cell Items Defaults }
 {}
 
 /// Chains with equal items give the same, and where each untouched tune takes over what an old one gives, only

@@ -1,15 +1,12 @@
 //! What a tune gives, wherever its lines stand.
 
-ghost use Rattle.std.specs.Prelude.{◌≡◌, ◌+◌, ◌≤◌, [], IfOk, length, option_copied};
-ghost use Rattle.std.specs.List.{sum_by};
-ghost use Rattle.abc_outputs.specs.Output.{has_faults, output_of, placed_from, tune_at};
+ghost use Rattle.std.specs.Prelude.{◌≡◌, [], IfOk, option_copied};
+ghost use Rattle.abc_outputs.specs.Output.{has_faults, output_of};
 ghost use Rattle.abc_tunebook.specs.Tune.{first_of};
 
-use crate::faults::{put_of_lines, put_of_tune};
 use abc_compiler::{Built, Compiler};
 use abc_fold::{Chain, Shared};
 use abc_text::Sequence;
-use abc_tunebook::Tune;
 use std::alloc::{AllocError, Global};
 
 /// What a tune gives to the book wherever its lines stand: all but the faults of its cells.
@@ -44,47 +41,6 @@ impl Output {
             built,
             faulty: has_faults(compiler, items),
         })
-    }
-
-    /// The tune of a chain whose first line has this number, by how many of its cells each line has.
-    pub fn tune_at<C: Compiler>(
-        &self,
-        compiler: &C,
-        alloc: Global,
-        chain: &Chain<C>,
-        line: u32,
-        counts: &[usize],
-    ) -> Result<Tune, AllocError>
-        requires few { line + length counts.now ≤ u32.MAX }
-        requires shape { length chain.now.items ≡ length chain.now.cells }
-        requires inside { sum_by (λ count. count) counts.now ≤ length chain.now.cells }
-        ensures { IfOk result (λ tune. tune ≡ tune_at (C.rules compiler.now) line self.now (placed_from line counts.now chain.now.items)) }
-    {
-        let built = self.built.get();
-        let mut faults = Vec::new(alloc);
-        put_of_tune(&mut faults, line, built.faults.as_slice())?;
-        put_of_lines(compiler, &mut faults, chain, line, counts)?;
-        let title = Sequence::from_slice(alloc, self.title.as_slice())?;
-        let bytes = copied_bytes(alloc, &built.bytes)?;
-        Ok(Tune {
-            number: self.number,
-            title,
-            bytes,
-            faults: Sequence::from(faults),
-        })
-    }
-}
-
-/// A copy of a file's bytes, where there are any.
-fn copied_bytes(
-    alloc: Global,
-    bytes: &Option<Sequence<u8>>,
-) -> Result<Option<Sequence<u8>>, AllocError>
-    ensures { IfOk result (λ copy. copy ≡ bytes.now) }
-{
-    match bytes {
-        Some(bytes) => Ok(Some(Sequence::from_slice(alloc, bytes.as_slice())?)),
-        None => Ok(None),
     }
 }
 

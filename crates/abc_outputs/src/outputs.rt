@@ -1,38 +1,29 @@
-//! What the tunes of a text give, wherever their lines stand.
+//! What the tunes of a stretch give, wherever their lines stand.
 
-ghost use Rattle.std.specs.Prelude.{◌≡◌, ◌<◌, IfOk, Some, length, map, slice_get, true};
+ghost use Rattle.std.specs.Prelude.{◌≡◌, ◌<◌, IfOk, Some, length, map, option_copied, slice_get, true};
 ghost use Rattle.std.specs.List.{AllZip, list_all};
 ghost use Rattle.abc_fold.specs.Steps.{steps_of};
 ghost use Rattle.abc_lines.specs.Text.{is_line, seen_lines};
 ghost use Rattle.abc_memo.specs.Memo.{Remembers};
 ghost use Rattle.abc_outputs.specs.Built.{IsBuiltUpTo, made_of};
 ghost use Rattle.abc_outputs.specs.Output.{TakesOver, output_in};
-ghost use Rattle.abc_outputs.specs.Tunes.{AreFoldsOf};
-ghost use Rattle.abc_tunebook.specs.Book.{blocks_in, header_in, tunes_in};
+ghost use Rattle.abc_outputs.specs.Tunes.{IsTuneAt};
 
-use crate::book::FoldedText;
 use crate::key::key_of;
 use crate::output::{Output, copied_items};
+use crate::stretch::{FoldedStretch, TakenOver};
 use abc_compiler::Compiler;
 use abc_fold::{Chain, Counts, Shared};
+use abc_lines::GapList;
 use abc_memo::TuneMemo;
 use std::alloc::{AllocError, Global};
 
-/// What the tunes of a text take over: what the tunes of the text before it give, and of which of them each takes it.
-#[derive(Drop)]
-pub struct TakenOver<'a> {
-    /// The old tune whose output each tune takes over, if it takes over one.
-    pub taken: &'a [Option<usize>],
-    /// What the old tunes give.
-    pub outputs: &'a [Shared<Output>],
-}
-
 /// What the old tune with `place` others before it gives.
-fn shared_at(outputs: &[Shared<Output>], place: usize) -> Result<Shared<Output>, AllocError>
-    requires { place < length outputs.now }
-    ensures { IfOk result (λ output. slice_get outputs.now place ≡ Some output) }
+fn shared_at(outputs: &GapList<Shared<Output>>, place: usize) -> Result<Shared<Output>, AllocError>
+    requires { place < length outputs.now.items }
+    ensures { IfOk result (λ output. slice_get outputs.now.items place ≡ Some output) }
 {
-    outputs[place].share()
+    outputs.get(place).unwrap().share()
 }
 
 /// The chain of the tune with `place` others before it.
@@ -47,53 +38,51 @@ fn chain_at<C: Compiler>(chains: &[Shared<Chain<C>>], place: usize) -> &Chain<C>
 fn output_at<C: Compiler>(
     compiler: &C,
     alloc: Global,
-    text: &FoldedText<C>,
+    stretch: &FoldedStretch<C>,
     place: usize,
     memo: &mut TuneMemo<C>,
     work: &mut C::Work,
 ) -> Result<Shared<Output>, AllocError>
-    requires limits { list_all is_line (seen_lines text.now.lines.now) ≡ true }
-    requires header { text.now.header ≡ header_in (blocks_in (C.rules compiler.now) (seen_lines text.now.lines.now)) }
-    requires blocks { text.now.blocks.now ≡ tunes_in (blocks_in (C.rules compiler.now) (seen_lines text.now.lines.now)) }
-    requires folds { AreFoldsOf (steps_of (C.next compiler.now) (C.gives compiler.now) (C.alike compiler.now)) (C.rules compiler.now) (seen_lines text.now.lines.now) text.now.first.now text.now.chains.now }
-    requires place { place < length text.now.chains.now }
+    requires limits { list_all is_line (seen_lines stretch.now.lines.now) ≡ true }
+    requires tunes { let c = compiler.now in
+        AllZip (IsTuneAt (steps_of (C.next c) (C.gives c) (C.alike c)) (C.rules c) (option_copied stretch.now.left) stretch.now.before (seen_lines stretch.now.lines.now)) stretch.now.chains.now stretch.now.places.now }
+    requires place { place < length stretch.now.chains.now }
     requires remembers { Remembers (steps_of (C.next compiler.now) (C.gives compiler.now) (C.alike compiler.now)) (C.rules compiler.now) memo.old }
-    ensures value { IfOk result (λ output. slice_get (map (output_in (C.rules compiler.now)) text.now.chains.now) place ≡ Some output) }
+    ensures value { IfOk result (λ output. slice_get (map (output_in (C.rules compiler.now)) stretch.now.chains.now) place ≡ Some output) }
     ensures remembers { Remembers (steps_of (C.next compiler.now) (C.gives compiler.now) (C.alike compiler.now)) (C.rules compiler.now) memo.new }
     ensures counted { IsBuiltUpTo 1 (C.Work.counts work.old) (C.Work.counts work.new) }
 {
-    let key = key_of(compiler, alloc, text, text.blocks[place])?;
-    let chain = chain_at(text.chains, place);
+    let key = key_of(compiler, alloc, stretch, stretch.places[place])?;
+    let chain = chain_at(stretch.chains, place);
     let items = copied_items(compiler, alloc, chain)?;
     let built = memo.built(alloc, compiler, key, &items, work)?;
     Shared::new(alloc, Output::of(compiler, alloc, &items, built)?)
 }
 
-/// What the tunes of a text give, in order: what an old one gives, where a tune takes that over, else what the memo
+/// What the tunes of a stretch give, in order: what an old one gives, where a tune takes that over, else what the memo
 /// answers. The compiler builds at most the others, on every path, and what is remembered stays what it builds.
 pub fn outputs_of<C: Compiler>(
     compiler: &C,
     alloc: Global,
-    text: &FoldedText<C>,
+    stretch: &FoldedStretch<C>,
     old: &TakenOver,
     memo: &mut TuneMemo<C>,
     work: &mut C::Work,
 ) -> Result<Vec<Shared<Output>>, AllocError>
-    requires limits { list_all is_line (seen_lines text.now.lines.now) ≡ true }
-    requires header { text.now.header ≡ header_in (blocks_in (C.rules compiler.now) (seen_lines text.now.lines.now)) }
-    requires blocks { text.now.blocks.now ≡ tunes_in (blocks_in (C.rules compiler.now) (seen_lines text.now.lines.now)) }
-    requires folds { AreFoldsOf (steps_of (C.next compiler.now) (C.gives compiler.now) (C.alike compiler.now)) (C.rules compiler.now) (seen_lines text.now.lines.now) text.now.first.now text.now.chains.now }
-    requires taken { AllZip (TakesOver (C.rules compiler.now) old.now.outputs.now) text.now.chains.now old.now.taken.now }
+    requires limits { list_all is_line (seen_lines stretch.now.lines.now) ≡ true }
+    requires tunes { let c = compiler.now in
+        AllZip (IsTuneAt (steps_of (C.next c) (C.gives c) (C.alike c)) (C.rules c) (option_copied stretch.now.left) stretch.now.before (seen_lines stretch.now.lines.now)) stretch.now.chains.now stretch.now.places.now }
+    requires taken { AllZip (TakesOver (C.rules compiler.now) old.now.outputs.now.items) stretch.now.chains.now old.now.taken.now }
     requires remembers { Remembers (steps_of (C.next compiler.now) (C.gives compiler.now) (C.alike compiler.now)) (C.rules compiler.now) memo.old }
-    ensures values { IfOk result (λ made. made.items ≡ map (output_in (C.rules compiler.now)) text.now.chains.now) }
+    ensures values { IfOk result (λ made. made.items ≡ map (output_in (C.rules compiler.now)) stretch.now.chains.now) }
     ensures remembers { Remembers (steps_of (C.next compiler.now) (C.gives compiler.now) (C.alike compiler.now)) (C.rules compiler.now) memo.new }
     ensures counted { IsBuiltUpTo (made_of old.now.taken.now) (C.Work.counts work.old) (C.Work.counts work.new) }
 {
-    let mut made = Vec::with_capacity(alloc, text.chains.len())?;
+    let mut made = Vec::with_capacity(alloc, stretch.chains.len())?;
     for (place, taken) in old.taken.iter().enumerate() {
         let output = match taken {
             Some(other) => shared_at(old.outputs, *other)?,
-            None => output_at(compiler, alloc, text, place, memo, work)?,
+            None => output_at(compiler, alloc, stretch, place, memo, work)?,
         };
         made.push(output)?;
     }

@@ -1,98 +1,84 @@
-//! The tunes of a text and the faults of its file header, by their chains.
+//! The faults of the tunes of a stretch, and of a file header, where they stand in the text.
 
-ghost use Rattle.std.specs.Prelude.{◌≡◌, ◌≤◌, IfOk, IfSome, false, length, map};
+ghost use Rattle.std.specs.Prelude.{◌≡◌, ◌+◌, ◌≤◌, ◌++◌, OnOk, length, map};
 ghost use Rattle.std.specs.List.{AllZip};
 ghost use Rattle.abc_lines.specs.declared.limits.TheConstants.{MOST_LINES};
-ghost use Rattle.abc_outputs.specs.Output.{output_in, placed_from, tune_at};
-ghost use Rattle.abc_outputs.specs.Tunes.{HasCells, header_faults_by, tune_by, tunes_by};
+ghost use Rattle.abc_outputs.specs.Output.{output_in};
+ghost use Rattle.abc_outputs.specs.Tunes.{HasCells, cell_faults_by, faults_by, tune_faults_by};
 
-use crate::faults::put_of_lines;
+use crate::faults::{put_of_lines, put_of_tune};
 use crate::output::Output;
+use crate::stretch::FoldedStretch;
 use abc_book::Block;
 use abc_compiler::Compiler;
 use abc_fold::{Chain, Shared};
-use abc_tunebook::{Fault, Tune};
-use std::alloc::{AllocError, Global};
+use abc_tunebook::Fault;
+use std::alloc::AllocError;
 
-/// The tune of a chain of which no cell has faults, whose first line has this number: what `Output::tune_at` gives.
-fn faultless_at<C: Compiler>(
+/// Puts the faults of the cells of a chain behind others: of a tune, or of the file header, whose place lies among the
+/// lines of a stretch.
+pub fn put_cell_faults<C: Compiler>(
     compiler: &C,
-    alloc: Global,
+    faults: &mut Vec<Fault>,
+    stretch: &FoldedStretch<C>,
     chain: &Chain<C>,
-    output: &Output,
-    line: u32,
-    counts: &[usize],
-) -> Result<Tune, AllocError>
-    requires shape { length chain.now.items ≡ length chain.now.cells }
-    requires output { output.now ≡ output_in (C.rules compiler.now) chain.now }
-    requires faultless { output.now.faulty ≡ false }
-    ensures { IfOk result (λ tune. tune ≡ tune_at (C.rules compiler.now) line output.now (placed_from line counts.now chain.now.items)) }
+    place: Block,
+) -> Result<(), AllocError>
+    requires few { stretch.now.before + length stretch.now.counts.now ≤ MOST_LINES }
+    requires cells { HasCells stretch.now.before stretch.now.counts.now chain.now place }
+    ensures { OnOk result (faults.new.items ≡ faults.old.items ++ cell_faults_by (C.rules compiler.now) stretch.now.before stretch.now.counts.now chain.now place) }
 {
-    output.tune_at(compiler, alloc, chain, line, &counts[0..0])
+    let from = place.from - stretch.before;
+    let to = place.to - stretch.before;
+    let line = place.from as u32 + 1;
+    put_of_lines(compiler, faults, chain, line, &stretch.counts[from..to])
 }
 
-/// The tune of a block, of what its chain gives, by how many cells each line of the text has.
-fn tune_by<C: Compiler>(
+/// Puts the faults of the tune of a chain, which gives this, behind others.
+fn put_of_place<C: Compiler>(
     compiler: &C,
-    alloc: Global,
+    faults: &mut Vec<Fault>,
+    stretch: &FoldedStretch<C>,
     chain: &Chain<C>,
-    block: Block,
+    place: Block,
     output: &Output,
-    counts: &[usize],
-) -> Result<Tune, AllocError>
-    requires few { length counts.now ≤ MOST_LINES }
-    requires cells { HasCells counts.now chain.now block }
+) -> Result<(), AllocError>
+    requires few { stretch.now.before + length stretch.now.counts.now ≤ MOST_LINES }
+    requires cells { HasCells stretch.now.before stretch.now.counts.now chain.now place }
     requires output { output.now ≡ output_in (C.rules compiler.now) chain.now }
-    ensures { IfOk result (λ tune. tune ≡ tune_by (C.rules compiler.now) counts.now chain.now block) }
+    ensures { OnOk result (faults.new.items ≡ faults.old.items ++ tune_faults_by (C.rules compiler.now) stretch.now.before stretch.now.counts.now chain.now place) }
 {
-    let own = &counts[block.from..block.to];
-    let line = block.from as u32 + 1;
+    let line = place.from as u32 + 1;
+    put_of_tune(faults, line, output.built.get().faults.as_slice())?;
     if output.faulty {
-        output.tune_at(compiler, alloc, chain, line, own)
-    } else {
-        faultless_at(compiler, alloc, chain, output, line, own)
+        put_cell_faults(compiler, faults, stretch, chain, place)?;
     }
+    Ok(())
 }
 
-/// The tunes of blocks, of what the chain of each gives, by how many cells each line of the text has.
-pub(crate) fn tunes_by<C: Compiler>(
+/// Puts the faults of the tunes of a stretch, which give these, behind others.
+pub fn put_tune_faults<C: Compiler>(
     compiler: &C,
-    alloc: Global,
-    chains: &[Shared<Chain<C>>],
-    blocks: &[Block],
+    faults: &mut Vec<Fault>,
+    stretch: &FoldedStretch<C>,
     outputs: &[Shared<Output>],
-    counts: &[usize],
-) -> Result<Vec<Tune>, AllocError>
-    requires few { length counts.now ≤ MOST_LINES }
-    requires cells { AllZip (HasCells counts.now) chains.now blocks.now }
-    requires outputs { outputs.now ≡ map (output_in (C.rules compiler.now)) chains.now }
-    ensures { IfOk result (λ tunes. tunes.items ≡ tunes_by (C.rules compiler.now) counts.now chains.now blocks.now) }
+) -> Result<(), AllocError>
+    requires few { stretch.now.before + length stretch.now.counts.now ≤ MOST_LINES }
+    requires cells { AllZip (HasCells stretch.now.before stretch.now.counts.now) stretch.now.chains.now stretch.now.places.now }
+    requires outputs { outputs.now ≡ map (output_in (C.rules compiler.now)) stretch.now.chains.now }
+    ensures { OnOk result (faults.new.items ≡ faults.old.items ++ faults_by (C.rules compiler.now) stretch.now.before stretch.now.counts.now stretch.now.chains.now stretch.now.places.now) }
 {
-    let mut tunes = Vec::with_capacity(alloc, chains.len())?;
-    for (place, chain) in chains.iter().enumerate() {
+    for (place, chain) in stretch.chains.iter().enumerate() {
         let output = outputs[place].get();
         let chain = chain.get();
-        tunes.push(tune_by(compiler, alloc, chain, blocks[place], output, counts)?)?;
+        put_of_place(
+            compiler,
+            faults,
+            stretch,
+            chain,
+            stretch.places[place],
+            output,
+        )?;
     }
-    Ok(tunes)
-}
-
-/// The faults of a file header, if there is one, of what its chain gives, by how many cells each line of the text has.
-pub(crate) fn header_faults_by<C: Compiler>(
-    compiler: &C,
-    alloc: Global,
-    chain: &Chain<C>,
-    header: Option<Block>,
-    counts: &[usize],
-) -> Result<Vec<Fault>, AllocError>
-    requires few { length counts.now ≤ MOST_LINES }
-    requires cells { IfSome header (HasCells counts.now chain.now) }
-    ensures { IfOk result (λ faults. faults.items ≡ header_faults_by (C.rules compiler.now) counts.now chain.now header) }
-{
-    let mut faults = Vec::new(alloc);
-    if let Some(block) = header {
-        let own = &counts[block.from..block.to];
-        put_of_lines(compiler, &mut faults, chain, block.from as u32 + 1, own)?;
-    }
-    Ok(faults)
+    Ok(())
 }

@@ -12,11 +12,11 @@ returns-in_err-pieces-clause-counted g c = raised-none _ _
 pub returns-in_err-patch-clause-counted : goal.returns-in_err-patch-clause-counted
 returns-in_err-patch-clause-counted g c =
     let steps = steps_of (g.F.Fold.next c.args.fold.now) (g.F.Fold.gives c.args.fold.now) (g.F.Resumable.alike c.args.fold.now) in
-    let same = block_pieces steps (g.met.F.Resumable.resumable c.args.fold.now) c.args.opening.now c.args.old.now c.args.rows.now c.args.block.now c.in_ok-pieces.pieces.items c.in_ok-pieces.ensures.kept c.in_ok-pieces.ensures.cells c.in_ok-pieces.ensures.helds in
+    let same = block_pieces steps (g.met.F.Resumable.resumable c.args.fold.now) c.args.opening.now c.args.old.now.items c.args.rows.now c.args.block.now c.in_ok-pieces.pieces.items c.in_ok-pieces.ensures.kept c.in_ok-pieces.ensures.cells c.in_ok-pieces.ensures.helds in
     subst (λ n. IsRaisedUpTo n (g.F.Work.Counts.counts c.args.work.now) (g.F.Work.Counts.counts c.prepare.new.work)) (ap (steps_needed steps c.args.opening.now) c.deref.ensures.value ∙ same) c.prepare.ensures.counted
 
 pub returns-clause-counted : goal.returns-clause-counted
 returns-clause-counted g c =
     let steps = steps_of (g.F.Fold.next c.args.fold.now) (g.F.Fold.gives c.args.fold.now) (g.F.Resumable.alike c.args.fold.now) in
-    let same = block_pieces steps (g.met.F.Resumable.resumable c.args.fold.now) c.args.opening.now c.args.old.now c.args.rows.now c.args.block.now c.in_ok-pieces.pieces.items c.in_ok-pieces.ensures.kept c.in_ok-pieces.ensures.cells c.in_ok-pieces.ensures.helds in
+    let same = block_pieces steps (g.met.F.Resumable.resumable c.args.fold.now) c.args.opening.now c.args.old.now.items c.args.rows.now c.args.block.now c.in_ok-pieces.pieces.items c.in_ok-pieces.ensures.kept c.in_ok-pieces.ensures.cells c.in_ok-pieces.ensures.helds in
     subst (λ n. IsRaisedUpTo n (g.F.Work.Counts.counts c.args.work.now) (g.F.Work.Counts.counts c.prepare.new.work)) (ap (steps_needed steps c.args.opening.now) c.deref.ensures.value ∙ same) c.prepare.ensures.counted

@@ -9,6 +9,6 @@ abbrev pub invariant-loop-block : goal.invariant-loop-block
 invariant-loop-block g l = record {
   chains : AllZip (IsChain (steps_of (g.F.Fold.next l.fold) (g.F.Fold.gives l.fold) (g.F.Resumable.alike l.fold)) l.opening l.rows) l.chains.items (take l.block-index l.blocks);
   within : IsWithin (g.F.Work.Counts.counts l.initial.work) (g.F.Work.Counts.counts l.work)
-      (sum_by (steps_taken (steps_of (g.F.Fold.next l.fold) (g.F.Fold.gives l.fold) (g.F.Resumable.alike l.fold)) l.opening l.old l.rows) (drop l.block-index l.blocks))
-      (sum_by (steps_taken (steps_of (g.F.Fold.next l.fold) (g.F.Fold.gives l.fold) (g.F.Resumable.alike l.fold)) l.opening l.old l.rows) l.blocks);
+      (sum_by (steps_taken (steps_of (g.F.Fold.next l.fold) (g.F.Fold.gives l.fold) (g.F.Resumable.alike l.fold)) l.opening l.old.items l.rows) (drop l.block-index l.blocks))
+      (sum_by (steps_taken (steps_of (g.F.Fold.next l.fold) (g.F.Fold.gives l.fold) (g.F.Resumable.alike l.fold)) l.opening l.old.items l.rows) l.blocks);
 }

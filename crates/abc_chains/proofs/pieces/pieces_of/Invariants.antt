@@ -8,6 +8,6 @@ use Rattle.abc_chains.proofs.pieces.pieces_of.Given as goal
 abbrev pub invariant-loop-i : goal.invariant-loop-i
 invariant-loop-i g l = record {
   cells : cells_of l.pieces.items ≡ flat_map cells_in (take (l.i - l.block.from) (drop l.block.from l.rows));
-  helds : helds_in l.pieces.items ≡ flat_map (helds_of l.chains) (take (l.i - l.block.from) (drop l.block.from l.rows));
+  helds : helds_in l.pieces.items ≡ flat_map (helds_of l.chains.items) (take (l.i - l.block.from) (drop l.block.from l.rows));
   kept : All (IsKept (steps_of (g.F.Fold.next l.fold) (g.F.Fold.gives l.fold) (g.F.Resumable.alike l.fold))) l.pieces.items;
 }

@@ -1,9 +1,10 @@
-use Rattle.std.proofs.Common.{◌≡◌, ◌++◌, drop, length}
-use Rattle.abc_chains.specs.Placing.{BlocksRise, placed_from}
+use Rattle.std.proofs.Common.{◌≡◌, ◌+◌, ◌++◌, drop, map}
+use Rattle.abc_chains.specs.Placing.{BlocksRise, placed_until}
+use Rattle.abc_chains.specs.Rows.{bare}
 use Rattle.abc_chains.proofs.settle.settled.Given as goal
 
-abbrev pub invariant-loop-source : goal.invariant-loop-source
-invariant-loop-source g l = record {
-  made : l.made.items ++ placed_from l.rows l.at l.source (drop l.source l.blocks) ≡ placed_from l.rows 0 0 l.blocks;
-  rise : BlocksRise l.at (drop l.source l.blocks) (length l.rows);
+abbrev pub invariant-loop-i : goal.invariant-loop-i
+invariant-loop-i g l = record {
+  made : l.made.items ++ placed_until (map bare l.rows.items) l.at l.to (l.number + l.i) (drop l.i l.blocks) ≡ placed_until (map bare l.rows.items) l.from l.to l.number l.blocks;
+  rise : BlocksRise l.at (drop l.i l.blocks) l.to;
 }

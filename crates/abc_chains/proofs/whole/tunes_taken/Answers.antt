@@ -21,9 +21,9 @@ loop-place-preserved g c =
       items = λ opening all.
           let own = zip_at (IsChain steps opening c.args.rows.now) c.args.chains.now c.args.tunes.now place chain tune all c.index-chains-place.is is inside in
           rw c.in_ok-push.ensures.items
-          (zip_more (HasItemsOf (drop 1 c.args.old.now)) c.args.chains.now c.loop-place.taken.items place chain c.tune_taken-one.result (c.loop-place.invariant.items opening all) (subst (λ (x : Chained g.row.F-State.Denot g.row.F-Cell.Denot g.row.F-Items.Denot). HasItemsOf (drop 1 c.args.old.now) x c.tune_taken-one.result) c.get.ensures (c.tune_taken-one.ensures.items opening (subst (λ (x : Chained g.row.F-State.Denot g.row.F-Cell.Denot g.row.F-Items.Denot). Folds steps opening x) (sym c.get.ensures) own.folds) (ap (λ (x : Chained g.row.F-State.Denot g.row.F-Cell.Denot g.row.F-Items.Denot). x.cells) c.get.ensures ∙ own.cells))) c.index-chains-place.is inside);
+          (zip_more (HasItemsOf (drop 1 c.args.old.now.items)) c.args.chains.now c.loop-place.taken.items place chain c.tune_taken-one.result (c.loop-place.invariant.items opening all) (subst (λ (x : Chained g.row.F-State.Denot g.row.F-Cell.Denot g.row.F-Items.Denot). HasItemsOf (drop 1 c.args.old.now.items) x c.tune_taken-one.result) c.get.ensures (c.tune_taken-one.ensures.items opening (subst (λ (x : Chained g.row.F-State.Denot g.row.F-Cell.Denot g.row.F-Items.Denot). Folds steps opening x) (sym c.get.ensures) own.folds) (ap (λ (x : Chained g.row.F-State.Denot g.row.F-Cell.Denot g.row.F-Items.Denot). x.cells) c.get.ensures ∙ own.cells))) c.index-chains-place.is inside);
       along = λ opening all.
           let own = zip_at (IsChain steps opening c.args.rows.now) c.args.chains.now c.args.tunes.now place chain tune all c.index-chains-place.is is inside in
           rw c.in_ok-push.ensures.items
-          (zip_more (λ tune one. GoesAlong steps c.args.old.now opening (rows_in c.args.rows.now tune) → IsSome one) c.args.tunes.now c.loop-place.taken.items place tune c.tune_taken-one.result (c.loop-place.invariant.along opening all) (c.tune_taken-one.ensures.along opening (subst (λ (x : Chained g.row.F-State.Denot g.row.F-Cell.Denot g.row.F-Items.Denot). Folds steps opening x) (sym c.get.ensures) own.folds)) is there);
+          (zip_more (λ tune one. GoesAlong steps c.args.old.now.items opening (rows_in c.args.rows.now tune) → IsSome one) c.args.tunes.now c.loop-place.taken.items place tune c.tune_taken-one.result (c.loop-place.invariant.along opening all) (c.tune_taken-one.ensures.along opening (subst (λ (x : Chained g.row.F-State.Denot g.row.F-Cell.Denot g.row.F-Items.Denot). Folds steps opening x) (sym c.get.ensures) own.folds)) is there);
     }

@@ -8,7 +8,7 @@ use Rattle.abc_chains.proofs.whole.tunes_taken.Given as goal
 abbrev pub invariant-loop-place : goal.invariant-loop-place
 invariant-loop-place g l = record {
   items : (opening : g.row.F-State.Denot) → AllZip (IsChain (steps_of (g.F.Fold.next l.fold) (g.F.Fold.gives l.fold) (g.F.Resumable.alike l.fold)) opening l.rows) l.chains l.tunes
-      → AllZip (HasItemsOf (drop 1 l.old)) (take l.place l.chains) l.taken.items;
+      → AllZip (HasItemsOf (drop 1 l.old.items)) (take l.place l.chains) l.taken.items;
   along : (opening : g.row.F-State.Denot) → AllZip (IsChain (steps_of (g.F.Fold.next l.fold) (g.F.Fold.gives l.fold) (g.F.Resumable.alike l.fold)) opening l.rows) l.chains l.tunes
-      → AllZip (λ tune one. GoesAlong (steps_of (g.F.Fold.next l.fold) (g.F.Fold.gives l.fold) (g.F.Resumable.alike l.fold)) l.old opening (rows_in l.rows tune) → IsSome one) (take l.place l.tunes) l.taken.items;
+      → AllZip (λ tune one. GoesAlong (steps_of (g.F.Fold.next l.fold) (g.F.Fold.gives l.fold) (g.F.Resumable.alike l.fold)) l.old.items opening (rows_in l.rows tune) → IsSome one) (take l.place l.tunes) l.taken.items;
 }

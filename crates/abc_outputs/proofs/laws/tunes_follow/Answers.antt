@@ -1,9 +1,9 @@
-use Rattle.abc_outputs.proofs.Following.{header_follows, tune_follows, tunes_follow}
+use Rattle.abc_outputs.proofs.Following.{faults_follow, header_follows, output_follows}
 use Rattle.abc_outputs.proofs.laws.tunes_follow.Goals as goal
 
 pub returns : goal.returns
 returns g c = record {
-  tune = λ steps rules opening text chain block is. tune_follows steps rules opening text chain block is;
-  tunes = λ steps rules opening text chains blocks all. tunes_follow steps rules opening text chains blocks all;
-  header = λ steps rules text chain block is. header_follows steps rules text chain block is;
+  output = λ steps rules opening text chain place is. output_follows steps rules opening text chain place is;
+  faults = λ steps rules opening text before count chains places all lie. faults_follow steps rules opening text before count chains places all lie;
+  header = λ steps rules text before count chain place is lies. header_follows steps rules text before count chain place is lies;
 }

@@ -13,15 +13,15 @@ returns-in_err-made-clause-counted g c = built_none _ _
 
 pub shared_at-requires : goal.shared_at-requires
 shared_at-requires g c =
-    let there = taken_there (g.C.Compiler.rules c.args.compiler.now) c.args.old.now.outputs.now c.args.text.now.chains.now c.args.old.now.taken.now c.loop-place.place None c.in-Some.other c.requires.taken c.loop-place-test.true c.in-Some.is in
-    slice_get_within c.args.old.now.outputs.now c.in-Some.other _ there.2
+    let there = taken_there (g.C.Compiler.rules c.args.compiler.now) c.args.old.now.outputs.now.items c.args.stretch.now.chains.now c.args.old.now.taken.now c.loop-place.place None c.in-Some.other c.requires.taken c.loop-place-test.true c.in-Some.is in
+    slice_get_within c.args.old.now.outputs.now.items c.in-Some.other _ there.2
 
 pub returns-in_err-output-in-Some-clause-counted : goal.returns-in_err-output-in-Some-clause-counted
 returns-in_err-output-in-Some-clause-counted g c = c.loop-place.invariant.built _ (built_none _ _)
 
 pub output_at-requires-clause-place : goal.output_at-requires-clause-place
 output_at-requires-clause-place g c =
-    let count = zipped_count (TakesOver (g.C.Compiler.rules c.args.compiler.now) c.args.old.now.outputs.now) c.args.text.now.chains.now c.args.old.now.taken.now c.requires.taken in
+    let count = zipped_count (TakesOver (g.C.Compiler.rules c.args.compiler.now) c.args.old.now.outputs.now.items) c.args.stretch.now.chains.now c.args.old.now.taken.now c.requires.taken in
     omega (arith, count, c.loop-place-test.true)
 
 pub returns-in_err-output-in-None-clause-counted : goal.returns-in_err-output-in-None-clause-counted
@@ -47,12 +47,12 @@ returns-in_err-push-clause-counted g c =
 pub loop-place-preserved : goal.loop-place-preserved
 loop-place-preserved g c =
     let f = output_in (g.C.Compiler.rules c.args.compiler.now) in
-    let chains = c.args.text.now.chains.now in
+    let chains = c.args.stretch.now.chains.now in
     record {
       values = made_more f chains c.loop-place.place c.match-taken.output c.loop-place.made.items c.push.new.self.items
           (elim c.match-taken.branch [
             | in-Some+in_ok-output-in-Some w ↦
-                let there = taken_there (g.C.Compiler.rules c.args.compiler.now) c.args.old.now.outputs.now chains c.args.old.now.taken.now c.loop-place.place None w.in-Some.other c.requires.taken c.loop-place-test.true w.in-Some.is in
+                let there = taken_there (g.C.Compiler.rules c.args.compiler.now) c.args.old.now.outputs.now.items chains c.args.old.now.taken.now c.loop-place.place None w.in-Some.other c.requires.taken c.loop-place-test.true w.in-Some.is in
                 mapped_at f chains c.loop-place.place there.0 there.1 ∙ sym there.2 ∙ w.in_ok-output-in-Some.ensures ∙ ap Some (sym w.output-is)
             | in-None+in_ok-output-in-None w ↦ w.in_ok-output-in-None.ensures.value ∙ ap Some (sym w.output-is)
           ])
@@ -71,8 +71,8 @@ loop-place-preserved g c =
 
 pub returns-clause-values : goal.returns-clause-values
 returns-clause-values g c =
-    let count = zipped_count (TakesOver (g.C.Compiler.rules c.args.compiler.now) c.args.old.now.outputs.now) c.args.text.now.chains.now c.args.old.now.taken.now c.requires.taken in
-    made_all (output_in (g.C.Compiler.rules c.args.compiler.now)) c.args.text.now.chains.now c.loop-place.place c.loop-place.made.items (omega (arith, count, c.loop-place-test.false)) c.loop-place.invariant.values
+    let count = zipped_count (TakesOver (g.C.Compiler.rules c.args.compiler.now) c.args.old.now.outputs.now.items) c.args.stretch.now.chains.now c.args.old.now.taken.now c.requires.taken in
+    made_all (output_in (g.C.Compiler.rules c.args.compiler.now)) c.args.stretch.now.chains.now c.loop-place.place c.loop-place.made.items (omega (arith, count, c.loop-place-test.false)) c.loop-place.invariant.values
 
 pub returns-clause-counted : goal.returns-clause-counted
 returns-clause-counted g c = c.loop-place.invariant.built _ (built_none _ _)

@@ -8,7 +8,7 @@ use Rattle.abc_outputs.proofs.outputs.outputs_of.Given as goal
 -- the outputs so far, and those of the rest, for which no more is built than their share
 abbrev pub invariant-loop-place : goal.invariant-loop-place
 invariant-loop-place g l = record {
-  values : l.made.items ++ map (output_in (g.C.Compiler.rules l.compiler)) (drop l.place l.text.chains.now) ≡ map (output_in (g.C.Compiler.rules l.compiler)) l.text.chains.now;
+  values : l.made.items ++ map (output_in (g.C.Compiler.rules l.compiler)) (drop l.place l.stretch.chains.now) ≡ map (output_in (g.C.Compiler.rules l.compiler)) l.stretch.chains.now;
   remembers : Remembers (steps_of (g.C.Fold.next l.compiler) (g.C.Fold.gives l.compiler) (g.C.Resumable.alike l.compiler)) (g.C.Compiler.rules l.compiler) l.memo;
   built : BuiltSoFar l.old.taken.now (drop l.place l.old.taken.now) (g.C.Work.Counts.counts l.initial.work) (g.C.Work.Counts.counts l.work);
 }

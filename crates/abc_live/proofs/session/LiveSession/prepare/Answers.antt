@@ -1,20 +1,23 @@
-use Rattle.std.proofs.Common.{◌≡◌, subst}
-use Rattle.std.proofs.Common.{rules}
+use Rattle.std.proofs.Common.{inl}
 use Rattle.abc_fold.specs.Steps.{steps_of}
-use Rattle.abc_live.specs.Counting.{MayCost}
 use Rattle.abc_live.specs.Edit.{splice_of}
-use Rattle.abc_live.specs.Session.{live}
-use Rattle.abc_live.proofs.Costs.{fold_build, fold_only}
+use Rattle.abc_live.specs.Prepared.{splice_in}
+use Rattle.abc_live.proofs.Costs.{cost_is, cost_none, edit_is, edit_none}
 use Rattle.abc_live.proofs.session.LiveSession.prepare.Goals as goal
 
-pub returns-in_err-kept-clause-counted : goal.returns-in_err-kept-clause-counted
-returns-in_err-kept-clause-counted g c =
-    let view : live c.self.inside.text ≡ c.args.self.now = search rules in
-    subst (λ s. MayCost (steps_of (g.C.Fold.next s.compiler) (g.C.Fold.gives s.compiler) (g.C.Resumable.alike s.compiler)) (g.C.Compiler.rules s.compiler) s.text (splice_of c.args.edit.now) (g.C.Work.Counts.counts c.args.work.now) (g.C.Work.Counts.counts c.prepared.new.work)) view
-    (fold_only (steps_of (g.C.Fold.next c.self.inside.text.compiler) (g.C.Fold.gives c.self.inside.text.compiler) (g.C.Resumable.alike c.self.inside.text.compiler)) (g.C.Compiler.rules c.self.inside.text.compiler) c.self.inside.text.lines.text (splice_of c.args.edit.now) _ _ c.prepared.ensures.counted)
+pub returns-in-None-clause-refused : goal.returns-in-None-clause-refused
+returns-in-None-clause-refused g c = inl (edit_none c.args.self.now.text _ c.in-None.ensures)
 
-pub returns-clause-counted : goal.returns-clause-counted
-returns-clause-counted g c =
-    let view : live c.self.inside.text ≡ c.args.self.now = search rules in
-    subst (λ s. MayCost (steps_of (g.C.Fold.next s.compiler) (g.C.Fold.gives s.compiler) (g.C.Resumable.alike s.compiler)) (g.C.Compiler.rules s.compiler) s.text (splice_of c.args.edit.now) (g.C.Work.Counts.counts c.args.work.now) (g.C.Work.Counts.counts c.outcome_of.new.work)) view
-    (fold_build (steps_of (g.C.Fold.next c.self.inside.text.compiler) (g.C.Fold.gives c.self.inside.text.compiler) (g.C.Resumable.alike c.self.inside.text.compiler)) (g.C.Compiler.rules c.self.inside.text.compiler) c.self.inside.text.lines.text (splice_of c.args.edit.now) _ c.in_ok-kept.kept.taken _ _ _ c.in_ok-kept.ensures.text c.in_ok-kept.ensures.untouched c.prepared.ensures.counted c.outcome_of.ensures.counted)
+pub returns-in-None-clause-counted : goal.returns-in-None-clause-counted
+returns-in-None-clause-counted g c =
+    cost_none (steps_of (g.C.Fold.next c.args.self.now.compiler) (g.C.Fold.gives c.args.self.now.compiler) (g.C.Resumable.alike c.args.self.now.compiler)) (g.C.Compiler.rules c.args.self.now.compiler) c.args.self.now.text (splice_of c.args.edit.now) _ c.in-None.ensures
+
+pub returns-in-Some-clause-text : goal.returns-in-Some-clause-text
+returns-in-Some-clause-text g c = rw (edit_is c.args.self.now.text _ _ c.in-Some.ensures) c.prepare_change.ensures.text
+
+pub returns-in-Some-clause-refused : goal.returns-in-Some-clause-refused
+returns-in-Some-clause-refused g c = rw (edit_is c.args.self.now.text _ _ c.in-Some.ensures) c.prepare_change.ensures.refused
+
+pub returns-in-Some-clause-counted : goal.returns-in-Some-clause-counted
+returns-in-Some-clause-counted g c =
+    cost_is (steps_of (g.C.Fold.next c.args.self.now.compiler) (g.C.Fold.gives c.args.self.now.compiler) (g.C.Resumable.alike c.args.self.now.compiler)) (g.C.Compiler.rules c.args.self.now.compiler) c.args.self.now.text (splice_of c.args.edit.now) (splice_in c.in-Some.change) _ _ c.in-Some.ensures c.prepare_change.ensures.counted

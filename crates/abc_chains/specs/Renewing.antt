@@ -1,0 +1,89 @@
+-- What an edit makes anew: the tunes of its stretch, and the file header where that may change. Our own.
+use Rattle.std.specs.Prelude.{◌≡◌, ◌⊎◌, ℕ, ◌+◌, ◌-◌, ◌<◌, ◌≤◌, All, List, [], ◌∷◌, ◌++◌, drop, length, map, take, Option, Some, None, IsSome}
+use Rattle.std.specs.List.{AllZip}
+use Rattle.abc_book.specs.Laws.{moved}
+use Rattle.abc_book.specs.declared.block.Block.{Block}
+use Rattle.abc_fold.specs.Chain.{Chained}
+use Rattle.abc_fold.specs.Steps.{Steps}
+use Rattle.abc_lines.specs.Text.{Splice, Text, spliced}
+use Rattle.abc_tunebook.specs.Book.{blocks_in, header_in, tunes_in}
+use Rattle.abc_tunebook.specs.Rules.{Rules}
+use Rattle.abc_chains.specs.Holding.{LiesWithin}
+use Rattle.abc_chains.specs.Keeping.{AreChains}
+use Rattle.abc_chains.specs.Standing.{Keeping, LiesAmid, LiesBefore, LiesBehind, MayLieBefore, gone, kept_numbers, moved_on}
+use Rattle.abc_chains.specs.Taking.{HasItemsOf, TakesUntouched}
+use Rattle.abc_chains.specs.declared.stretch.Stretch.{Stretch}
+use Rattle.abc_chains.specs.declared.stretch.Span.{Span}
+
+-- Where the first of some blocks begins; without one, at the end.
+abbrev pub start_of : List Block → ℕ → ℕ
+start_of [] last = last
+start_of (block ∷ blocks) last = block.from
+
+-- A splice of lines.
+abbrev pub splice_at : ℕ → ℕ → Text → Splice
+splice_at at removed lines = record { at = at; removed = removed; lines = lines }
+
+-- A stretch that begins with the last tune before an edit, and goes on to the first one behind it.
+pub record IsSpan (tunes : List Block) (count at removed : ℕ) (span : Span) : Type 0 where
+  pub order : span.front < span.behind
+  pub most : span.behind ≤ length tunes
+  pub from : span.from ≡ start_of (drop span.front tunes) count
+  pub to : span.to ≡ start_of (drop span.behind tunes) count
+  pub begins : span.from < at
+  pub ends : at + removed ≤ span.to
+
+-- The chain of the file header: a new one, or the old one.
+abbrev pub first_of : {State Cell Items : Type 0} → Option (Chained State Cell Items) → List (Chained State Cell Items) → List (Chained State Cell Items)
+first_of None old = take 1 old
+first_of (Some first) old = first ∷ []
+
+-- The chains of a text behind an edit.
+abbrev pub chains_after : {State Cell Items : Type 0} → Option (Chained State Cell Items) → Stretch → List (Chained State Cell Items) → List (Chained State Cell Items) → List (Chained State Cell Items)
+chains_after first stretch old made =
+    first_of first old ++ (take stretch.front (drop 1 old) ++ (made ++ drop stretch.behind (drop 1 old)))
+
+-- Where its tunes lie.
+abbrev pub tunes_after : Stretch → List Block → List Block → List Block
+tunes_after stretch old tunes = take stretch.front old ++ (map (moved stretch.from) tunes ++ map (moved_on stretch) (drop stretch.behind old))
+
+-- The file header stays, and lies before the stretch.
+pub record Stays {State Cell Items : Type 0} (first : Option (Chained State Cell Items)) (header was : Option Block) (stretch : Stretch) : Type 0 where
+  pub none : first ≡ None
+  pub header_stays : header ≡ was
+  pub before : MayLieBefore stretch was
+
+-- It is made anew with the whole text.
+pub record IsAnew {State Cell Items : Type 0} (first : Option (Chained State Cell Items)) (tunes : List Block) (text : Text) (stretch : Stretch) : Type 0 where
+  pub some : IsSome first
+  pub front : stretch.front ≡ 0
+  pub behind : stretch.behind ≡ length tunes
+  pub from : stretch.from ≡ 0
+  pub to : stretch.to ≡ length text
+
+-- What is made anew is that of the new text.
+pub record IsRenewed {C State Cell Items Defaults : Type 0} (steps : Steps State Cell Items) (rules : Rules State Cell Items Defaults) (on : Keeping C State Cell Items) (s : Splice) (stretch : Stretch) (header : Option Block) (first : Option (Chained State Cell Items)) (tunes : List Block) (made : List (Chained State Cell Items)) (taken : List (Option ℕ)) : Type 0 where
+  pub order : stretch.front ≤ stretch.behind
+  pub most : stretch.behind ≤ length on.tunes
+  pub begins : stretch.from ≤ s.at
+  pub ends : s.at + s.removed ≤ stretch.to
+  pub inside : stretch.to ≤ length on.lines.text
+  pub came : stretch.came ≡ gone stretch - s.removed + length s.lines
+  pub header_is : header ≡ header_in (blocks_in rules (spliced on.lines.text s))
+  pub tunes_are : tunes_in (blocks_in rules (spliced on.lines.text s)) ≡ tunes_after stretch on.tunes tunes
+  pub chains_are : AreChains steps rules (spliced on.lines.text s) (chains_after first stretch on.chains.items made)
+  pub count : length made ≡ length tunes
+  pub before : All (LiesBefore stretch) (take stretch.front on.tunes)
+  pub beyond : All (LiesBehind stretch) (drop stretch.behind on.tunes)
+  pub among : All (LiesWithin stretch.came) tunes
+  pub amid : All (LiesAmid stretch) (take (stretch.behind - stretch.front) (drop stretch.front on.tunes))
+  pub keeps : Stays first header on.header stretch ⊎ IsAnew first on.tunes on.lines.text stretch
+  pub lines_before : take stretch.from (spliced on.lines.text s) ≡ take stretch.from on.lines.text
+  pub lines_behind : drop (stretch.from + stretch.came) (spliced on.lines.text s) ≡ drop stretch.to on.lines.text
+  pub items : AllZip (HasItemsOf (drop 1 on.chains.items)) made taken
+  pub untouched : TakesUntouched steps rules on.lines.text s (kept_numbers 0 stretch.front ++ (taken ++ kept_numbers stretch.behind (length on.tunes - stretch.behind)))
+
+-- A new chain of the file header comes with all tunes.
+abbrev pub MayBeAnew : {A : Type 0} → Option A → Stretch → ℕ → Type 0
+MayBeAnew None stretch chains = Unit {0}
+MayBeAnew (Some first) stretch chains = (stretch.front ≡ 0) × (stretch.behind + 1 ≡ chains)

@@ -1,0 +1,9 @@
+pub mod Building
+pub mod Following
+pub mod Lists
+pub mod Meeting
+pub mod Owning
+pub mod Places
+pub mod Reporting
+pub mod Shifting
+pub mod Splicing

@@ -1,0 +1,46 @@
+-- What is kept by differences is what the whole text gives. Our own.
+use Rattle.std.specs.Prelude.{◌≡◌, ℕ, ◌+◌, ◌<◌, ◌≤◌, List, [], ◌++◌, map, All}
+use Rattle.std.specs.List.{AllZip}
+use Rattle.abc_kept_book.specs.Faults.{fault_shifted, faults_after}
+use Rattle.abc_kept_book.specs.Outputs.{files_of, titles_of}
+use Rattle.abc_outputs.specs.declared.output.Output.{Output}
+use Rattle.abc_tunebook.specs.Book.{title_of}
+use Rattle.abc_tunebook.specs.Fault.{fault_cmp}
+use Rattle.abc_tunebook.specs.Files.{files_from}
+use Rattle.abc_tunebook.specs.Sorted.{sorted_once}
+use Rattle.abc_tunebook.specs.declared.fault.Fault.{Fault}
+use Rattle.abc_tunebook.specs.declared.tune.Tune.{Tune}
+
+-- A tune gives what an output says, whatever its faults are.
+pub record Gives (tune : Tune) (output : Output) : Type 0 where
+  pub number : tune.number ≡ output.number
+  pub title : tune.title ≡ output.title
+  pub bytes : tune.bytes ≡ output.built.bytes
+
+-- The files of tunes are those of their outputs.
+abbrev pub FilesFollow : Type 0
+FilesFollow = (tunes : List Tune) (outputs : List Output) → AllZip Gives tunes outputs → files_from [] tunes ≡ files_of outputs
+
+-- The titles of tunes are those of their outputs.
+abbrev pub TitlesFollow : Type 0
+TitlesFollow = (tunes : List Tune) (outputs : List Output) → AllZip Gives tunes outputs → map title_of tunes ≡ titles_of outputs
+
+-- A fault stands in one of the first so many lines.
+abbrev pub StandsBefore : ℕ → Fault → Type 0
+StandsBefore from fault = fault.line ≤ from
+
+-- A fault stands in one of so many lines behind the first few.
+abbrev pub StandsAmong : ℕ → ℕ → Fault → Type 0
+StandsAmong from count fault = (from < fault.line) × (fault.line ≤ from + count)
+
+-- A fault stands behind the first so many lines.
+abbrev pub StandsBehind : ℕ → Fault → Type 0
+StandsBehind to fault = to < fault.line
+
+-- The faults of a text, with those of a stretch replaced, are those of the text with the stretch replaced.
+abbrev pub FaultsMeet : Type 0
+FaultsMeet =
+    (from gone came : ℕ) (before old behind new : List Fault)
+    → All (StandsBefore from) before → All (StandsAmong from gone) old → All (StandsBehind (from + gone)) behind → All (StandsAmong from came) new
+    → faults_after from gone came (sorted_once fault_cmp (before ++ (old ++ behind))) new
+    ≡ sorted_once fault_cmp (before ++ (new ++ map (fault_shifted gone came) behind))

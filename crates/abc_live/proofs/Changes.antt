@@ -1,0 +1,350 @@
+-- The book of the new text is what the stretch makes of the book of the old one.
+use Rattle.std.proofs.Common.{◌≡◌, ℕ, ◌+◌, ◌-◌, ◌<◌, ◌≤◌, if◌then◌else◌, nat_lt, List, [], ◌++◌, length, drop, map, take, Option, Some, None, slice_get, refl, sym, ap, ◌∙◌, subst, inl, inr, arith, append_assoc}
+use Rattle.std.specs.List.{AllZip}
+use Rattle.std.specs.Prelude.{All, IfSome, ◌⊎◌}
+use Rattle.std.proofs.lemmas.Bool.Decides.{nat_tests}
+use Rattle.std.proofs.lemmas.Grind.{flat_map-append}
+use Rattle.std.proofs.lemmas.List.{append-nil, drop-drop, drop_all, map-append, take-append-drop}
+use Rattle.std.proofs.lemmas.List.Elements.{All-append, All-contains, All-contains_itself, All-drop, All-nil, All-take}
+use Rattle.abc_book.specs.declared.block.Block.{Block}
+use Rattle.abc_chains.specs.Keeping.{AreChains, IsHeaderOf}
+use Rattle.abc_chains.specs.Standing.{Edited, IsWhole, KeepsHeader, gone, moved_on}
+use Rattle.abc_fold.specs.Chain.{Chained}
+use Rattle.abc_fold.specs.Steps.{Steps}
+use Rattle.abc_kept_book.specs.Faults.{fault_shifted, faults_after}
+use Rattle.abc_kept_book.specs.Laws.{Gives, StandsAmong, StandsBefore, StandsBehind}
+use Rattle.abc_kept_book.proofs.Following.{files_follow, titles_follow}
+use Rattle.abc_kept_book.proofs.Meeting.{faults_meet}
+use Rattle.abc_lines.specs.Text.{Splice, Text}
+use Rattle.abc_live.specs.Prepared.{IsBook, IsPrepared, header_faults_there}
+use Rattle.abc_live.proofs.Found.{header_stands, same_behind, same_header_faults, same_tunes, shifted_tunes, tunes_stand}
+use Rattle.abc_live.proofs.Lying.{LiesIn, header_lies}
+use Rattle.abc_live.proofs.Parts.{fold_of, folds_of, gives_of, tune_chains}
+use Rattle.abc_live.proofs.Stretches.{first_is, made_chains, old_lie, old_stretch, parts_lie, places_lie, spliced_length}
+use Rattle.abc_outputs.specs.Output.{output_in}
+use Rattle.abc_outputs.specs.Tunes.{LiesAmong, cell_faults_by, counts_among, faults_by, faults_of_tunes}
+use Rattle.abc_outputs.specs.declared.output.Output.{Output}
+use Rattle.abc_outputs.proofs.Following.{faults_follow, header_follows}
+use Rattle.abc_tunebook.specs.Book.{behind_header, blocks_in, book_of, header_faults, header_in, opening_of, tunes_in}
+use Rattle.abc_tunebook.specs.Fault.{fault_cmp}
+use Rattle.abc_tunebook.specs.Rules.{Rules}
+use Rattle.abc_tunebook.specs.Sorted.{sorted_once}
+use Rattle.abc_tunebook.specs.Tune.{tune_of}
+use Rattle.abc_tunebook.specs.declared.fault.Fault.{Fault}
+use Rattle.abc_tunebook.specs.declared.tune.Tune.{Tune}
+use Rattle.abc_tunebook.proofs.Order.{no_fault_lost}
+
+if_below : {A : Type 0} (a b : ℕ) (x y : A) → a < b → (if nat_lt a b then x else y) ≡ x
+if_below a b x y below = grind (arith, nat_tests)
+
+if_not_below : {A : Type 0} (a b : ℕ) (x y : A) → b ≤ a → (if nat_lt a b then x else y) ≡ y
+if_not_below a b x y above = grind (arith, nat_tests)
+
+-- a list in three parts
+three_parts : {X : Type 0} (front behind : ℕ) (xs : List X) → front ≤ behind → xs ≡ take front xs ++ (take (behind - front) (drop front xs) ++ drop behind xs)
+three_parts front behind xs order =
+    let there : front + (behind - front) ≡ behind = omega (arith, order) in
+    sym (take-append-drop front xs)
+    ∙ ap (λ l. take front xs ++ l) (sym (take-append-drop (behind - front) (drop front xs)) ∙ ap (λ l. take (behind - front) (drop front xs) ++ l) (drop-drop (behind - front) front xs ∙ ap (λ n. drop n xs) there))
+
+module _ {State Cell Items Defaults : Type 0} (steps : Steps State Cell Items) (rules : Rules State Cell Items Defaults) where
+  -- the faults of tunes
+  abbrev tune_faults : State → Text → List Block → List Fault
+  tune_faults opening text blocks = faults_of_tunes (map (tune_of steps.next steps.gives rules opening text) blocks)
+
+  faults_append : (opening : State) (text : Text) (xs ys : List Block) → tune_faults opening text (xs ++ ys) ≡ tune_faults opening text xs ++ tune_faults opening text ys
+  faults_append opening text xs ys =
+      ap faults_of_tunes (map-append (tune_of steps.next steps.gives rules opening text) xs ys)
+      ∙ flat_map-append (λ (tune : Tune). tune.faults) (map (tune_of steps.next steps.gives rules opening text) xs) (map (tune_of steps.next steps.gives rules opening text) ys)
+
+  faults_three : (opening : State) (text : Text) (xs ys zs : List Block) → tune_faults opening text (xs ++ (ys ++ zs)) ≡ tune_faults opening text xs ++ (tune_faults opening text ys ++ tune_faults opening text zs)
+  faults_three opening text xs ys zs = faults_append opening text xs (ys ++ zs) ∙ ap (λ l. tune_faults opening text xs ++ l) (faults_append opening text ys zs)
+
+  module _ (text : Text) where
+    -- the faults of a text, before they are put in order
+    abbrev faults_found : Option Block → List Block → List Fault
+    faults_found header tunes = header_faults steps.next steps.gives rules text header ++ tune_faults (opening_of steps.next rules text (blocks_in rules text)) text tunes
+
+    book_faults : (header : Option Block) (tunes : List Block) → header ≡ header_in (blocks_in rules text) → tunes ≡ tunes_in (blocks_in rules text)
+        → (book_of steps.next steps.gives rules text).faults ≡ sorted_once fault_cmp (faults_found header tunes)
+    unfolding book_of
+    book_faults header tunes header_is tunes_are =
+        ap (λ h. sorted_once fault_cmp (faults_found h (tunes_in (blocks_in rules text)))) (sym header_is) ∙ ap (λ ts. sorted_once fault_cmp (faults_found header ts)) (sym tunes_are)
+
+    -- the tunes give the files and the titles of the text
+    pub book_is : (chains : List (Chained State Cell Items)) (outputs : List Output) (found : List Fault) → AreChains steps rules text chains → outputs ≡ map (output_in rules) (drop 1 chains) → found ≡ (book_of steps.next steps.gives rules text).faults
+        → IsBook outputs found (book_of steps.next steps.gives rules text)
+    unfolding book_of
+    book_is chains outputs found are outputs_are found_is =
+        let tunes = map (tune_of steps.next steps.gives rules (opening_of steps.next rules text (blocks_in rules text)) text) (tunes_in (blocks_in rules text)) in
+        let gives = subst (AllZip Gives tunes) (sym outputs_are) (gives_of steps rules text (opening_of steps.next rules text (blocks_in rules text)) (drop 1 chains) (tunes_in (blocks_in rules text)) (tune_chains steps rules text chains are)) in
+        record {
+          files = sym (files_follow tunes outputs gives);
+          titles = sym (titles_follow tunes outputs gives);
+          faults = found_is;
+        }
+
+    -- the faults of a text stand in its lines
+    pub faults_within : (header : Option Block) (tunes : List Block) → header ≡ header_in (blocks_in rules text) → tunes ≡ tunes_in (blocks_in rules text) → IfSome header (LiesIn (length text)) → All (LiesIn (length text)) tunes
+        → All (λ (fault : Fault). fault.line ≤ length text) (book_of steps.next steps.gives rules text).faults
+    faults_within header tunes header_is tunes_are header_lies tunes_lie =
+        let P = λ (fault : Fault). fault.line ≤ length text in
+        let found = faults_found header tunes in
+        let all : All P found =
+        All-append P (header_faults steps.next steps.gives rules text header) (tune_faults (opening_of steps.next rules text (blocks_in rules text)) text tunes)
+        (header_stands steps rules text P header header_lies (λ block is fault stands. let lies = subst (λ h. IfSome h (LiesIn (length text))) is header_lies in let within = lies.within in let below = stands.1 in omega (arith, within, below)))
+        (tunes_stand steps rules (opening_of steps.next rules text (blocks_in rules text)) text P tunes tunes_lie (λ k d inside. λ fault stands. let within = (tunes_lie k d inside).within in let below = stands.1 in omega (arith, within, below))) in
+        subst (All P) (sym (book_faults header tunes header_is tunes_are))
+        (λ k d inside. All-contains P found _ all ((no_fault_lost found _).0 (All-contains_itself (sorted_once fault_cmp found) k d inside)))
+
+  -- the faults of a file header that lies in some lines, which are the first
+  header_there : (text : Text) (from came : ℕ) (first : Chained State Cell Items) (header : Option Block) → IsHeaderOf steps rules.cells rules.header text first header → IfSome header (LiesIn (length text)) → from ≡ 0 → length text ≤ came
+      → header_faults_there rules from (counts_among rules.cells text from came) first header ≡ header_faults steps.next steps.gives rules text header
+  header_there text from came first None is lies none most = refl
+  header_there text from came first (Some block) is lies none most =
+      let some = lies.some in
+      let within = lies.within in
+      let there : LiesAmong from came block = record { behind = omega (arith, none); order = omega (arith, some); within = omega (arith, none, most, within) } in
+      if_below from block.to (cell_faults_by rules from (counts_among rules.cells text from came) first block) [] (omega (arith, none, some))
+      ∙ header_follows steps rules text from came first block (fold_of steps rules.cells rules.header text first block is) there
+
+  -- and of one that lies before them
+  header_before : (from : ℕ) (counts : List ℕ) (first : Chained State Cell Items) (header : Option Block) → ((block : Block) → header ≡ Some block → block.to ≤ from) → header_faults_there rules from counts first header ≡ []
+  header_before from counts first None before = refl
+  header_before from counts first (Some block) before = if_not_below from block.to (cell_faults_by rules from counts first block) [] (before block refl)
+
+  module _ {C : Type 0} (s : Splice) (patch : Edited C State Cell Items) (is : IsPrepared steps rules s patch) (first : Chained State Cell Items) (there : slice_get patch.chains 0 ≡ Some first) where
+    -- the faults that the stretch has
+    abbrev pub new_faults : List Fault
+    new_faults = header_faults_there rules patch.stretch.from (counts_among rules.cells patch.text patch.stretch.from patch.stretch.came) first patch.header ++ faults_by rules patch.stretch.from (counts_among rules.cells patch.text patch.stretch.from patch.stretch.came) patch.made patch.places
+
+    own_faults : faults_by rules patch.stretch.from (counts_among rules.cells patch.text patch.stretch.from patch.stretch.came) patch.made patch.places ≡ tune_faults (opening_of steps.next rules patch.text (blocks_in rules patch.text)) patch.text patch.places
+    own_faults =
+        let start = opening_of steps.next rules patch.text (blocks_in rules patch.text) in
+        faults_follow steps rules start patch.text patch.stretch.from patch.stretch.came patch.made patch.places
+        (folds_of steps rules.cells start patch.text patch.made patch.places (made_chains steps rules s patch is)) (places_lie steps rules s patch is)
+
+    own_stand : All (StandsAmong patch.stretch.from patch.stretch.came) (tune_faults (opening_of steps.next rules patch.text (blocks_in rules patch.text)) patch.text patch.places)
+    own_stand =
+        tunes_stand steps rules (opening_of steps.next rules patch.text (blocks_in rules patch.text)) patch.text (StandsAmong patch.stretch.from patch.stretch.came) patch.places (parts_lie steps rules s patch is)
+        (λ k d inside. λ fault stands.
+        let lies = places_lie steps rules s patch is k d inside in
+        let behind = lies.behind in
+        let within = lies.within in
+        let least = stands.0 in
+        let most = stands.1 in
+        (omega (arith, behind, least), omega (arith, within, most)))
+
+    old_header : IfSome patch.on.header (LiesIn (length patch.on.lines.text))
+    old_header = header_lies rules.class patch.on.lines.text patch.on.header is.stood.header_is
+
+    new_header : IfSome patch.header (LiesIn (length patch.text))
+    new_header = header_lies rules.class patch.text patch.header is.stands.header_is
+
+    -- where the stretch is the whole text
+    module _ (whole : IsWhole patch) where
+      whole_count : length patch.text ≤ patch.stretch.came
+      whole_count =
+          let from_is = whole.from in
+          let to_is = whole.to in
+          let ends = is.narrow.ends in
+          let count = is.narrow.came in
+          let long = spliced_length steps rules s patch is in
+          omega (arith, from_is, to_is, ends, count, long)
+
+      whole_places : patch.tunes ≡ patch.places
+      whole_places =
+          is.narrow.tunes_are
+          ∙ ap (λ n. take n patch.on.tunes ++ (patch.places ++ map (moved_on patch.stretch) (drop patch.stretch.behind patch.on.tunes))) whole.front
+          ∙ ap (λ n. patch.places ++ map (moved_on patch.stretch) (drop n patch.on.tunes)) whole.behind
+          ∙ ap (λ l. patch.places ++ map (moved_on patch.stretch) l) (drop_all (length patch.on.tunes) patch.on.tunes (omega arith))
+          ∙ append-nil patch.places
+
+      whole_header : header_faults_there rules patch.stretch.from (counts_among rules.cells patch.text patch.stretch.from patch.stretch.came) first patch.header ≡ header_faults steps.next steps.gives rules patch.text patch.header
+      whole_header = header_there patch.text patch.stretch.from patch.stretch.came first patch.header (first_is steps rules s patch is first there) new_header whole.from whole_count
+
+      whole_new : new_faults ≡ faults_found patch.text patch.header patch.tunes
+      whole_new =
+          let start = opening_of steps.next rules patch.text (blocks_in rules patch.text) in
+          ap (λ l. l ++ faults_by rules patch.stretch.from (counts_among rules.cells patch.text patch.stretch.from patch.stretch.came) patch.made patch.places) whole_header
+          ∙ ap (λ l. header_faults steps.next steps.gives rules patch.text patch.header ++ l) (own_faults ∙ ap (tune_faults start patch.text) (sym whole_places))
+
+      whole_stand : All (StandsAmong patch.stretch.from patch.stretch.came) new_faults
+      whole_stand =
+          let P = StandsAmong patch.stretch.from patch.stretch.came in
+          All-append P _ _
+          (subst (All P) (sym whole_header) (header_stands steps rules patch.text P patch.header new_header
+          (λ block is_some fault stands.
+          let lies = subst (λ h. IfSome h (LiesIn (length patch.text))) is_some new_header in
+          let within = lies.within in
+          let least = stands.0 in
+          let most = stands.1 in
+          let none = whole.from in
+          let all = whole_count in
+          (omega (arith, least, none), omega (arith, most, within, all, none)))))
+          (subst (All P) (sym own_faults) own_stand)
+
+      whole_old : All (StandsAmong patch.stretch.from (gone patch.stretch)) (faults_found patch.on.lines.text patch.on.header patch.on.tunes)
+      whole_old =
+          let P = StandsAmong patch.stretch.from (gone patch.stretch) in
+          let text = patch.on.lines.text in
+          let none = whole.from in
+          let all = whole.to in
+          All-append P (header_faults steps.next steps.gives rules text patch.on.header) (tune_faults (opening_of steps.next rules text (blocks_in rules text)) text patch.on.tunes)
+          (header_stands steps rules text P patch.on.header old_header
+          (λ block is_some fault stands.
+          let lies = subst (λ h. IfSome h (LiesIn (length text))) is_some old_header in
+          let within = lies.within in
+          let least = stands.0 in
+          let most = stands.1 in
+          (omega (arith, least, none), omega (arith, most, within, all, none))))
+          (tunes_stand steps rules (opening_of steps.next rules text (blocks_in rules text)) text P patch.on.tunes (old_lie steps rules s patch is)
+          (λ k d inside. λ fault stands.
+          let within = (old_lie steps rules s patch is k d inside).within in
+          let least = stands.0 in
+          let most = stands.1 in
+          (omega (arith, least, none), omega (arith, most, within, all, none))))
+
+      whole_meets : faults_after patch.stretch.from (gone patch.stretch) patch.stretch.came (book_of steps.next steps.gives rules patch.on.lines.text).faults new_faults ≡ (book_of steps.next steps.gives rules patch.text).faults
+      whole_meets =
+          let old = faults_found patch.on.lines.text patch.on.header patch.on.tunes in
+          ap (λ faults. faults_after patch.stretch.from (gone patch.stretch) patch.stretch.came faults new_faults)
+          (book_faults patch.on.lines.text patch.on.header patch.on.tunes is.stood.header_is is.stood.tunes_are ∙ ap (sorted_once fault_cmp) (sym (append-nil old)))
+          ∙ faults_meet patch.stretch.from (gone patch.stretch) patch.stretch.came [] old [] new_faults (All-nil (StandsBefore patch.stretch.from)) whole_old (All-nil (StandsBehind (patch.stretch.from + gone patch.stretch))) whole_stand
+          ∙ ap (sorted_once fault_cmp) (append-nil new_faults ∙ whole_new)
+          ∙ sym (book_faults patch.text patch.header patch.tunes is.stands.header_is is.stands.tunes_are)
+
+    -- where the file header stays
+    module _ (keeps : KeepsHeader patch) where
+      abbrev start : State
+      start = opening_of steps.next rules patch.on.lines.text (blocks_in rules patch.on.lines.text)
+
+      abbrev front_tunes : List Block
+      front_tunes = take patch.stretch.front patch.on.tunes
+
+      abbrev amid_tunes : List Block
+      amid_tunes = take (patch.stretch.behind - patch.stretch.front) (drop patch.stretch.front patch.on.tunes)
+
+      abbrev behind_tunes : List Block
+      behind_tunes = drop patch.stretch.behind patch.on.tunes
+
+      abbrev old_faults : List Block → List Fault
+      old_faults tunes = tune_faults (opening_of steps.next rules patch.on.lines.text (blocks_in rules patch.on.lines.text)) patch.on.lines.text tunes
+
+      start_same : opening_of steps.next rules patch.text (blocks_in rules patch.text) ≡ opening_of steps.next rules patch.on.lines.text (blocks_in rules patch.on.lines.text)
+      start_same =
+          ap (λ h. rules.tune (behind_header steps.next rules patch.text h)) (sym is.stands.header_is ∙ keeps.header)
+          ∙ ap rules.tune (same_behind steps rules patch.on.lines.text patch.text patch.stretch.from patch.on.header is.narrow.lines_before keeps.before old_header)
+          ∙ ap (λ h. rules.tune (behind_header steps.next rules patch.on.lines.text h)) is.stood.header_is
+
+      front_lie : All (LiesIn (length patch.on.lines.text)) (take patch.stretch.front patch.on.tunes)
+      front_lie = All-take (LiesIn (length patch.on.lines.text)) patch.stretch.front patch.on.tunes (old_lie steps rules s patch is)
+
+      amid_lie : All (LiesIn (length patch.on.lines.text)) (take (patch.stretch.behind - patch.stretch.front) (drop patch.stretch.front patch.on.tunes))
+      amid_lie =
+          let P = LiesIn (length patch.on.lines.text) in
+          All-take P (patch.stretch.behind - patch.stretch.front) (drop patch.stretch.front patch.on.tunes) (All-drop P patch.stretch.front patch.on.tunes (old_lie steps rules s patch is))
+
+      behind_lie : All (LiesIn (length patch.on.lines.text)) (drop patch.stretch.behind patch.on.tunes)
+      behind_lie = All-drop (LiesIn (length patch.on.lines.text)) patch.stretch.behind patch.on.tunes (old_lie steps rules s patch is)
+
+      end_is : patch.stretch.to ≡ patch.stretch.from + gone patch.stretch
+      end_is = let order = old_stretch steps rules s patch is in omega (arith, order)
+
+      front_stand : All (StandsBefore patch.stretch.from) (header_faults steps.next steps.gives rules patch.on.lines.text patch.on.header ++ old_faults (take patch.stretch.front patch.on.tunes))
+      front_stand =
+          let P = StandsBefore patch.stretch.from in
+          All-append P (header_faults steps.next steps.gives rules patch.on.lines.text patch.on.header) (old_faults (take patch.stretch.front patch.on.tunes))
+          (header_stands steps rules patch.on.lines.text P patch.on.header old_header
+          (λ block is_some fault stands.
+          let before = keeps.before block is_some in
+          let most = stands.1 in
+          omega (arith, before, most)))
+          (tunes_stand steps rules start patch.on.lines.text P (take patch.stretch.front patch.on.tunes) front_lie
+          (λ k d inside. λ fault stands.
+          let before = is.narrow.before k d inside in
+          let most = stands.1 in
+          omega (arith, before, most)))
+
+      amid_stand : All (StandsAmong patch.stretch.from (gone patch.stretch)) (old_faults (take (patch.stretch.behind - patch.stretch.front) (drop patch.stretch.front patch.on.tunes)))
+      amid_stand =
+          tunes_stand steps rules start patch.on.lines.text (StandsAmong patch.stretch.from (gone patch.stretch)) (take (patch.stretch.behind - patch.stretch.front) (drop patch.stretch.front patch.on.tunes)) amid_lie
+          (λ k d inside. λ fault stands.
+          let own = is.narrow.amid k d inside in
+          let behind = own.0 in
+          let before = own.1 in
+          let least = stands.0 in
+          let most = stands.1 in
+          let end = end_is in
+          (omega (arith, behind, least), omega (arith, before, most, end)))
+
+      behind_stand : All (StandsBehind (patch.stretch.from + gone patch.stretch)) (old_faults (drop patch.stretch.behind patch.on.tunes))
+      behind_stand =
+          tunes_stand steps rules start patch.on.lines.text (StandsBehind (patch.stretch.from + gone patch.stretch)) (drop patch.stretch.behind patch.on.tunes) behind_lie
+          (λ k d inside. λ fault stands.
+          let behind = is.narrow.beyond k d inside in
+          let least = stands.0 in
+          let end = end_is in
+          omega (arith, behind, least, end))
+
+      kept_new : new_faults ≡ tune_faults (opening_of steps.next rules patch.text (blocks_in rules patch.text)) patch.text patch.places
+      kept_new =
+          ap (λ l. l ++ faults_by rules patch.stretch.from (counts_among rules.cells patch.text patch.stretch.from patch.stretch.came) patch.made patch.places)
+          (header_before patch.stretch.from (counts_among rules.cells patch.text patch.stretch.from patch.stretch.came) first patch.header (λ block is_some. keeps.before block (sym keeps.header ∙ is_some)))
+          ∙ own_faults
+
+      old_is : faults_found patch.on.lines.text patch.on.header patch.on.tunes
+          ≡ (header_faults steps.next steps.gives rules patch.on.lines.text patch.on.header ++ old_faults front_tunes) ++ (old_faults amid_tunes ++ old_faults behind_tunes)
+      old_is =
+          let head = header_faults steps.next steps.gives rules patch.on.lines.text patch.on.header in
+          ap (λ tunes. head ++ old_faults tunes) (three_parts patch.stretch.front patch.stretch.behind patch.on.tunes is.narrow.order)
+          ∙ ap (λ l. head ++ l) (faults_three start patch.on.lines.text front_tunes amid_tunes behind_tunes)
+          ∙ sym (append_assoc head (old_faults front_tunes) (old_faults amid_tunes ++ old_faults behind_tunes))
+
+      new_header_is : header_faults steps.next steps.gives rules patch.text patch.header ≡ header_faults steps.next steps.gives rules patch.on.lines.text patch.on.header
+      new_header_is =
+          ap (header_faults steps.next steps.gives rules patch.text) keeps.header
+          ∙ same_header_faults steps rules patch.on.lines.text patch.text patch.stretch.from patch.on.header is.narrow.lines_before keeps.before old_header
+
+      new_front : tune_faults (opening_of steps.next rules patch.text (blocks_in rules patch.text)) patch.text front_tunes ≡ old_faults front_tunes
+      new_front =
+          ap (λ own. tune_faults own patch.text front_tunes) start_same
+          ∙ same_tunes steps rules start patch.on.lines.text patch.text patch.stretch.from front_tunes is.narrow.lines_before is.narrow.before front_lie
+
+      new_behind : tune_faults (opening_of steps.next rules patch.text (blocks_in rules patch.text)) patch.text (map (moved_on patch.stretch) behind_tunes) ≡ map (fault_shifted (gone patch.stretch) patch.stretch.came) (old_faults behind_tunes)
+      new_behind =
+          let same = is.narrow.lines_behind ∙ ap (λ n. drop n patch.on.lines.text) end_is in
+          let beyond : All (λ (block : Block). patch.stretch.from + gone patch.stretch ≤ block.from) behind_tunes = λ k d inside. let behind = is.narrow.beyond k d inside in let end = end_is in omega (arith, behind, end) in
+          ap (λ own. tune_faults own patch.text (map (moved_on patch.stretch) behind_tunes)) start_same
+          ∙ shifted_tunes steps rules start patch.on.lines.text patch.text patch.stretch.from (gone patch.stretch) patch.stretch.came behind_tunes same beyond behind_lie
+
+      new_is : faults_found patch.text patch.header patch.tunes
+          ≡ (header_faults steps.next steps.gives rules patch.on.lines.text patch.on.header ++ old_faults front_tunes) ++ (new_faults ++ map (fault_shifted (gone patch.stretch) patch.stretch.came) (old_faults behind_tunes))
+      new_is =
+          let own = opening_of steps.next rules patch.text (blocks_in rules patch.text) in
+          let head = header_faults steps.next steps.gives rules patch.on.lines.text patch.on.header in
+          let moved = map (moved_on patch.stretch) behind_tunes in
+          ap (λ l. l ++ tune_faults own patch.text patch.tunes) new_header_is
+          ∙ ap (λ tunes. head ++ tune_faults own patch.text tunes) is.narrow.tunes_are
+          ∙ ap (λ l. head ++ l) (faults_three own patch.text front_tunes patch.places moved)
+          ∙ ap (λ l. head ++ (l ++ (tune_faults own patch.text patch.places ++ tune_faults own patch.text moved))) new_front
+          ∙ ap (λ l. head ++ (old_faults front_tunes ++ (tune_faults own patch.text patch.places ++ l))) new_behind
+          ∙ ap (λ l. head ++ (old_faults front_tunes ++ (l ++ map (fault_shifted (gone patch.stretch) patch.stretch.came) (old_faults behind_tunes)))) (sym kept_new)
+          ∙ sym (append_assoc head (old_faults front_tunes) (new_faults ++ map (fault_shifted (gone patch.stretch) patch.stretch.came) (old_faults behind_tunes)))
+
+      kept_meets : faults_after patch.stretch.from (gone patch.stretch) patch.stretch.came (book_of steps.next steps.gives rules patch.on.lines.text).faults new_faults ≡ (book_of steps.next steps.gives rules patch.text).faults
+      kept_meets =
+          ap (λ faults. faults_after patch.stretch.from (gone patch.stretch) patch.stretch.came faults new_faults)
+          (book_faults patch.on.lines.text patch.on.header patch.on.tunes is.stood.header_is is.stood.tunes_are ∙ ap (sorted_once fault_cmp) old_is)
+          ∙ faults_meet patch.stretch.from (gone patch.stretch) patch.stretch.came (header_faults steps.next steps.gives rules patch.on.lines.text patch.on.header ++ old_faults front_tunes) (old_faults amid_tunes) (old_faults behind_tunes) new_faults
+          front_stand amid_stand behind_stand (subst (All (StandsAmong patch.stretch.from patch.stretch.came)) (sym kept_new) own_stand)
+          ∙ ap (sorted_once fault_cmp) (sym new_is)
+          ∙ sym (book_faults patch.text patch.header patch.tunes is.stands.header_is is.stands.tunes_are)
+
+    meets : IsWhole patch ⊎ KeepsHeader patch → faults_after patch.stretch.from (gone patch.stretch) patch.stretch.came (book_of steps.next steps.gives rules patch.on.lines.text).faults new_faults ≡ (book_of steps.next steps.gives rules patch.text).faults
+    meets (inl whole) = whole_meets whole
+    meets (inr keeps) = kept_meets keeps
+
+    -- the faults of the new text
+    pub faults_are : faults_after patch.stretch.from (gone patch.stretch) patch.stretch.came (book_of steps.next steps.gives rules patch.on.lines.text).faults new_faults ≡ (book_of steps.next steps.gives rules patch.text).faults
+    faults_are = meets is.narrow.header_is

@@ -1,0 +1,212 @@
+-- The stretch of a prepared edit: its lines, its chains and where they lie.
+use Rattle.std.proofs.Common.{◌≡◌, ℕ, ◌+◌, ◌<◌, ◌≤◌, true, List, [], ◌∷◌, ◌++◌, length, drop, map, take, flat_map, Option, Some, None, slice_get, refl, sym, ap, ◌∙◌, subst, inl, inr, arith}
+use Rattle.std.specs.List.{AllZip, list_all}
+use Rattle.std.specs.Prelude.{All, IfSome, ◌⊎◌}
+use Rattle.std.proofs.lemmas.List.{drop-map, length-map, take-map, map-append}
+use Rattle.std.proofs.lemmas.List.Elements.{All-head, All-tail}
+use Rattle.abc_book.specs.declared.block.Block.{Block}
+use Rattle.abc_chains.specs.Keeping.{IsChainOf, IsHeaderOf, behind_chain}
+use Rattle.abc_chains.specs.Standing.{Edited, IsWhole, KeepsHeader, old_tunes}
+use Rattle.abc_chains.proofs.Opening.{opening_alike}
+use Rattle.abc_compiler.specs.Lawful.{AreLawful}
+use Rattle.abc_fold.specs.Chain.{Chained}
+use Rattle.abc_fold.specs.Steps.{Steps, IsAlike, IsResumable, items_from}
+use Rattle.abc_fold.proofs.Alike.{equal_items}
+use Rattle.abc_lines.specs.Text.{Splice, Text, is_line}
+use Rattle.abc_lines.proofs.Splices.{length-spliced}
+use Rattle.abc_live.specs.Prepared.{HeaderCells, IsPrepared, count_in}
+use Rattle.abc_live.proofs.Lying.{LiesIn, all_first, all_second, header_lies, tunes_lie}
+use Rattle.abc_live.proofs.Parts.{counts_are, fold_of, folds_of, header_chain, some_chain, tune_chains}
+use Rattle.abc_live.proofs.Zips.{zip_fronts, zip_middle}
+use Rattle.abc_outputs.specs.Output.{TakesOver, counts_of, output_in}
+use Rattle.abc_outputs.specs.Tunes.{HasCells, IsTuneAt, LiesAmong, counts_among, lowered}
+use Rattle.abc_outputs.proofs.Following.{has_cells, zipped_cells}
+use Rattle.abc_outputs.proofs.Keys.{all_dropped, all_taken}
+use Rattle.abc_outputs.proofs.Lists.{zipped_count}
+use Rattle.abc_outputs.proofs.Places.{among, among_inside}
+use Rattle.abc_outputs.proofs.Taking.{items_suffice}
+use Rattle.abc_tunebook.specs.Book.{behind_header, blocks_in, opening_of}
+use Rattle.abc_tunebook.specs.Rules.{Rules}
+use Rattle.abc_tunebook.specs.Tune.{lines_in}
+
+-- places that lie in order, and among lines
+lies_among : (from came count : ℕ) (places : List Block) → All (λ (place : Block). (from ≤ place.from) × (place.to ≤ from + came)) places → All (LiesIn count) places → All (LiesAmong from came) places
+lies_among from came count places there own =
+    λ k d inside.
+    let behind = (there k d inside).0 in
+    let within = (there k d inside).1 in
+    let some = (own k d inside).some in
+    record { behind = behind; order = omega (arith, some); within = within }
+
+-- a tune of a stretch gives the items that its key has
+tune_at : {State Cell Items Defaults : Type 0} (steps : Steps State Cell Items) (rules : Rules State Cell Items Defaults) (laws : IsResumable steps) (opening : State) (left : Option State) (from came : ℕ) (text : Text) (chain : Chained State Cell Items) (place : Block)
+    → IsAlike steps (rules.tune left) opening → from + came ≤ length text → LiesAmong from came place → IsChainOf steps rules.cells opening text chain place
+    → IsTuneAt steps rules left from (take came (drop from text)) chain place
+tune_at steps rules laws opening left from came text chain place alike inside lies is =
+    let many = among_inside text from came inside in
+    let within = lies.within in
+    let cells : chain.cells ≡ flat_map rules.cells (lines_in (take came (drop from text)) (lowered from place)) =
+    is.cells ∙ ap (flat_map rules.cells) (sym (among text from came place.from place.to lies.behind lies.order lies.within)) in
+    record {
+      lies = record { behind = lies.behind; order = lies.order; within = omega (arith, within, many) };
+      items = is.folds.items ∙ sym (equal_items steps laws (rules.tune left) opening chain.cells alike) ∙ ap (items_from steps (rules.tune left)) cells;
+    }
+
+tunes_at : {State Cell Items Defaults : Type 0} (steps : Steps State Cell Items) (rules : Rules State Cell Items Defaults) (laws : IsResumable steps) (opening : State) (left : Option State) (from came : ℕ) (text : Text) (chains : List (Chained State Cell Items)) (places : List Block)
+    → IsAlike steps (rules.tune left) opening → from + came ≤ length text → All (LiesAmong from came) places → AllZip (IsChainOf steps rules.cells opening text) chains places
+    → AllZip (IsTuneAt steps rules left from (take came (drop from text))) chains places
+tunes_at steps rules laws opening left from came text [] [] alike inside lie all = tt
+tunes_at steps rules laws opening left from came text [] (place ∷ places) alike inside lie all = absurd all
+tunes_at steps rules laws opening left from came text (chain ∷ chains) [] alike inside lie all = absurd all
+tunes_at steps rules laws opening left from came text (chain ∷ chains) (place ∷ places) alike inside lie all = (
+  tune_at steps rules laws opening left from came text chain place alike inside (All-head (LiesAmong from came) place places lie) all.0,
+  tunes_at steps rules laws opening left from came text chains places alike inside (All-tail (LiesAmong from came) place places lie) all.1,
+)
+
+-- a file header that does not lie before a stretch lies in it, since this is then the whole text
+header_cells : {State Cell Items Defaults : Type 0} (steps : Steps State Cell Items) (rules : Rules State Cell Items Defaults) (text : Text) (from came : ℕ) (first : Chained State Cell Items) (header : Option Block)
+    → from + came ≤ length text → IfSome header (LiesIn (length text)) → IsHeaderOf steps rules.cells rules.header text first header
+    → ((block : Block) → header ≡ Some block → from < block.to → (from ≡ 0) × (length text ≤ came))
+    → HeaderCells from (counts_among rules.cells text from came) first header
+header_cells steps rules text from came first None inside lies is whole = tt
+header_cells steps rules text from came first (Some block) inside lies is whole =
+    λ reaches.
+    let all = whole block refl reaches in
+    let none = all.0 in
+    let most = all.1 in
+    let some = lies.some in
+    let within = lies.within in
+    let there : LiesAmong from came block = record { behind = omega (arith, none); order = omega (arith, some); within = omega (arith, none, most, within) } in
+    has_cells steps rules.cells rules.header text first block (fold_of steps rules.cells rules.header text first block is) from came there inside
+
+module _ {C State Cell Items Defaults : Type 0} (steps : Steps State Cell Items) (rules : Rules State Cell Items Defaults) (s : Splice) (patch : Edited C State Cell Items) (is : IsPrepared steps rules s patch) where
+  pub change_inside : s.at + s.removed ≤ length patch.on.lines.text
+  change_inside =
+      let ends = is.narrow.ends in
+      let inside = is.narrow.inside in
+      omega (arith, ends, inside)
+
+  pub spliced_length : length patch.text + s.removed ≡ length patch.on.lines.text + length s.lines
+  spliced_length = ap (λ (t : Text). length t + s.removed) is.makes ∙ length-spliced patch.on.lines.text s change_inside
+
+  -- the stretch lies in the new text
+  pub stretch_inside : patch.stretch.from + patch.stretch.came ≤ length patch.text
+  stretch_inside =
+      let ends = is.narrow.ends in
+      let begins = is.narrow.begins in
+      let inside = is.narrow.inside in
+      let count = is.narrow.came in
+      let long = spliced_length in
+      omega (arith, ends, begins, inside, count, long)
+
+  pub old_stretch : patch.stretch.from ≤ patch.stretch.to
+  old_stretch =
+      let ends = is.narrow.ends in
+      let begins = is.narrow.begins in
+      omega (arith, ends, begins)
+
+  pub rows_count : length patch.rows ≡ length patch.text
+  rows_count = sym (length-map patch.rows count_in) ∙ ap length (counts_are rules patch.text patch.rows is.stands.read) ∙ length-map patch.text (λ line. length (rules.cells line))
+
+  -- the lines of the stretch are within the limits
+  pub lines_good : list_all is_line (take patch.stretch.came (drop patch.stretch.from patch.text)) ≡ true
+  lines_good = all_taken is_line patch.stretch.came (drop patch.stretch.from patch.text) (all_dropped is_line patch.stretch.from patch.text is.limits.lines)
+
+  -- how many cells each has
+  pub counts_there : map count_in (take patch.stretch.came (drop patch.stretch.from patch.rows)) ≡ counts_among rules.cells patch.text patch.stretch.from patch.stretch.came
+  counts_there =
+      sym (take-map count_in patch.stretch.came (drop patch.stretch.from patch.rows))
+      ∙ ap (take patch.stretch.came) (sym (drop-map count_in patch.stretch.from patch.rows))
+      ∙ ap (λ counts. take patch.stretch.came (drop patch.stretch.from counts)) (counts_are rules patch.text patch.rows is.stands.read)
+
+  pub counts_many : length (counts_among rules.cells patch.text patch.stretch.from patch.stretch.came) ≡ patch.stretch.came
+  counts_many = among_inside (counts_of rules.cells patch.text) patch.stretch.from patch.stretch.came (omega (arith, stretch_inside, length-map patch.text (λ line. length (rules.cells line))))
+
+  -- the old and the new tunes lie in their texts
+  pub old_lie : All (LiesIn (length patch.on.lines.text)) patch.on.tunes
+  old_lie = tunes_lie rules.class patch.on.lines.text patch.on.tunes is.stood.tunes_are
+
+  pub new_lie : All (LiesIn (length patch.text)) patch.tunes
+  new_lie = tunes_lie rules.class patch.text patch.tunes is.stands.tunes_are
+
+  pub parts_lie : All (LiesIn (length patch.text)) patch.places
+  parts_lie =
+      let parts = subst (All (LiesIn (length patch.text))) is.narrow.tunes_are new_lie in
+      all_first (LiesIn (length patch.text)) patch.places _ (all_second (LiesIn (length patch.text)) (take patch.stretch.front patch.on.tunes) _ parts)
+
+  pub places_lie : All (LiesAmong patch.stretch.from patch.stretch.came) patch.places
+  places_lie = lies_among patch.stretch.from patch.stretch.came (length patch.text) patch.places is.narrow.among parts_lie
+
+  -- the chains of the old and of the new tunes
+  pub old_chains : AllZip (IsChainOf steps rules.cells (opening_of steps.next rules patch.on.lines.text (blocks_in rules patch.on.lines.text)) patch.on.lines.text) (old_tunes patch) patch.on.tunes
+  old_chains = subst (AllZip (IsChainOf steps rules.cells (opening_of steps.next rules patch.on.lines.text (blocks_in rules patch.on.lines.text)) patch.on.lines.text) (old_tunes patch)) (sym is.stood.tunes_are) (tune_chains steps rules patch.on.lines.text patch.on.chains.items is.stood.chains_are)
+
+  pub new_chains : AllZip (IsChainOf steps rules.cells (opening_of steps.next rules patch.text (blocks_in rules patch.text)) patch.text) (drop 1 patch.chains) patch.tunes
+  new_chains = subst (AllZip (IsChainOf steps rules.cells (opening_of steps.next rules patch.text (blocks_in rules patch.text)) patch.text) (drop 1 patch.chains)) (sym is.stands.tunes_are) (tune_chains steps rules patch.text patch.chains is.stands.chains_are)
+
+  pub old_count : length (old_tunes patch) ≡ length patch.on.tunes
+  old_count = zipped_count (IsChainOf steps rules.cells (opening_of steps.next rules patch.on.lines.text (blocks_in rules patch.on.lines.text)) patch.on.lines.text) (old_tunes patch) patch.on.tunes old_chains
+
+  -- those of the stretch
+  pub made_chains : AllZip (IsChainOf steps rules.cells (opening_of steps.next rules patch.text (blocks_in rules patch.text)) patch.text) patch.made patch.places
+  made_chains =
+      let R = IsChainOf steps rules.cells (opening_of steps.next rules patch.text (blocks_in rules patch.text)) patch.text in
+      let parts : AllZip R (take patch.stretch.front (old_tunes patch) ++ (patch.made ++ drop patch.stretch.behind (old_tunes patch))) patch.tunes = subst (λ chains. AllZip R chains patch.tunes) is.narrow.chains_are new_chains in
+      let both = subst (AllZip R (take patch.stretch.front (old_tunes patch) ++ (patch.made ++ drop patch.stretch.behind (old_tunes patch)))) is.narrow.tunes_are parts in
+      zip_middle R (take patch.stretch.front (old_tunes patch)) patch.made _ (take patch.stretch.front patch.on.tunes) patch.places _
+      (zip_fronts (IsChainOf steps rules.cells (opening_of steps.next rules patch.on.lines.text (blocks_in rules patch.on.lines.text)) patch.on.lines.text) patch.stretch.front (old_tunes patch) patch.on.tunes old_chains)
+      (sym is.narrow.places_count) both
+
+  pub made_cells : AllZip (HasCells patch.stretch.from (counts_among rules.cells patch.text patch.stretch.from patch.stretch.came)) patch.made patch.places
+  made_cells =
+      zipped_cells steps rules (opening_of steps.next rules patch.text (blocks_in rules patch.text)) patch.text patch.stretch.from patch.stretch.came patch.made patch.places
+      (folds_of steps rules.cells (opening_of steps.next rules patch.text (blocks_in rules patch.text)) patch.text patch.made patch.places made_chains) places_lie stretch_inside
+
+  pub chain_there : 1 ≤ length patch.chains
+  chain_there = some_chain steps rules patch.text patch.chains is.stands.chains_are
+
+  -- what the stretch takes over
+  pub takes_over : AllZip (TakesOver rules (map (output_in rules) (old_tunes patch))) patch.made patch.taken
+  takes_over = items_suffice rules (old_tunes patch) patch.made patch.taken is.own_items
+
+  module _ (first : Chained State Cell Items) (there : slice_get patch.chains 0 ≡ Some first) where
+    -- the chain of the file header
+    pub first_is : IsHeaderOf steps rules.cells rules.header patch.text first patch.header
+    first_is = subst (IsHeaderOf steps rules.cells rules.header patch.text first) (sym is.stands.header_is) (header_chain steps rules patch.text patch.chains first is.stands.chains_are there)
+
+    -- the tunes of the stretch begin in a state alike to that which it leaves
+    pub made_tunes : IsResumable steps → AreLawful steps rules
+        → AllZip (IsTuneAt steps rules (behind_chain patch.header first) patch.stretch.from (take patch.stretch.came (drop patch.stretch.from patch.text))) patch.made patch.places
+    made_tunes laws lawful =
+        let own = opening_of steps.next rules patch.text (blocks_in rules patch.text) in
+        let alike : IsAlike steps (rules.tune (behind_chain patch.header first)) own =
+        subst (λ h. IsAlike steps (rules.tune (behind_chain patch.header first)) (rules.tune (behind_header steps.next rules patch.text h))) is.stands.header_is (opening_alike steps rules patch.text first patch.header laws lawful first_is) in
+        tunes_at steps rules laws own (behind_chain patch.header first) patch.stretch.from patch.stretch.came patch.text patch.made patch.places alike stretch_inside places_lie made_chains
+
+    -- where a file header reaches into the stretch, this is the whole text
+    pub whole_text : IsWhole patch ⊎ KeepsHeader patch → (block : Block) → patch.header ≡ Some block → patch.stretch.from < block.to → (patch.stretch.from ≡ 0) × (length patch.text ≤ patch.stretch.came)
+    whole_text (inl whole) block header reaches =
+        let from_is = whole.from in
+        let to_is = whole.to in
+        let ends = is.narrow.ends in
+        let count = is.narrow.came in
+        let long = spliced_length in
+        (from_is, omega (arith, from_is, to_is, ends, count, long))
+    whole_text (inr keeps) block header reaches =
+        let before = keeps.before block (sym keeps.header ∙ header) in
+        absurd (omega (arith, before, reaches))
+
+    pub first_cells : HeaderCells patch.stretch.from (counts_among rules.cells patch.text patch.stretch.from patch.stretch.came) first patch.header
+    first_cells =
+        header_cells steps rules patch.text patch.stretch.from patch.stretch.came first patch.header stretch_inside
+        (header_lies rules.class patch.text patch.header is.stands.header_is) first_is (whole_text is.narrow.header_is)
+
+  -- what the tunes give
+  pub new_outputs : take patch.stretch.front (map (output_in rules) (old_tunes patch)) ++ (map (output_in rules) patch.made ++ drop patch.stretch.behind (map (output_in rules) (old_tunes patch))) ≡ map (output_in rules) (drop 1 patch.chains)
+  new_outputs =
+      let f = output_in rules in
+      ap (λ l. l ++ (map f patch.made ++ drop patch.stretch.behind (map f (old_tunes patch)))) (take-map f patch.stretch.front (old_tunes patch))
+      ∙ ap (λ l. map f (take patch.stretch.front (old_tunes patch)) ++ (map f patch.made ++ l)) (drop-map f patch.stretch.behind (old_tunes patch))
+      ∙ ap (λ l. map f (take patch.stretch.front (old_tunes patch)) ++ l) (sym (map-append f patch.made (drop patch.stretch.behind (old_tunes patch))))
+      ∙ sym (map-append f (take patch.stretch.front (old_tunes patch)) (patch.made ++ drop patch.stretch.behind (old_tunes patch)))
+      ∙ ap (map f) (sym is.narrow.chains_are)

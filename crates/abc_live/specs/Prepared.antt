@@ -1,0 +1,50 @@
+-- An edit that has been prepared, and what its stretch has. Our own.
+use Rattle.std.specs.Prelude.{◌≡◌, ℕ, ◌<◌, List, [], if◌then◌else◌, length, nat_lt, Option, Some, None}
+use Rattle.std.specs.List.{AllZip}
+use Rattle.abc_book.specs.declared.block.Block.{Block}
+use Rattle.abc_chains.specs.Rows.{Row}
+use Rattle.abc_chains.specs.Standing.{Edited, IsStretch, Stands, old_tunes}
+use Rattle.abc_chains.specs.Taking.{HasItemsOf}
+use Rattle.abc_fold.specs.Chain.{Chained}
+use Rattle.abc_fold.specs.Steps.{Steps}
+use Rattle.abc_kept_book.specs.Outputs.{files_of, titles_of}
+use Rattle.abc_lines.specs.Text.{IsText, Splice, splice_from, spliced}
+use Rattle.abc_live.specs.declared.change.Change.{Change}
+use Rattle.abc_outputs.specs.Tunes.{HasCells, cell_faults_by}
+use Rattle.abc_outputs.specs.declared.output.Output.{Output}
+use Rattle.abc_tunebook.specs.Book.{Book}
+use Rattle.abc_tunebook.specs.Rules.{Rules}
+use Rattle.abc_tunebook.specs.declared.fault.Fault.{Fault}
+
+-- The splice that the replacing of a run of lines is.
+abbrev pub splice_in : Change → Splice
+splice_in change = splice_from change.at change.removed change.lines.now
+
+-- How many cells a line has.
+abbrev pub count_in : {Cell : Type 0} → Row Cell → ℕ
+count_in row = length row.cells
+
+-- A prepared edit of a text makes this splice of it: what is kept of the text before and after is that of the text.
+pub record IsPrepared {C State Cell Items Defaults : Type 0} (steps : Steps State Cell Items) (rules : Rules State Cell Items Defaults) (s : Splice) (patch : Edited C State Cell Items) : Type 0 where
+  pub makes : patch.text ≡ spliced patch.on.lines.text s
+  pub limits : IsText patch.text
+  pub stood : Stands steps rules patch.on.lines.text patch.on.rows.items patch.on.header patch.on.tunes patch.on.chains.items
+  pub stands : Stands steps rules patch.text patch.rows patch.header patch.tunes patch.chains
+  pub narrow : IsStretch s patch
+  pub own_items : AllZip (HasItemsOf (old_tunes patch)) patch.made patch.taken
+
+-- What tunes give and faults are those of a book.
+pub record IsBook (outputs : List Output) (found : List Fault) (book : Book) : Type 0 where
+  pub files : files_of outputs ≡ book.files
+  pub titles : titles_of outputs ≡ book.titles
+  pub faults : found ≡ book.faults
+
+-- A file header that does not lie before some lines lies among them, and its chain has their cells.
+abbrev pub HeaderCells : {State Cell Items : Type 0} → ℕ → List ℕ → Chained State Cell Items → Option Block → Type 0
+HeaderCells before counts chain None = Unit {0}
+HeaderCells before counts chain (Some block) = before < block.to → HasCells before counts chain block
+
+-- The faults of a file header that lies among some lines, and none of one that lies before them.
+abbrev pub header_faults_there : {State Cell Items Defaults : Type 0} → Rules State Cell Items Defaults → ℕ → List ℕ → Chained State Cell Items → Option Block → List Fault
+header_faults_there rules before counts chain None = []
+header_faults_there rules before counts chain (Some block) = if nat_lt before block.to then cell_faults_by rules before counts chain block else []
