@@ -11,7 +11,7 @@ use Rattle.std.proofs.lemmas.Cmp.{nat_cmp_total, on_total, ranked, then_total}
 use Rattle.std.proofs.lemmas.List.Elements.{All-append, All-contains, All-from_recursion, All-head, All-tail, Contains-get_or, Contains-append_cases, Contains-append_left, Contains-append_right, recursion_from_All}
 use Rattle.std.proofs.lemmas.List.Kept.{IsStrictlySortedBy-filter}
 use Rattle.abc_fields.specs.Fault.{number_of}
-use Rattle.abc_kept_book.proofs.Reporting.{one_order}
+use Rattle.abc_kept_book.proofs.Orders.{one_order}
 use Rattle.abc_kept_book.specs.Faults.{fault_shifted, faults_after, stands_before, stands_behind}
 use Rattle.abc_kept_book.specs.Laws.{FaultsMeet, StandsAmong, StandsBefore, StandsBehind}
 use Rattle.abc_tunebook.proofs.Members.{contains_cons, contains_head, contains_none, contains_tail, from_filter, to_filter}

@@ -1,20 +1,18 @@
 -- What differs between the files of two lists of tunes.
 use Rattle.std.proofs.Common.{◌≡◌, ℕ, ◌+◌, ◌-◌, ◌<◌, ◌≤◌, ◌==◌, eqb-true, eq-eqb, Bool, true, false, not, cond, List, [], ◌∷◌, ◌++◌, take, drop, Contains, filter, ◌↔◌, ◌⊎◌, inl, inr, ⊎_elim, Option, Some, None, IsSome, is_some, option_and_then, slice_get, refl, sym, ap, ◌∙◌, subst, arith}
-use Rattle.std.specs.Cmp.{IsTotalOrder}
-use Rattle.std.specs.List.{AllByRecursion}
 use Rattle.std.specs.List.Sorted.{IsStrictlyIncreasing, IsStrictlySortedBy}
 use Rattle.std.specs.Map.{keys_of}
 use Rattle.std.specs.Option.{option_eq}
-use Rattle.std.specs.Ordering.{nat_cmp, ordering_reverse}
+use Rattle.std.specs.Ordering.{nat_cmp}
 use Rattle.std.specs.Str.{bytes_eq}
-use Rattle.std.specs.declared.cmp.Ordering.{Ordering}
-use Rattle.std.specs.declared.cmp.Ordering.TheVariants.{Less, Equal}
+use Rattle.std.specs.declared.cmp.Ordering.TheVariants.{Equal}
 use Rattle.std.proofs.lemmas.Bool.{cases_lt, false≢true}
 use Rattle.std.proofs.lemmas.Cmp.{nat_cmp_total, ranked}
-use Rattle.std.proofs.lemmas.List.Elements.{filter_agree, All-contains, All-from_recursion, Contains-append_left, Contains-push, Contains-push_cases}
+use Rattle.std.proofs.lemmas.List.Elements.{filter_agree, Contains-append_left, Contains-push, Contains-push_cases}
 use Rattle.std.proofs.lemmas.Map.Keys.{sorted_from_strictly_increasing}
 use Rattle.std.proofs.lemmas.Slice.Eq.{bytes_eq-Decides}
 use Rattle.abc_kept_book.proofs.Lists.{same_before, same_behind}
+use Rattle.abc_kept_book.proofs.Orders.{one_order}
 use Rattle.abc_kept_book.proofs.Owning.{Answers, file_by_owner, keys_agree, owner_answers}
 use Rattle.abc_kept_book.specs.Outputs.{files_of}
 use Rattle.abc_kept_book.specs.Owners.{Owners, bytes_at, claims_of, owner_at, owners_behind, owners_of}
@@ -24,39 +22,6 @@ use Rattle.abc_tunebook.proofs.Difference.{rising_written}
 use Rattle.abc_tunebook.proofs.Members.{contains_cons, contains_head, contains_none, contains_tail, from_filter, to_filter, from_sorted, to_sorted}
 use Rattle.abc_tunebook.specs.Files.{Files, file_at, removed, written}
 use Rattle.abc_tunebook.specs.Sorted.{sorted_once}
-
--- lists in strict order that have the same elements are the same
-module _ {A : Type 0} (cmp : A → A → Ordering) (total : IsTotalOrder cmp) where
-  never_both : (x y : A) {G : Type 0} → cmp x y ≡ Less → cmp y x ≡ Less → G
-  never_both x y up down = absurd (let e = sym up ∙ total.antisymm x y ∙ ap ordering_reverse down in cc)
-
-  above : (x y : A) (xs : List A) → AllByRecursion (λ z. cmp x z ≡ Less) xs → Contains xs y → cmp x y ≡ Less
-  above x y xs all there = All-contains (λ z. cmp x z ≡ Less) xs y (All-from_recursion (λ z. cmp x z ≡ Less) xs all) there
-
-  same_head : (x y : A) (xs ys : List A) → AllByRecursion (λ z. cmp x z ≡ Less) xs → AllByRecursion (λ z. cmp y z ≡ Less) ys
-      → (y ≡ x) ⊎ Contains ys x → (x ≡ y) ⊎ Contains xs y → x ≡ y
-  same_head x y xs ys front back (inl is) other = sym is
-  same_head x y xs ys front back (inr late) (inl is) = is
-  same_head x y xs ys front back (inr late) (inr later) = never_both x y (above x y xs front later) (above y x ys back late)
-
-  behind_head : (x y n : A) (xs ys : List A) → AllByRecursion (λ z. cmp x z ≡ Less) xs → x ≡ y → Contains xs n → (y ≡ n) ⊎ Contains ys n → Contains ys n
-  behind_head x y n xs ys front same there (inl is) =
-      let up = above x n xs front there in
-      never_both x x (ap (cmp x) (same ∙ is) ∙ up) (ap (cmp x) (same ∙ is) ∙ up)
-  behind_head x y n xs ys front same there (inr late) = late
-
-  pub one_order : (xs ys : List A) → IsStrictlySortedBy cmp xs → IsStrictlySortedBy cmp ys
-      → ((n : A) → Contains xs n → Contains ys n) → ((n : A) → Contains ys n → Contains xs n) → xs ≡ ys
-  unfolding IsStrictlySortedBy
-  one_order [] [] up down forth back = refl
-  one_order [] (y ∷ ys) up down forth back = contains_none y (back y (contains_head y ys y refl))
-  one_order (x ∷ xs) [] up down forth back = contains_none x (forth x (contains_head x xs x refl))
-  one_order (x ∷ xs) (y ∷ ys) up down forth back =
-      let head : x ≡ y = same_head x y xs ys up.0 down.0 (contains_cons y ys x (forth x (contains_head x xs x refl))) (contains_cons x xs y (back y (contains_head y ys y refl))) in
-      let rest : xs ≡ ys = one_order xs ys up.1 down.1
-      (λ n there. behind_head x y n xs ys up.0 head there (contains_cons y ys n (forth n (contains_tail x xs n there))))
-      (λ n there. behind_head y x n ys xs down.0 (sym head) there (contains_cons x xs n (back n (contains_tail y ys n there)))) in
-      ap (λ z. z ∷ xs) head ∙ ap (λ l. y ∷ l) rest
 
 -- the numbers of files are those that have one
 from_numbers_step : (file : ℕ × List ℕ) (files : Files) (n : ℕ) → (Contains (keys_of files) n → IsSome (file_at files n))
