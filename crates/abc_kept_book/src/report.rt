@@ -109,11 +109,7 @@ fn written_over(
 }
 
 /// Those of some numbers that have no owner.
-fn without_owner(
-    alloc: Global,
-    numbers: &[u32],
-    owners: &Owners,
-) -> Result<Vec<u32>, AllocError>
+fn without_owner(alloc: Global, numbers: &[u32], owners: &Owners) -> Result<Vec<u32>, AllocError>
     ensures { IfOk result (λ lost. lost.items ≡ filter (λ n. not (is_some (owner_at owners.now n))) numbers.now) }
 {
     numbers
