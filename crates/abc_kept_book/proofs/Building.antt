@@ -1,5 +1,5 @@
 -- Owners, claims and titles, one tune after another.
-use Rattle.std.proofs.Common.{◌≡◌, ℕ, ◌+◌, ◌-◌, ◌<◌, ◌≤◌, List, [], ◌∷◌, ◌++◌, length, take, drop, map, Option, Some, slice_get, option_map, refl, sym, ap, ◌∙◌, arith}
+use Rattle.std.proofs.Common.{◌≡◌, ℕ, ◌+◌, ◌-◌, ◌≤◌, List, [], ◌∷◌, ◌++◌, length, take, drop, Some, slice_get, option_map, sym, ap, ◌∙◌, arith}
 use Rattle.std.proofs.lemmas.List.{drop_all, drop-drop, take-append-drop, length-take-le, length-drop, drop-map, take-map, map-append, length-map}
 use Rattle.std.proofs.lemmas.Option.{slice_get-map}
 use Rattle.abc_kept_book.proofs.Lists.{drop_later, get_behind, one_on, parts_same, take_next, take_same}
@@ -34,7 +34,7 @@ pub claims_end : (old new : List Output) (front came behind place : ℕ) → fro
 claims_end old new front came behind place order count rest past so =
     let there : front + came ≡ behind = omega (arith, order, count) in
     let same : drop behind (claims_of old) ≡ drop behind (claims_of new) =
-        drop-map claim_of behind old ∙ ap claims_of (sym rest) ∙ ap (λ n. claims_of (drop n new)) there ∙ sym (drop-map claim_of behind new) in
+    drop-map claim_of behind old ∙ ap claims_of (sym rest) ∙ ap (λ n. claims_of (drop n new)) there ∙ sym (drop-map claim_of behind new) in
     parts_same (claims_of old) (claims_of new) place so (drop_later (claims_of old) (claims_of new) behind place past same)
 
 -- one title more
@@ -62,10 +62,10 @@ titles_among old new front came behind end titles order inside count last long s
     let stretch : end - front ≡ came = omega (arith, last) in
     let there : front + came ≡ behind = omega (arith, order, count) in
     let many : length titles ≡ came =
-        ap length are ∙ length-map some title_by ∙ length-take-le (end - front) (drop front new) (omega (arith, stretch, long, length-drop front new)) ∙ stretch in
+    ap length are ∙ length-map some title_by ∙ length-take-le (end - front) (drop front new) (omega (arith, stretch, long, length-drop front new)) ∙ stretch in
     let first : take front (titles_of old) ≡ titles_of (take front new) = take-map title_by front old ∙ ap titles_of (sym start) in
     let last : drop (front + length titles) (titles_of old) ≡ titles_of (drop came (drop front new)) =
-        ap (λ n. drop (front + n) (titles_of old)) many ∙ ap (λ n. drop n (titles_of old)) there ∙ drop-map title_by behind old ∙ ap titles_of (sym rest) ∙ ap titles_of (sym (drop-drop came front new)) in
+    ap (λ n. drop (front + n) (titles_of old)) many ∙ ap (λ n. drop n (titles_of old)) there ∙ drop-map title_by behind old ∙ ap titles_of (sym rest) ∙ ap titles_of (sym (drop-drop came front new)) in
     let middle : titles ≡ titles_of (take came (drop front new)) = are ∙ ap (λ n. titles_of (take n (drop front new))) stretch in
     ap (λ l. l ++ (titles ++ drop (front + length titles) (titles_of old))) first
     ∙ ap (λ l. titles_of (take front new) ++ (titles ++ l)) last

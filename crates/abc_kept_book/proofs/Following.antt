@@ -1,8 +1,8 @@
 -- Tunes and outputs that give the same.
-use Rattle.std.proofs.Common.{◌≡◌, ℕ, List, [], ◌∷◌, map, Option, refl, sym, ap, ◌∙◌}
+use Rattle.std.proofs.Common.{◌≡◌, ℕ, List, [], ◌∷◌, map, Option, refl, ap, ◌∙◌}
 use Rattle.std.specs.List.{AllZip}
 use Rattle.abc_kept_book.specs.Laws.{FilesFollow, Gives, TitlesFollow}
-use Rattle.abc_kept_book.specs.Outputs.{files_behind, files_of, title_by, titles_of}
+use Rattle.abc_kept_book.specs.Outputs.{files_behind, title_by}
 use Rattle.abc_outputs.specs.declared.output.Output.{Output}
 use Rattle.abc_tunebook.specs.Book.{title_of}
 use Rattle.abc_tunebook.specs.Files.{Files, files_from, owned}

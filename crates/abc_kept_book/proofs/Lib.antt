@@ -2,6 +2,7 @@ pub mod Building
 pub mod Following
 pub mod Lists
 pub mod Meeting
+pub mod Orders
 pub mod Owning
 pub mod Places
 pub mod Reporting

@@ -1,8 +1,8 @@
 -- Elements of lists by their places.
-use Rattle.std.proofs.Common.{◌≡◌, ℕ, zero, suc, ◌+◌, ◌-◌, ◌<◌, ◌≤◌, List, [], ◌∷◌, ◌++◌, length, take, drop, map, set, Option, Some, None, slice_get, refl, sym, ap, ◌∙◌, append_assoc, arith, inl, inr}
+use Rattle.std.proofs.Common.{◌≡◌, ℕ, zero, suc, ◌+◌, ◌-◌, ◌<◌, ◌≤◌, List, [], ◌∷◌, ◌++◌, length, take, drop, set, Option, Some, None, slice_get, refl, sym, ap, ◌∙◌, append_assoc, arith, inl, inr}
 use Rattle.std.specs.Prelude.{IfOk, Result, Ok, Err}
 use Rattle.std.proofs.Math.Seq.{drop-cons}
-use Rattle.std.proofs.lemmas.List.{drop_all, drop-drop, drop-set-lt, take_all, take_more, take_more_set, take-append-drop}
+use Rattle.std.proofs.lemmas.List.{drop-drop, drop-set-lt, take_all, take_more, take_more_set, take-append-drop}
 use Rattle.std.proofs.lemmas.Option.{slice_get_within, slice_get_cases, get_or_from_slice_get}
 
 -- the one at a place, and those behind it
@@ -77,7 +77,7 @@ put_next xs next k x rest inside put =
     let count : k + 1 + length rest ≡ k + length (x ∷ rest) = omega arith in
     let front : take (k + 1) next ≡ take k xs ++ x ∷ [] = ap (take (k + 1)) put ∙ take_more_set xs k x inside in
     let behind : drop (k + 1 + length rest) next ≡ drop (k + length (x ∷ rest)) xs =
-        ap (drop (k + 1 + length rest)) put ∙ drop-set-lt (k + 1 + length rest) xs k x (omega arith) ∙ ap (λ n. drop n xs) count in
+    ap (drop (k + 1 + length rest)) put ∙ drop-set-lt (k + 1 + length rest) xs k x (omega arith) ∙ ap (λ n. drop n xs) count in
     ap (λ l. l ++ (rest ++ drop (k + 1 + length rest) next)) front ∙ append_assoc (take k xs) (x ∷ []) (rest ++ drop (k + 1 + length rest) next) ∙ ap (λ l. take k xs ++ (x ∷ (rest ++ l))) behind
 
 -- what follows from two facts of an answer

@@ -1,5 +1,5 @@
 -- The faults of a text whose lines are replaced meet those of the whole text.
-use Rattle.std.proofs.Common.{◌≡◌, ℕ, ◌+◌, ◌-◌, ◌<◌, ◌≤◌, Bool, true, false, List, [], ◌∷◌, ◌++◌, All, Contains, filter, map, ◌⊎◌, inl, inr, refl, sym, ap, ◌∙◌, subst, arith}
+use Rattle.std.proofs.Common.{◌≡◌, ℕ, ◌+◌, ◌-◌, ◌<◌, ◌≤◌, List, [], ◌∷◌, ◌++◌, All, Contains, filter, map, ◌⊎◌, inl, inr, refl, ap, ◌∙◌, subst, arith}
 use Rattle.std.specs.Cmp.{IsTotalOrder}
 use Rattle.std.specs.List.{AllByRecursion}
 use Rattle.std.specs.List.Sorted.{IsStrictlySortedBy}
@@ -11,7 +11,7 @@ use Rattle.std.proofs.lemmas.Cmp.{nat_cmp_total, on_total, ranked, then_total}
 use Rattle.std.proofs.lemmas.List.Elements.{All-append, All-contains, All-from_recursion, All-head, All-tail, Contains-get_or, Contains-append_cases, Contains-append_left, Contains-append_right, recursion_from_All}
 use Rattle.std.proofs.lemmas.List.Kept.{IsStrictlySortedBy-filter}
 use Rattle.abc_fields.specs.Fault.{number_of}
-use Rattle.abc_kept_book.proofs.Reporting.{one_order}
+use Rattle.abc_kept_book.proofs.Orders.{one_order}
 use Rattle.abc_kept_book.specs.Faults.{fault_shifted, faults_after, stands_before, stands_behind}
 use Rattle.abc_kept_book.specs.Laws.{FaultsMeet, StandsAmong, StandsBefore, StandsBehind}
 use Rattle.abc_tunebook.proofs.Members.{contains_cons, contains_head, contains_none, contains_tail, from_filter, to_filter}
@@ -81,8 +81,7 @@ joined : (xs ys : List Fault) → IsStrictlySortedBy fault_cmp xs → IsStrictly
 unfolding IsStrictlySortedBy
 joined [] ys up down below = down
 joined (x ∷ xs) ys up down below =
-    let above : (y : Fault) → Type 0 = λ y. fault_cmp x y ≡ Less in
-    (
+    let above : (y : Fault) → Type 0 = λ y. fault_cmp x y ≡ Less in (
       recursion_from_All above (xs ++ ys) (All-append above xs ys (All-from_recursion above xs up.0) (all_of above ys (λ y there. below x y (contains_head x xs x refl) there))),
       joined xs ys up.1 down (λ z y here there. below z y (contains_tail x xs z here) there),
     )
@@ -153,7 +152,7 @@ module _ (from gone came : ℕ) (before old behind new : List Fault)
   in_order =
       let sorted = faults_rise was in
       let ends : IsStrictlySortedBy fault_cmp (map shift kept) =
-          shifted_order gone came kept (all_of (λ (f : Fault). gone ≤ f.line) kept (λ f there. let far = late f there in omega (arith, far))) (IsStrictlySortedBy-filter fault_cmp (stands_behind (from + gone)) whole sorted) in
+      shifted_order gone came kept (all_of (λ (f : Fault). gone ≤ f.line) kept (λ f there. let far = late f there in omega (arith, far))) (IsStrictlySortedBy-filter fault_cmp (stands_behind (from + gone)) whole sorted) in
       joined first (middle ++ map shift kept) (IsStrictlySortedBy-filter fault_cmp (stands_before from) whole sorted)
       (joined middle (map shift kept) (faults_rise new) ends (λ f g here there. let low = among f here in let high = later g there in earlier f g (omega (arith, low.1, high))))
       (λ f g here there. earlier f g (beyond_first f g here there))
@@ -204,9 +203,9 @@ module _ (from gone came : ℕ) (before old behind new : List Fault)
   behind_back f there =
       let one = from_map shift behind f there in
       let here : Contains kept one.0 =
-          to_filter (stands_behind (from + gone)) whole one.0
-          ((no_fault_lost was one.0).1 (Contains-append_right before (old ++ behind) one.0 (Contains-append_right old behind one.0 one.1)))
-          (lt-ltb (from + gone) one.0.line (All-contains (StandsBehind (from + gone)) behind one.0 back one.1)) in
+      to_filter (stands_behind (from + gone)) whole one.0
+      ((no_fault_lost was one.0).1 (Contains-append_right before (old ++ behind) one.0 (Contains-append_right old behind one.0 one.1)))
+      (lt-ltb (from + gone) one.0.line (All-contains (StandsBehind (from + gone)) behind one.0 back one.1)) in
       subst (λ g. Contains (map shift kept) g) one.2 (to_map shift kept one.0 here)
 
   backward : (f : Fault) → Contains is f → Contains (first ++ (middle ++ map shift kept)) f

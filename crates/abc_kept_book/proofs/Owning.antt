@@ -1,5 +1,5 @@
 -- The files of tunes are those that the owners of their numbers give.
-use Rattle.std.proofs.Common.{◌≡◌, ℕ, ◌+◌, ◌==◌, eqb-true, Bool, true, false, cond, List, [], ◌∷◌, drop, map, Option, Some, None, IsSome, is_some, option_and_then, slice_get, refl, sym, ap, ◌∙◌, subst, arith}
+use Rattle.std.proofs.Common.{◌≡◌, ℕ, ◌+◌, ◌==◌, eqb-true, Bool, true, false, cond, List, [], ◌∷◌, drop, Option, Some, None, is_some, option_and_then, slice_get, refl, sym, ap, ◌∙◌, subst, arith}
 use Rattle.std.proofs.lemmas.Cmp.{ranked}
 use Rattle.std.proofs.lemmas.List.{drop-drop}
 use Rattle.abc_kept_book.proofs.Lists.{get_behind}
@@ -34,7 +34,7 @@ module _ (whole : List Output) where
       → AllZip IsBacked (insert_entry nat_cmp owners n place) (insert_entry nat_cmp files n bytes)
       → (o : Ordering) → o ≡ nat_cmp n file.0
       → AllZip IsBacked (match_ordering o ((n, place) ∷ owner ∷ owners) ((owner.0, place) ∷ owners) (owner ∷ insert_entry nat_cmp owners n place))
-          (match_ordering o ((n, bytes) ∷ file ∷ files) ((file.0, bytes) ∷ files) (file ∷ insert_entry nat_cmp files n bytes))
+      (match_ordering o ((n, bytes) ∷ file ∷ files) ((file.0, bytes) ∷ files) (file ∷ insert_entry nat_cmp files n bytes))
   put_step owner owners file files n place bytes here all gives rest Less e = ((refl, gives), (here, all))
   put_step owner owners file files n place bytes here all gives rest Equal e = ((here.0, given_at place n file.0 bytes (ranked n file.0 Equal e) gives), all)
   put_step owner owners file files n place bytes here all gives rest Greater e = (here, rest)

@@ -1,65 +1,27 @@
 -- What differs between the files of two lists of tunes.
-use Rattle.std.proofs.Common.{◌≡◌, ℕ, ◌+◌, ◌-◌, ◌<◌, ◌≤◌, ◌==◌, eqb-true, eq-eqb, Bool, true, false, not, cond, List, [], ◌∷◌, ◌++◌, take, drop, length, filter, Contains, ◌↔◌, ◌⊎◌, inl, inr, ⊎_elim, Option, Some, None, IsSome, is_some, option_and_then, slice_get, refl, sym, ap, ◌∙◌, subst, arith}
-use Rattle.std.specs.Cmp.{IsTotalOrder}
-use Rattle.std.specs.List.{AllByRecursion}
+use Rattle.std.proofs.Common.{◌≡◌, ℕ, ◌+◌, ◌-◌, ◌<◌, ◌≤◌, ◌==◌, eqb-true, eq-eqb, Bool, true, false, not, cond, List, [], ◌∷◌, ◌++◌, take, drop, Contains, filter, ◌↔◌, ◌⊎◌, inl, inr, ⊎_elim, Option, Some, None, IsSome, is_some, option_and_then, slice_get, refl, sym, ap, ◌∙◌, subst, arith}
 use Rattle.std.specs.List.Sorted.{IsStrictlyIncreasing, IsStrictlySortedBy}
 use Rattle.std.specs.Map.{keys_of}
 use Rattle.std.specs.Option.{option_eq}
-use Rattle.std.specs.Ordering.{nat_cmp, ordering_reverse}
+use Rattle.std.specs.Ordering.{nat_cmp}
 use Rattle.std.specs.Str.{bytes_eq}
-use Rattle.std.specs.declared.cmp.Ordering.{Ordering}
-use Rattle.std.specs.declared.cmp.Ordering.TheVariants.{Less, Equal, Greater}
+use Rattle.std.specs.declared.cmp.Ordering.TheVariants.{Equal}
 use Rattle.std.proofs.lemmas.Bool.{cases_lt, false≢true}
 use Rattle.std.proofs.lemmas.Cmp.{nat_cmp_total, ranked}
-use Rattle.std.proofs.lemmas.List.{length-map}
-use Rattle.std.proofs.lemmas.List.Elements.{All-contains, All-from_recursion, Contains-append_left, Contains-push, Contains-push_cases}
+use Rattle.std.proofs.lemmas.List.Elements.{filter_agree, Contains-append_left, Contains-push, Contains-push_cases}
 use Rattle.std.proofs.lemmas.Map.Keys.{sorted_from_strictly_increasing}
 use Rattle.std.proofs.lemmas.Slice.Eq.{bytes_eq-Decides}
 use Rattle.abc_kept_book.proofs.Lists.{same_before, same_behind}
-use Rattle.abc_kept_book.proofs.Owning.{Answers, Gives, file_by_owner, keys_agree, owner_answers}
+use Rattle.abc_kept_book.proofs.Orders.{one_order}
+use Rattle.abc_kept_book.proofs.Owning.{Answers, file_by_owner, keys_agree, owner_answers}
 use Rattle.abc_kept_book.specs.Outputs.{files_of}
-use Rattle.abc_kept_book.specs.Owners.{Owners, bytes_at, claim_of, claims_of, owner_at, owners_behind, owners_of}
+use Rattle.abc_kept_book.specs.Owners.{Owners, bytes_at, claims_of, owner_at, owners_behind, owners_of}
 use Rattle.abc_kept_book.specs.Report.{rewritten_at, rewritten_by}
 use Rattle.abc_outputs.specs.declared.output.Output.{Output}
-use Rattle.abc_tunebook.proofs.Difference.{reports, rising_written}
+use Rattle.abc_tunebook.proofs.Difference.{rising_written}
 use Rattle.abc_tunebook.proofs.Members.{contains_cons, contains_head, contains_none, contains_tail, from_filter, to_filter, from_sorted, to_sorted}
 use Rattle.abc_tunebook.specs.Files.{Files, file_at, removed, written}
-use Rattle.abc_tunebook.specs.Report.{Reports}
 use Rattle.abc_tunebook.specs.Sorted.{sorted_once}
-use Rattle.abc_tunebook.specs.declared.report.Report.{Report}
-
--- lists in strict order that have the same elements are the same
-module _ {A : Type 0} (cmp : A → A → Ordering) (total : IsTotalOrder cmp) where
-  never_both : (x y : A) {G : Type 0} → cmp x y ≡ Less → cmp y x ≡ Less → G
-  never_both x y up down = absurd (let e = sym up ∙ total.antisymm x y ∙ ap ordering_reverse down in cc)
-
-  above : (x y : A) (xs : List A) → AllByRecursion (λ z. cmp x z ≡ Less) xs → Contains xs y → cmp x y ≡ Less
-  above x y xs all there = All-contains (λ z. cmp x z ≡ Less) xs y (All-from_recursion (λ z. cmp x z ≡ Less) xs all) there
-
-  same_head : (x y : A) (xs ys : List A) → AllByRecursion (λ z. cmp x z ≡ Less) xs → AllByRecursion (λ z. cmp y z ≡ Less) ys
-      → (y ≡ x) ⊎ Contains ys x → (x ≡ y) ⊎ Contains xs y → x ≡ y
-  same_head x y xs ys front back (inl is) other = sym is
-  same_head x y xs ys front back (inr late) (inl is) = is
-  same_head x y xs ys front back (inr late) (inr later) = never_both x y (above x y xs front later) (above y x ys back late)
-
-  behind_head : (x y n : A) (xs ys : List A) → AllByRecursion (λ z. cmp x z ≡ Less) xs → x ≡ y → Contains xs n → (y ≡ n) ⊎ Contains ys n → Contains ys n
-  behind_head x y n xs ys front same there (inl is) =
-      let up = above x n xs front there in
-      never_both x x (ap (cmp x) (same ∙ is) ∙ up) (ap (cmp x) (same ∙ is) ∙ up)
-  behind_head x y n xs ys front same there (inr late) = late
-
-  pub one_order : (xs ys : List A) → IsStrictlySortedBy cmp xs → IsStrictlySortedBy cmp ys
-      → ((n : A) → Contains xs n → Contains ys n) → ((n : A) → Contains ys n → Contains xs n) → xs ≡ ys
-  unfolding IsStrictlySortedBy
-  one_order [] [] up down forth back = refl
-  one_order [] (y ∷ ys) up down forth back = contains_none y (back y (contains_head y ys y refl))
-  one_order (x ∷ xs) [] up down forth back = contains_none x (forth x (contains_head x xs x refl))
-  one_order (x ∷ xs) (y ∷ ys) up down forth back =
-      let head : x ≡ y = same_head x y xs ys up.0 down.0 (contains_cons y ys x (forth x (contains_head x xs x refl))) (contains_cons x xs y (back y (contains_head y ys y refl))) in
-      let rest : xs ≡ ys = one_order xs ys up.1 down.1
-          (λ n there. behind_head x y n xs ys up.0 head there (contains_cons y ys n (forth n (contains_tail x xs n there))))
-          (λ n there. behind_head y x n ys xs down.0 (sym head) there (contains_cons x xs n (back n (contains_tail y ys n there)))) in
-      ap (λ z. z ∷ xs) head ∙ ap (λ l. y ∷ l) rest
 
 -- the numbers of files are those that have one
 from_numbers_step : (file : ℕ × List ℕ) (files : Files) (n : ℕ) → (Contains (keys_of files) n → IsSome (file_at files n))
@@ -123,9 +85,17 @@ gone_step outputs n (Some place) None says = absurd says
 gone_step outputs n (Some place) (Some bytes) says = refl
 
 -- a number that has no owner has no file
-pub owner_gone : (outputs : List Output) (n : ℕ) (owners : Owners) → owners ≡ owners_of outputs → not (is_some (owner_at owners n)) ≡ not (is_some (file_at (files_of outputs) n))
+owner_gone : (outputs : List Output) (n : ℕ) (owners : Owners) → owners ≡ owners_of outputs → not (is_some (owner_at owners n)) ≡ not (is_some (file_at (files_of outputs) n))
 owner_gone outputs n owners are =
     ap (λ (o : Owners). not (is_some (owner_at o n))) are ∙ gone_step outputs n (owner_at (owners_of outputs) n) (file_at (files_of outputs) n) (owner_answers outputs n)
+
+-- the numbers that have no owner any more have lost their file
+pub owners_lost : (before after : List Output) (numbers : List ℕ) (owners : Owners) → owners ≡ owners_of after → numbers ≡ keys_of (files_of before)
+    → filter (λ n. not (is_some (owner_at owners n))) numbers ≡ removed (files_of before) (files_of after)
+unfolding removed
+owners_lost before after numbers owners are all =
+    filter_agree (λ n. not (is_some (owner_at owners n))) (λ n. not (is_some (file_at (files_of after) n))) (λ n. owner_gone after n owners are) numbers
+    ∙ ap (filter (λ n. not (is_some (file_at (files_of after) n)))) all
 
 module _ (before after : List Output) where
   -- a number whose owner is the same tune has the same file
@@ -141,9 +111,9 @@ module _ (before after : List Output) where
       → not (option_eq bytes_eq (option_and_then (bytes_at before) old) (option_and_then (bytes_at after) new)) ≡ not (option_eq bytes_eq (file_at (files_of before) n) (file_at (files_of after) n))
   owner_tells n old new first last early late is was =
       let one : option_and_then (bytes_at before) old ≡ file_at (files_of before) n =
-          ap (option_and_then (bytes_at before)) is ∙ ap (λ (o : Owners). option_and_then (bytes_at before) (owner_at o n)) early ∙ file_by_owner before n in
+      ap (option_and_then (bytes_at before)) is ∙ ap (λ (o : Owners). option_and_then (bytes_at before) (owner_at o n)) early ∙ file_by_owner before n in
       let other : option_and_then (bytes_at after) new ≡ file_at (files_of after) n =
-          ap (option_and_then (bytes_at after)) was ∙ ap (λ (o : Owners). option_and_then (bytes_at after) (owner_at o n)) late ∙ file_by_owner after n in
+      ap (option_and_then (bytes_at after)) was ∙ ap (λ (o : Owners). option_and_then (bytes_at after) (owner_at o n)) late ∙ file_by_owner after n in
       ap (λ f. not (option_eq bytes_eq f (option_and_then (bytes_at after) new))) one ∙ ap (λ f. not (option_eq bytes_eq (file_at (files_of before) n) f)) other
 
   module _ (owners : Owners) where
@@ -249,10 +219,10 @@ module _ (before after : List Output) where
     unfolding written
     found_new place n r =
         let has : IsSome (file_at (files_of after) n) =
-            has_file n place (owner_at (owners_of after) n) (file_at (files_of after) n) (ap (λ (o : Owners). owner_at o n) (sym same_owners) ∙ r.owns) (owner_answers after n) in
+        has_file n place (owner_at (owners_of after) n) (file_at (files_of after) n) (ap (λ (o : Owners). owner_at o n) (sym same_owners) ∙ r.owns) (owner_answers after n) in
         let gives : file_at (files_of after) n ≡ r.output.built.bytes = new_file n place r.owns ∙ ap (option_and_then (λ (o : Output). o.built.bytes)) r.here in
         let test : not (option_eq bytes_eq (file_at (files_of before) n) (file_at (files_of after) n)) ≡ true =
-            ap (λ f. not (option_eq bytes_eq f (file_at (files_of after) n))) (old_file n place r.owns) ∙ ap (λ f. not (option_eq bytes_eq (bytes_at before place) f)) gives ∙ ap not r.differs in
+        ap (λ f. not (option_eq bytes_eq f (file_at (files_of after) n))) (old_file n place r.owns) ∙ ap (λ f. not (option_eq bytes_eq (bytes_at before place) f)) gives ∙ ap not r.differs in
         to_filter _ (keys_of (files_of after)) n (to_numbers (files_of after) n has) test
 
     -- an owner whose file is new is found, and stands in the stretch
@@ -265,7 +235,7 @@ module _ (before after : List Output) where
         let was : owner_at (owners_of before) n ≡ Some place = ap (λ (o : Owners). owner_at o n) same_owners ∙ owns in
         let gives : file_at (files_of after) n ≡ says.output.built.bytes = is ∙ sym says.gives in
         let tells : not (option_eq bytes_eq (bytes_at before place) says.output.built.bytes) ≡ true =
-            ap (λ f. not (option_eq bytes_eq f says.output.built.bytes)) (sym (old_file n place was)) ∙ ap (λ f. not (option_eq bytes_eq (file_at (files_of before) n) f)) (sym gives) ∙ test in
+        ap (λ f. not (option_eq bytes_eq f says.output.built.bytes)) (sym (old_file n place was)) ∙ ap (λ f. not (option_eq bytes_eq (file_at (files_of before) n) f)) (sym gives) ∙ test in
         (place, record { output = says.output; here = says.here; numbered = says.numbered; owns = was; differs = not_true (option_eq bytes_eq (bytes_at before place) says.output.built.bytes) tells })
 
     changed_there : (place n : ℕ) → Rewrites (owners_of before) place n → slice_get before place ≡ slice_get after place → ⊥
@@ -292,9 +262,9 @@ module _ (before after : List Output) where
           (sorted_from_strictly_increasing (written (files_of before) (files_of after)) (rising_written (files_of before) (files_of after) rises))
           (λ n there. let w = are.sound n ((same n).0 there) in found_new w.0 n (rewrites (owners_of before) w.0 n w.3))
           (λ n there.
-              let kept = from_filter _ (keys_of (files_of after)) n there in
-              let one = owned_new n kept.1 (owner_at (owners_of after) n) (file_at (files_of after) n) refl refl (from_numbers (files_of after) n kept.0) (owner_answers after n) in
-              (same n).1 (are.whole n (in_stretch one.0 n one.1)))
+          let kept = from_filter _ (keys_of (files_of after)) n there in
+          let one = owned_new n kept.1 (owner_at (owners_of after) n) (file_at (files_of after) n) refl refl (from_numbers (files_of after) n kept.0) (owner_answers after n) in
+          (same n).1 (are.whole n (in_stretch one.0 n one.1)))
 
       pub found_sorted : (found sorted : List ℕ) → AreFound (owners_of before) front to found → IsStrictlyIncreasing (keys_of (files_of after))
           → IsStrictlySortedBy nat_cmp sorted → sorted ≡ sorted_once nat_cmp found → sorted ≡ written (files_of before) (files_of after)

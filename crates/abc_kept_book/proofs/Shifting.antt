@@ -1,5 +1,5 @@
 -- Faults that are kept where lines were replaced.
-use Rattle.std.proofs.Common.{◌≡◌, ℕ, ◌+◌, ◌-◌, ◌<◌, ◌≤◌, Bool, true, false, nat_lt, List, ◌++◌, All, filter, map, sym, ap, ◌∙◌, subst, append_assoc, arith}
+use Rattle.std.proofs.Common.{◌≡◌, ℕ, ◌+◌, ◌-◌, ◌<◌, ◌≤◌, List, ◌++◌, All, filter, map, ap, ◌∙◌, append_assoc}
 use Rattle.std.proofs.lemmas.Bool.{ltb-true}
 use Rattle.std.proofs.lemmas.List.Elements.{All-filter, All-same, filter_passes}
 use Rattle.abc_kept_book.specs.Faults.{fault_shifted, faults_after, stands_before, stands_behind}
@@ -12,7 +12,7 @@ pub fits_behind : (from gone came most : ℕ) (old behind : List Fault) → behi
     → All (λ (fault : Fault). fault.line - gone + came ≤ most) behind
 fits_behind from gone came most old behind are few =
     All-same (λ (fault : Fault). fault.line - gone + came ≤ most) behind (filter (stands_behind (from + gone)) old) are (λ k d inside.
-        All-filter (stands_behind (from + gone)) (λ (fault : Fault). from + gone < fault.line → fault.line - gone + came ≤ most) old few k d inside (ltb-true _ _ (filter_passes (stands_behind (from + gone)) old k d inside)))
+    All-filter (stands_behind (from + gone)) (λ (fault : Fault). from + gone < fault.line → fault.line - gone + came ≤ most) old few k d inside (ltb-true _ _ (filter_passes (stands_behind (from + gone)) old k d inside)))
 
 -- the three parts, as code puts them one behind another
 pub put_together : (from gone came : ℕ) (old new first sorted more behind all : List Fault) → first ≡ filter (stands_before from) old → sorted ≡ sorted_once fault_cmp new → more ≡ first ++ sorted

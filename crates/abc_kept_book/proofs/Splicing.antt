@@ -1,5 +1,5 @@
 -- What a splice makes of the tunes of a book.
-use Rattle.std.proofs.Common.{◌≡◌, ℕ, ◌+◌, ◌-◌, ◌≤◌, List, ◌++◌, length, take, drop, sym, ap, ◌∙◌, append_assoc, length-append, arith}
+use Rattle.std.proofs.Common.{◌≡◌, ℕ, ◌+◌, ◌-◌, ◌≤◌, List, ◌++◌, length, take, drop, ap, ◌∙◌, append_assoc, length-append, arith}
 use Rattle.std.proofs.lemmas.List.{drop_at, length-drop, length-take-le, take_at}
 use Rattle.abc_lines.specs.GapList.{Gapped, replaced_run}
 use Rattle.abc_lines.specs.ListSplice.{after_splice}

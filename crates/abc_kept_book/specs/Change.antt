@@ -1,5 +1,5 @@
 -- The tunes of a book before and after a change. Our own.
-use Rattle.std.specs.Prelude.{◌≡◌, ℕ, ◌+◌, ◌-◌, ◌≤◌, List, length, take, drop}
+use Rattle.std.specs.Prelude.{◌≡◌, ◌+◌, ◌-◌, ◌≤◌, List, length, take, drop}
 use Rattle.abc_kept_book.specs.declared.change.Change.{Change}
 use Rattle.abc_outputs.specs.declared.output.Output.{Output}
 

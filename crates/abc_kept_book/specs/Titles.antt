@@ -1,5 +1,5 @@
 -- Titles that are put in the place of old ones. Our own.
-use Rattle.std.specs.Prelude.{ℕ, ◌+◌, ◌≤◌, ⊤, List, ◌++◌, length, take, drop}
+use Rattle.std.specs.Prelude.{◌+◌, ◌≤◌, ⊤, List, ◌++◌, length, take, drop}
 use Rattle.abc_kept_book.specs.declared.titles.NewTitles.{NewTitles}
 use Rattle.abc_kept_book.specs.declared.titles.NewTitles.TheVariants.{Whole, Among}
 use Rattle.abc_tunebook.specs.declared.title.Title.{Title}

@@ -53,10 +53,8 @@ impl Model for KeptBook {
 pub struct BookPatch {
     on: Seen<KeptBook>,
     outputs: SplicePatch<Shared<Output>>,
-    owners: Option<Owners>,
-    titles: NewTitles,
+    differences: Differences,
     faults: Vec<Fault>,
-    report: Report,
 }
 
 impl Model for BookPatch {
@@ -68,9 +66,9 @@ impl Model for BookPatch {
 
     ghost Value = { Changed };
 
-    ghost view = { λ p. changed p.on.value p.outputs.after.items p.faults.items p.report };
+    ghost view = { λ p. changed p.on.value p.outputs.after.items p.faults.items p.differences.report };
 
-    ghost invariant = { λ p. (p.outputs.on ≡ p.on.value.outputs) × (unwrap_or p.owners (owners_of p.on.value.outputs.items) ≡ owners_of p.outputs.after.items) × Fit (titles_of p.on.value.outputs.items) p.titles × (titles_after (titles_of p.on.value.outputs.items) p.titles ≡ titles_of p.outputs.after.items) };
+    ghost invariant = { λ p. (p.outputs.on ≡ p.on.value.outputs) × (unwrap_or p.differences.owners (owners_of p.on.value.outputs.items) ≡ owners_of p.outputs.after.items) × Fit (titles_of p.on.value.outputs.items) p.differences.titles × (titles_after (titles_of p.on.value.outputs.items) p.differences.titles ≡ titles_of p.outputs.after.items) };
 }
 
 /// What a change makes of a book beside its outputs and faults: other owners, where there are any, titles, and how the
@@ -164,21 +162,12 @@ impl KeptBook {
             came,
         };
         match self.differences(alloc, &change) {
-            Ok(differences) => {
-                let Differences {
-                    owners,
-                    titles,
-                    report,
-                } = differences;
-                Ok(BookPatch {
-                    on: Seen::of(self),
-                    outputs,
-                    owners,
-                    titles,
-                    faults,
-                    report,
-                })
-            }
+            Ok(differences) => Ok(BookPatch {
+                on: Seen::of(self),
+                outputs,
+                differences,
+                faults,
+            }),
             Err(error) => {
                 outputs.drop_patch();
                 Err(error)
@@ -224,11 +213,14 @@ impl KeptBook {
         let BookPatch {
             on: _,
             outputs,
+            differences,
+            faults,
+        } = patch;
+        let Differences {
             owners,
             titles,
-            faults,
             report,
-        } = patch;
+        } = differences;
         self.outputs.commit(outputs);
         self.owners.replace_by(owners);
         titles.put_in_place(&mut self.titles);
@@ -243,10 +235,8 @@ impl BookPatch {
         let BookPatch {
             on: _,
             outputs,
-            owners: _,
-            titles: _,
+            differences: _,
             faults: _,
-            report: _,
         } = self;
         outputs.drop_patch();
     }

@@ -1,15 +1,15 @@
 //! How the files of a book differ after a change.
 
-ghost use Rattle.std.specs.Prelude.{◌≡◌, ◌<◌, IfOk, is_some, length, not};
+ghost use Rattle.std.specs.Prelude.{◌≡◌, ◌<◌, IfOk, filter, is_some, length, not};
 ghost use Rattle.std.specs.List.Sorted.{IsStrictlyIncreasing};
 ghost use Rattle.std.specs.Map.{keys_of};
 ghost use Rattle.std.specs.Option.{option_eq};
 ghost use Rattle.std.specs.Str.{bytes_eq};
 ghost use Rattle.abc_kept_book.specs.Change.{IsChange, new_in, old_in};
 ghost use Rattle.abc_kept_book.specs.Outputs.{files_of};
-ghost use Rattle.abc_kept_book.specs.Owners.{claims_of, owners_of};
+ghost use Rattle.abc_kept_book.specs.Owners.{claims_of, owner_at, owners_of};
 ghost use Rattle.abc_kept_book.specs.Report.{rewritten_at};
-ghost use Rattle.abc_tunebook.specs.Files.{file_at, removed, written};
+ghost use Rattle.abc_tunebook.specs.Files.{file_at, written};
 ghost use Rattle.abc_tunebook.specs.Report.{Reports};
 
 use crate::change::Change;
@@ -61,6 +61,7 @@ pub(crate) fn report_within(
     requires owners { owners.now ≡ owners_of (old_in change.now) }
     ensures { IfOk result (Reports (files_of (old_in change.now)) (files_of (new_in change.now))) }
 {
+    // The numbers of owners rise.
     let _ = owners.numbers();
     Ok(Report {
         written: rewritten(alloc, change, owners)?,
@@ -107,32 +108,14 @@ fn written_over(
         .collect(alloc)
 }
 
-/// Whether a number has no file after a change.
-#[tactic(auto, using(crate::proofs::Reporting::owner_gone))]
-fn is_gone(change: &Change, after: &Owners, number: u32) -> bool
-    requires { after.now ≡ owners_of (new_in change.now) }
-    ensures { result ≡ not (is_some (file_at (files_of (new_in change.now)) number)) }
-{
-    let _ = change;
-    after.get(number).is_none()
-}
-
-/// The numbers that have a file before a change and none after it.
-#[tactic(auto, unfolding(abc_tunebook::specs::Files::removed))]
-fn removed_over(
-    alloc: Global,
-    change: &Change,
-    after: &Owners,
-    numbers: &[u32],
-) -> Result<Vec<u32>, AllocError>
-    requires numbers { numbers.now ≡ keys_of (files_of (old_in change.now)) }
-    requires after { after.now ≡ owners_of (new_in change.now) }
-    ensures { IfOk result (λ numbers. numbers.items ≡ removed (files_of (old_in change.now)) (files_of (new_in change.now))) }
+/// Those of some numbers that have no owner.
+fn without_owner(alloc: Global, numbers: &[u32], owners: &Owners) -> Result<Vec<u32>, AllocError>
+    ensures { IfOk result (λ lost. lost.items ≡ filter (λ n. not (is_some (owner_at owners.now n))) numbers.now) }
 {
     numbers
         .iter()
         .copied()
-        .filter(|number| is_gone(change, after, *number))
+        .filter(|number| owners.get(*number).is_none())
         .collect(alloc)
 }
 
@@ -150,6 +133,6 @@ pub(crate) fn report_over(
 {
     Ok(Report {
         written: written_over(alloc, change, before, after, after.numbers())?,
-        removed: removed_over(alloc, change, after, before.numbers())?,
+        removed: without_owner(alloc, before.numbers(), after)?,
     })
 }

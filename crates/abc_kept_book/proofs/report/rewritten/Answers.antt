@@ -1,4 +1,4 @@
-use Rattle.std.proofs.Common.{◌≡◌, ℕ, List, Some, None, sym, ap, ◌∙◌, subst}
+use Rattle.std.proofs.Common.{ℕ, List, sym, ap, ◌∙◌, subst}
 use Rattle.std.specs.List.Sorted.{IsStrictlyIncreasing}
 use Rattle.abc_kept_book.proofs.Building.{came_count}
 use Rattle.abc_kept_book.proofs.Lists.{ok_both}
@@ -39,5 +39,5 @@ returns c =
     let count = came_count old new s.front s.came s.behind c.requires.claims r.order r.inside r.count in
     let rises = subst IsStrictlyIncreasing (keys_stay old new c.requires.claims c.args.owners.now c.requires.owners) c.requires.rise in
     ok_both c.sorted_once.result _ _ _ (λ sorted is ordered.
-        found_sorted old new c.requires.claims s.front s.came s.behind c.loop-place.place r.order count c.loop-place-test.false r.front r.behind c.loop-place.found.items sorted.items c.loop-place.invariant rises ordered (is ∙ ap (sorted_once nat_cmp) c.deref.ensures.value))
+    found_sorted old new c.requires.claims s.front s.came s.behind c.loop-place.place r.order count c.loop-place-test.false r.front r.behind c.loop-place.found.items sorted.items c.loop-place.invariant rises ordered (is ∙ ap (sorted_once nat_cmp) c.deref.ensures.value))
     c.sorted_once.ensures.value c.sorted_once.ensures.rises

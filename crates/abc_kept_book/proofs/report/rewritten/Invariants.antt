@@ -1,4 +1,3 @@
-use Rattle.std.proofs.Common.{◌≡◌}
 use Rattle.abc_kept_book.proofs.Reporting.{AreFound}
 use Rattle.abc_kept_book.specs.Change.{new_in, old_in}
 use Rattle.abc_kept_book.specs.Owners.{owners_of}
