@@ -3,7 +3,7 @@
 use abc2midi_live::{Store, StoreFault};
 use std::fs::{self, File};
 use std::io::{self, ErrorKind, Write};
-use std::rt::Files;
+use std::rt::Runtime;
 
 /// What stands under a name.
 #[derive(Clone, Copy)]
@@ -14,16 +14,17 @@ pub(crate) enum Place {
     Nothing,
 }
 
-/// Files by their names in one folder.
+/// Files by their names in one folder. Each file that cannot be stored or removed is told on standard error, with the
+/// reason.
 #[derive(Drop)]
-pub(crate) struct Directory<'a, R: Files + AllocGlobal> {
+pub(crate) struct Directory<'a, R: Runtime + AllocGlobal> {
     rt: &'a R,
     path: &'a str,
     failures: u64,
     calls: u64,
 }
 
-impl<'a, R: Files + AllocGlobal> Directory<'a, R> {
+impl<'a, R: Runtime + AllocGlobal> Directory<'a, R> {
     pub(crate) fn new(rt: &'a R, path: &'a str) -> Self {
         Directory {
             rt,
@@ -98,10 +99,15 @@ impl<'a, R: Files + AllocGlobal> Directory<'a, R> {
         let path = self.path_of(name)?;
         self.delete(path.as_str())
     }
+
+    /// Says on standard error why a file could not be stored or removed.
+    fn tell(&self, name: &str, error: io::Error) {
+        let _ = eprintln!(self.rt; "{name}: {error}");
+    }
 }
 
 #[tactic(auto, using(abc2midi_live::proofs::Counts::raised_none, abc2midi_live::proofs::Counts::raised_within))]
-impl<'a, R: Files + AllocGlobal> Store for Directory<'a, R> {
+impl<'a, R: Runtime + AllocGlobal> Store for Directory<'a, R> {
     ghost failures = { λ d. d.failures };
 
     ghost calls = { λ d. d.calls };
@@ -110,7 +116,8 @@ impl<'a, R: Files + AllocGlobal> Store for Directory<'a, R> {
         self.calls = self.calls.saturating_add(1);
         match self.write(name, bytes) {
             Ok(()) => Ok(()),
-            Err(_) => {
+            Err(error) => {
+                self.tell(name, error);
                 self.failures = self.failures.saturating_add(1);
                 Err(StoreFault)
             }
@@ -121,7 +128,8 @@ impl<'a, R: Files + AllocGlobal> Store for Directory<'a, R> {
         self.calls = self.calls.saturating_add(1);
         match self.delete_named(name) {
             Ok(()) => Ok(()),
-            Err(_) => {
+            Err(error) => {
+                self.tell(name, error);
                 self.failures = self.failures.saturating_add(1);
                 Err(StoreFault)
             }
