@@ -1,7 +1,6 @@
 -- Tunes that are whole tunes of the old text.
-use Rattle.std.proofs.Common.{◌≡◌, ℕ, zero, suc, ◌+◌, ◌-◌, ◌<◌, ◌≤◌, ◌==◌, ◌&&◌, Bool, true, false, List, [], ◌∷◌, ◌++◌, Option, Some, None, Result, Ok, Err, IfOk, All, slice_get, length, take, drop, get_or, refl, sym, ◌∙◌, ap, subst, arith, add-one, ⊎_elim, inl, inr}
+use Rattle.std.proofs.Common.{◌≡◌, ℕ, zero, suc, ◌+◌, ◌-◌, ◌<◌, ◌==◌, ◌&&◌, Bool, true, false, List, [], ◌∷◌, ◌++◌, Option, Some, None, Result, Ok, Err, IfOk, All, slice_get, length, take, drop, get_or, refl, sym, ◌∙◌, ap, subst, arith, add-one, ⊎_elim, inl, inr}
 use Rattle.std.proofs.lemmas.Bool.{cases_Bool, ne_eqb, eqb-true, and_parts}
-use Rattle.std.proofs.lemmas.List.Elements.{All-take, All-drop}
 use Rattle.std.proofs.Math.Seq.{drop-cons}
 use Rattle.std.specs.List.{AllZip, flat_map}
 use Rattle.abc_book.specs.declared.block.Block.{Block}
@@ -9,7 +8,7 @@ use Rattle.abc_fold.specs.Chain.{Chained, Folds, no_cells}
 use Rattle.abc_fold.specs.Steps.{Steps, AreAlike, IsAlike, IsResumable, items_from, states_from}
 use Rattle.abc_fold.proofs.Alike.{alike_states, equal_items}
 use Rattle.abc_rework.specs.Origins.{Origin}
-use Rattle.abc_chains.specs.Holding.{IsCarried, IsChain, IsFolded, IsHeldAt, cells_at, cells_in, cells_over, rows_in}
+use Rattle.abc_chains.specs.Holding.{IsCarried, IsChain, IsFolded, IsHeldAt, cells_at, cells_in, cells_over}
 use Rattle.abc_chains.specs.Rows.{CarriedRow}
 use Rattle.abc_chains.specs.Taking.{GoesAlong, HasItemsOf, are_alike_both, continues, first_source, is_along, is_origin}
 

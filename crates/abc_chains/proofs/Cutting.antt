@@ -1,5 +1,5 @@
 -- The lines of a stretch, among those of the text.
-use Rattle.std.proofs.Common.{◌≡◌, ℕ, zero, suc, ◌+◌, ◌-◌, ◌<◌, ◌≤◌, List, [], ◌∷◌, ◌++◌, map, Some, None, length, take, drop, refl, sym, ◌∙◌, ap, arith, append_assoc, take-append-drop, drop-drop, length-append, length-drop}
+use Rattle.std.proofs.Common.{◌≡◌, ℕ, zero, suc, ◌+◌, ◌-◌, ◌≤◌, List, [], ◌∷◌, ◌++◌, map, None, length, take, drop, refl, sym, ◌∙◌, ap, arith, append_assoc, drop-drop, length-append, length-drop}
 use Rattle.std.proofs.lemmas.List.{map-append, length-take-le}
 use Rattle.abc_book.specs.declared.block.Block.{Block}
 use Rattle.abc_chains.specs.Placing.{BlocksRise, between, placed_along, placed_from, placed_until}

@@ -1,5 +1,5 @@
 -- What is made anew of a stretch is that of the new text.
-use Rattle.std.proofs.Common.{◌≡◌, ◌⊎◌, ℕ, zero, suc, ◌+◌, ◌-◌, ◌<◌, ◌≤◌, List, [], ◌∷◌, ◌++◌, map, Option, Some, None, All, IsSome, length, take, drop, get_or, refl, sym, ◌∙◌, ap, subst, arith, append_assoc, length-append, length-drop, inl, inr}
+use Rattle.std.proofs.Common.{◌≡◌, ℕ, suc, ◌+◌, ◌-◌, ◌≤◌, List, [], ◌∷◌, ◌++◌, map, Option, None, All, IsSome, length, take, drop, get_or, refl, sym, ◌∙◌, ap, subst, arith, length-append, length-drop, inl}
 use Rattle.std.proofs.lemmas.List.{length-take-le}
 use Rattle.std.proofs.lemmas.List.Elements.{All-cons, All-nil}
 use Rattle.std.specs.List.{AllZip, sum_by}
@@ -13,24 +13,24 @@ use Rattle.abc_fold.specs.Steps.{Steps, IsAlike, IsResumable}
 use Rattle.abc_fold.specs.Work.{Counters, IsRaisedUpTo}
 use Rattle.abc_lines.specs.Text.{Splice, Text, spliced}
 use Rattle.abc_rework.specs.Fresh.{fresh_after}
-use Rattle.abc_tunebook.specs.Book.{behind_header, blocks_in, header_in, opening_of, tunes_in}
+use Rattle.abc_tunebook.specs.Book.{blocks_in, header_in, opening_of, tunes_in}
 use Rattle.abc_tunebook.specs.Rules.{Rules}
 use Rattle.abc_chains.specs.Holding.{IsCarried, IsChain, LiesWithin, cells_in, class_in, rows_in, steps_taken}
-use Rattle.abc_chains.specs.Keeping.{AreChains, IsHeaderOf, behind_chain, places_of}
+use Rattle.abc_chains.specs.Keeping.{AreChains, behind_chain, places_of}
 use Rattle.abc_chains.specs.Placing.{placed_from}
 use Rattle.abc_chains.specs.Renewing.{IsRenewed, IsSpan, chains_after, tunes_after}
-use Rattle.abc_chains.specs.Rows.{CarriedRow, Row, bare}
-use Rattle.abc_chains.specs.Standing.{AreRows, Keeping, LiesAmid, LiesBefore, LiesBehind, Stands, kept_numbers}
-use Rattle.abc_chains.specs.Taking.{GoesAlong, HasItemsOf, TakesUntouched}
+use Rattle.abc_chains.specs.Rows.{CarriedRow, bare}
+use Rattle.abc_chains.specs.Standing.{Keeping, LiesAmid, LiesBefore, LiesBehind, Stands, kept_numbers}
+use Rattle.abc_chains.specs.Taking.{GoesAlong, HasItemsOf}
 use Rattle.abc_chains.specs.declared.stretch.Span.{Span}
 use Rattle.abc_chains.specs.declared.stretch.Stretch.{Stretch}
 use Rattle.abc_chains.proofs.Edits.{edit_of, fresh_row}
 use Rattle.abc_chains.proofs.Meaning.{length-over}
 use Rattle.abc_chains.proofs.Narrow.{IsNarrow, narrow, old_run}
 use Rattle.abc_chains.proofs.Opening.{folds_alike, opening_alike}
-use Rattle.abc_chains.proofs.Outside.{HeaderEnds, StartsFrom, chains_stay, kept_some, lines_before, lines_behind, opening_stays, stretch_cost, sum_both}
+use Rattle.abc_chains.proofs.Outside.{HeaderEnds, StartsFrom, chains_stay, kept_some, lines_before, lines_behind, opening_stays, stretch_cost}
 use Rattle.abc_chains.proofs.Parts.{zip_both, zip_given, zip_same}
-use Rattle.abc_chains.proofs.Renewed.{AreRenewed, Parted, all_mid, chain_moved, renewed, rows_moved, steps_moved, stretch_rows}
+use Rattle.abc_chains.proofs.Renewed.{AreRenewed, all_mid, chain_moved, renewed, rows_moved, steps_moved, stretch_rows}
 use Rattle.abc_chains.proofs.Rising.{tunes_within}
 use Rattle.abc_chains.proofs.Spans.{Ends, rise_amid}
 use Rattle.abc_chains.proofs.Untouched.{takes_untouched}

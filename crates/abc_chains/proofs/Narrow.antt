@@ -1,8 +1,7 @@
 -- A stretch that begins with a tune.
-use Rattle.std.proofs.Common.{◌≡◌, ◌⊎◌, ℕ, zero, suc, ◌+◌, ◌-◌, ◌<◌, ◌≤◌, List, [], ◌∷◌, ◌++◌, map, Option, Some, None, All, IsSome, length, take, drop, refl, sym, ◌∙◌, ap, subst, arith, append_assoc, length-append, length-drop, drop-drop, take-append-drop, inl}
+use Rattle.std.proofs.Common.{◌≡◌, ℕ, zero, suc, ◌+◌, ◌-◌, ◌≤◌, List, [], ◌∷◌, ◌++◌, map, Option, Some, None, All, length, take, drop, sym, ◌∙◌, ap, subst, arith, append_assoc, drop-drop, take-append-drop}
 use Rattle.std.proofs.lemmas.List.{map-append, take-map}
 use Rattle.std.proofs.lemmas.List.Elements.{All-cons}
-use Rattle.std.specs.List.{AllZip}
 use Rattle.abc_book.specs.Block.{blocks_of}
 use Rattle.abc_book.specs.Laws.{RiseFromTo, moved}
 use Rattle.abc_book.specs.Stretch.{BeginTune, shifted}
@@ -12,7 +11,7 @@ use Rattle.abc_lines.specs.Text.{Splice, Text, spliced}
 use Rattle.abc_scan.specs.declared.class.LineClass.{LineClass}
 use Rattle.abc_tunebook.specs.Book.{blocks_in, header_in, tunes_in}
 use Rattle.abc_tunebook.specs.Rules.{Rules}
-use Rattle.abc_chains.specs.Holding.{LiesWithin, class_in}
+use Rattle.abc_chains.specs.Holding.{class_in}
 use Rattle.abc_chains.specs.Keeping.{AreRead, header_place, places_of}
 use Rattle.abc_chains.specs.Placing.{BlocksRise, placed_from, placed_until}
 use Rattle.abc_chains.specs.Renewing.{IsSpan, start_of}
@@ -24,7 +23,7 @@ use Rattle.abc_chains.proofs.Edits.{edit_of, fresh_row}
 use Rattle.abc_chains.proofs.Meaning.{length-over}
 use Rattle.abc_chains.proofs.NewBlocks.{IsRun, begin_taken, header_after, run_begins, tunes_after}
 use Rattle.abc_chains.proofs.Outside.{HeaderEnds, StartsFrom}
-use Rattle.abc_chains.proofs.Renewed.{AreRenewed, IsAmong, Parted, bare_read, parted, placed_read, stretch_rows}
+use Rattle.abc_chains.proofs.Renewed.{IsAmong, Parted, bare_read, parted, placed_read, stretch_rows}
 use Rattle.abc_chains.proofs.Rising.{places_rise}
 use Rattle.abc_chains.proofs.Spans.{Ends, end_start, rise_back, rise_front, start_inside, tunes_strict}
 
@@ -164,6 +163,7 @@ module _ {State Cell Items Defaults : Type 0} (rules : Rules State Cell Items De
       rise_past : (at : ℕ) (xs : List Block) (last : ℕ) → BlocksRise at xs last → at ≤ last
       rise_past at [] last rise = rise
       rise_past at (block ∷ xs) last rise = let more = rise_past block.to xs last rise.2 in omega (arith, rise.0, rise.1, more)
+
       header_lies : (line : ℕ) (header : Option Block) → BlocksRise 0 (header_place header ∷ take span.front (tunes_in (blocks_in rules text))) line → HeaderEnds line header
       header_lies line None rise = λ block e. absurd (cc)
       header_lies line (Some own) rise = λ block e.

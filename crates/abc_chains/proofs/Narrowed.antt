@@ -1,5 +1,5 @@
 -- The rows of a stretch that begins with a tune, as they are made.
-use Rattle.std.proofs.Common.{◌≡◌, ℕ, suc, ◌+◌, ◌-◌, ◌<◌, ◌≤◌, List, [], ◌∷◌, ◌++◌, map, All, length, take, drop, refl, sym, ◌∙◌, ap, subst, arith}
+use Rattle.std.proofs.Common.{◌≡◌, ℕ, suc, ◌+◌, ◌-◌, ◌≤◌, List, [], ◌∷◌, ◌++◌, map, All, length, take, drop, sym, ◌∙◌, ap, subst, arith}
 use Rattle.std.proofs.lemmas.List.{length-take-le}
 use Rattle.std.proofs.lemmas.List.Elements.{All-cons, All-nil, All-take, All-drop}
 use Rattle.abc_book.specs.Block.{blocks_of}
@@ -10,8 +10,7 @@ use Rattle.abc_lines.specs.Text.{Text}
 use Rattle.abc_tunebook.specs.Book.{blocks_in, tunes_in}
 use Rattle.abc_tunebook.specs.Rules.{Rules}
 use Rattle.abc_chains.specs.Holding.{IsCarried, LiesWithin, class_in}
-use Rattle.abc_chains.specs.Keeping.{places_of}
-use Rattle.abc_chains.specs.Placing.{BlocksRise, placed_from, placed_until}
+use Rattle.abc_chains.specs.Placing.{BlocksRise, placed_until}
 use Rattle.abc_chains.specs.Renewing.{IsSpan, splice_at}
 use Rattle.abc_chains.specs.Rows.{CarriedRow, Row, bare, new_row, row_class}
 use Rattle.abc_chains.specs.Standing.{Keeping, Stands}

@@ -1,5 +1,5 @@
 -- The tunes and the file header of a text of which a stretch is replaced.
-use Rattle.std.proofs.Common.{◌≡◌, ◌⊎◌, ◌↔◌, ℕ, zero, suc, ◌+◌, ◌-◌, ◌<◌, ◌≤◌, ◌==◌, true, false, if◌then◌else◌, List, [], ◌∷◌, ◌++◌, map, Option, Some, None, All, length, take, drop, slice_get, refl, sym, ◌∙◌, ap, subst, arith, append_assoc, ⊎_elim, inr}
+use Rattle.std.proofs.Common.{◌≡◌, ◌↔◌, ℕ, zero, suc, ◌+◌, ◌-◌, ◌<◌, ◌≤◌, true, false, if◌then◌else◌, List, [], ◌∷◌, ◌++◌, map, Some, None, All, length, take, drop, slice_get, refl, sym, ◌∙◌, ap, subst, arith, append_assoc, ⊎_elim, inr}
 use Rattle.std.specs.Prelude.{IsTrue, cond, count_by, nat_le}
 use Rattle.std.proofs.lemmas.Bool.{cases_Bool, cases_lt, eqb-true}
 use Rattle.std.proofs.lemmas.Bool.Decides.{nat_tests}

@@ -3,10 +3,9 @@ use Rattle.std.proofs.Common.{◌≡◌, ℕ, zero, suc, ◌+◌, ◌-◌, ◌�
 use Rattle.std.proofs.lemmas.List.{length-take-le}
 use Rattle.std.proofs.lemmas.List.Sums.{sum_by-cons}
 use Rattle.std.specs.List.{AllZip, flat_map, sum_by}
-use Rattle.abc_book.specs.Laws.{moved}
 use Rattle.abc_book.specs.Stretch.{shifted}
 use Rattle.abc_book.specs.declared.block.Block.{Block}
-use Rattle.abc_fold.specs.Chain.{Chained, no_cells}
+use Rattle.abc_fold.specs.Chain.{Chained}
 use Rattle.abc_fold.specs.Steps.{Steps, IsAlike, IsResumable}
 use Rattle.abc_fold.specs.Work.{Counters, IsRaisedUpTo}
 use Rattle.abc_lines.specs.Text.{Splice, Text, spliced}
@@ -14,12 +13,10 @@ use Rattle.abc_rework.specs.Fresh.{fresh_after}
 use Rattle.abc_tunebook.specs.Book.{behind_header, blocks_in, header_in, opening_of, tunes_in}
 use Rattle.abc_tunebook.specs.Placed.{cells_from, state_along}
 use Rattle.abc_tunebook.specs.Rules.{Rules}
-use Rattle.abc_tunebook.specs.Tune.{lines_in}
 use Rattle.abc_chains.specs.Holding.{IsChain, cells_in, steps_taken}
-use Rattle.abc_chains.specs.Keeping.{AreChains, AreRead, IsChainOf, IsHeaderOf, header_steps}
+use Rattle.abc_chains.specs.Keeping.{AreChains, IsChainOf, IsHeaderOf}
 use Rattle.abc_chains.specs.Rows.{CarriedRow}
 use Rattle.abc_chains.specs.Standing.{kept_numbers}
-use Rattle.abc_chains.specs.Taking.{GoesAlong, TakesUntouched}
 use Rattle.abc_chains.proofs.Costs.{raised_up}
 use Rattle.abc_chains.proofs.Edits.{spliced_is}
 use Rattle.abc_chains.proofs.Meaning.{edit_steps}
@@ -108,8 +105,8 @@ module _ {State Cell Items Defaults : Type 0} (steps : Steps State Cell Items) (
       let c = zip_given (IsChainOf steps rules.cells now text) (IsChainOf steps rules.cells now new) (StartsFrom (from + gone)) (shifted gone came) (drop behind tunes) (drop behind blocks) (λ chain block known own. chain_behind steps rules.cells now text new from gone came chain block f known own) starts (zip_drop (IsChainOf steps rules.cells now text) behind tunes blocks old_tunes) in (
         subst (λ (h : Option Block). IsHeaderOf steps rules.cells rules.header new first h) (sym header) (header_before steps rules.cells rules.header text new from first (header_in (blocks_in rules text)) e ends old.0),
         subst (AllZip (IsChainOf steps rules.cells now new) (take front tunes ++ (made ++ drop behind tunes))) (sym all)
-        (zip_both (IsChainOf steps rules.cells now new) (take front tunes) (made ++ drop behind tunes) (take front blocks) (places ++ map (shifted gone came) (drop behind blocks)) a
-        (zip_both (IsChainOf steps rules.cells now new) made (drop behind tunes) places (map (shifted gone came) (drop behind blocks)) b c)),
+            (zip_both (IsChainOf steps rules.cells now new) (take front tunes) (made ++ drop behind tunes) (take front blocks) (places ++ map (shifted gone came) (drop behind blocks)) a
+            (zip_both (IsChainOf steps rules.cells now new) made (drop behind tunes) places (map (shifted gone came) (drop behind blocks)) b c)),
       )
 
 pub sum_both : {X : Type 0} (g : X → ℕ) (xs ys : List X) → sum_by g (xs ++ ys) ≡ sum_by g xs + sum_by g ys

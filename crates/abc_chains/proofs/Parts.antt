@@ -1,6 +1,5 @@
 -- Parts of lists.
-use Rattle.std.proofs.Common.{◌≡◌, ℕ, zero, suc, ◌+◌, ◌-◌, ◌<◌, ◌≤◌, List, [], ◌∷◌, ◌++◌, map, All, length, take, drop, refl, sym, ◌∙◌, ap, subst, arith, append_assoc, drop-drop}
-use Rattle.std.proofs.lemmas.List.Elements.{All-cons, All-nil}
+use Rattle.std.proofs.Common.{◌≡◌, ℕ, zero, suc, ◌+◌, ◌-◌, ◌≤◌, List, [], ◌∷◌, ◌++◌, map, All, length, take, drop, refl, sym, ◌∙◌, ap, arith, append_assoc, drop-drop}
 use Rattle.std.specs.List.{AllZip}
 
 pub take_past : {X : Type 0} (n : ℕ) (a b : List X) → length a ≤ n → take n (a ++ b) ≡ a ++ take (n - length a) b

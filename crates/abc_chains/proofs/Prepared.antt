@@ -1,5 +1,5 @@
 -- What a prepared edit says, by what was made anew.
-use Rattle.std.proofs.Common.{◌≡◌, ◌⊎◌, ℕ, zero, suc, ◌+◌, ◌-◌, ◌≤◌, List, [], ◌∷◌, ◌++◌, map, Option, Some, None, All, IsSome, length, take, drop, refl, sym, ◌∙◌, ap, subst, arith, ⊎_elim, inl, inr, length-append, length-drop}
+use Rattle.std.proofs.Common.{◌≡◌, ◌⊎◌, ℕ, suc, ◌+◌, ◌-◌, ◌≤◌, List, [], ◌∷◌, ◌++◌, map, Option, Some, None, All, length, take, drop, refl, sym, ◌∙◌, ap, subst, arith, ⊎_elim, inl, inr, length-append, length-drop}
 use Rattle.std.proofs.lemmas.List.Elements.{All-cons, All-nil}
 use Rattle.abc_book.specs.Laws.{moved}
 use Rattle.abc_book.specs.declared.block.Block.{Block}
@@ -11,7 +11,7 @@ use Rattle.abc_chains.specs.Holding.{LiesWithin}
 use Rattle.abc_chains.specs.Keeping.{AreChains}
 use Rattle.abc_chains.specs.Renewing.{IsAnew, IsRenewed, MayBeAnew, Stays, chains_after, tunes_after}
 use Rattle.abc_chains.specs.Rows.{Row}
-use Rattle.abc_chains.specs.Standing.{AreRows, Edited, IsStretch, IsWhole, Keeping, KeepsHeader, LiesAmong, Stands, moved_on}
+use Rattle.abc_chains.specs.Standing.{AreRows, Edited, IsStretch, Keeping, LiesAmong, Stands, moved_on}
 use Rattle.abc_chains.specs.declared.stretch.Stretch.{Stretch}
 use Rattle.std.proofs.lemmas.List.{length-take-le}
 use Rattle.abc_chains.proofs.Edits.{spliced_is}

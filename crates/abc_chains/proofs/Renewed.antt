@@ -1,5 +1,5 @@
 -- The rows of an edited text, by those of a stretch.
-use Rattle.std.proofs.Common.{◌≡◌, ℕ, zero, suc, ◌+◌, ◌-◌, ◌<◌, ◌≤◌, List, [], ◌∷◌, ◌++◌, map, Option, Some, None, All, length, take, drop, refl, sym, ◌∙◌, ap, subst, arith}
+use Rattle.std.proofs.Common.{◌≡◌, ℕ, suc, ◌+◌, ◌-◌, ◌≤◌, List, [], ◌∷◌, ◌++◌, map, All, length, take, drop, refl, sym, ◌∙◌, ap, arith}
 use Rattle.std.proofs.lemmas.List.Elements.{All-cons}
 use Rattle.std.specs.List.{flat_map}
 use Rattle.abc_book.specs.Block.{blocks_of}
@@ -14,13 +14,13 @@ use Rattle.abc_rework.specs.Origins.{origins}
 use Rattle.abc_tunebook.specs.Book.{blocks_in, header_in, opening_of, tunes_in}
 use Rattle.abc_tunebook.specs.Rules.{Rules}
 use Rattle.abc_chains.specs.Holding.{IsCarried, IsChain, LiesWithin, cells_in, class_in, helds_of, origin_in, rows_in, steps_taken}
-use Rattle.abc_chains.specs.Keeping.{AreChains, AreRead, header_place, places_of}
+use Rattle.abc_chains.specs.Keeping.{AreChains, AreRead, places_of}
 use Rattle.abc_chains.specs.Placing.{BlocksRise, placed_from, placed_until}
-use Rattle.abc_chains.specs.Rows.{CarriedRow, Row, bare, placed}
+use Rattle.abc_chains.specs.Rows.{CarriedRow, Row, bare}
 use Rattle.abc_chains.specs.Standing.{AreRows}
 use Rattle.abc_chains.proofs.Cutting.{BeginBehind, length-until, placed_both}
 use Rattle.abc_chains.proofs.Edits.{edit_carried, edit_of, edit_origins, edit_read, fresh_row}
-use Rattle.abc_chains.proofs.Meaning.{length-over, map-over}
+use Rattle.abc_chains.proofs.Meaning.{map-over}
 use Rattle.abc_chains.proofs.Parts.{edited_parts, part_moved}
 use Rattle.abc_chains.proofs.Rising.{places_rise}
 use Rattle.abc_chains.proofs.Settled.{all_origins, by_strip, from_origins, settled_carried, strip_from}

@@ -1,5 +1,5 @@
 -- The chains and the rows of a text, with others in the place of some.
-use Rattle.std.proofs.Common.{◌≡◌, ℕ, zero, suc, ◌+◌, ◌-◌, ◌≤◌, List, [], ◌∷◌, ◌++◌, map, Option, Some, None, Result, Ok, Err, IfOk, length, take, drop, refl, sym, ◌∙◌, ap, subst, arith, append_assoc, drop-drop}
+use Rattle.std.proofs.Common.{◌≡◌, ℕ, suc, ◌+◌, ◌-◌, ◌≤◌, List, [], ◌∷◌, ◌++◌, map, Option, Some, None, Result, Ok, Err, IfOk, length, take, drop, refl, sym, ◌∙◌, ap, subst, arith, append_assoc}
 use Rattle.std.proofs.lemmas.List.{map-append, take-map, drop-map}
 use Rattle.abc_fold.specs.Chain.{Chained}
 use Rattle.abc_lines.specs.GapList.{Gapped, replaced_run}

@@ -1,9 +1,8 @@
 -- What stands behind an edit, once origins are made.
-use Rattle.std.proofs.Common.{◌≡◌, ℕ, zero, suc, ◌+◌, ◌-◌, ◌<◌, ◌≤◌, List, [], ◌∷◌, ◌++◌, map, Option, Some, None, All, length, take, drop, slice_get, refl, sym, ◌∙◌, ap, subst, arith, append_assoc, take-append-drop, drop-drop, length-append}
+use Rattle.std.proofs.Common.{◌≡◌, ℕ, zero, suc, ◌+◌, ◌-◌, ◌<◌, ◌≤◌, List, [], ◌∷◌, ◌++◌, map, Option, Some, None, All, length, take, drop, slice_get, refl, sym, ◌∙◌, ap, arith, append_assoc, take-append-drop, drop-drop, length-append}
 use Rattle.std.proofs.lemmas.List.{map-append, take-map}
 use Rattle.std.proofs.lemmas.List.Elements.{All-cons, All-nil}
 use Rattle.std.specs.List.{flat_map, AllZip}
-use Rattle.abc_book.specs.Block.{blocks_of}
 use Rattle.abc_book.specs.declared.block.Block.{Block}
 use Rattle.abc_fold.specs.Chain.{Chained}
 use Rattle.abc_fold.specs.Steps.{Steps}
@@ -12,14 +11,12 @@ use Rattle.abc_rework.specs.Laid.{header_chain, tune_chains}
 use Rattle.abc_rework.specs.Origins.{no_origins, origin_at, origins_along, origins_from}
 use Rattle.abc_tunebook.specs.Book.{blocks_in, header_in, opening_of, tunes_in}
 use Rattle.abc_tunebook.specs.Rules.{Rules}
-use Rattle.abc_chains.specs.Holding.{IsCarried, cells_at, cells_in, cells_over, class_in, origin_in}
-use Rattle.abc_chains.specs.Keeping.{AreChains, AreRead, IsChainOf, IsHeaderOf, header_place, places_of}
+use Rattle.abc_chains.specs.Holding.{IsCarried, cells_at, cells_in, cells_over, origin_in}
+use Rattle.abc_chains.specs.Keeping.{AreChains, IsChainOf, IsHeaderOf, header_place, places_of}
 use Rattle.abc_chains.specs.Placing.{BlocksRise, between, placed_along, placed_from}
 use Rattle.abc_chains.specs.Rows.{CarriedRow, placed}
-use Rattle.abc_chains.specs.Standing.{Stands}
 use Rattle.abc_chains.proofs.Edits.{all_both}
 use Rattle.abc_chains.proofs.Meaning.{block_cells, map-over, read_drop}
-use Rattle.abc_chains.proofs.Rising.{places_rise}
 
 pub split : {A : Type 0} (xs : List A) (at to : ℕ) → at ≤ to → drop at xs ≡ take (to - at) (drop at xs) ++ drop to xs
 split xs at to h =

@@ -2,7 +2,7 @@
 use Rattle.std.proofs.Common.{◌≡◌, ◌⊎◌, ◌↔◌, All, IsSome, ℕ, zero, suc, ◌+◌, ◌-◌, ◌<◌, ◌≤◌, ◌==◌, ◌&&◌, ◌||◌, not, cond, Bool, true, false, List, [], ◌∷◌, ◌++◌, map, Option, Some, None, length, take, drop, slice_get, refl, sym, ◌∙◌, ap, subst, arith, ⊎_elim, inl, inr}
 use Rattle.std.proofs.lemmas.Bool.{cases_Bool, eqb-true, and_parts}
 use Rattle.std.proofs.lemmas.Bool.Decides.{nat_tests}
-use Rattle.std.proofs.lemmas.List.{drop-map, length-map, map-append}
+use Rattle.std.proofs.lemmas.List.{drop-map, map-append}
 use Rattle.std.proofs.lemmas.List.Elements.{All-cons, All-nil}
 use Rattle.std.specs.List.{AllZip, flat_map, list_any}
 use Rattle.std.specs.Option.{option_map}
@@ -13,8 +13,8 @@ use Rattle.abc_book.specs.declared.block.BlockKind.{BlockKind}
 use Rattle.abc_book.specs.declared.block.BlockKind.TheVariants as kinds
 use Rattle.abc_book.proofs.Rising.{blocks_rise, tunes_begin}
 use Rattle.abc_compiler.specs.Lawful.{AreLawful}
-use Rattle.abc_fold.specs.Chain.{Chained, Folds}
-use Rattle.abc_fold.specs.Steps.{AreAlike, IsAlike, IsResumable, Steps, states_from}
+use Rattle.abc_fold.specs.Chain.{Chained}
+use Rattle.abc_fold.specs.Steps.{IsResumable, Steps}
 use Rattle.abc_lines.specs.Text.{Splice, Text, spliced}
 use Rattle.abc_rework.specs.Entered.{entered_of}
 use Rattle.abc_rework.specs.Fresh.{is_fresh_after, is_untouched}

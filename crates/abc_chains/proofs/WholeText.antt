@@ -1,23 +1,22 @@
 -- A text whose file header may change is made anew as a whole.
-use Rattle.std.proofs.Common.{◌≡◌, ◌⊎◌, ℕ, zero, suc, ◌+◌, ◌-◌, ◌<◌, ◌≤◌, List, [], ◌∷◌, ◌++◌, map, Option, Some, None, All, IsSome, length, take, drop, get_or, refl, sym, ◌∙◌, ap, subst, arith, append_assoc, length-append, length-drop, inl, inr}
+use Rattle.std.proofs.Common.{◌≡◌, ℕ, ◌+◌, ◌-◌, ◌≤◌, List, [], ◌∷◌, ◌++◌, map, Option, Some, None, All, IsSome, length, take, drop, refl, sym, ◌∙◌, ap, subst, arith, length-append, length-drop, inr}
 use Rattle.std.proofs.lemmas.List.{length-take-le}
 use Rattle.std.proofs.lemmas.List.Elements.{All-drop, All-nil, All-take}
-use Rattle.std.specs.List.{AllZip, sum_by}
+use Rattle.std.specs.List.{AllZip}
 use Rattle.abc_book.specs.Block.{blocks_of}
 use Rattle.abc_book.specs.Laws.{moved}
-use Rattle.abc_book.specs.Stretch.{shifted}
 use Rattle.abc_book.specs.declared.block.Block.{Block}
 use Rattle.abc_compiler.specs.Lawful.{AreLawful}
 use Rattle.abc_fold.specs.Chain.{Chained}
-use Rattle.abc_fold.specs.Steps.{Steps, IsAlike, IsResumable}
-use Rattle.abc_lines.specs.Text.{Splice, Text, spliced}
+use Rattle.abc_fold.specs.Steps.{Steps, IsResumable}
+use Rattle.abc_lines.specs.Text.{Splice, spliced}
 use Rattle.abc_tunebook.specs.Book.{blocks_in, header_in, opening_of, tunes_in}
 use Rattle.abc_tunebook.specs.Rules.{Rules}
 use Rattle.abc_chains.specs.Holding.{IsChain, LiesWithin, class_in, rows_in}
 use Rattle.abc_chains.specs.Keeping.{AreChains, IsHeader, behind_chain, places_of}
 use Rattle.abc_chains.specs.Placing.{between, placed_along, placed_from, placed_until}
 use Rattle.abc_chains.specs.Renewing.{IsRenewed, chains_after, tunes_after}
-use Rattle.abc_chains.specs.Rows.{CarriedRow, Row, bare, placed}
+use Rattle.abc_chains.specs.Rows.{CarriedRow, bare, placed}
 use Rattle.abc_chains.specs.Standing.{Keeping, LiesAmid, LiesBefore, LiesBehind, Stands, kept_numbers, moved_on}
 use Rattle.abc_chains.specs.Taking.{GoesAlong, HasItemsOf}
 use Rattle.abc_chains.specs.declared.stretch.Stretch.{Stretch}

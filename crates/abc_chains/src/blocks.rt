@@ -59,7 +59,10 @@ pub(crate) fn tunes_in(alloc: Global, blocks: &[Block]) -> Result<Vec<Block>, Al
 }
 
 /// The blocks of a text with these rows.
-pub(crate) fn blocks_of<K: Drop>(alloc: Global, rows: &[CarriedRow<K>]) -> Result<Vec<Block>, AllocError>
+pub(crate) fn blocks_of<K: Drop>(
+    alloc: Global,
+    rows: &[CarriedRow<K>],
+) -> Result<Vec<Block>, AllocError>
     ensures { IfOk result (λ blocks. blocks.items ≡ blocks_of (map class_in rows.now)) }
 {
     let mut classes: Vec<LineClass> = Vec::with_capacity(alloc, rows.len())?;
@@ -84,7 +87,11 @@ fn header_place(header: Option<Block>) -> Block
 }
 
 /// Where the chains of a text lie, in order.
-pub(crate) fn places_of(alloc: Global, header: Option<Block>, tunes: &[Block]) -> Result<Vec<Block>, AllocError>
+pub(crate) fn places_of(
+    alloc: Global,
+    header: Option<Block>,
+    tunes: &[Block],
+) -> Result<Vec<Block>, AllocError>
     ensures { IfOk result (λ places. places.items ≡ header_place header ∷ tunes.now) }
 {
     let mut places = Vec::new(alloc);

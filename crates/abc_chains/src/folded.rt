@@ -15,13 +15,13 @@ ghost use Rattle.abc_rework.specs.Origins.{origins};
 ghost use Rattle.abc_tunebook.specs.Book.{blocks_in};
 
 use crate::blocks::{header_in, tunes_in};
-use crate::pieces::pieces_of;
 use crate::carried::CarriedRow;
-use abc_lines::GapList;
+use crate::pieces::pieces_of;
 use crate::whole::whole_chain;
 use abc_book::Block;
 use abc_compiler::Compiler;
 use abc_fold::{Chain, Counts, Fold, Resumable, Shared};
+use abc_lines::GapList;
 use std::alloc::{AllocError, Global};
 
 /// A new chain of a block, begun in this state.

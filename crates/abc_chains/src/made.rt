@@ -109,14 +109,7 @@ impl<C: Compiler> KeptText<C> {
         let blocks = blocks_of(alloc, &rows)?;
         let first = item_at(&self.chains, 0).get();
         let opening = opening_behind(alloc, &self.compiler, self.header, first);
-        let folded = folded_tunes(
-            &self.compiler,
-            &opening,
-            &self.chains,
-            &rows,
-            &blocks,
-            work,
-        )?;
+        let folded = folded_tunes(&self.compiler, &opening, &self.chains, &rows, &blocks, work)?;
         let came = rows.len();
         Ok(Renewed {
             stretch: Stretch {
@@ -155,14 +148,7 @@ impl<C: Compiler> KeptText<C> {
         let header = header_in(&blocks);
         let first = header_chain(alloc, &self.compiler, &self.chains, &rows, header, work)?;
         let opening = opening_behind(alloc, &self.compiler, header, first.get());
-        let folded = folded_tunes(
-            &self.compiler,
-            &opening,
-            &self.chains,
-            &rows,
-            &blocks,
-            work,
-        )?;
+        let folded = folded_tunes(&self.compiler, &opening, &self.chains, &rows, &blocks, work)?;
         let came = rows.len();
         Ok(Renewed {
             stretch: Stretch {

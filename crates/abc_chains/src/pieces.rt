@@ -8,9 +8,9 @@ ghost use Rattle.abc_fold.specs.Steps.{IsResumable, Steps, steps_of};
 ghost use Rattle.abc_rework.specs.Kept.{held_at};
 
 use crate::carried::{CarriedRow, item_at};
-use abc_lines::GapList;
 use abc_book::Block;
 use abc_fold::{Chain, Fold, Piece, Resumable, Shared};
+use abc_lines::GapList;
 use std::alloc::{AllocError, Global};
 
 /// How many cells a chain has.

@@ -28,11 +28,7 @@ pub(crate) struct Placed<C: Compiler> {
 }
 
 /// Tunes of a stretch, where they lie in the text.
-fn placed_tunes(
-    alloc: Global,
-    tunes: &[Block],
-    stretch: Stretch,
-) -> Result<Vec<Block>, AllocError>
+fn placed_tunes(alloc: Global, tunes: &[Block], stretch: Stretch) -> Result<Vec<Block>, AllocError>
     requires within { All (LiesWithin stretch.came) tunes.now }
     requires numbers { stretch.from + stretch.came ≤ usize.MAX }
     ensures { IfOk result (λ places. places.items ≡ map (moved stretch.from) tunes.now) }
@@ -133,7 +129,8 @@ impl<C: Compiler> KeptText<C> {
             None => {
                 append_shares(&mut new, made)?;
                 let count = stretch.behind - stretch.front;
-                self.chains.splice_prepare(alloc, stretch.front + 1, count, new)
+                self.chains
+                    .splice_prepare(alloc, stretch.front + 1, count, new)
             }
             Some(first) => {
                 new.push(first.share()?)?;

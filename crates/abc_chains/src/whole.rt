@@ -8,9 +8,9 @@ ghost use Rattle.abc_fold.specs.Chain.{Folds};
 ghost use Rattle.abc_fold.specs.Steps.{steps_of};
 
 use crate::carried::CarriedRow;
-use abc_lines::GapList;
 use abc_book::Block;
 use abc_fold::{Chain, Fold, Resumable, Shared};
+use abc_lines::GapList;
 use std::alloc::{AllocError, Global};
 
 /// Whether the old chain of a number holds the cells of a line from a place on.

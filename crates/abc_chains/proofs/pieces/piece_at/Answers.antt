@@ -1,4 +1,4 @@
-use Rattle.std.proofs.Common.{rules, ◌≡◌, ◌<◌, ◌+◌, length, refl, sym, ◌∙◌, ap, subst, arith, get_or, Some}
+use Rattle.std.proofs.Common.{◌≡◌, ◌+◌, length, refl, sym, ◌∙◌, ap, subst, arith, get_or, Some}
 use Rattle.std.proofs.lemmas.Option.{slice_get_read}
 use Rattle.abc_fold.specs.Steps.{steps_of}
 use Rattle.abc_chains.specs.Holding.{IsFolded}

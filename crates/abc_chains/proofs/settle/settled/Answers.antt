@@ -1,4 +1,4 @@
-use Rattle.std.proofs.Common.{length, map, get_or, arith}
+use Rattle.std.proofs.Common.{map, get_or, arith}
 use Rattle.abc_book.specs.declared.block.Block.{Block}
 use Rattle.abc_book.specs.declared.block.BlockKind.TheVariants.{FileHeader}
 use Rattle.abc_chains.specs.Rows.{bare}

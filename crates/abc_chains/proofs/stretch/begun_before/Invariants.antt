@@ -1,4 +1,4 @@
-use Rattle.std.proofs.Common.{ℕ, ◌-◌, ◌<◌, ◌≤◌, drop, length}
+use Rattle.std.proofs.Common.{◌-◌, ◌<◌, ◌≤◌, drop, length}
 use Rattle.abc_chains.specs.Renewing.{start_of}
 use Rattle.abc_chains.proofs.stretch.begun_before.Given as goal
 

@@ -1,4 +1,4 @@
-use Rattle.std.proofs.Common.{◌≡◌, ℕ, Some, true, false, length, slice_get, sym, ◌∙◌, ap, rules, arith}
+use Rattle.std.proofs.Common.{◌≡◌, Some, true, false, length, slice_get, sym, ◌∙◌, ap, rules}
 use Rattle.abc_fold.specs.Steps.{steps_of}
 use Rattle.abc_chains.specs.Taking.{are_alike_both, first_source, is_along}
 use Rattle.abc_chains.proofs.Along.{begins_so, taken_items}

@@ -1,4 +1,4 @@
-use Rattle.std.proofs.Common.{◌≡◌, Some, true, length, slice_get, sym, ◌∙◌, ap, subst, rules, arith}
+use Rattle.std.proofs.Common.{◌≡◌, Some, true, length, slice_get, sym, ◌∙◌, ap, subst, rules}
 use Rattle.abc_fold.specs.Chain.{Chained, Folds}
 use Rattle.abc_fold.specs.Steps.{steps_of}
 use Rattle.abc_chains.specs.Taking.{are_alike_both, is_along}

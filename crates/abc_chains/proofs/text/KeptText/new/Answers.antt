@@ -1,4 +1,4 @@
-use Rattle.std.proofs.Common.{◌≡◌, List, [], ◌∷◌, ap, ◌∙◌, refl}
+use Rattle.std.proofs.Common.{◌≡◌, [], ◌∷◌, ap, ◌∙◌, refl}
 use Rattle.std.specs.List.{insert}
 use Rattle.abc_fold.specs.Chain.{Chained, no_cells}
 use Rattle.abc_fold.specs.Steps.{steps_of}

@@ -1,5 +1,4 @@
-use Rattle.std.proofs.Common.{◌≡◌, ◌≤◌, ◌+◌, All, List, length, sym, ◌∙◌, ap, subst, arith}
-use Rattle.abc_book.specs.declared.block.Block.{Block}
+use Rattle.std.proofs.Common.{◌≡◌, ◌≤◌, ◌+◌, All, length, sym, subst, arith}
 use Rattle.abc_fold.specs.Steps.{steps_of}
 use Rattle.abc_lines.specs.GapList.{replaced_run}
 use Rattle.abc_chains.specs.Holding.{LiesWithin}

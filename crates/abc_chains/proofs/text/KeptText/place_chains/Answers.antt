@@ -1,4 +1,4 @@
-use Rattle.std.proofs.Common.{◌≡◌, ◌≤◌, ◌+◌, ◌∷◌, ◌++◌, IfOk, length, refl, sym, ◌∙◌, ap, subst, arith}
+use Rattle.std.proofs.Common.{◌≡◌, ◌≤◌, ◌+◌, ◌∷◌, ◌++◌, IfOk, length, refl, sym, ◌∙◌, ap, subst}
 use Rattle.abc_chains.specs.Renewing.{MayBeAnew, chains_after}
 use Rattle.abc_chains.specs.Standing.{Keeping}
 use Rattle.abc_chains.proofs.Replaced.{place_anew, place_same}

@@ -1,4 +1,4 @@
-use Rattle.std.proofs.Common.{◌≡◌, ◌+◌, ◌≤◌, length, ap, sym, ◌∙◌, subst, refl}
+use Rattle.std.proofs.Common.{◌≡◌, ◌+◌, ◌≤◌, length, ap, sym, ◌∙◌, subst}
 use Rattle.abc_fold.specs.Steps.{steps_of}
 use Rattle.abc_lines.specs.Text.{IsText, Text, splice_from, spliced}
 use Rattle.abc_chains.specs.Standing.{Keeping, Stands}
