@@ -12,5 +12,4 @@ pub mod Lengths
 pub mod Place
 pub mod Ties
 pub mod TunePlaces
-pub mod Velocities
 pub mod Voice

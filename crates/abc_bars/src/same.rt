@@ -6,7 +6,6 @@ use crate::body::{Body, Current};
 use crate::defaults::Defaults;
 use crate::entry::Entry;
 use crate::header::Header;
-use crate::tune_program::TuneProgram;
 use crate::voices::Voices;
 use abc_fields::Shift;
 use abc_music::{Settings, TuneMeter, TuneTempo, UnitLength};
@@ -46,7 +45,7 @@ fn same_meter(meter: Option<TuneMeter>, other: Option<TuneMeter>) -> bool
     match (meter, other) {
         (Some(meter), Some(other)) => meter.same(other),
         (None, None) => true,
-        (Some(_), None) | (None, Some(_)) => false,
+        _ => false,
     }
 }
 
@@ -57,7 +56,7 @@ fn same_unit(unit: Option<UnitLength>, other: Option<UnitLength>) -> bool
     match (unit, other) {
         (Some(unit), Some(other)) => unit.same(other),
         (None, None) => true,
-        (Some(_), None) | (None, Some(_)) => false,
+        _ => false,
     }
 }
 
@@ -68,18 +67,7 @@ fn same_tempo(tempo: Option<TuneTempo>, other: Option<TuneTempo>) -> bool
     match (tempo, other) {
         (Some(tempo), Some(other)) => tempo.same(other),
         (None, None) => true,
-        (Some(_), None) | (None, Some(_)) => false,
-    }
-}
-
-/// Whether both are the same program, or there is none.
-fn same_program(program: Option<TuneProgram>, other: Option<TuneProgram>) -> bool
-    ensures { IsTrue result ↔ (program ≡ other) }
-{
-    match (program, other) {
-        (Some(program), Some(other)) => program.same(other),
-        (None, None) => true,
-        (Some(_), None) | (None, Some(_)) => false,
+        _ => false,
     }
 }
 
@@ -91,8 +79,6 @@ impl Defaults {
         same_meter(self.meter, other.meter)
             && same_unit(self.unit, other.unit)
             && same_tempo(self.tempo, other.tempo)
-            && same_program(self.program, other.program)
-            && self.reach == other.reach
     }
 }
 

@@ -63,8 +63,6 @@ pub enum FaultCode {
     UnevenVoices,
     /// A tune that is too long.
     TuneTooLong,
-    /// A program that MIDI has no number for.
-    BadProgram,
 }
 
 impl FaultCode {
@@ -72,7 +70,7 @@ impl FaultCode {
     pub fn number(self) -> u8
         ensures value { result ≡ number_of self }
         ensures own { (other : FaultCode) → number_of other ≡ result → other ≡ self }
-        ensures range { (1 ≤ result) × (result ≤ 27) }
+        ensures range { (1 ≤ result) × (result ≤ 26) }
     {
         self as u8
     }
@@ -108,7 +106,6 @@ impl FaultCode {
             FaultCode::UnknownPart => "UnknownPart",
             FaultCode::UnevenVoices => "UnevenVoices",
             FaultCode::TuneTooLong => "TuneTooLong",
-            FaultCode::BadProgram => "BadProgram",
         }
     }
 }

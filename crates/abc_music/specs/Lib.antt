@@ -4,7 +4,6 @@ pub mod Alteration
 pub mod BarRest
 pub mod Broken
 pub mod ChordFaults
-pub mod ChordKeys
 pub mod ChordNotes
 pub mod Chords
 pub mod Column
@@ -14,8 +13,6 @@ pub mod Lengths
 pub mod LooseTies
 pub mod NoteKeys
 pub mod Pitch
-pub mod Program
-pub mod Reaching
 pub mod Settings
 pub mod Sound
 pub mod Tempo
@@ -23,5 +20,4 @@ pub mod TempoItem
 pub mod TimeTokens
 pub mod Tuplet
 pub mod Unit
-pub mod Velocity
 pub mod VoiceShift

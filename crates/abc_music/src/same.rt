@@ -2,7 +2,7 @@
 
 ghost use Rattle.std.specs.Prelude.{◌≡◌, ◌↔◌, IsTrue, slice_get};
 
-use crate::accidentals::{Accidentals, LetterAccidentals};
+use crate::accidentals::Accidentals;
 use crate::meter::TuneMeter;
 use crate::settings::Settings;
 use crate::tempo::TuneTempo;
@@ -11,7 +11,6 @@ use crate::tuplet::OpenTuplet;
 use crate::unit::UnitLength;
 use crate::voice_shift::VoiceShift;
 use abc_fields::Signature;
-use abc_scan::Dynamic;
 
 impl TuneMeter {
     /// Whether both are the same meter.
@@ -70,10 +69,10 @@ fn same_alteration(by: Option<i8>, other: Option<i8>) -> bool
     by == other
 }
 
-impl LetterAccidentals {
+impl Accidentals {
     /// Whether both alter the same letters, each alike.
     #[tactic(auto, using(crate::proofs::Alike::accidentals_of_parts))]
-    fn same(&self, other: &LetterAccidentals) -> bool
+    fn same(&self, other: &Accidentals) -> bool
         ensures { IsTrue result ↔ (self.now ≡ other.now) }
     {
         same_alteration(self.c, other.c)
@@ -84,27 +83,6 @@ impl LetterAccidentals {
             && same_alteration(self.a, other.a)
             && same_alteration(self.b, other.b)
     }
-}
-
-impl Accidentals {
-    /// Whether both reach as far and say the same.
-    fn same(&self, other: &Accidentals) -> bool
-        ensures { IsTrue result ↔ (self.now ≡ other.now) }
-    {
-        match (self, other) {
-            (Accidentals::Own, Accidentals::Own) => true,
-            (Accidentals::InOctaves(octaves), Accidentals::InOctaves(with)) => octaves.same(with),
-            (Accidentals::OnLetters(letters), Accidentals::OnLetters(with)) => letters.same(with),
-            _ => false,
-        }
-    }
-}
-
-/// Whether both dynamics are the same, or there is none.
-fn same_dynamic(dynamic: Option<Dynamic>, other: Option<Dynamic>) -> bool
-    ensures { IsTrue result ↔ (dynamic ≡ other) }
-{
-    dynamic == other
 }
 
 /// Whether both are the same open tuplet, or there is none.
@@ -167,6 +145,5 @@ impl Settings {
             && self.accidentals.same(&other.accidentals)
             && same_tuplet(self.tuplet, other.tuplet)
             && same_tied(self.tied.as_slice(), other.tied.as_slice())
-            && same_dynamic(self.dynamic, other.dynamic)
     }
 }

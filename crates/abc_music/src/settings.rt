@@ -3,14 +3,13 @@
 ghost use Rattle.std.specs.Prelude.{◌≡◌};
 ghost use Rattle.abc_music.specs.Settings.{without_accidentals};
 
-use crate::accidentals::Accidentals;
+use crate::accidentals::{Accidentals, NO_ACCIDENTALS};
 use crate::meter::TuneMeter;
 use crate::tied::TiedNote;
 use crate::tuplet::OpenTuplet;
 use crate::unit::UnitLength;
 use crate::voice_shift::VoiceShift;
 use abc_fields::Signature;
-use abc_scan::Dynamic;
 use abc_text::ShortSequence;
 use std::alloc::AllocError;
 
@@ -22,14 +21,12 @@ pub struct Settings {
     pub unit: UnitLength,
     pub signature: Signature,
     pub shift: VoiceShift,
-    /// The accidentals written since the last bar line, key or part, as far as they reach.
+    /// The accidentals written since the last bar line, key or part.
     pub accidentals: Accidentals,
     /// The tuplet that the next note, chord or rest belongs to.
     pub tuplet: Option<OpenTuplet>,
     /// The tied notes of the last note, chord or rest.
     pub tied: ShortSequence<TiedNote>,
-    /// The last dynamic; None where none stood.
-    pub dynamic: Option<Dynamic>,
 }
 
 impl Settings {
@@ -37,7 +34,7 @@ impl Settings {
     pub fn clear_accidentals(&mut self)
         ensures { self.new ≡ without_accidentals self.old }
     {
-        self.accidentals.clear();
+        self.accidentals = NO_ACCIDENTALS;
     }
 }
 
@@ -50,10 +47,9 @@ impl Clone for Settings {
             unit: self.unit,
             signature: self.signature,
             shift: self.shift,
-            accidentals: self.accidentals.clone()?,
+            accidentals: self.accidentals,
             tuplet: self.tuplet,
             tied: self.tied.clone()?,
-            dynamic: self.dynamic,
         })
     }
 }

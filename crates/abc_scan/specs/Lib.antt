@@ -1,10 +1,8 @@
 pub mod Byte
 pub mod Text
-pub mod Number
-pub mod Directive
 pub mod Class
 pub mod Length
-pub mod Dynamic
+pub mod Number
 pub mod Note
 pub mod BarRest
 pub mod Bar

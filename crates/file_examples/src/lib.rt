@@ -6,4 +6,3 @@
 
 pub mod definitions;
 pub mod layouts;
-pub mod voice_tracks;
