@@ -328,8 +328,8 @@ def character_of(line: str, column: int) -> int:
 
 def span_of(line: str, start: int, name: str) -> tuple:
     """From which character of a line to which a fault goes that has its first byte in one: where its field or token
-    seems to end."""
-    if start == 0 and FIELD.match(line) or name == "BadLine":
+    seems to end, or its line."""
+    if start == 0 and FIELD.match(line) or name in ("BadLine", "BadProgram"):
         return start, len(line)
     if name in ("BadByte", "Unclosed"):
         return start, start + 1

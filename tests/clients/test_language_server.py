@@ -131,6 +131,12 @@ class Session(Editor):
         self.assertEqual(self.ask("initialize", {"capabilities": {}})["capabilities"]["positionEncoding"], "utf-16")
         self.notify("initialized", {})
 
+    def test_a_program_that_there_is_not(self):
+        found = self.open("X:1\n%%MIDI program 128\nK:C\nC!f!D\n")
+        self.assertEqual([(each["range"], each["code"]) for each in found], [(span(1, 0, 1, 18), "BadProgram")])
+        self.assertEqual(found[0]["message"], live_book.sentences()["BadProgram"])
+        self.assertEqual(self.change(1, (span(1, 15, 1, 18), "40")), [])
+
     def test_diagnostics(self):
         found = self.open(BOOK)
         self.assertEqual([each["range"] for each in found], [span(3, 5, 3, 6), span(7, 4, 7, 5)])

@@ -236,4 +236,5 @@ INSTEAD = [
     ("UnknownPart", "X:1\nP:AB\nK:C\nP:A\nC", "X:1\nP:AB\nK:C\nP:A\nC\nP:B\nC", "P:"),
     ("UnevenVoices", HEAD + "V:1\nC4\nV:2\nC2", HEAD + "V:1\nC4\nV:2\nC2z2", "z2"),
     ("TuneTooLong", "X:1\nP:(A99)99\nK:C\nP:A\nC", "X:1\nP:(A9)9\nK:C\nP:A\nC", ""),
+    ("BadProgram", HEAD + "%%MIDI program 128\nC", HEAD + "%%MIDI program 40\nC", "%%MIDI program 40"),
 ]

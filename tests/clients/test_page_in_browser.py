@@ -38,6 +38,35 @@ const button = [...document.querySelectorAll("#notice:not([hidden]) button")].fi
 button?.click();
 return Boolean(button);
 """
+HAND = """
+const [bytes, done] = arguments;
+const waves = [], louds = [];
+const ramp = AudioParam.prototype.linearRampToValueAtTime;
+const start = OscillatorNode.prototype.start;
+AudioParam.prototype.linearRampToValueAtTime = function (value, when) { louds.push(value); return ramp.call(this, value, when); };
+OscillatorNode.prototype.start = function (when) { waves.push(this.type); return start.call(this, when); };
+const act = async () => {
+  const { scoreOf } = await import("./midi.js");
+  const { Player } = await import("./player.js");
+  const score = scoreOf(new Uint8Array(bytes).buffer);
+  const player = new Player();
+  await player.play(score);
+  player.stop();
+  return {
+    notes: score.notes.map((note) => [note.voice, note.start, note.end, note.key, note.velocity, note.program]),
+    waves, louds, keys: played.map(([_, key]) => key),
+  };
+};
+act().then(done, (error) => done(String(error)));
+"""
+# Made by hand: a tenth of a second a quarter note. The first voice has program 41 and two notes, of the velocities 30 and
+# 127, then at tick 480 program 5 and one of 80; the second, on the next channel, has none and a note of 105.
+HAND_MADE = bytes.fromhex(
+    "4D546864 00000006 0001 0003 01E0"
+    "4D54726B 0000000C 00 FF510301 86A0 8550 FF2F00"
+    "4D54726B 00000025 00 C029 00 903C1E 8170 803C40 00 903E7F 8170 803E40 00 C005 00 904050 8170 804040 00 FF2F00"
+    "4D54726B 0000000E 00 914369 8170 814340 8360 FF2F00"
+)
 CONTROL, HOME, BACKSPACE, ESCAPE = "\ue009", "\ue011", "\ue003", "\ue00c"
 TUNE = "X:1\nT:Scale\nM:3/4\nL:1/4\nQ:1/4=240\nK:C\nCEG|[Q:1/4=480]c2 z|\n"
 LACKING = browser.lacking()
@@ -211,6 +240,25 @@ class Browser(test_page.Page):
         self.wait(lambda: self.path.read_text() == TUNE)
         self.load()
         self.wait(lambda: self.run_script(f"return {AREA}.value") == TUNE)
+
+    def test_velocities_and_programs(self):
+        """The page reads and plays them as a file says them."""
+        found = self.driver.execute_async_script(HAND, list(HAND_MADE))
+        notes = [[0, 0, 240, 60, 30, 41], [1, 0, 240, 67, 105, 0], [0, 240, 480, 62, 127, 41], [0, 480, 720, 64, 80, 5]]
+        self.assertEqual(found["notes"], notes)
+        self.assertEqual(found["keys"], [60, 67, 62, 64])
+        bowed, plucked = "sawtooth", "triangle"
+        self.assertEqual(found["waves"], [bowed, plucked, bowed, plucked])
+        self.assertEqual(sorted(range(4), key=found["louds"].__getitem__), [0, 3, 1, 2])
+
+    def test_what_dynamics_and_programs_do(self):
+        """They come to the page in the files of the tunes; a program that there is not is marked over its line."""
+        text = "X:1\nL:1/4\n%%MIDI program 128\nK:C\n!p!C!f!D"
+        self.type(text)
+        self.settled(text)
+        self.wait(lambda: self.run_script(FAULTS) == [[2, 0, 18, "BadProgram"]])
+        self.assertIn("Line 3There is no program of this number", self.text("told"))
+        self.roll("from C4 to D4")
 
     def test_a_change_while_it_plays(self):
         self.type("X:1\nM:2/4\nL:1/4\nQ:1/4=20\nK:C\nC2|D2|E2|")

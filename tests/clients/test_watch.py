@@ -66,6 +66,17 @@ class Saves(trial.Folder):
         one = self.save(b"\n\n" + TUNE + b"C-z&\n" + b"&" * 20 + b"\nC - D\n")
         self.assertEqual([one[0], one[1].split(": ")[:2]], ["written 1.mid (Kesh); 22 faults, 1 new", ["/book.abc:9:3", "LooseTie"]])
 
+    def test_dynamics_and_programs(self):
+        """What a file says of loudness and sound is a change of it; a program that there is not is told."""
+        self.save(TUNE)
+        self.assertEqual(self.save(TUNE.replace(b"GAB", b"G!p!AB")), ["written 1.mid (Kesh)"])
+        self.assertEqual(self.save(TUNE.replace(b"GAB", b"G!trill!AB")), ["written 1.mid (Kesh)"])
+        self.assertEqual(self.save(TUNE.replace(b"K:G", b"%%MIDI program 40\nK:G")), ["written 1.mid (Kesh)"])
+        told = self.save(TUNE.replace(b"K:G", b"%%MIDI program 400\nK:G"))
+        self.assertEqual([told[0], told[1].split(": ")[:2]], ["written 1.mid (Kesh); 1 fault, 1 new", ["/book.abc:3:1", "BadProgram"]])
+        self.assertTrue(told[1].endswith(live_book.sentences()["BadProgram"]))
+        self.assertEqual(self.save(b"%%MIDI program 40\n\n" + TUNE + OTHER), ["written 1.mid (Kesh), 2.mid"])
+
     def test_saved_by_renaming(self):
         self.save(TUNE)
         (self.folder / "new").write_bytes(TUNE + OTHER)

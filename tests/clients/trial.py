@@ -79,7 +79,10 @@ class Folder(unittest.TestCase):
 
 
 MUSIC = ["C", "D2", "^F", "_b,", "z", "|", "|:", ":|", "[1", "[CEG]", "(3abc", ">", "-", "&", '"Am"', "é", "𝄞", "{a}", "[K:D]"]
+MUSIC += ["f", "!f!", "!pp!", "!trill!"]
 FIELDS = ["T:A title", "M:6/8", "M:7", "L:1/16", "Q:1/4=90", "K:D", "K:X", "V:1", "V:2", "P:A", "w:la la", "% words"]
+FIELDS += ["%%MIDI program 41", "%%MIDI program 5 % words", "%%MIDI program 128", "%%MIDI program 2 41"]
+FIELDS += ["%%propagate-accidentals octave", "%%propagate-accidentals not", "%%propagate-accidentals both"]
 COMMANDS = ["quit", "build", "delete 1 9", "insert 1 2", "end", "hex 1"]
 
 

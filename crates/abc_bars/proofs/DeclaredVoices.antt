@@ -1,4 +1,4 @@
--- The voices that a header declares: one more field says of them what it gives.
+-- The voices that a header declares: one more line says of them what it gives.
 use Rattle.std.proofs.Common.{◌≡◌, ℕ, ℤ, suc, ◌+◌, ◌||◌, nat_lt, nat_le, Bool, true, false, cond, is_some, List, [], ◌∷◌, ◌++◌, length, map, Option, Some, None, bytes_eq, refl, sym, ap, subst, ◌∙◌, add-one, length-append, lit≤, arith, ◌≤◌}
 use Rattle.std.proofs.lemmas.Bool.Decides.{nat_tests}
 use Rattle.std.proofs.lemmas.Cmp.{nat_list_eq_equiv}
@@ -12,9 +12,9 @@ use Rattle.abc_fields.specs.declared.fault.FaultCode.{FaultCode}
 use Rattle.abc_fields.specs.declared.fault.FaultCode.TheVariants.{TooManyVoices}
 use Rattle.abc_fields.specs.declared.shift.Shift.{Shift}
 use Rattle.abc_fields.specs.Shift.{no_shift}
-use Rattle.abc_scan.specs.declared.field.Field.{Field}
 use Rattle.abc_bars.specs.Header.{declared, declared_by, said_at, said_of, shift_said}
-use Rattle.abc_bars.specs.LookBack.Header.{declared_names, last_part, part_by, shift_at, voice_on, voices_at, with_name, with_named}
+use Rattle.abc_bars.specs.HeaderLine.{HeaderLine}
+use Rattle.abc_bars.specs.LookBack.Header.{declared_names, declared_shift, last_part, part_said, voice_on, voices_at, with_name, with_named}
 use Rattle.abc_bars.specs.Voices.{place_of, voice_at}
 use Rattle.abc_music.specs.declared.item.TheConstants.{MOST_VOICES}
 use Rattle.abc_bars.proofs.NamePlaces.{place_here, place_behind}
@@ -227,10 +227,10 @@ distinct_with names None distinct = distinct
 distinct_with names (Some voice) distinct = distinct_on names voice.0 distinct
 
 -- No name of a header comes twice.
-pub distinct_names : (before : List Field) → IsDistinct bytes_eq (declared_names before)
+pub distinct_names : (before : List HeaderLine) → IsDistinct bytes_eq (declared_names before)
 unfolding IsDistinct
 distinct_names [] = tt
-distinct_names (field ∷ before) = distinct_with (declared_names before) (voice_on field) (distinct_names before)
+distinct_names (line ∷ before) = distinct_with (declared_names before) (voice_on line) (distinct_names before)
 
 -- One more is no more than the most where they are not reached.
 one_fits : (n : ℕ) → nat_le MOST_VOICES n ≡ false → n + 1 ≤ MOST_VOICES
@@ -253,13 +253,13 @@ few_with names None few = few
 few_with names (Some voice) few = few_on names voice.0 few
 
 -- A header declares no more voices than a tune may have.
-pub few_names : (before : List Field) → length (declared_names before) ≤ MOST_VOICES
+pub few_names : (before : List HeaderLine) → length (declared_names before) ≤ MOST_VOICES
 few_names [] = lit≤ tt
-few_names (field ∷ before) = few_with (declared_names before) (voice_on field) (few_names before)
+few_names (line ∷ before) = few_with (declared_names before) (voice_on line) (few_names before)
 
 -- The names of what is known of voices.
-pub declared_keys : (before : List Field) → keys_of (voices_at before) ≡ declared_names before
-declared_keys before = names_with (shift_at before) (declared_names before)
+pub declared_keys : (before : List HeaderLine) → keys_of (voices_at before) ≡ declared_names before
+declared_keys before = names_with (declared_shift before) (declared_names before)
 
 -- Equal names are among the same names.
 same_among : (name other : List ℕ) (names : List (List ℕ)) → bytes_eq name other ≡ true → list_any (bytes_eq name) names ≡ list_any (bytes_eq other) names
@@ -269,11 +269,11 @@ same_among name other (here ∷ names) same =
     let rest = same_among name other names same in
     λ i. first i || rest i
 
--- Nothing is said for a voice that one more field does not declare, though there is room.
+-- Nothing is said for a voice that one more line does not declare, though there is room.
 unsaid_on : (part : Shift → Option ℤ) (name : List ℕ) (names : List (List ℕ)) (voice : Option (List ℕ × Shift)) (rest : Option ℤ) →
     (list_any (bytes_eq name) names ≡ false → nat_le MOST_VOICES (length names) ≡ false → rest ≡ None) →
     list_any (bytes_eq name) (with_named names voice) ≡ false → nat_le MOST_VOICES (length (with_named names voice)) ≡ false →
-    option_or (part_by part name voice) rest ≡ None
+    option_or (part_said part name voice) rest ≡ None
 unsaid_on part name names None rest before new free = before new free
 unsaid_on part name names (Some voice) rest before new free = by_test (list_any (bytes_eq voice.0) names)
     (λ among. let same = kept true (ap (λ b. b || nat_le MOST_VOICES (length names)) among) in
@@ -292,25 +292,25 @@ unsaid_on part name names (Some voice) rest before new free = by_test (list_any 
     kept : (b : Bool) → (list_any (bytes_eq voice.0) names || nat_le MOST_VOICES (length names)) ≡ b → with_name names voice.0 ≡ cond b names (names ++ voice.0 ∷ [])
     kept b known = ap (λ v. cond v names (names ++ voice.0 ∷ [])) known
 
-    other : bytes_eq name voice.0 ≡ false → option_or (part_by part name (Some voice)) rest ≡ rest
+    other : bytes_eq name voice.0 ≡ false → option_or (part_said part name (Some voice)) rest ≡ rest
     other differs = ap (λ b. option_or (cond b (part voice.1) None) rest) differs
 
 -- Nothing was said for a voice that is not declared, though there is room.
-unsaid : (part : Shift → Option ℤ) (name : List ℕ) (before : List Field) →
+unsaid : (part : Shift → Option ℤ) (name : List ℕ) (before : List HeaderLine) →
     list_any (bytes_eq name) (declared_names before) ≡ false → nat_le MOST_VOICES (length (declared_names before)) ≡ false → last_part part name before ≡ None
 unsaid part name [] new free = refl
-unsaid part name (field ∷ before) new free =
-    unsaid_on part name (declared_names before) (voice_on field) (last_part part name before) (unsaid part name before) new free
+unsaid part name (line ∷ before) new free =
+    unsaid_on part name (declared_names before) (voice_on line) (last_part part name before) (unsaid part name before) new free
 
 -- The voices behind a V: that names one are those that it declares.
-pub voices_named : (before : List Field) (name : List ℕ) (shift : Shift) →
-    map (voice_with (said_on name shift (shift_at before))) (with_name (declared_names before) name) ≡ (declared (voices_at before) name shift).0
+pub voices_named : (before : List HeaderLine) (name : List ℕ) (shift : Shift) →
+    map (voice_with (said_on name shift (declared_shift before))) (with_name (declared_names before) name) ≡ (declared (voices_at before) name shift).0
 voices_named before name shift =
     let names = declared_names before in
-    named_at names name shift (shift_at before) (distinct_names before)
+    named_at names name shift (declared_shift before) (distinct_names before)
     (λ new free. λ i. record {
       clef = unsaid (λ s. s.clef) name before new free i;
       octave = unsaid (λ s. s.octave) name before new free i;
       transpose = unsaid (λ s. s.transpose) name before new free i;
     })
-    (place_of name (voices_at before)) (sym (ap (position (bytes_eq name)) (names_with (shift_at before) names)))
+    (place_of name (voices_at before)) (sym (ap (position (bytes_eq name)) (names_with (declared_shift before) names)))

@@ -1,4 +1,4 @@
--- What holds behind one more field of a header is what the field gives from what held before it.
+-- What holds behind one more line of a header is what the line gives from what held before it.
 use Rattle.std.proofs.Common.{◌≡◌, ℕ, nat_lt, Bool, true, false, cond, List, [], ◌∷◌, ◌++◌, length, map, Option, Some, None, Result, Ok, Err, refl, ap, sym, ◌∙◌}
 use Rattle.std.specs.Option.{option_map, option_or}
 use Rattle.std.specs.Result.{result_ok}
@@ -10,12 +10,11 @@ use Rattle.abc_fields.specs.declared.voice.Voice.{Voice}
 use Rattle.abc_fields.specs.Key.{key_of}
 use Rattle.abc_fields.specs.Parts.{parts_of}
 use Rattle.abc_fields.specs.Voice.{voice_of}
-use Rattle.abc_scan.specs.declared.field.Field.{Field}
 use Rattle.abc_bars.specs.Entry.{header_in}
 use Rattle.abc_bars.specs.FieldKind.{kind_of}
-use Rattle.abc_bars.specs.Header.{declared_by, declared_given, header_given, key_by, order_by, own_given, reference_by, voice_by}
-use Rattle.abc_bars.specs.LookBack.Header as back
-use Rattle.abc_bars.specs.LookBack.Header.{declared_names, header_at, header_view, named_in, part_by, shift_at, voices_at, with_named}
+use Rattle.abc_bars.specs.Header.{declared_by, declared_given, header_given, header_key_by, header_voice_by, order_by, own_given, reference_by}
+use Rattle.abc_bars.specs.HeaderLine.{HeaderLine, FieldLine, DirectiveLine}
+use Rattle.abc_bars.specs.LookBack.Header.{declared_names, declared_shift, header_at, header_view, named_in, part_said, voice_said, voices_at, with_named}
 use Rattle.abc_bars.specs.Reference.{reference_of}
 use Rattle.abc_bars.specs.Voices.{place_of}
 use Rattle.abc_music.specs.declared.item.TheConstants.{MOST_VOICES}
@@ -26,25 +25,25 @@ use Rattle.abc_bars.specs.declared.field_kind.FieldKind.TheVariants as kinds
 use Rattle.abc_bars.specs.declared.header.Header.{Header}
 use Rattle.abc_bars.specs.LookBack.Defaults.{defaults_at}
 use Rattle.abc_bars.proofs.DeclaredVoices.{voice_with, voices_named}
-use Rattle.abc_bars.proofs.HeaderViews.{said, setting_said}
+use Rattle.abc_bars.proofs.HeaderViews.{defaults_behind, said, setting_said}
 
 -- What is said for a name, where one more voice may be said.
 abbrev shift_on : Option (List ℕ × Shift) → (List ℕ → Shift) → List ℕ → Shift
 shift_on voice before name = record {
-  clef = option_or (part_by (λ shift. shift.clef) name voice) (before name).clef;
-  octave = option_or (part_by (λ shift. shift.octave) name voice) (before name).octave;
-  transpose = option_or (part_by (λ shift. shift.transpose) name voice) (before name).transpose;
+  clef = option_or (part_said (λ shift. shift.clef) name voice) (before name).clef;
+  octave = option_or (part_said (λ shift. shift.octave) name voice) (before name).octave;
+  transpose = option_or (part_said (λ shift. shift.transpose) name voice) (before name).transpose;
 }
 
 -- The voices behind a field that may name one.
-abbrev voices_on : List Field → Option (List ℕ × Shift) → List (List ℕ × Shift)
-voices_on before voice = map (voice_with (shift_on voice (shift_at before))) (with_named (declared_names before) voice)
+abbrev voices_on : List HeaderLine → Option (List ℕ × Shift) → List (List ℕ × Shift)
+voices_on before voice = map (voice_with (shift_on voice (declared_shift before))) (with_named (declared_names before) voice)
 
 -- What holds behind a field of this kind, looking back.
-abbrev header_on : Defaults → List Field → FieldKind → List ℕ → Header
+abbrev header_on : Defaults → List HeaderLine → FieldKind → List ℕ → Header
 header_on opening before kind value = record {
   defaults = said (defaults_at opening before) kind value;
-  voices = voices_on before (back.voice_by kind value);
+  voices = voices_on before (voice_said kind value);
 }
 
 -- A reference number leaves the header as it is.
@@ -58,7 +57,7 @@ order_keeps header value (Ok accepted) = refl
 order_keeps header value (Err fault) = refl
 
 -- A key leaves the header as it is.
-key_keeps : (header : Header) (reading : Result Key FaultCode) → header ≡ (key_by header reading).header
+key_keeps : (header : Header) (reading : Result Key FaultCode) → header ≡ (header_key_by header reading).header
 key_keeps header (Ok key) = refl
 key_keeps header (Err fault) = refl
 
@@ -75,9 +74,9 @@ declares header name shift None = either (nat_lt (length header.voices) MOST_VOI
     either false = refl
 
 -- A V: declares the voice that it names.
-voice_declares : (opening : Defaults) (before : List Field) (value : List ℕ) (reading : Result Voice FaultCode) →
+voice_declares : (opening : Defaults) (before : List HeaderLine) (value : List ℕ) (reading : Result Voice FaultCode) →
     record { defaults = defaults_at opening before; voices = voices_on before (option_map (named_in value) (result_ok reading)) }
-    ≡ (voice_by (header_at opening before) value reading).header
+    ≡ (header_voice_by (header_at opening before) value reading).header
 voice_declares opening before value (Err fault) = refl
 voice_declares opening before value (Ok voice) =
     let header = header_at opening before in
@@ -87,7 +86,7 @@ voice_declares opening before value (Ok voice) =
     ∙ declares header named.0 named.1 (place_of named.0 header.voices)
 
 -- What holds behind a field of each kind.
-behind_kind : (opening : Defaults) (before : List Field) (kind : FieldKind) (value : List ℕ) →
+behind_kind : (opening : Defaults) (before : List HeaderLine) (kind : FieldKind) (value : List ℕ) →
     header_on opening before kind value ≡ (own_given (header_at opening before) kind value).header
 behind_kind opening before kinds.Reference value = reference_keeps (header_at opening before) (reference_of value)
 behind_kind opening before kinds.Title value = refl
@@ -102,19 +101,21 @@ behind_kind opening before kinds.Voice value = voice_declares opening before val
 behind_kind opening before kinds.Key value = key_keeps (header_at opening before) (key_of value)
 behind_kind opening before kinds.Other value = refl
 
--- What holds behind one more field of a header is what the field gives from what held before it.
-pub header_behind : (opening : Defaults) (before : List Field) (field : Field) →
-    header_at opening (field ∷ before) ≡ (header_given (header_at opening before) field).header
-header_behind opening before field = behind_kind opening before (kind_of field.letter) field.value
+-- What holds behind one more line of a header is what the line gives from what held before it.
+pub header_behind : (opening : Defaults) (before : List HeaderLine) (line : HeaderLine) →
+    header_at opening (line ∷ before) ≡ (header_given (header_at opening before) line).header
+header_behind opening before (FieldLine field) = behind_kind opening before (kind_of field.letter) field.value
+header_behind opening before (DirectiveLine directive) =
+    let set = defaults_behind opening before (DirectiveLine directive) in λ i. record { defaults = set i; voices = voices_at before }
 
 -- The header of a view is that which looking back finds.
-pub header_view_is : (opening : Defaults) (before : List Field) → header_in (header_view opening before) ≡ header_at opening before
+pub header_view_is : (opening : Defaults) (before : List HeaderLine) → header_in (header_view opening before) ≡ header_at opening before
 header_view_is opening [] = refl
-header_view_is opening (field ∷ before) = refl
+header_view_is opening (line ∷ before) = refl
 
--- The view behind one more field of a tune's header.
-pub header_view_behind : (opening : Defaults) (before : List Field) (field : Field) →
-    header_view opening (field ∷ before) ≡ entries.Header (header_given (header_in (header_view opening before)) field).header
-header_view_behind opening before field =
-    ap entries.Header (header_behind opening before field
-    ∙ ap (λ header. (header_given header field).header) (sym (header_view_is opening before)))
+-- The view behind one more line of a tune's header.
+pub header_view_behind : (opening : Defaults) (before : List HeaderLine) (line : HeaderLine) →
+    header_view opening (line ∷ before) ≡ entries.Header (header_given (header_in (header_view opening before)) line).header
+header_view_behind opening before line =
+    ap entries.Header (header_behind opening before line
+    ∙ ap (λ header. (header_given header line).header) (sym (header_view_is opening before)))

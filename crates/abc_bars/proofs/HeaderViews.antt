@@ -1,5 +1,5 @@
--- The values behind one more field are those that the field gives from the ones before it.
-use Rattle.std.proofs.Common.{◌≡◌, ℕ, List, ◌∷◌, Some, Result, Ok, Err, refl, ap}
+-- The values behind one more line are those that the line gives from the ones before it.
+use Rattle.std.proofs.Common.{◌≡◌, ℕ, List, ◌∷◌, Option, Some, None, Result, Ok, Err, refl, ap}
 use Rattle.std.specs.Option.{option_or}
 use Rattle.std.specs.Result.{result_ok}
 use Rattle.abc_fields.specs.declared.fault.FaultCode.{FaultCode}
@@ -9,11 +9,14 @@ use Rattle.abc_fields.specs.declared.tempo.Tempo.TheVariants.{Unset, Units, Beat
 use Rattle.abc_fields.specs.Meter.{meter_of}
 use Rattle.abc_fields.specs.Tempo.{tempo_of}
 use Rattle.abc_fields.specs.Unit.{unit_of}
-use Rattle.abc_scan.specs.declared.field.Field.{Field}
+use Rattle.abc_music.specs.Program.{program_of}
+use Rattle.abc_scan.specs.declared.directive.Directive.TheVariants as directives
 use Rattle.abc_time.specs.declared.ratio.Ratio.{Ratio}
-use Rattle.abc_bars.specs.Defaults.{no_defaults, set_or_refused, tempo_or, setting_given}
+use Rattle.abc_bars.specs.Defaults.{no_defaults, program_set, set_or_refused, tempo_or, setting_given}
 use Rattle.abc_bars.specs.FieldKind.{kind_of}
-use Rattle.abc_bars.specs.LookBack.Defaults.{if_set, meter_by, unit_by, tempo_by, defaults_at}
+use Rattle.abc_bars.specs.FileHeader.{line_given}
+use Rattle.abc_bars.specs.HeaderLine.{HeaderLine, FieldLine, DirectiveLine}
+use Rattle.abc_bars.specs.LookBack.Defaults.{if_set, meter_said, unit_said, tempo_said, defaults_at}
 use Rattle.abc_bars.specs.LookBack.Header.{file_header_view}
 use Rattle.abc_bars.specs.declared.defaults.Defaults.{Defaults}
 use Rattle.abc_bars.specs.declared.entry.Entry.TheVariants as entries
@@ -23,9 +26,11 @@ use Rattle.abc_bars.specs.declared.field_kind.FieldKind.TheVariants as kinds
 -- The values before a field, with what it says of each.
 abbrev pub said : Defaults → FieldKind → List ℕ → Defaults
 said defaults kind value = record {
-  meter = option_or (meter_by kind value) defaults.meter;
-  unit = option_or (unit_by kind value) defaults.unit;
-  tempo = option_or (tempo_by kind value) defaults.tempo;
+  meter = option_or (meter_said kind value) defaults.meter;
+  unit = option_or (unit_said kind value) defaults.unit;
+  tempo = option_or (tempo_said kind value) defaults.tempo;
+  program = defaults.program;
+  reach = defaults.reach;
 }
 
 -- A reading of M: sets what it says.
@@ -64,13 +69,20 @@ setting_said defaults kinds.Voice value = refl
 setting_said defaults kinds.Key value = refl
 setting_said defaults kinds.Other value = refl
 
--- The values behind one more field are those that it gives from the ones before it.
-pub defaults_behind : (opening : Defaults) (before : List Field) (field : Field) →
-    defaults_at opening (field ∷ before)
-    ≡ (setting_given (defaults_at opening before) (kind_of field.letter) field.value).defaults
-defaults_behind opening before field = setting_said (defaults_at opening before) (kind_of field.letter) field.value
+-- A directive of a program sets it, if MIDI has it.
+program_read : (defaults : Defaults) (program : Option ℕ) →
+    record defaults { program = option_or program defaults.program } ≡ (program_set defaults program).defaults
+program_read defaults (Some program) = refl
+program_read defaults None = refl
 
--- The view behind one more field of a file header.
-pub file_header_view_behind : (before : List Field) (field : Field) →
-    file_header_view (field ∷ before) ≡ entries.FileHeader (setting_given (defaults_at no_defaults before) (kind_of field.letter) field.value).defaults
-file_header_view_behind before field = ap entries.FileHeader (defaults_behind no_defaults before field)
+-- The values behind one more line are those that it gives from the ones before it.
+pub defaults_behind : (opening : Defaults) (before : List HeaderLine) (line : HeaderLine) →
+    defaults_at opening (line ∷ before) ≡ (line_given (defaults_at opening before) line).defaults
+defaults_behind opening before (FieldLine field) = setting_said (defaults_at opening before) (kind_of field.letter) field.value
+defaults_behind opening before (DirectiveLine (directives.Program written)) = program_read (defaults_at opening before) (program_of written)
+defaults_behind opening before (DirectiveLine (directives.Reach reach)) = refl
+
+-- The view behind one more line of a file header.
+pub file_header_view_behind : (before : List HeaderLine) (line : HeaderLine) →
+    file_header_view (line ∷ before) ≡ entries.FileHeader (line_given (defaults_at no_defaults before) line).defaults
+file_header_view_behind before line = ap entries.FileHeader (defaults_behind no_defaults before line)

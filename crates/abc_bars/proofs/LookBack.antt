@@ -16,6 +16,7 @@ pub mod Tied
 pub mod Ties
 pub mod Tokens
 pub mod TunePlaces
+pub mod Velocities
 pub mod Tuplets
 pub mod Voice
 pub mod Voices

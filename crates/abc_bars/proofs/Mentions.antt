@@ -1,12 +1,12 @@
 -- The voices that the cells of a tune mention: no more than fifteen.
 use Rattle.std.proofs.Common.{◌≡◌, ◌≤◌, ◌<◌, ℕ, ◌+◌, ◌-◌, zero, suc, nat_lt, Bool, true, false, cond, List, [], ◌∷◌, ◌++◌, length, Option, Some, None, bytes_eq, refl, sym, ap, subst, ◌∙◌, append_assoc, append-nil, length-append, length-take, length-drop, lit≤, arith}
-use Rattle.std.specs.Prelude.{◌||◌, slice_range, drop, Result, Ok, Err}
+use Rattle.std.specs.Prelude.{◌||◌, is_none, slice_range, drop, Result, Ok, Err}
 use Rattle.std.specs.Option.{ok_or, option_and_then, option_map}
 use Rattle.std.proofs.lemmas.Bool.{ltb-true}
 use Rattle.std.specs.List.{flat_map, list_any, position}
 use Rattle.std.specs.Map.{keys_of}
 use Rattle.abc_fields.specs.declared.fault.FaultCode.{FaultCode}
-use Rattle.abc_fields.specs.declared.fault.FaultCode.TheVariants.{BadBroken, BadVoice, LooseTie, TempoRange, TooManyVoices}
+use Rattle.abc_fields.specs.declared.fault.FaultCode.TheVariants.{BadBroken, BadProgram, BadVoice, LooseTie, TempoRange, TooManyVoices}
 use Rattle.abc_fields.specs.declared.key.Key.{Key}
 use Rattle.abc_fields.specs.declared.meter.Meter.{Meter}
 use Rattle.abc_fields.specs.declared.shift.Shift.{Shift}
@@ -21,6 +21,9 @@ use Rattle.abc_fields.specs.Shift.{shift_of}
 use Rattle.abc_fields.specs.Voice.{voice_at, voice_in, voice_of}
 use Rattle.abc_fold.specs.Steps.{items_from}
 use Rattle.abc_time.specs.declared.ratio.Ratio.{Ratio}
+use Rattle.abc_music.specs.Program.{program_of}
+use Rattle.abc_scan.specs.declared.directive.Directive.{Directive}
+use Rattle.abc_scan.specs.declared.directive.Directive.TheVariants as directives
 use Rattle.abc_scan.specs.declared.field.Field.{Field}
 use Rattle.abc_scan.specs.declared.spanned.Spanned.{Spanned}
 use Rattle.abc_scan.specs.declared.token.TokenKind.{TokenKind}
@@ -38,16 +41,16 @@ use Rattle.abc_bars.specs.declared.header.Header.{Header}
 use Rattle.abc_bars.specs.Body.{all_without_accidentals, after_part, current_without_accidentals, here, joined_by, made_current_at, mentioned, mentioned_in, moved_to, with_here, with_here_in}
 use Rattle.abc_bars.specs.BodyFields.{accepted, faulty, field_given, in_key, key_item, kind_given, key_by, meter_by, part_by, part_of, tempo_by, unit_by, voice_by, voice_made}
 use Rattle.abc_bars.specs.BodyOpening.{body_from, current_in, opening_another}
-use Rattle.abc_bars.specs.Cell.{cell_given, given_from, mentioned_by_chord, nothing_given, tie_ahead, with_ending, with_fault, with_fault_if, with_field, with_item, with_kind, with_played_in, with_some_fault, with_token}
+use Rattle.abc_bars.specs.Cell.{cell_given, given_from, mentioned_by_chord, nothing_given, tie_ahead, with_directive, with_dynamic, with_ending, with_fault, with_fault_if, with_field, with_item, with_kind, with_played_in, with_program, with_some_fault, with_token}
 use Rattle.abc_bars.specs.FieldKind.{kind_of}
-use Rattle.abc_bars.specs.Defaults.{unit_in}
-use Rattle.abc_bars.specs.Header.{declared_by, declared_given, items_with, opening_header, order_by, own_given, reference_by, said_at, said_of, shift_said}
-use Rattle.abc_bars.specs.Header.{key_by as header_key_by, key_item as header_key_item, voice_by as header_voice_by}
+use Rattle.abc_bars.specs.Defaults.{program_set, unit_in}
+use Rattle.abc_bars.specs.Header.{and_program, declared_by, declared_given, directed, header_key_by, header_key_item, header_voice_by, items_with, line_own, line_program, opening_header, order_by, own_given, reference_by, said_at, said_of, shift_said}
+use Rattle.abc_bars.specs.HeaderLine.{HeaderLine, FieldLine, DirectiveLine}
 use Rattle.abc_bars.specs.Opening.{opening_meter, opening_tempo, opening_tempo_by}
 use Rattle.abc_bars.specs.Reference.{reference_of}
 use Rattle.abc_bars.specs.declared.header.OwnGiven.{OwnGiven}
 use Rattle.abc_bars.specs.SameEntry.{bars}
-use Rattle.abc_bars.specs.Step.{behind_kind, body_stepped, field_in, file_header_stepped, header_stepped, stepped}
+use Rattle.abc_bars.specs.Step.{behind_kind, behind_line, body_stepped, file_header_stepped, header_stepped, line_in, stepped}
 use Rattle.abc_bars.specs.Voices.{place_of, with_voice_at}
 use Rattle.abc_bars.specs.Voices.{voice_at as header_voice_at}
 use Rattle.abc_bars.proofs.BodyOpenings.{opening_names}
@@ -346,6 +349,20 @@ fault_if_adds : (given : Given) (bad : Bool) (place : ℕ) (fault : FaultCode) �
 fault_if_adds given true place fault = adds_nothing given _ refl refl
 fault_if_adds given false place fault = adds_nothing given given refl refl
 
+program_adds : (given : Given) (place : ℕ) (number : Option ℕ) → Adds given (with_program given place number)
+program_adds given place number =
+    adds_both given (with_item given (items.Program false number)) (with_program given place number)
+    (record {
+      given = items.Program false number ∷ [];
+      items = refl;
+      tells = silent_told (known_of given.body) (known_of given.body) (items.Program false number) refl refl tt;
+    })
+    (fault_if_adds (with_item given (items.Program false number)) (is_none number) place BadProgram)
+
+directive_adds : (given : Given) (place : ℕ) (directive : Directive) → Adds given (with_directive given place directive)
+directive_adds given place (directives.Program written) = program_adds given place (program_of written)
+directive_adds given place (directives.Reach reach) = adds_nothing given given refl refl
+
 tie_adds : (given : Given) (place : ℕ) (b : Bool) → Adds given (cond b given (with_fault given place LooseTie))
 tie_adds given place true = adds_nothing given given refl refl
 tie_adds given place false = adds_nothing given _ refl refl
@@ -405,6 +422,9 @@ kind_adds given place (kinds.Broken mark) ahead = fault_if_adds given (is_bad_ma
 kind_adds given place kinds.Tie ahead = tie_adds given place given.after_note
 kind_adds given place kinds.Blank ahead = adds_nothing given given refl refl
 kind_adds given place kinds.NoEffect ahead = adds_nothing given given refl refl
+kind_adds given place (kinds.Dynamic dynamic) ahead =
+    adds_nothing given (with_dynamic given dynamic) refl (here_known given.body (record (here given.body) { dynamic = Some dynamic }))
+kind_adds given place (kinds.Directive directive) ahead = directive_adds given place directive
 kind_adds given place (kinds.Field field) ahead = field_adds given place field
 kind_adds given place kinds.Unclosed ahead = adds_nothing given _ refl refl
 kind_adds given place kinds.BadByte ahead = adds_nothing given _ refl refl
@@ -529,6 +549,25 @@ own_told header fields.Voice value = header_voice_told header value (voice_of va
 own_told header fields.Key value = header_key_told header (key_of value)
 own_told header fields.Other value = own_nothing header
 
+directed_told : (header : Header) (directive : Directive) → OwnTells header (directed header directive)
+directed_told header (directives.Program written) = program_told (program_of written)
+  where
+    program_told : (program : Option ℕ)
+        → Tells (known_in_header header) (known_in_header (record header { defaults = (program_set header.defaults program).defaults })) (items.Program true program ∷ [])
+    program_told (Some program) = own_silent header (items.Program true (Some program)) refl tt
+    program_told None = own_silent header (items.Program true None) refl tt
+directed_told header (directives.Reach reach) = own_nothing header
+
+line_told : (header : Header) (line : HeaderLine) → OwnTells header (line_own header line)
+line_told header (FieldLine field) = own_told header (kind_of field.letter) field.value
+line_told header (DirectiveLine directive) = directed_told header directive
+
+-- a program tells of no voice
+program_told : (before after : Mentioned) (given : List Item) (program : Option ℕ) → Tells before after given → Tells before after (and_program given program)
+program_told before after given None told = told
+program_told before after given (Some program) told =
+    both_told before after after given (items.Program true (Some program) ∷ []) told (silent_told after after (items.Program true (Some program)) refl refl tt)
+
 -- the voices with which a body begins
 placed_in : (voices : List (List ℕ × Shift)) (settings : Settings) → is_placed (current_in voices settings) ≡ is_some_name (keys_of voices)
 placed_in [] settings = refl
@@ -555,6 +594,10 @@ behind_known header fields.Voice value = refl
 behind_known header fields.Key value = body_known header (key_or_empty (key_of value))
 behind_known header fields.Other value = refl
 
+behind_line_known : (header : Header) (line : HeaderLine) → known_in (behind_line header line) ≡ known_in_header header
+behind_line_known header (FieldLine field) = behind_known header (kind_of field.letter) field.value
+behind_line_known header (DirectiveLine directive) = refl
+
 abbrev StepTells : Mentioned → Entry × Items → Type 0
 StepTells before step = Tells before (known_in step.0) step.1.items
 
@@ -563,25 +606,27 @@ body_told body cell =
     let added = tokens_add (nothing_given body) cell in
     subst (λ given. Tells (known_of body) (known_of (cell_given body cell).body) given) (sym added.items) added.tells
 
-header_told : (header : Header) (cell : List (Spanned TokenKind)) (field : Option Field) → StepTells (known_in_header header) (header_stepped header cell field)
+header_told : (header : Header) (cell : List (Spanned TokenKind)) (line : Option HeaderLine) → StepTells (known_in_header header) (header_stepped header cell line)
 header_told header cell None =
     subst (λ (known : Mentioned). StepTells known (body_stepped (body_from header empty_signature) cell)) (body_known header empty_signature)
     (body_told (body_from header empty_signature) cell)
-header_told header cell (Some field) =
-    let own = own_given header (kind_of field.letter) field.value in
-    subst (λ (known : Mentioned). Tells (known_in_header header) known (items_with own.item own.header.defaults))
-    (sym (behind_known own.header (kind_of field.letter) field.value))
-    (items_told (known_in_header header) (known_in_header own.header) own.item own.header.defaults (own_told header (kind_of field.letter) field.value))
+header_told header cell (Some line) =
+    let own = line_own header line in
+    let program = line_program line header.defaults in
+    let given = items_with own.item own.header.defaults in
+    subst (λ (known : Mentioned). Tells (known_in_header header) known (and_program given program)) (sym (behind_line_known own.header line))
+    (program_told (known_in_header header) (known_in_header own.header) given program
+    (items_told (known_in_header header) (known_in_header own.header) own.item own.header.defaults (line_told header line)))
 
-file_told : (defaults : Defaults) (field : Option Field) → StepTells ([], false) (file_header_stepped defaults field)
+file_told : (defaults : Defaults) (line : Option HeaderLine) → StepTells ([], false) (file_header_stepped defaults line)
 file_told defaults None = nothing_told ([], false) ([], false) refl
-file_told defaults (Some field) = nothing_told ([], false) ([], false) refl
+file_told defaults (Some line) = nothing_told ([], false) ([], false) refl
 
 step_told : (entry : Entry) (cell : List (Spanned TokenKind)) → StepTells (known_in entry) (stepped entry cell)
 unfolding stepped
-step_told (entries.FileHeader defaults) cell = file_told defaults (field_in cell)
-step_told (entries.Opening defaults) cell = header_told (opening_header defaults) cell (field_in cell)
-step_told (entries.Header header) cell = header_told header cell (field_in cell)
+step_told (entries.FileHeader defaults) cell = file_told defaults (line_in cell)
+step_told (entries.Opening defaults) cell = header_told (opening_header defaults) cell (line_in cell)
+step_told (entries.Header header) cell = header_told header cell (line_in cell)
 step_told (entries.Body body) cell = body_told body cell
 
 cells_told : (entry : Entry) (cells : List (List (Spanned TokenKind))) → (after : Mentioned) × Tells (known_in entry) after (flat_map (λ given. given.items) (items_from bars entry cells))

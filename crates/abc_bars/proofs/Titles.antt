@@ -1,10 +1,10 @@
 -- The titles that the cells of a tune say are those of its header.
 use Rattle.std.proofs.Common.{◌≡◌, ℕ, Bool, true, false, cond, List, [], ◌∷◌, ◌++◌, Option, Some, None, refl, ap, ◌∙◌, append-nil}
-use Rattle.std.specs.Prelude.{All, IfSome, Result, Ok, Err, option_to_list, slice_range}
+use Rattle.std.specs.Prelude.{All, IfSome, is_none, Result, Ok, Err, option_to_list, slice_range}
 use Rattle.std.specs.List.{cons_option, flat_map}
 use Rattle.std.proofs.lemmas.List.Elements.{All-nil, All-cons, All-head, All-tail, filter_map-append}
 use Rattle.abc_fields.specs.declared.fault.FaultCode.{FaultCode}
-use Rattle.abc_fields.specs.declared.fault.FaultCode.TheVariants.{BadBroken, LooseTie, TempoRange}
+use Rattle.abc_fields.specs.declared.fault.FaultCode.TheVariants.{BadBroken, BadProgram, LooseTie, TempoRange}
 use Rattle.abc_fields.specs.declared.key.Key.{Key}
 use Rattle.abc_fields.specs.declared.meter.Meter.{Meter}
 use Rattle.abc_fields.specs.declared.shift.Shift.{Shift}
@@ -28,6 +28,9 @@ use Rattle.abc_music.specs.declared.item.Item.{Item}
 use Rattle.abc_music.specs.declared.item.Item.TheVariants as items
 use Rattle.abc_music.specs.declared.settings.Settings.{Settings}
 use Rattle.abc_music.specs.declared.sound.Inside.{Inside}
+use Rattle.abc_music.specs.Program.{program_of}
+use Rattle.abc_scan.specs.declared.directive.Directive.{Directive}
+use Rattle.abc_scan.specs.declared.directive.Directive.TheVariants as directives
 use Rattle.abc_scan.specs.declared.field.Field.{Field}
 use Rattle.abc_scan.specs.declared.spanned.Spanned.{Spanned}
 use Rattle.abc_scan.specs.declared.token.TokenKind.{TokenKind}
@@ -36,15 +39,15 @@ use Rattle.abc_time.specs.declared.ratio.Ratio.{Ratio}
 use Rattle.abc_bars.specs.Body.{here, made_current, mentioned, with_here}
 use Rattle.abc_bars.specs.BodyFields.{field_given, key_by, kind_given, meter_by, part_by, part_of, tempo_by, unit_by, voice_by, voice_made, accepted, faulty}
 use Rattle.abc_bars.specs.BodyOpening.{body_from}
-use Rattle.abc_bars.specs.Cell.{given_from, mentioned_by_chord, nothing_given, tie_ahead, with_ending, with_fault, with_fault_if, with_kind, with_played_in, with_some_fault, with_token}
+use Rattle.abc_bars.specs.Cell.{given_from, mentioned_by_chord, nothing_given, tie_ahead, with_directive, with_ending, with_fault, with_fault_if, with_item, with_kind, with_played_in, with_some_fault, with_token}
 use Rattle.abc_bars.specs.Defaults.{unit_in}
 use Rattle.abc_bars.specs.FieldKind.{kind_of}
-use Rattle.abc_bars.specs.Header.{declared, declared_given, items_with, opening_header, order_by, own_given, reference_by}
-use Rattle.abc_bars.specs.Header.{key_by as header_key_by, voice_by as header_voice_by}
+use Rattle.abc_bars.specs.Header.{and_program, declared, declared_given, directive_item, header_key_by, header_voice_by, items_with, line_own, line_program, opening_header, order_by, own_given, reference_by}
+use Rattle.abc_bars.specs.HeaderLine.{HeaderLine, FieldLine, DirectiveLine}
 use Rattle.abc_bars.specs.Opening.{opening_meter, opening_tempo, opening_tempo_by}
 use Rattle.abc_bars.specs.Reference.{reference_of}
 use Rattle.abc_bars.specs.SameEntry.{bars}
-use Rattle.abc_bars.specs.Step.{behind_kind, body_stepped, field_in, file_header_stepped, header_stepped, stepped}
+use Rattle.abc_bars.specs.Step.{behind_kind, behind_line, body_stepped, directive_in, field_in, file_header_stepped, header_stepped, line_in, line_of, stepped}
 use Rattle.abc_bars.specs.Titles.{title_said, titles_by, titles_from, titles_of_header, titles_said, SaysTitlesOfHeader}
 use Rattle.abc_bars.specs.declared.body.Body.{Body}
 use Rattle.abc_bars.specs.declared.cell.Given.{Given}
@@ -120,6 +123,16 @@ broken_quiet : (given : Given) (bad : Bool) (place : ℕ) → said_in (with_faul
 broken_quiet given true place = refl
 broken_quiet given false place = refl
 
+program_fault_quiet : (given : Given) (place : ℕ) (bad : Bool) → said_in (with_fault_if given bad place BadProgram) ≡ said_in given
+program_fault_quiet given place true = refl
+program_fault_quiet given place false = refl
+
+directive_quiet : (given : Given) (place : ℕ) (directive : Directive) → said_in (with_directive given place directive) ≡ said_in given
+directive_quiet given place (directives.Program written) =
+    program_fault_quiet (with_item given (items.Program false (program_of written))) place (is_none (program_of written))
+    ∙ quiet given.items.items (items.Program false (program_of written) ∷ []) refl
+directive_quiet given place (directives.Reach reach) = refl
+
 tie_quiet : (given : Given) (place : ℕ) (after_note : Bool) → said_in (cond after_note given (with_fault given place LooseTie)) ≡ said_in given
 tie_quiet given place true = refl
 tie_quiet given place false = refl
@@ -165,6 +178,8 @@ kind_quiet given place (kinds.Broken mark) ahead = broken_quiet given (is_bad_ma
 kind_quiet given place kinds.Tie ahead = tie_quiet given place given.after_note
 kind_quiet given place kinds.Blank ahead = refl
 kind_quiet given place kinds.NoEffect ahead = refl
+kind_quiet given place (kinds.Dynamic dynamic) ahead = refl
+kind_quiet given place (kinds.Directive directive) ahead = directive_quiet given place directive
 kind_quiet given place (kinds.Field field) ahead =
     quiet given.items.items (field_given given.body field.letter field.value place).items (field_quiet given.body (kind_of field.letter) field.value place)
 kind_quiet given place kinds.Unclosed ahead = refl
@@ -228,6 +243,19 @@ own_say header fields.Voice value = voice_silent header value (voice_of value)
 own_say header fields.Key value = key_silent header (key_of value)
 own_say header fields.Other value = refl
 
+-- nor does a directive or a program
+directive_silent : (directive : Directive) → titles_if (directive_item directive) ≡ []
+directive_silent (directives.Program written) = refl
+directive_silent (directives.Reach reach) = refl
+
+program_quiet : (given : List Item) (program : Option ℕ) → titles_said (and_program given program) ≡ titles_said given
+program_quiet given None = refl
+program_quiet given (Some program) = quiet given (items.Program true (Some program) ∷ []) refl
+
+line_say : (header : Header) (line : HeaderLine) → titles_if (line_own header line).item ≡ titles_by (Some line) []
+line_say header (FieldLine field) = own_say header (kind_of field.letter) field.value
+line_say header (DirectiveLine directive) = directive_silent directive
+
 -- what holds of the value of each field line holds of each title
 from_passes : (P : List ℕ → Type 0) (kind : FieldKind) (value : List ℕ) (behind : List (List ℕ)) → P value → All P behind → All P (titles_from kind value behind)
 from_passes P fields.Reference value behind is all = all
@@ -243,14 +271,16 @@ from_passes P fields.Other value behind is all = all
 abbrev pub HasValue : (List ℕ → Type 0) → Cell → Type 0
 HasValue P cell = IfSome (field_in cell) (λ field. P field.value)
 
-by_passes : (P : List ℕ → Type 0) (field : Option Field) (behind : List (List ℕ)) → IfSome field (λ f. P f.value) → All P behind → All P (titles_by field behind)
-by_passes P None behind is all = All-nil P
-by_passes P (Some field) behind is all = from_passes P (kind_of field.letter) field.value behind is all
+by_passes : (P : List ℕ → Type 0) (field : Option Field) (directive : Option Directive) (behind : List (List ℕ))
+    → IfSome field (λ f. P f.value) → All P behind → All P (titles_by (line_of field directive) behind)
+by_passes P None None behind is all = All-nil P
+by_passes P None (Some directive) behind is all = all
+by_passes P (Some field) directive behind is all = from_passes P (kind_of field.letter) field.value behind is all
 
 pub titles_pass : (P : List ℕ → Type 0) (cells : List Cell) → All (HasValue P) cells → All P (titles_of_header cells)
 titles_pass P [] all = All-nil P
 titles_pass P (cell ∷ cells) all =
-    by_passes P (field_in cell) (titles_of_header cells) (All-head (HasValue P) cell cells all) (titles_pass P cells (All-tail (HasValue P) cell cells all))
+    by_passes P (field_in cell) (directive_in cell) (titles_of_header cells) (All-head (HasValue P) cell cells all) (titles_pass P cells (All-tail (HasValue P) cell cells all))
 
 -- what is said from a place of a tune on
 abbrev said_from : Entry → List Cell → List (List ℕ)
@@ -271,30 +301,35 @@ behind_say header fields.Voice value cells = refl
 behind_say header fields.Key value cells = refl
 behind_say header fields.Other value cells = refl
 
+behind_line_say : (header : Header) (line : HeaderLine) (cells : List Cell)
+    → titles_by (Some line) [] ++ said_from (behind_line header line) cells ≡ titles_by (Some line) (titles_of_header cells)
+behind_line_say header (FieldLine field) cells = behind_say header (kind_of field.letter) field.value cells
+behind_line_say header (DirectiveLine directive) cells = refl
+
 abbrev step_says : Entry × Items → List Cell → List (List ℕ)
 step_says step cells = titles_said step.1.items ++ said_from step.0 cells
 
 body_says : (body : Body) (cell : Cell) (cells : List Cell) → step_says (body_stepped body cell) cells ≡ []
 body_says body cell cells = ap (λ titles. titles ++ []) (body_quiet body cell)
 
-header_says : (header : Header) (cell : Cell) (field : Option Field) (cells : List Cell)
-    → step_says (header_stepped header cell field) cells ≡ titles_by field (titles_of_header cells)
+header_says : (header : Header) (cell : Cell) (line : Option HeaderLine) (cells : List Cell)
+    → step_says (header_stepped header cell line) cells ≡ titles_by line (titles_of_header cells)
 header_says header cell None cells = body_says (body_from header empty_signature) cell cells
-header_says header cell (Some field) cells =
-    let kind = kind_of field.letter in
-    let own = own_given header kind field.value in
-    ap (λ titles. titles ++ said_from (behind_kind own.header kind field.value) cells) (items_say own.item own.header.defaults ∙ own_say header kind field.value)
-    ∙ behind_say own.header kind field.value cells
+header_says header cell (Some line) cells =
+    let own = line_own header line in
+    ap (λ titles. titles ++ said_from (behind_line own.header line) cells)
+    (program_quiet (items_with own.item own.header.defaults) (line_program line header.defaults) ∙ items_say own.item own.header.defaults ∙ line_say header line)
+    ∙ behind_line_say own.header line cells
 
-file_says : (defaults : Defaults) (field : Option Field) (cells : List Cell) → step_says (file_header_stepped defaults field) cells ≡ []
+file_says : (defaults : Defaults) (line : Option HeaderLine) (cells : List Cell) → step_says (file_header_stepped defaults line) cells ≡ []
 file_says defaults None cells = refl
-file_says defaults (Some field) cells = refl
+file_says defaults (Some line) cells = refl
 
 says : (entry : Entry) (cell : Cell) (cells : List Cell) → step_says (stepped entry cell) cells ≡ said_from entry (cell ∷ cells)
 unfolding stepped
-says (entries.FileHeader defaults) cell cells = file_says defaults (field_in cell) cells
-says (entries.Opening defaults) cell cells = header_says (opening_header defaults) cell (field_in cell) cells
-says (entries.Header header) cell cells = header_says header cell (field_in cell) cells
+says (entries.FileHeader defaults) cell cells = file_says defaults (line_in cell) cells
+says (entries.Opening defaults) cell cells = header_says (opening_header defaults) cell (line_in cell) cells
+says (entries.Header header) cell cells = header_says header cell (line_in cell) cells
 says (entries.Body body) cell cells = body_says body cell cells
 
 nothing_said : (entry : Entry) → [] ≡ said_from entry []

@@ -5,7 +5,7 @@ use Rattle.abc_fields.specs.declared.shift.Shift.{Shift}
 use Rattle.abc_fields.specs.Shift.{no_shift}
 use Rattle.abc_fields.specs.Signature.{natural}
 use Rattle.abc_bars.specs.Defaults.{meter_in, unit_in}
-use Rattle.abc_music.specs.Settings.{no_accidentals}
+use Rattle.abc_music.specs.Accidentals.{no_accidentals}
 use Rattle.abc_music.specs.VoiceShift.{with_properties}
 use Rattle.abc_bars.specs.declared.body.Body.{Body}
 use Rattle.abc_bars.specs.declared.body.Current.{Current}
@@ -28,9 +28,10 @@ opening_settings defaults key said = record {
   unit = unit_in defaults;
   signature = unwrap_or key.signature natural;
   shift = with_properties (with_properties unshifted key.shift) said;
-  accidentals = no_accidentals;
+  accidentals = no_accidentals defaults.reach;
   tuplet = None;
   tied = [];
+  dynamic = None;
 }
 
 -- What holds for a declared voice where a body begins.

@@ -1,9 +1,12 @@
 -- The cells of a tune's body: what the tokens of a cell give, and what holds behind them.
-use Rattle.std.specs.Prelude.{ℕ, Bool, true, false, if◌then◌else◌, List, [], ◌∷◌, ◌++◌, Option, Some, None}
+use Rattle.std.specs.Prelude.{ℕ, Bool, true, false, if◌then◌else◌, List, [], ◌∷◌, ◌++◌, Option, Some, None, is_none}
 use Rattle.abc_fields.specs.declared.fault.FaultCode.{FaultCode}
-use Rattle.abc_fields.specs.declared.fault.FaultCode.TheVariants.{BadBroken, BadByte, BadEnding, LooseTie, Unclosed}
+use Rattle.abc_fields.specs.declared.fault.FaultCode.TheVariants.{BadBroken, BadByte, BadEnding, BadProgram, LooseTie, Unclosed}
 use Rattle.abc_scan.specs.declared.bar.BarLine.{BarLine}
 use Rattle.abc_scan.specs.declared.chord.Chord.{Chord}
+use Rattle.abc_scan.specs.declared.directive.Directive.{Directive}
+use Rattle.abc_scan.specs.declared.directive.Directive.TheVariants as directives
+use Rattle.abc_scan.specs.declared.dynamic.Dynamic.{Dynamic}
 use Rattle.abc_scan.specs.declared.field.Field.{Field}
 use Rattle.abc_scan.specs.declared.length.WrittenLength.{WrittenLength}
 use Rattle.abc_scan.specs.declared.note.Note.{Note}
@@ -19,27 +22,26 @@ use Rattle.abc_music.specs.declared.item.Item.TheVariants as items
 use Rattle.abc_music.specs.BarRest.{bar_rest_of}
 use Rattle.abc_bars.specs.Body.{here, with_here, mentioned}
 use Rattle.abc_bars.specs.BodyFields.{FieldGiven, field_given}
+use Rattle.abc_bars.specs.TieRole.{is_tie, is_tieable, tie_role_of}
 use Rattle.abc_music.specs.Broken.{behind_after, factors_of, has_note, is_bad_mark}
 use Rattle.abc_music.specs.Column.{column_of}
+use Rattle.abc_music.specs.Program.{program_of}
 use Rattle.abc_music.specs.Settings.{without_accidentals}
 use Rattle.abc_music.specs.TimeTokens.{Played, note_played, chord_played, rest_played, with_played}
 use Rattle.abc_music.specs.Tuplet.{tuplet_opened}
 
 -- Whether a token is a tie.
 abbrev pub is_tie_token : TokenKind → Bool
-is_tie_token kinds.Tie = true
-is_tie_token _ = false
+is_tie_token kind = is_tie (tie_role_of kind)
 
 -- Whether a tie comes first. ABC 2.1 section 4.11; that nothing may stand between is our own.
 abbrev pub tie_ahead : List (Spanned TokenKind) → Bool
 tie_ahead [] = false
 tie_ahead (token ∷ rest) = is_tie_token token.kind
 
--- Whether a tie may stand directly behind a token: a note or a chord, even one without notes. Our own.
+-- Whether a tie may stand directly behind a token.
 abbrev pub may_be_tied : TokenKind → Bool
-may_be_tied (kinds.Note note) = true
-may_be_tied (kinds.Chord chord) = true
-may_be_tied _ = false
+may_be_tied kind = is_tieable (tie_role_of kind)
 
 -- Before the first token of a cell.
 abbrev pub nothing_given : Body → Given
@@ -131,6 +133,19 @@ with_tuplet given place mark =
     let opened = tuplet_opened (here given.body).meter (here given.body).tuplet mark in
     with_some_fault (record given { body = with_here given.body (record (here given.body) { tuplet = opened.0 }) }) place opened.1
 
+-- Behind a dynamic of the current voice. ABC 2.1 section 4.14.
+abbrev pub with_dynamic : Given → Dynamic → Given
+with_dynamic given dynamic = record given { body = with_here given.body (record (here given.body) { dynamic = Some dynamic }) }
+
+-- Behind a directive of this program, or of one that MIDI does not have.
+abbrev pub with_program : Given → ℕ → Option ℕ → Given
+with_program given place number = with_fault_if (with_item given (items.Program false number)) (is_none number) place BadProgram
+
+-- Behind a directive: how far accidentals reach is settled where the body begins. Our own.
+abbrev pub with_directive : Given → ℕ → Directive → Given
+with_directive given place (directives.Program written) = with_program given place (program_of written)
+with_directive given place (directives.Reach reach) = given
+
 -- Behind a tie, which has a fault where no note or chord stands directly before it.
 abbrev pub with_tie : Given → ℕ → Given
 with_tie given place = if given.after_note then given else with_fault given place LooseTie
@@ -149,6 +164,8 @@ with_kind given place (kinds.Broken mark) ahead = with_fault_if given (is_bad_ma
 with_kind given place kinds.Tie ahead = with_tie given place
 with_kind given place kinds.Blank ahead = given
 with_kind given place kinds.NoEffect ahead = given
+with_kind given place (kinds.Dynamic dynamic) ahead = with_dynamic given dynamic
+with_kind given place (kinds.Directive directive) ahead = with_directive given place directive
 with_kind given place (kinds.Field field) ahead = with_field given place field
 with_kind given place kinds.Unclosed ahead = with_fault given place Unclosed
 with_kind given place kinds.BadByte ahead = with_fault given place BadByte

@@ -1,6 +1,7 @@
--- The values that a file header sets for all tunes, and a tune's header for its own. ABC 2.1 section 3.1.
+-- The values that a file header sets for all tunes, and a tune's header for its own. ABC 2.1 sections 3.1 and 11.
 use Rattle.std.specs.Prelude.{ℕ, List, Option, Some, None, unwrap_or, Result, Ok, Err}
 use Rattle.abc_fields.specs.declared.fault.FaultCode.{FaultCode}
+use Rattle.abc_fields.specs.declared.fault.FaultCode.TheVariants.{BadProgram}
 use Rattle.abc_fields.specs.declared.meter.Meter.{Meter}
 use Rattle.abc_fields.specs.declared.meter.Meter.TheVariants.{Free}
 use Rattle.abc_fields.specs.declared.tempo.Tempo.{Tempo}
@@ -9,15 +10,19 @@ use Rattle.abc_fields.specs.Meter.{meter_of}
 use Rattle.abc_fields.specs.Tempo.{tempo_of}
 use Rattle.abc_fields.specs.Unit.{unit_of}
 use Rattle.abc_time.specs.declared.ratio.Ratio.{Ratio}
+use Rattle.abc_music.specs.Program.{program_of}
 use Rattle.abc_music.specs.Unit.{unit_by}
+use Rattle.abc_scan.specs.declared.directive.Directive.{Directive}
+use Rattle.abc_scan.specs.declared.directive.Directive.TheVariants as directives
+use Rattle.abc_scan.specs.declared.directive.Reach.TheVariants.{Pitch}
 use Rattle.abc_bars.specs.declared.defaults.Defaults.{Defaults}
 use Rattle.abc_bars.specs.declared.defaults.SettingGiven.{SettingGiven}
 use Rattle.abc_bars.specs.declared.field_kind.FieldKind.{FieldKind}
 use Rattle.abc_bars.specs.declared.field_kind.FieldKind.TheVariants as kinds
 
--- No values, as at the beginning of a file header.
+-- No values, as at the beginning of a file header. That accidentals reach all octaves then is our own.
 abbrev pub no_defaults : Defaults
-no_defaults = record { meter = None; unit = None; tempo = None }
+no_defaults = record { meter = None; unit = None; tempo = None; program = None; reach = Pitch }
 
 -- The values behind a field that is accepted, or those before it and its fault.
 abbrev pub set_or_refused : {V : Type 0} → Defaults → (V → Defaults) → Result V FaultCode → SettingGiven
@@ -53,6 +58,16 @@ setting_given defaults kinds.Parts value = record { defaults = defaults; fault =
 setting_given defaults kinds.Voice value = record { defaults = defaults; fault = None }
 setting_given defaults kinds.Key value = record { defaults = defaults; fault = None }
 setting_given defaults kinds.Other value = record { defaults = defaults; fault = None }
+
+-- The values behind a directive with this program, if it is one that MIDI has, or those before it and its fault.
+abbrev pub program_set : Defaults → Option ℕ → SettingGiven
+program_set defaults (Some program) = record { defaults = record defaults { program = Some program }; fault = None }
+program_set defaults None = record { defaults = defaults; fault = Some BadProgram }
+
+-- The values behind a directive.
+abbrev pub directive_given : Defaults → Directive → SettingGiven
+directive_given defaults (directives.Program written) = program_set defaults (program_of written)
+directive_given defaults (directives.Reach reach) = record { defaults = record defaults { reach = reach }; fault = None }
 
 -- The meter that holds where a header with these values ends: free meter without an M:.
 abbrev pub meter_in : Defaults → Meter

@@ -10,6 +10,7 @@ pub mod FieldFault
 pub mod FieldKind
 pub mod FileHeader
 pub mod Header
+pub mod HeaderLine
 pub mod LookBack
 pub mod Mentioned
 pub mod Opening
@@ -17,6 +18,7 @@ pub mod Reference
 pub mod SameDefaults
 pub mod SameEntry
 pub mod Step
+pub mod TieRole
 pub mod Titles
 pub mod Voices
 pub mod VoicesLent

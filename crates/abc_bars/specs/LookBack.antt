@@ -12,4 +12,5 @@ pub mod Lengths
 pub mod Place
 pub mod Ties
 pub mod TunePlaces
+pub mod Velocities
 pub mod Voice

@@ -36,6 +36,7 @@ behind_item known (items.Tempo opening micros out) = known
 behind_item known (items.Meter opening meter) = known
 behind_item known (items.Key opening key) = known
 behind_item known (items.Voice opening name) = (behind_name known.0 name, true)
+behind_item known (items.Program opening number) = known
 behind_item known (items.Title text) = known
 behind_item known (items.Order text) = known
 

@@ -1,5 +1,5 @@
 -- Whether the same holds at two places, component by component. Our own.
-use Rattle.std.specs.Prelude.{◌≡◌, ◌⊎◌, ℕ, Bool, true, List, Option, Some, None, unwrap_or, refl}
+use Rattle.std.specs.Prelude.{◌≡◌, ◌⊎◌, ℕ, zero, suc, ℤ, Bool, true, List, Option, Some, None, unwrap_or, refl}
 use Rattle.std.proofs.Common.{inl, inr}
 use Rattle.abc_fields.specs.declared.meter.Meter.{Meter}
 use Rattle.abc_fields.specs.declared.meter.Meter.TheVariants as meters
@@ -10,9 +10,15 @@ use Rattle.abc_fields.specs.declared.tempo.Tempo.TheVariants as tempos
 use Rattle.abc_fold.specs.Steps.{Steps, IsResumable, resumable_where_equal, steps_of}
 use Rattle.abc_music.specs.Item.{Items}
 use Rattle.abc_music.specs.declared.accidentals.Accidentals.{Accidentals}
+use Rattle.abc_music.specs.declared.accidentals.Accidentals.TheVariants as accidentals
+use Rattle.abc_music.specs.declared.accidentals.LetterAccidentals.{LetterAccidentals}
 use Rattle.abc_music.specs.declared.settings.Settings.{Settings}
 use Rattle.abc_music.specs.declared.tied.TiedNote.{TiedNote}
 use Rattle.abc_music.specs.declared.voice_shift.VoiceShift.{VoiceShift}
+use Rattle.abc_scan.specs.declared.directive.Reach.{Reach}
+use Rattle.abc_scan.specs.declared.directive.Reach.TheVariants as reaches
+use Rattle.abc_scan.specs.declared.dynamic.Dynamic.{Dynamic}
+use Rattle.abc_scan.specs.declared.dynamic.Dynamic.TheVariants as dynamics
 use Rattle.abc_scan.specs.declared.spanned.Spanned.{Spanned}
 use Rattle.abc_scan.specs.declared.token.TokenKind.{TokenKind}
 use Rattle.abc_text.specs.declared.letter.Letter.{Letter}
@@ -77,9 +83,62 @@ abbrev signature_equality : Equality Signature
 signature_equality = by_parts (sevens wholes) (λ s. (s.a, (s.b, (s.c, (s.d, (s.e, (s.f, s.g)))))))
     (λ p. record { a = p.0; b = p.1.0; c = p.1.1.0; d = p.1.1.1.0; e = p.1.1.1.1.0; f = p.1.1.1.1.1.0; g = p.1.1.1.1.1.1 }) (λ _. refl)
 
-abbrev accidentals_equality : Equality Accidentals
-accidentals_equality = by_parts (sevens (options wholes)) (λ s. (s.a, (s.b, (s.c, (s.d, (s.e, (s.f, s.g)))))))
+abbrev letters_equality : Equality LetterAccidentals
+letters_equality = by_parts (sevens (options wholes)) (λ s. (s.a, (s.b, (s.c, (s.d, (s.e, (s.f, s.g)))))))
     (λ p. record { a = p.0; b = p.1.0; c = p.1.1.0; d = p.1.1.1.0; e = p.1.1.1.1.0; f = p.1.1.1.1.1.0; g = p.1.1.1.1.1.1 }) (λ _. refl)
+
+abbrev accidentals_parts : Accidentals → Option (List (ℤ × LetterAccidentals) ⊎ LetterAccidentals)
+accidentals_parts accidentals.Own = None
+accidentals_parts (accidentals.InOctaves octaves) = Some (inl octaves)
+accidentals_parts (accidentals.OnLetters letters) = Some (inr letters)
+
+abbrev accidentals_of_parts : Option (List (ℤ × LetterAccidentals) ⊎ LetterAccidentals) → Accidentals
+accidentals_of_parts None = accidentals.Own
+accidentals_of_parts (Some (inl octaves)) = accidentals.InOctaves octaves
+accidentals_of_parts (Some (inr letters)) = accidentals.OnLetters letters
+
+pub accidentals_back : (a : Accidentals) → accidentals_of_parts (accidentals_parts a) ≡ a
+accidentals_back accidentals.Own = refl
+accidentals_back (accidentals.InOctaves octaves) = refl
+accidentals_back (accidentals.OnLetters letters) = refl
+
+-- Accidentals, by how far they reach and by each.
+abbrev accidentals_equality : Equality Accidentals
+accidentals_equality =
+    by_parts (options (either (lists (pairs wholes letters_equality)) letters_equality)) accidentals_parts accidentals_of_parts accidentals_back
+
+abbrev dynamic_number : Dynamic → ℕ
+dynamic_number dynamics.Ppp = 0
+dynamic_number dynamics.Pp = 1
+dynamic_number dynamics.P = 2
+dynamic_number dynamics.Mp = 3
+dynamic_number dynamics.Mf = 4
+dynamic_number dynamics.F = 5
+dynamic_number dynamics.Ff = 6
+dynamic_number dynamics.Fff = 7
+
+abbrev dynamic_numbered : ℕ → Dynamic
+dynamic_numbered zero = dynamics.Ppp
+dynamic_numbered (suc zero) = dynamics.Pp
+dynamic_numbered (suc (suc zero)) = dynamics.P
+dynamic_numbered (suc (suc (suc zero))) = dynamics.Mp
+dynamic_numbered (suc (suc (suc (suc zero)))) = dynamics.Mf
+dynamic_numbered (suc (suc (suc (suc (suc zero))))) = dynamics.F
+dynamic_numbered (suc (suc (suc (suc (suc (suc zero)))))) = dynamics.Ff
+dynamic_numbered (suc (suc (suc (suc (suc (suc (suc n))))))) = dynamics.Fff
+
+pub dynamic_back : (dynamic : Dynamic) → dynamic_numbered (dynamic_number dynamic) ≡ dynamic
+dynamic_back dynamics.Ppp = refl
+dynamic_back dynamics.Pp = refl
+dynamic_back dynamics.P = refl
+dynamic_back dynamics.Mp = refl
+dynamic_back dynamics.Mf = refl
+dynamic_back dynamics.F = refl
+dynamic_back dynamics.Ff = refl
+dynamic_back dynamics.Fff = refl
+
+abbrev dynamic_equality : Equality Dynamic
+dynamic_equality = by_parts numbers dynamic_number dynamic_numbered dynamic_back
 
 abbrev voice_shift_equality : Equality VoiceShift
 voice_shift_equality = by_parts (threes wholes) (λ s. (s.clef, (s.octave, s.transpose))) (λ p. record { clef = p.0; octave = p.1.0; transpose = p.1.1 }) (λ _. refl)
@@ -114,18 +173,49 @@ tied_equality = by_parts (pairs wholes (pairs letter_equality wholes)) (λ t. (t
 abbrev pub settings_equality : Equality Settings
 settings_equality = by_parts
     (pairs meter_equality (pairs ratio_equality (pairs signature_equality (pairs voice_shift_equality
-    (pairs accidentals_equality (pairs (options tuplet_equality) (lists tied_equality)))))))
-    (λ s. (s.meter, (s.unit, (s.signature, (s.shift, (s.accidentals, (s.tuplet, s.tied)))))))
-    (λ p. record { meter = p.0; unit = p.1.0; signature = p.1.1.0; shift = p.1.1.1.0; accidentals = p.1.1.1.1.0; tuplet = p.1.1.1.1.1.0; tied = p.1.1.1.1.1.1 })
+    (pairs accidentals_equality (pairs (options tuplet_equality) (pairs (lists tied_equality) (options dynamic_equality))))))))
+    (λ s. (s.meter, (s.unit, (s.signature, (s.shift, (s.accidentals, (s.tuplet, (s.tied, s.dynamic))))))))
+    (λ p. record {
+      meter = p.0;
+      unit = p.1.0;
+      signature = p.1.1.0;
+      shift = p.1.1.1.0;
+      accidentals = p.1.1.1.1.0;
+      tuplet = p.1.1.1.1.1.0;
+      tied = p.1.1.1.1.1.1.0;
+      dynamic = p.1.1.1.1.1.1.1;
+    })
     (λ _. refl)
 
 -- Voices, by their names and what is known of each, in the order in which they were mentioned.
 abbrev pub voices_equality : {S : Type 0} → Equality S → Equality (List (List ℕ × S))
 voices_equality known = lists (pairs (lists numbers) known)
 
+abbrev reach_number : Reach → ℕ
+reach_number reaches.Not = 0
+reach_number reaches.Octave = 1
+reach_number reaches.Pitch = 2
+
+abbrev reach_numbered : ℕ → Reach
+reach_numbered zero = reaches.Not
+reach_numbered (suc zero) = reaches.Octave
+reach_numbered (suc (suc n)) = reaches.Pitch
+
+pub reach_back : (reach : Reach) → reach_numbered (reach_number reach) ≡ reach
+reach_back reaches.Not = refl
+reach_back reaches.Octave = refl
+reach_back reaches.Pitch = refl
+
+abbrev pub reach_equality : Equality Reach
+reach_equality = by_parts numbers reach_number reach_numbered reach_back
+
+-- The values that a file header sets, by each.
 abbrev pub defaults_equality : Equality Defaults
-defaults_equality = by_parts (pairs (options meter_equality) (pairs (options ratio_equality) (options tempo_equality)))
-    (λ d. (d.meter, (d.unit, d.tempo))) (λ p. record { meter = p.0; unit = p.1.0; tempo = p.1.1 }) (λ _. refl)
+defaults_equality = by_parts
+    (pairs (options meter_equality) (pairs (options ratio_equality) (pairs (options tempo_equality) (pairs (options numbers) reach_equality))))
+    (λ d. (d.meter, (d.unit, (d.tempo, (d.program, d.reach)))))
+    (λ p. record { meter = p.0; unit = p.1.0; tempo = p.1.1.0; program = p.1.1.1.0; reach = p.1.1.1.1 })
+    (λ _. refl)
 
 abbrev pub header_equality : Equality Header
 header_equality = by_parts (pairs defaults_equality (voices_equality shift_equality)) (λ h. (h.defaults, h.voices)) (λ p. record { defaults = p.0; voices = p.1 }) (λ _. refl)

@@ -2,13 +2,13 @@
 use Rattle.std.specs.Prelude.{◌≡◌, ℕ, List, [], ◌∷◌, Option, Some, None, filter_map}
 use Rattle.abc_bars.specs.FieldKind.{kind_of}
 use Rattle.abc_bars.specs.Mentioned.{items_of_cells}
-use Rattle.abc_bars.specs.Step.{field_in}
+use Rattle.abc_bars.specs.HeaderLine.{HeaderLine, FieldLine, DirectiveLine}
+use Rattle.abc_bars.specs.Step.{line_in}
 use Rattle.abc_bars.specs.declared.defaults.Defaults.{Defaults}
 use Rattle.abc_bars.specs.declared.field_kind.FieldKind.{FieldKind}
 use Rattle.abc_bars.specs.declared.field_kind.FieldKind.TheVariants as fields
 use Rattle.abc_music.specs.declared.item.Item.{Item}
 use Rattle.abc_music.specs.declared.item.Item.TheVariants as items
-use Rattle.abc_scan.specs.declared.field.Field.{Field}
 use Rattle.abc_scan.specs.declared.spanned.Spanned.{Spanned}
 use Rattle.abc_scan.specs.declared.token.TokenKind.{TokenKind}
 
@@ -33,15 +33,16 @@ titles_from fields.Voice value behind = behind
 titles_from fields.Key value behind = []
 titles_from fields.Other value behind = behind
 
--- The same from this field line on, or from music, which ends a header as well.
-abbrev pub titles_by : Option Field → List (List ℕ) → List (List ℕ)
+-- The same from this line on, or from music, which ends a header as well. A directive does not.
+abbrev pub titles_by : Option HeaderLine → List (List ℕ) → List (List ℕ)
 titles_by None behind = []
-titles_by (Some field) behind = titles_from (kind_of field.letter) field.value behind
+titles_by (Some (FieldLine field)) behind = titles_from (kind_of field.letter) field.value behind
+titles_by (Some (DirectiveLine directive)) behind = behind
 
 -- The values of the T: lines of a tune's header, in order.
 abbrev pub titles_of_header : List (List (Spanned TokenKind)) → List (List ℕ)
 titles_of_header [] = []
-titles_of_header (cell ∷ cells) = titles_by (field_in cell) (titles_of_header cells)
+titles_of_header (cell ∷ cells) = titles_by (line_in cell) (titles_of_header cells)
 
 -- What a tune says for its titles is what the T: lines of its header say.
 abbrev pub SaysTitlesOfHeader : Type 0

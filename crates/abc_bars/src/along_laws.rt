@@ -16,7 +16,7 @@ use abc_fold::{Fold, Resumable};
 
 /// The fold is the look back: along any cells, those of a file header from `Entry::header` on and those of a
 /// tune from `Entry::tune` on, each cell is entered in the view of its place and gives what looking back gives
-/// there, items and faults. A tune begins with what the field lines of the file header set, if there is one. So it is
+/// there, items and faults. A tune begins with what the lines of the file header set, if there is one. So it is
 /// from the view of any place on.
 #[tactic(auto, using(crate::proofs::LookBack::Along::file_header_looked_back, crate::proofs::LookBack::Along::tune_looked_back, crate::proofs::LookBack::Along::from_view))]
 pub fn views_along()

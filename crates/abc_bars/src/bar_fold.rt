@@ -5,7 +5,9 @@ ghost use Rattle.std.specs.Option.{option_copied};
 ghost use Rattle.abc_bars.specs.Cell.{cell_given};
 ghost use Rattle.abc_bars.specs.SameEntry.{bars_resumable, same_entry};
 ghost use Rattle.abc_music.specs.Item.{IsItem};
-ghost use Rattle.abc_bars.specs.Step.{field_line, field_in, body_stepped, behind_field, header_stepped, file_header_stepped, stepped};
+ghost use Rattle.abc_bars.specs.Header.{header_given};
+ghost use Rattle.abc_bars.specs.HeaderLine.{DirectiveLine, FieldLine};
+ghost use Rattle.abc_bars.specs.Step.{field_line, field_in, directive_line, directive_in, line_in, body_stepped, line_stepped, header_stepped, file_header_made, file_header_stepped, stepped};
 
 use crate::body::Body;
 use crate::body_opening::body_from;
@@ -13,12 +15,12 @@ use crate::cell::{Given, cell_given};
 use crate::defaults::Defaults;
 use crate::entry::Entry;
 use crate::field_kind::{FieldKind, kind_of};
-use crate::file_header::file_header_given;
-use crate::header::{Header, HeaderGiven, header_given};
+use crate::file_header::{FileHeaderGiven, file_header_directed, file_header_given};
+use crate::header::{Header, HeaderGiven, header_directed, header_given};
 use abc_fields::{EMPTY_SIGNATURE, key_set_by};
 use abc_fold::{Fold, Resumable, Shared, Work};
 use abc_music::Items;
-use abc_scan::{Cell, Field, Token, TokenKind};
+use abc_scan::{Cell, Directive, Field, Token, TokenKind};
 use abc_text::Sequence;
 use std::alloc::{AllocError, Global};
 
@@ -45,6 +47,26 @@ fn field_in(cell: &[Token]) -> Option<&Field>
     }
 }
 
+/// The directive that a token is, if it is a directive line.
+fn directive_line(kind: &TokenKind) -> Option<Directive>
+    ensures { result ≡ directive_line kind.now }
+{
+    match kind {
+        TokenKind::Directive(directive) => Some(*directive),
+        _ => None,
+    }
+}
+
+/// The directive that a cell is, if it is a directive line.
+fn directive_in(cell: &[Token]) -> Option<Directive>
+    ensures { result ≡ directive_in cell.now }
+{
+    match cell {
+        [token, ..] => directive_line(&token.kind),
+        [] => None,
+    }
+}
+
 /// A cell of a body.
 fn body_stepped(alloc: Global, body: Body, cell: &[Token]) -> Stepped
     ensures { IfOk result (λ made. made ≡ body_stepped body cell.now) }
@@ -53,58 +75,86 @@ fn body_stepped(alloc: Global, body: Body, cell: &[Token]) -> Stepped
     Ok((Entry::Body(body), items))
 }
 
-/// What holds behind a field of a header, of which a K: ends it.
-fn behind_field(alloc: Global, given: HeaderGiven, field: &Field) -> Stepped
-    requires { All IsItem given.items }
-    ensures { IfOk result (λ made. made ≡ behind_field given field.now) }
+/// A field of a header, of which a K: ends it.
+fn field_stepped(alloc: Global, header: Header, field: &Field) -> Stepped
+    ensures { IfOk result (λ made. made ≡ line_stepped (header_given header (FieldLine field.now)) (FieldLine field.now)) }
 {
     let HeaderGiven {
         header,
         items,
         faults,
-    } = given;
+    } = header_given(alloc, header, field)?;
     let entry = match kind_of(field.letter) {
         FieldKind::Key => {
             let key = key_set_by(field.value.as_slice());
             Entry::Body(body_from(alloc, &header, &key)?)
         }
-        _ => Entry::Header(header),
+        FieldKind::Reference
+        | FieldKind::Title
+        | FieldKind::Meter
+        | FieldKind::UnitLength
+        | FieldKind::Tempo
+        | FieldKind::Parts
+        | FieldKind::Voice
+        | FieldKind::Other => Entry::Header(header),
     };
     Ok((entry, Items::of(items, faults)))
 }
 
+/// A directive of a header, which does not end it.
+fn directive_stepped(alloc: Global, header: Header, directive: Directive) -> Stepped
+    ensures { IfOk result (λ made. made ≡ line_stepped (header_given header (DirectiveLine directive)) (DirectiveLine directive)) }
+{
+    let HeaderGiven {
+        header,
+        items,
+        faults,
+    } = header_directed(alloc, header, directive)?;
+    Ok((Entry::Header(header), Items::of(items, faults)))
+}
+
 /// A cell of a header: a line of music ends it, and is a cell of the body.
 fn header_stepped(alloc: Global, header: Header, cell: &[Token]) -> Stepped
-    ensures { IfOk result (λ made. made ≡ header_stepped header cell.now (field_in cell.now)) }
+    ensures { IfOk result (λ made. made ≡ header_stepped header cell.now (line_in cell.now)) }
 {
-    match field_in(cell) {
-        Some(field) => {
-            let given = header_given(alloc, header, field)?;
-            behind_field(alloc, given, field)
-        }
-        None => {
+    match (field_in(cell), directive_in(cell)) {
+        (Some(field), _) => field_stepped(alloc, header, field),
+        (None, Some(directive)) => directive_stepped(alloc, header, directive),
+        (None, None) => {
             let body = body_from(alloc, &header, &EMPTY_SIGNATURE)?;
             body_stepped(alloc, body, cell)
         }
     }
 }
 
-/// A cell of a file header.
-fn file_header_stepped(alloc: Global, defaults: Defaults, cell: &[Token]) -> Stepped
-    ensures { IfOk result (λ made. made ≡ file_header_stepped defaults (field_in cell.now)) }
+/// What a cell of a file header gives: music gives nothing and leaves the values.
+fn file_header_cell(
+    alloc: Global,
+    defaults: Defaults,
+    cell: &[Token],
+) -> Result<FileHeaderGiven, AllocError>
+    ensures { IfOk result (λ given. file_header_made given ≡ file_header_stepped defaults (line_in cell.now)) }
 {
-    let items = Sequence::new(alloc);
-    match field_in(cell) {
-        Some(field) => {
-            let given = file_header_given(alloc, defaults, field)?;
-            let faults = given.faults;
-            Ok((Entry::FileHeader(given.defaults), Items::of(items, faults)))
-        }
-        None => {
+    match (field_in(cell), directive_in(cell)) {
+        (Some(field), _) => file_header_given(alloc, defaults, field),
+        (None, Some(directive)) => file_header_directed(alloc, defaults, directive),
+        (None, None) => {
             let faults = Sequence::new(alloc);
-            Ok((Entry::FileHeader(defaults), Items::of(items, faults)))
+            Ok(FileHeaderGiven { defaults, faults })
         }
     }
+}
+
+/// A cell of a file header.
+fn file_header_stepped(alloc: Global, defaults: Defaults, cell: &[Token]) -> Stepped
+    ensures { IfOk result (λ made. made ≡ file_header_stepped defaults (line_in cell.now)) }
+{
+    let given = file_header_cell(alloc, defaults, cell)?;
+    let items = Sequence::new(alloc);
+    Ok((
+        Entry::FileHeader(given.defaults),
+        Items::of(items, given.faults),
+    ))
 }
 
 /// A cell that is entered there.

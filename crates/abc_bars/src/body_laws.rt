@@ -3,7 +3,7 @@
 ghost use Rattle.std.specs.Prelude.{◌≤◌, List, bytes_eq, length};
 ghost use Rattle.std.specs.List.{IsDistinct};
 ghost use Rattle.abc_fields.specs.declared.key.Key.{Key};
-ghost use Rattle.abc_scan.specs.declared.field.Field.{Field};
+ghost use Rattle.abc_bars.specs.HeaderLine.{HeaderLine};
 ghost use Rattle.abc_bars.specs.declared.defaults.Defaults.{Defaults};
 ghost use Rattle.abc_music.specs.declared.item.TheConstants.{MOST_VOICES};
 ghost use Rattle.abc_bars.specs.LookBack.Element.{Element};
@@ -15,11 +15,11 @@ ghost use Rattle.abc_bars.specs.LookBack.Place.{opening_at};
 /// name as long as there is none.
 #[tactic(auto, using(crate::proofs::LookBack::Held::distinct_held, crate::proofs::LookBack::Held::few_held, crate::proofs::LookBack::Held::current_held))]
 pub fn mentioned_voices()
-    ensures distinct { (opening : Defaults) (fields : List Field) (key : Key) (before : List Element) →
+    ensures distinct { (opening : Defaults) (fields : List HeaderLine) (key : Key) (before : List Element) →
         IsDistinct bytes_eq (roll_of (held_at (opening_at opening fields key) before)).names }
-    ensures few { (opening : Defaults) (fields : List Field) (key : Key) (before : List Element) →
+    ensures few { (opening : Defaults) (fields : List HeaderLine) (key : Key) (before : List Element) →
         length (roll_of (held_at (opening_at opening fields key) before)).names ≤ MOST_VOICES }
-    ensures current { (opening : Defaults) (fields : List Field) (key : Key) (before : List Element) →
+    ensures current { (opening : Defaults) (fields : List HeaderLine) (key : Key) (before : List Element) →
         IsPlaced (roll_of (held_at (opening_at opening fields key) before)).names
         (roll_of (held_at (opening_at opening fields key) before)).current }
 {}

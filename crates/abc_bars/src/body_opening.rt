@@ -8,7 +8,7 @@ use crate::defaults::{Defaults, meter_in, unit_in};
 use crate::header::Header;
 use crate::voices::Voices;
 use abc_fields::{Key, NATURAL, Shift};
-use abc_music::{NO_ACCIDENTALS, Settings, VoiceShift};
+use abc_music::{Accidentals, Settings, VoiceShift};
 use abc_text::ShortSequence;
 use std::alloc::{AllocError, Global};
 
@@ -36,9 +36,10 @@ fn opening_settings(alloc: Global, defaults: &Defaults, key: &Key, said: Shift) 
         unit: unit_in(defaults),
         signature: key.signature.unwrap_or(NATURAL),
         shift: UNSHIFTED.with_properties(key.shift).with_properties(said),
-        accidentals: NO_ACCIDENTALS,
+        accidentals: Accidentals::none(alloc, defaults.reach),
         tuplet: None,
         tied: ShortSequence::new(alloc),
+        dynamic: None,
     }
 }
 

@@ -1,20 +1,24 @@
 //! The cells of a tune's body.
 
 ghost use Rattle.std.specs.Prelude.{◌≡◌, ℕ, Bool, option_to_list, IfOk, IfSome, OnOk};
-ghost use Rattle.abc_bars.specs.Cell.{is_tie_token, tie_ahead, may_be_tied, nothing_given, with_item, with_items, with_faults, with_fault, with_fault_if, with_some_fault, with_note, with_rest, with_chord, with_bar_rest, with_field, with_bar, with_ending, with_tuplet, with_tie, with_kind, with_token, given_from, cell_given};
+ghost use Rattle.abc_bars.specs.Cell.{is_tie_token, tie_ahead, may_be_tied, nothing_given, with_item, with_items, with_faults, with_fault, with_fault_if, with_some_fault, with_note, with_rest, with_chord, with_bar_rest, with_field, with_bar, with_ending, with_tuplet, with_dynamic, with_program, with_directive, with_tie, with_kind, with_token, given_from, cell_given};
 ghost use Rattle.abc_music.specs.Broken.{factors_of};
 ghost use Rattle.abc_music.specs.Item.{IsItem};
+ghost use Rattle.abc_music.specs.Program.{program_of};
 ghost use Rattle.abc_music.specs.TimeTokens.{chord_played};
 ghost use Rattle.abc_music.specs.declared.settings.Settings.{Settings};
 
 use crate::body::Body;
 use crate::body_fields::{FieldItem, field_given};
+use crate::tie_role::{TieRole, tie_role_of};
 use abc_fields::FaultCode;
 use abc_music::{
     Behind, BrokenFactors, Item, Items, LocalFault, bar_rest_of, behind_after, chord_played,
-    column_of, has_note, is_bad_mark, note_played, rest_played, tuplet_opened,
+    column_of, has_note, is_bad_mark, note_played, program_of, rest_played, tuplet_opened,
 };
-use abc_scan::{BarLine, Chord, Field, Note, Token, TokenKind, Tuplet, WrittenLength};
+use abc_scan::{
+    BarLine, Chord, Directive, Dynamic, Field, Note, Token, TokenKind, Tuplet, WrittenLength,
+};
 use std::alloc::{AllocError, Global};
 
 /// For how many items of a cell there is room at first, at most: a usual bar gives no more.
@@ -24,7 +28,7 @@ const MOST_ROOM: usize = 16;
 fn is_tie_token(kind: &TokenKind) -> bool
     ensures { result ≡ is_tie_token kind.now }
 {
-    matches!(kind, TokenKind::Tie)
+    matches!(tie_role_of(kind), TieRole::Tie)
 }
 
 /// Whether a tie comes first.
@@ -41,7 +45,7 @@ fn tie_ahead(ahead: &[Token]) -> bool
 fn may_be_tied(kind: &TokenKind) -> bool
     ensures { result ≡ may_be_tied kind.now }
 {
-    matches!(kind, TokenKind::Note(_) | TokenKind::Chord(_))
+    matches!(tie_role_of(kind), TieRole::Tieable)
 }
 
 /// Factors with which a chord gives what it gives with those of the marks round it. One without notes takes no time: for it
@@ -248,6 +252,35 @@ impl Given {
         Ok(())
     }
 
+    /// A dynamic (ABC 2.1 section 4.14).
+    fn dynamic(&mut self, dynamic: Dynamic)
+        ensures { self.new ≡ with_dynamic self.old dynamic }
+    {
+        self.body.here_mut().dynamic = Some(dynamic);
+    }
+
+    /// A directive of a program, with the number that is written.
+    fn program(&mut self, place: usize, written: u32) -> Result<(), AllocError>
+        ensures { OnOk result (self.new ≡ with_program self.old place (program_of written)) }
+    {
+        let number = program_of(written);
+        self.item(Item::Program {
+            opening: false,
+            number,
+        })?;
+        self.fault_if(number.is_none(), place, FaultCode::BadProgram)
+    }
+
+    /// A directive: how far accidentals reach is settled where the body begins.
+    fn directive(&mut self, place: usize, directive: Directive) -> Result<(), AllocError>
+        ensures { OnOk result (self.new ≡ with_directive self.old place directive) }
+    {
+        match directive {
+            Directive::Program(written) => self.program(place, written),
+            Directive::Reach(_) => Ok(()),
+        }
+    }
+
     /// A tie.
     fn tie(&mut self, place: usize) -> Result<(), AllocError>
         ensures { OnOk result (self.new ≡ with_tie self.old place) }
@@ -284,6 +317,11 @@ impl Given {
             }
             TokenKind::Tie => self.tie(place),
             TokenKind::Blank | TokenKind::NoEffect => Ok(()),
+            TokenKind::Dynamic(dynamic) => {
+                self.dynamic(*dynamic);
+                Ok(())
+            }
+            TokenKind::Directive(directive) => self.directive(place, *directive),
             TokenKind::Unclosed => self.fault(place, FaultCode::Unclosed),
             TokenKind::BadByte => self.fault(place, FaultCode::BadByte),
         }

@@ -1,20 +1,27 @@
 //! The values that a file header sets for all tunes, and a tune's header for its own.
 
 ghost use Rattle.std.specs.Prelude.{◌≡◌};
-ghost use Rattle.abc_bars.specs.Defaults.{meter_set, unit_set, tempo_or, tempo_set, setting_given, meter_in, unit_in};
+ghost use Rattle.abc_bars.specs.Defaults.{meter_set, unit_set, tempo_or, tempo_set, setting_given, program_set, directive_given, meter_in, unit_in};
+ghost use Rattle.abc_music.specs.Program.{program_of};
 
 use crate::field_kind::FieldKind;
+use crate::tune_program::TuneProgram;
 use abc_fields::{FaultCode, Tempo};
 use abc_music::{TuneMeter, TuneTempo, UnitLength};
+use abc_scan::{Directive, Reach};
 
-/// The last accepted values of M:, L: and Q: (ABC 2.1 section 3.1). A Q: that sets no tempo counts as
-/// none.
+/// The last accepted values of M:, L: and Q: (ABC 2.1 section 3.1), and of directives (ABC 2.1 section 11). A Q:
+/// that sets no tempo counts as none.
 #[derive(Clone, Copy)]
 pub struct Defaults {
     pub meter: Option<TuneMeter>,
     /// The unit note length.
     pub unit: Option<UnitLength>,
     pub tempo: Option<TuneTempo>,
+    /// The program of MIDI to play with.
+    pub program: Option<TuneProgram>,
+    /// How far accidentals reach, in all octaves where no directive says it.
+    pub reach: Reach,
 }
 
 /// No values, as at the beginning of a file header.
@@ -22,9 +29,11 @@ pub(crate) const NO_DEFAULTS: Defaults = Defaults {
     meter: None,
     unit: None,
     tempo: None,
+    program: None,
+    reach: Reach::Pitch,
 };
 
-/// The values behind a field, and its fault.
+/// The values behind a field or a directive, and its fault.
 #[derive(Clone, Copy)]
 pub(crate) struct SettingGiven {
     pub(crate) defaults: Defaults,
@@ -42,7 +51,7 @@ impl SettingGiven {
         }
     }
 
-    /// The values that hold already, since a field is refused.
+    /// The values that hold already, since a field or a directive is refused.
     fn refused(defaults: Defaults, fault: FaultCode) -> SettingGiven
         ensures { result ≡ record { defaults = defaults; fault = Some fault } }
     {
@@ -116,6 +125,29 @@ pub(crate) fn setting_given(defaults: Defaults, kind: FieldKind, value: &[u8]) -
         | FieldKind::Voice
         | FieldKind::Key
         | FieldKind::Other => SettingGiven::accepted(defaults),
+    }
+}
+
+/// The values behind a directive of a program, by the number that is written.
+fn program_set(defaults: Defaults, written: u32) -> SettingGiven
+    ensures { result ≡ program_set defaults (program_of written) }
+{
+    match TuneProgram::read(written) {
+        Some(program) => SettingGiven::accepted(Defaults {
+            program: Some(program),
+            ..defaults
+        }),
+        None => SettingGiven::refused(defaults, FaultCode::BadProgram),
+    }
+}
+
+/// The values behind a directive.
+pub(crate) fn directive_given(defaults: Defaults, directive: Directive) -> SettingGiven
+    ensures { result ≡ directive_given defaults directive }
+{
+    match directive {
+        Directive::Program(written) => program_set(defaults, written),
+        Directive::Reach(reach) => SettingGiven::accepted(Defaults { reach, ..defaults }),
     }
 }
 

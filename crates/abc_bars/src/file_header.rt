@@ -1,21 +1,34 @@
 //! The file header.
 
 ghost use Rattle.std.specs.Prelude.{◌≡◌, IfOk};
+ghost use Rattle.abc_bars.specs.FieldFault.{faults_of};
 ghost use Rattle.abc_bars.specs.FileHeader.{file_header_given};
+ghost use Rattle.abc_bars.specs.HeaderLine.{DirectiveLine, FieldLine};
 
-use crate::defaults::{Defaults, setting_given};
+use crate::defaults::{Defaults, SettingGiven, directive_given, setting_given};
 use crate::field_fault::faults_of;
 use crate::field_kind::kind_of;
 use abc_music::LocalFault;
-use abc_scan::Field;
+use abc_scan::{Directive, Field};
 use abc_text::Sequence;
 use std::alloc::{AllocError, Global};
 
-/// What a field of the file header gives, which has no items.
+/// What a line of the file header gives, which has no items.
 #[derive(Drop)]
 pub(crate) struct FileHeaderGiven {
     pub(crate) defaults: Defaults,
     pub(crate) faults: Sequence<LocalFault>,
+}
+
+/// What a line gives that sets these values.
+fn given_by(alloc: Global, given: SettingGiven) -> Result<FileHeaderGiven, AllocError>
+    ensures { IfOk result (λ line. line ≡ record { defaults = given.defaults; faults = faults_of given.fault }) }
+{
+    let faults = faults_of(alloc, given.fault)?;
+    Ok(FileHeaderGiven {
+        defaults: given.defaults,
+        faults,
+    })
 }
 
 /// What a field of the file header gives: M:, L: and Q: set defaults for all tunes, and no other field has
@@ -25,13 +38,19 @@ pub(crate) fn file_header_given(
     defaults: Defaults,
     field: &Field,
 ) -> Result<FileHeaderGiven, AllocError>
-    ensures { IfOk result (λ given. given ≡ file_header_given defaults field.now) }
+    ensures { IfOk result (λ given. given ≡ file_header_given defaults (FieldLine field.now)) }
 {
     let kind = kind_of(field.letter);
-    let given = setting_given(defaults, kind, field.value.as_slice());
-    let faults = faults_of(alloc, given.fault)?;
-    Ok(FileHeaderGiven {
-        defaults: given.defaults,
-        faults,
-    })
+    given_by(alloc, setting_given(defaults, kind, field.value.as_slice()))
+}
+
+/// What a directive of the file header gives: it sets a default for all tunes.
+pub(crate) fn file_header_directed(
+    alloc: Global,
+    defaults: Defaults,
+    directive: Directive,
+) -> Result<FileHeaderGiven, AllocError>
+    ensures { IfOk result (λ given. given ≡ file_header_given defaults (DirectiveLine directive)) }
+{
+    given_by(alloc, directive_given(defaults, directive))
 }

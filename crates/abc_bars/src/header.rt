@@ -1,25 +1,27 @@
 //! The header of a tune.
 
-ghost use Rattle.std.specs.Prelude.{◌≡◌, IfOk, IfSome, All, Some, None};
+ghost use Rattle.std.specs.Prelude.{◌≡◌, ◌≤◌, IfOk, IfSome, All, Some, None};
 ghost use Rattle.abc_fields.specs.Key.{IsInRange, key_of};
 ghost use Rattle.abc_fields.specs.Parts.{parts_of};
 ghost use Rattle.abc_fields.specs.Voice.{voice_of};
-ghost use Rattle.abc_bars.specs.Header.{opening_header, shift_said, said_at, declared, declared_given, unchanged, reference_by, order_by, voice_by, key_item, key_by, own_given, setting_by, items_with, header_given};
+ghost use Rattle.abc_bars.specs.Header.{opening_header, shift_said, said_at, declared, declared_given, unchanged, reference_by, order_by, header_voice_by, header_key_item, header_key_by, own_given, setting_by, directive_item, directed, opening_program, and_program, items_with, header_line_given, header_given};
+ghost use Rattle.abc_bars.specs.HeaderLine.{DirectiveLine, FieldLine};
 ghost use Rattle.abc_music.specs.Item.{IsItem};
 ghost use Rattle.abc_music.specs.declared.item.Item.TheVariants as items;
 ghost use Rattle.abc_bars.specs.Defaults.{setting_given};
 ghost use Rattle.abc_bars.specs.Reference.{reference_of};
 
-use crate::defaults::{Defaults, setting_given};
+use crate::defaults::{Defaults, directive_given, setting_given};
 use crate::field_fault::faults_of;
 use crate::field_kind::{FieldKind, kind_of};
 use crate::opening::{opening_meter, opening_tempo};
 use crate::reference::reference_of;
+use crate::tune_program::TuneProgram;
 use crate::voice_name::VoiceName;
 use crate::voices::Voices;
 use abc_fields::{EMPTY_SIGNATURE, FaultCode, Key, Shift, Voice, read_key, read_parts, read_voice};
-use abc_music::{Item, LocalFault, MOST_VOICES};
-use abc_scan::Field;
+use abc_music::{Item, LocalFault, MOST_VOICES, program_of};
+use abc_scan::{Directive, Field};
 use abc_text::Sequence;
 use std::alloc::{AllocError, Global};
 
@@ -31,7 +33,7 @@ pub struct Header {
     pub(crate) voices: Voices<Shift>,
 }
 
-/// What a field of a header gives.
+/// What a line of a header gives.
 #[derive(Drop)]
 pub(crate) struct HeaderGiven {
     pub(crate) header: Header,
@@ -39,7 +41,7 @@ pub(crate) struct HeaderGiven {
     pub(crate) faults: Sequence<LocalFault>,
 }
 
-/// What a field gives of its own: what holds behind it, its item and its fault.
+/// What a line gives of its own: what holds behind it, its item and its fault.
 #[derive(Drop)]
 struct OwnGiven {
     header: Header,
@@ -188,7 +190,7 @@ fn declare_named(
 
 /// What a V: gives.
 fn voice_given(alloc: Global, header: Header, value: &[u8]) -> Result<OwnGiven, AllocError>
-    ensures value { IfOk result (λ own. own ≡ voice_by header value.now (voice_of value.now)) }
+    ensures value { IfOk result (λ own. own ≡ header_voice_by header value.now (voice_of value.now)) }
     ensures range { IfOk result (λ own. IfSome own.item IsItem) }
 {
     match read_voice(value) {
@@ -203,9 +205,9 @@ fn voice_given(alloc: Global, header: Header, value: &[u8]) -> Result<OwnGiven, 
 }
 
 /// The key with which a tune begins.
-fn key_item(key: Key) -> Item
+fn header_key_item(key: Key) -> Item
     requires { IsInRange key }
-    ensures value { result ≡ key_item key }
+    ensures value { result ≡ header_key_item key }
     ensures range { IsItem result }
 {
     Item::Key {
@@ -216,12 +218,14 @@ fn key_item(key: Key) -> Item
 
 /// What a K: gives.
 fn key_given(header: Header, value: &[u8]) -> OwnGiven
-    ensures value { result ≡ key_by header (key_of value.now) }
+    ensures value { result ≡ header_key_by header (key_of value.now) }
     ensures range { IfSome result.item IsItem }
 {
     match read_key(value) {
-        Ok(key) => OwnGiven::unchanged(header, Some(key_item(key)), None),
-        Err(fault) => { OwnGiven::unchanged(header, Some(key_item(EMPTY_SIGNATURE)), Some(fault)) }
+        Ok(key) => OwnGiven::unchanged(header, Some(header_key_item(key)), None),
+        Err(fault) => {
+            OwnGiven::unchanged(header, Some(header_key_item(EMPTY_SIGNATURE)), Some(fault))
+        }
     }
 }
 
@@ -268,28 +272,117 @@ fn items_with(
     Ok(items)
 }
 
-/// What a field of a header gives: its own item, and then the tempo and meter with which the tune begins
-/// if its header ends behind it.
-pub(crate) fn header_given(
+/// The item of a directive: that of a program says its number, or none where it is refused.
+fn directive_item(directive: Directive) -> Option<Item>
+    ensures value { result ≡ directive_item directive }
+    ensures range { IfSome result IsItem }
+{
+    match directive {
+        Directive::Program(written) => Some(Item::Program {
+            opening: true,
+            number: program_of(written),
+        }),
+        Directive::Reach(_) => None,
+    }
+}
+
+/// What a directive gives of its own.
+fn directed(header: Header, directive: Directive) -> OwnGiven
+    ensures value { result ≡ directed header directive }
+    ensures range { IfSome result.item IsItem }
+{
+    let given = directive_given(header.defaults, directive);
+    let mut header = header;
+    header.defaults = given.defaults;
+    OwnGiven::unchanged(header, directive_item(directive), given.fault)
+}
+
+/// The program that a field gives to its tune: an X:, with which a tune begins, that of the file header.
+fn opening_program(kind: FieldKind, defaults: &Defaults) -> Option<TuneProgram>
+    ensures { result ≡ opening_program kind defaults.now }
+{
+    match kind {
+        FieldKind::Reference => defaults.program,
+        FieldKind::Title
+        | FieldKind::Meter
+        | FieldKind::UnitLength
+        | FieldKind::Tempo
+        | FieldKind::Parts
+        | FieldKind::Voice
+        | FieldKind::Key
+        | FieldKind::Other => None,
+    }
+}
+
+/// Puts the program of a tune behind items, if there is one.
+fn and_program(
+    items: Sequence<Item>,
+    program: Option<TuneProgram>,
+) -> Result<Sequence<Item>, AllocError>
+    requires { All IsItem items }
+    ensures value { IfOk result (λ more. more ≡ and_program items program) }
+    ensures range { IfOk result (λ more. All IsItem more) }
+{
+    let mut items = items;
+    if let Some(program) = program {
+        items.push(Item::Program {
+            opening: true,
+            number: Some(program.get()),
+        })?;
+    }
+    Ok(items)
+}
+
+/// What a line of a header gives, by what it gives of its own, and by the program that it gives to its tune.
+fn given_by(
     alloc: Global,
-    header: Header,
-    field: &Field,
+    own: OwnGiven,
+    program: Option<TuneProgram>,
 ) -> Result<HeaderGiven, AllocError>
-    ensures value { IfOk result (λ given. given ≡ header_given header field.now) }
+    requires { IfSome own.item IsItem }
+    ensures value { IfOk result (λ given. given ≡ header_line_given own program) }
     ensures range { IfOk result (λ given. All IsItem given.items) }
 {
-    let kind = kind_of(field.letter);
-    let own = own_given(alloc, header, kind, field.value.as_slice())?;
     let OwnGiven {
         header,
         item,
         fault,
     } = own;
     let items = items_with(alloc, item, &header.defaults)?;
+    let items = and_program(items, program)?;
     let faults = faults_of(alloc, fault)?;
     Ok(HeaderGiven {
         header,
         items,
         faults,
     })
+}
+
+/// What a field of a header gives: its own item, and then the tempo and meter with which the tune begins
+/// if its header ends behind it; an X: also the program of the file header.
+pub(crate) fn header_given(
+    alloc: Global,
+    header: Header,
+    field: &Field,
+) -> Result<HeaderGiven, AllocError>
+    ensures value { IfOk result (λ given. given ≡ header_given header (FieldLine field.now)) }
+    ensures range { IfOk result (λ given. All IsItem given.items) }
+{
+    let kind = kind_of(field.letter);
+    let program = opening_program(kind, &header.defaults);
+    let own = own_given(alloc, header, kind, field.value.as_slice())?;
+    given_by(alloc, own, program)
+}
+
+/// What a directive of a header gives: its own item, and then the tempo and meter with which the tune begins
+/// if its header ends behind it.
+pub(crate) fn header_directed(
+    alloc: Global,
+    header: Header,
+    directive: Directive,
+) -> Result<HeaderGiven, AllocError>
+    ensures value { IfOk result (λ given. given ≡ header_given header (DirectiveLine directive)) }
+    ensures range { IfOk result (λ given. All IsItem given.items) }
+{
+    given_by(alloc, directed(header, directive), None)
 }

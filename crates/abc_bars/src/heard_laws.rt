@@ -1,21 +1,21 @@
 //! Laws of what holds at the places of a body.
 
 ghost use Rattle.std.specs.Prelude.{◌≡◌, List, [], ◌∷◌};
+ghost use Rattle.abc_bars.specs.HeaderLine.{HeaderLine};
 ghost use Rattle.abc_bars.specs.LookBack.AfterBody.{body_after};
 ghost use Rattle.abc_bars.specs.LookBack.Element.{Element};
 ghost use Rattle.abc_bars.specs.LookBack.Held.{held_at};
 ghost use Rattle.abc_bars.specs.LookBack.Place.{opening_at};
 ghost use Rattle.abc_bars.specs.declared.defaults.Defaults.{Defaults};
-ghost use Rattle.abc_scan.specs.declared.field.Field.{Field};
 ghost use Rattle.abc_fields.specs.declared.key.Key.{Key};
 
 /// What holds at a place of a body, for all voices, is what looking back finds: where the body begins what it
 /// begins with, and behind one element more what that element leaves of what was found before.
 #[tactic(auto, using(crate::proofs::LookBack::Held::begins, crate::proofs::LookBack::Held::body_behind_element))]
 pub fn held_views()
-    ensures begins { (opening : Defaults) (fields : List Field) (key : Key) →
+    ensures begins { (opening : Defaults) (fields : List HeaderLine) (key : Key) →
         held_at (opening_at opening fields key) [] ≡ opening_at opening fields key }
-    ensures behind { (opening : Defaults) (fields : List Field) (key : Key) (before : List Element) (element : Element) →
+    ensures behind { (opening : Defaults) (fields : List HeaderLine) (key : Key) (before : List Element) (element : Element) →
         held_at (opening_at opening fields key) (element ∷ before)
         ≡ body_after (held_at (opening_at opening fields key) before) element }
 {}

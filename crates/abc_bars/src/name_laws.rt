@@ -2,7 +2,7 @@
 
 ghost use Rattle.std.specs.Prelude.{◌≡◌, ℕ, List, Some, slice_get};
 ghost use Rattle.abc_fields.specs.declared.key.Key.{Key};
-ghost use Rattle.abc_scan.specs.declared.field.Field.{Field};
+ghost use Rattle.abc_bars.specs.HeaderLine.{HeaderLine};
 ghost use Rattle.abc_bars.specs.Body.{here};
 ghost use Rattle.abc_bars.specs.LookBack.ByName.{naming_at, settings_named};
 ghost use Rattle.abc_bars.specs.LookBack.Element.{Element};
@@ -17,13 +17,13 @@ ghost use Rattle.abc_bars.specs.declared.defaults.Defaults.{Defaults};
 /// that names it, and each accepted P:.
 #[tactic(auto, using(crate::proofs::LookBack::Held::names_found, crate::proofs::LookBack::Held::voices_found, crate::proofs::LookBack::Held::here_found))]
 pub fn named_voices()
-    ensures names { (opening : Defaults) (fields : List Field) (key : Key) (before : List Element) →
+    ensures names { (opening : Defaults) (fields : List HeaderLine) (key : Key) (before : List Element) →
         (roll_of (held_at (opening_at opening fields key) before)).names ≡ (naming_at (opening_at opening fields key) before).names }
-    ensures voices { (opening : Defaults) (fields : List Field) (key : Key) (before : List Element) (at : ℕ) (name : List ℕ) →
+    ensures voices { (opening : Defaults) (fields : List HeaderLine) (key : Key) (before : List Element) (at : ℕ) (name : List ℕ) →
         slice_get (roll_of (held_at (opening_at opening fields key) before)).names at ≡ Some name →
         voice_at (held_at (opening_at opening fields key) before).voices at
         ≡ Some (settings_named (opening_at opening fields key) name before) }
-    ensures current { (opening : Defaults) (fields : List Field) (key : Key) (before : List Element) →
+    ensures current { (opening : Defaults) (fields : List HeaderLine) (key : Key) (before : List Element) →
         here (held_at (opening_at opening fields key) before)
         ≡ settings_named (opening_at opening fields key) (naming_at (opening_at opening fields key) before).current before }
 {}

@@ -6,6 +6,7 @@ use crate::body::{Body, Current};
 use crate::defaults::Defaults;
 use crate::entry::Entry;
 use crate::header::Header;
+use crate::tune_program::TuneProgram;
 use crate::voices::Voices;
 use abc_fields::Shift;
 use abc_music::{Settings, TuneMeter, TuneTempo, UnitLength};
@@ -45,7 +46,7 @@ fn same_meter(meter: Option<TuneMeter>, other: Option<TuneMeter>) -> bool
     match (meter, other) {
         (Some(meter), Some(other)) => meter.same(other),
         (None, None) => true,
-        _ => false,
+        (Some(_), None) | (None, Some(_)) => false,
     }
 }
 
@@ -56,7 +57,7 @@ fn same_unit(unit: Option<UnitLength>, other: Option<UnitLength>) -> bool
     match (unit, other) {
         (Some(unit), Some(other)) => unit.same(other),
         (None, None) => true,
-        _ => false,
+        (Some(_), None) | (None, Some(_)) => false,
     }
 }
 
@@ -67,7 +68,18 @@ fn same_tempo(tempo: Option<TuneTempo>, other: Option<TuneTempo>) -> bool
     match (tempo, other) {
         (Some(tempo), Some(other)) => tempo.same(other),
         (None, None) => true,
-        _ => false,
+        (Some(_), None) | (None, Some(_)) => false,
+    }
+}
+
+/// Whether both are the same program, or there is none.
+fn same_program(program: Option<TuneProgram>, other: Option<TuneProgram>) -> bool
+    ensures { IsTrue result ↔ (program ≡ other) }
+{
+    match (program, other) {
+        (Some(program), Some(other)) => program.same(other),
+        (None, None) => true,
+        (Some(_), None) | (None, Some(_)) => false,
     }
 }
 
@@ -79,6 +91,8 @@ impl Defaults {
         same_meter(self.meter, other.meter)
             && same_unit(self.unit, other.unit)
             && same_tempo(self.tempo, other.tempo)
+            && same_program(self.program, other.program)
+            && self.reach == other.reach
     }
 }
 

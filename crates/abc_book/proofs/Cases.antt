@@ -2,7 +2,7 @@
 use Rattle.std.proofs.Common.{◌≡◌, ℕ, true, false, List, [], refl, sym, ap, subst, ⊎_elim, ◌==◌}
 use Rattle.std.proofs.lemmas.Bool.{cases_Bool, eqb-true, eq-eqb}
 use Rattle.abc_scan.specs.declared.class.LineClass.{LineClass}
-use Rattle.abc_scan.specs.declared.class.LineClass.TheVariants.{Blank, Comment, Field, Music}
+use Rattle.abc_scan.specs.declared.class.LineClass.TheVariants.{Blank, Comment, Field, Directive, Music}
 use Rattle.abc_book.specs.declared.block.Block.{Block}
 use Rattle.abc_book.specs.declared.block.BlockKind.{BlockKind}
 use Rattle.abc_book.specs.declared.block.BlockKind.TheVariants.{FileHeader, Tune, Free}
@@ -25,6 +25,7 @@ no_tune letter e same =
 pub by_class : (P : List Block → Before → Type 0) (before : Before) (at : ℕ) (class : LineClass) → Each P before at class → P (ended_by before class) (after_line before at class)
 by_class P before at Blank each = each.blank refl
 by_class P before at Comment each = each.comment refl
+by_class P before at Directive each = each.other FileHeader (λ h. cc) (λ h. cc) (λ h. cc)
 by_class P before at Music each = each.other Free (λ h. cc) (λ h. cc) (λ h. cc)
 by_class P before at (Field letter) each = ⊎_elim
     (λ e.

@@ -4,7 +4,7 @@ use Rattle.std.specs.Prelude.{map, IsTrue}
 use Rattle.std.proofs.lemmas.Bool.{cases_Bool, eqb-true}
 use Rattle.std.proofs.lemmas.List.{map-append}
 use Rattle.abc_scan.specs.declared.class.LineClass.{LineClass}
-use Rattle.abc_scan.specs.declared.class.LineClass.TheVariants.{Blank, Comment, Field, Music}
+use Rattle.abc_scan.specs.declared.class.LineClass.TheVariants.{Blank, Comment, Field, Directive, Music}
 use Rattle.abc_book.specs.declared.block.BlockKind.{BlockKind}
 use Rattle.abc_book.specs.declared.block.BlockKind.TheVariants.{FileHeader, Tune, Free}
 use Rattle.abc_book.specs.declared.pass.Before.{Before}
@@ -39,6 +39,7 @@ ended_moved n before (Field letter) = ⊎_elim
     (λ (e : (letter == letter_x) ≡ true). simp e (last_moved n before))
     (λ (e : (letter == letter_x) ≡ false). simp e)
     (cases_Bool (letter == letter_x))
+ended_moved n before Directive = refl
 ended_moved n before Music = refl
 
 one_moved : (n at : ℕ) (kind : BlockKind) → one_line kind (at + n) ≡ moved n (one_line kind at)
@@ -61,6 +62,7 @@ after_moved n at before (Field letter) = ⊎_elim
     (λ (e : (letter == letter_x) ≡ true). simp e (ap (λ b. Inside b) (one_moved n at Tune)))
     (λ (e : (letter == letter_x) ≡ false). simp e (ap (λ b. Inside b) (line_moved n at FileHeader before)))
     (cases_Bool (letter == letter_x))
+after_moved n at before Directive = ap (λ b. Inside b) (line_moved n at FileHeader before)
 after_moved n at before Music = ap (λ b. Inside b) (line_moved n at Free before)
 
 -- the same lines further down make the same blocks, as much further down
@@ -76,6 +78,7 @@ is_field_x : (x : LineClass) → IsTrue (is_x_line x) → x ≡ Field letter_x
 is_field_x Blank h = absurd (cc)
 is_field_x Comment h = absurd (cc)
 is_field_x (Field letter) h = ap (λ l. Field l) (eqb-true letter letter_x h)
+is_field_x Directive h = absurd (cc)
 is_field_x Music h = absurd (cc)
 
 cuts_at : (front behind : List LineClass) → blocks_of (front ++ Field letter_x ∷ behind) ≡ blocks_of front ++ map (moved (length front)) (blocks_of (Field letter_x ∷ behind))

@@ -4,7 +4,7 @@ use Rattle.std.specs.Prelude.{count_by, slice_get}
 use Rattle.std.proofs.lemmas.Bool.Decides.{nat_tests}
 use Rattle.std.proofs.lemmas.List.Sums.{sum_by-append}
 use Rattle.abc_scan.specs.declared.class.LineClass.{LineClass}
-use Rattle.abc_scan.specs.declared.class.LineClass.TheVariants.{Blank, Comment, Field, Music}
+use Rattle.abc_scan.specs.declared.class.LineClass.TheVariants.{Blank, Comment, Field, Directive, Music}
 use Rattle.abc_book.specs.declared.block.Block.{Block}
 use Rattle.abc_book.specs.declared.block.BlockKind.{BlockKind}
 use Rattle.abc_book.specs.declared.block.BlockKind.TheVariants.{Tune}
@@ -105,12 +105,14 @@ abbrev due : LineClass → ℕ
 due Blank = 0
 due Comment = 0
 due (Field letter) = 1
+due Directive = 1
 due Music = 1
 
 due_one : (class : LineClass) → (class ≡ Blank → ⊥) → (class ≡ Comment → ⊥) → due class ≡ 1
 due_one Blank b c = absurd (b refl)
 due_one Comment b c = absurd (c refl)
 due_one (Field letter) b c = refl
+due_one Directive b c = refl
 due_one Music b c = refl
 
 lies_here : (line at : ℕ) (before : Before) (class : LineClass) (classes : List LineClass) → line ≡ at → (class ≡ Comment → ⊥) → Stands 0 at before → lies line (blocks_from before at (class ∷ classes)) ≡ due class

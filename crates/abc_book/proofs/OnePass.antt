@@ -3,7 +3,7 @@ use Rattle.std.proofs.Common.{◌≡◌, ℕ, ◌+◌, false, List, [], ◌∷�
 use Rattle.std.specs.List.{flat_map}
 use Rattle.std.proofs.lemmas.Bool.{cases_Bool, eqb-true}
 use Rattle.abc_scan.specs.declared.class.LineClass.{LineClass}
-use Rattle.abc_scan.specs.declared.class.LineClass.TheVariants.{Blank, Comment, Field, Music}
+use Rattle.abc_scan.specs.declared.class.LineClass.TheVariants.{Blank, Comment, Field, Directive, Music}
 use Rattle.abc_book.specs.declared.block.Block.{Block}
 use Rattle.abc_book.specs.declared.block.BlockKind.TheVariants.{FileHeader, Tune, Free}
 use Rattle.abc_book.specs.declared.pass.Before.TheVariants.{Nothing, Inside, Ended}
@@ -61,6 +61,13 @@ passes at (Blank ∷ classes) =
     record { inside = λ block. ap (λ l. block ∷ l) later.ended; ended = later.ended; nothing = later.nothing }
 passes at (Comment ∷ classes) =
     let later = passes (at + 1) classes in record { inside = later.inside; ended = later.ended; nothing = later.nothing }
+passes at (Directive ∷ classes) =
+    let later = passes (at + 1) classes in
+    record {
+      inside = λ block. later.inside (record block { to = at + 1 });
+      ended = later.inside (one_line Free at);
+      nothing = later.inside (one_line FileHeader at);
+    }
 passes at (Music ∷ classes) =
     let later = passes (at + 1) classes in
     record {

@@ -2,7 +2,7 @@
 use Rattle.std.specs.Prelude.{ℕ, ◌+◌, Bool, true, false, not, List, [], ◌∷◌, ◌++◌, filter, if◌then◌else◌, ◌==◌}
 use Rattle.std.specs.List.{flat_map}
 use Rattle.abc_scan.specs.declared.class.LineClass.{LineClass}
-use Rattle.abc_scan.specs.declared.class.LineClass.TheVariants.{Blank, Comment, Field, Music}
+use Rattle.abc_scan.specs.declared.class.LineClass.TheVariants.{Blank, Comment, Field, Directive, Music}
 use Rattle.abc_book.specs.declared.block.Block.{Block}
 use Rattle.abc_book.specs.declared.block.BlockKind.{BlockKind}
 use Rattle.abc_book.specs.declared.block.BlockKind.TheVariants.{FileHeader, Tune, Free}
@@ -19,12 +19,14 @@ abbrev pub is_blank : LineClass → Bool
 is_blank Blank = true
 is_blank Comment = false
 is_blank (Field letter) = false
+is_blank Directive = false
 is_blank Music = false
 
 abbrev pub is_comment : LineClass → Bool
 is_comment Blank = false
 is_comment Comment = true
 is_comment (Field letter) = false
+is_comment Directive = false
 is_comment Music = false
 
 -- The byte `X`.
@@ -36,6 +38,7 @@ abbrev pub is_x_line : LineClass → Bool
 is_x_line Blank = false
 is_x_line Comment = false
 is_x_line (Field letter) = letter == letter_x
+is_x_line Directive = false
 is_x_line Music = false
 
 -- The lines of a text with their numbers, of which the first is this one.
@@ -84,12 +87,13 @@ runs_of classes = filter has_lines (cut_at_blanks (without_comments (numbered 0 
 abbrev pub pieces_of : List Line → List (List Line)
 pieces_of run = filter has_lines (cut_before_x run)
 
--- What a piece is by its first line, at the start of the first run. ABC 2.1 section 2.2.2; that a field has
--- to begin the file header is our own.
+-- What a piece is by its first line, at the start of the first run. ABC 2.1 sections 2.2.2 and 11; that a field
+-- or a directive has to begin the file header is our own.
 abbrev pub opening_kind : LineClass → BlockKind
 opening_kind Blank = Free
 opening_kind Comment = Free
 opening_kind (Field letter) = if letter == letter_x then Tune else FileHeader
+opening_kind Directive = FileHeader
 opening_kind Music = Free
 
 -- What any other piece is by its first line. ABC 2.1 section 2.2.

@@ -1,7 +1,7 @@
 -- The blocks of a text by one recursion over its lines.
 use Rattle.std.specs.Prelude.{ℕ, ◌+◌, List, [], ◌∷◌, ◌++◌, if◌then◌else◌, ◌==◌}
 use Rattle.abc_scan.specs.declared.class.LineClass.{LineClass}
-use Rattle.abc_scan.specs.declared.class.LineClass.TheVariants.{Blank, Comment, Field, Music}
+use Rattle.abc_scan.specs.declared.class.LineClass.TheVariants.{Blank, Comment, Field, Directive, Music}
 use Rattle.abc_book.specs.declared.block.Block.{Block}
 use Rattle.abc_book.specs.declared.block.BlockKind.{BlockKind}
 use Rattle.abc_book.specs.declared.block.BlockKind.TheVariants.{FileHeader, Tune, Free}
@@ -31,6 +31,7 @@ after_line before at Blank = after_blank before
 after_line before at Comment = before
 after_line before at (Field letter) =
     if letter == letter_x then Inside (one_line Tune at) else Inside (with_line FileHeader before at)
+after_line before at Directive = Inside (with_line FileHeader before at)
 after_line before at Music = Inside (with_line Free before at)
 
 -- The block that is open at the end of a text.
@@ -44,6 +45,7 @@ abbrev pub ended_by : Before → LineClass → List Block
 ended_by before Blank = last_block before
 ended_by before Comment = []
 ended_by before (Field letter) = if letter == letter_x then last_block before else []
+ended_by before Directive = []
 ended_by before Music = []
 
 -- The blocks that lines make behind what stands before them; the first of them has this number.

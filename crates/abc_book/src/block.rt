@@ -3,7 +3,7 @@
 /// What a block of a text is (ABC 2.1 section 2.2).
 #[derive(Clone, Copy)]
 pub enum BlockKind {
-    /// Fields before the first tune, which set defaults for all tunes.
+    /// Fields and directives before the first tune, which set defaults for all tunes.
     FileHeader,
     /// A tune, which an X: line begins.
     Tune,

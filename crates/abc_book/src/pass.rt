@@ -62,7 +62,11 @@ fn after_line(before: Before, at: usize, class: LineClass) -> Before
             Before::Inside(_) | Before::Ended => Before::Ended,
         },
         LineClass::Field(b'X') => Before::Inside(one_line(BlockKind::Tune, at)),
-        LineClass::Field(_) => Before::Inside(with_line(BlockKind::FileHeader, before, at)),
+        LineClass::Field(_) | LineClass::Directive => Before::Inside(with_line(
+            BlockKind::FileHeader,
+            before,
+            at,
+        )),
         LineClass::Music => Before::Inside(with_line(BlockKind::Free, before, at)),
     }
 }
@@ -83,7 +87,7 @@ fn ended_by(before: Before, class: LineClass) -> Option<Block>
 {
     match class {
         LineClass::Blank | LineClass::Field(b'X') => last_block(before),
-        LineClass::Comment | LineClass::Field(_) | LineClass::Music => None,
+        LineClass::Comment | LineClass::Field(_) | LineClass::Directive | LineClass::Music => None,
     }
 }
 

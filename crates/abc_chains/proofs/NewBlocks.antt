@@ -16,7 +16,7 @@ use Rattle.abc_book.proofs.Lying.{each_in_one}
 use Rattle.abc_book.proofs.Rising.{blocks_rise, tunes_begin}
 use Rattle.abc_book.proofs.Stretches.{stretch_is_enough}
 use Rattle.abc_scan.specs.declared.class.LineClass.{LineClass}
-use Rattle.abc_scan.specs.declared.class.LineClass.TheVariants.{Blank, Comment, Field, Music}
+use Rattle.abc_scan.specs.declared.class.LineClass.TheVariants.{Blank, Comment, Field, Directive, Music}
 use Rattle.abc_tunebook.specs.Book.{header_in, is_file_header, is_tune, tunes_in}
 use Rattle.abc_chains.specs.Renewing.{start_of}
 use Rattle.abc_chains.proofs.Parts.{drop_past}
@@ -113,6 +113,7 @@ is_field_x : (x : LineClass) → IsTrue (is_x_line x) → x ≡ Field letter_x
 is_field_x Blank h = absurd (cc)
 is_field_x Comment h = absurd (cc)
 is_field_x (Field letter) h = ap (λ l. Field l) (eqb-true letter letter_x h)
+is_field_x Directive h = absurd (cc)
 is_field_x Music h = absurd (cc)
 
 no_header : (classes : List LineClass) → 1 ≤ length classes → BeginTune classes → header_in (blocks_of classes) ≡ None

@@ -1,11 +1,11 @@
 -- Each fault has a number of its own.
 use Rattle.std.proofs.Common.{◌≡◌, ℕ, ◌-◌, List, [], ◌∷◌, get_or, refl, sym, ap, ◌∙◌}
 use Rattle.abc_fields.specs.declared.fault.FaultCode.{FaultCode}
-use Rattle.abc_fields.specs.declared.fault.FaultCode.TheVariants.{BadReference, BadMeter, BadUnit, BadTempo, BadKey, BadOrder, BadPart, BadVoice, TooManyVoices, BadByte, Unclosed, BadLength, BadTuplet, NestedTuplet, BadBroken, LooseTie, EmptyChord, BigChord, BadEnding, FreeBarRest, KeyRange, MissingKey, TempoRange, UnknownPart, UnevenVoices, TuneTooLong}
+use Rattle.abc_fields.specs.declared.fault.FaultCode.TheVariants.{BadReference, BadMeter, BadUnit, BadTempo, BadKey, BadOrder, BadPart, BadVoice, TooManyVoices, BadByte, Unclosed, BadLength, BadTuplet, NestedTuplet, BadBroken, LooseTie, EmptyChord, BigChord, BadEnding, FreeBarRest, KeyRange, MissingKey, TempoRange, UnknownPart, UnevenVoices, TuneTooLong, BadProgram}
 use Rattle.abc_fields.specs.Fault.{number_of}
 
 in_order : List FaultCode
-in_order = BadReference ∷ BadMeter ∷ BadUnit ∷ BadTempo ∷ BadKey ∷ BadOrder ∷ BadPart ∷ BadVoice ∷ TooManyVoices ∷ BadByte ∷ Unclosed ∷ BadLength ∷ BadTuplet ∷ NestedTuplet ∷ BadBroken ∷ LooseTie ∷ EmptyChord ∷ BigChord ∷ BadEnding ∷ FreeBarRest ∷ KeyRange ∷ MissingKey ∷ TempoRange ∷ UnknownPart ∷ UnevenVoices ∷ TuneTooLong ∷ []
+in_order = BadReference ∷ BadMeter ∷ BadUnit ∷ BadTempo ∷ BadKey ∷ BadOrder ∷ BadPart ∷ BadVoice ∷ TooManyVoices ∷ BadByte ∷ Unclosed ∷ BadLength ∷ BadTuplet ∷ NestedTuplet ∷ BadBroken ∷ LooseTie ∷ EmptyChord ∷ BigChord ∷ BadEnding ∷ FreeBarRest ∷ KeyRange ∷ MissingKey ∷ TempoRange ∷ UnknownPart ∷ UnevenVoices ∷ TuneTooLong ∷ BadProgram ∷ []
 
 -- the fault of a number
 numbered : ℕ → FaultCode
@@ -39,6 +39,7 @@ numbered_is TempoRange = refl
 numbered_is UnknownPart = refl
 numbered_is UnevenVoices = refl
 numbered_is TuneTooLong = refl
+numbered_is BadProgram = refl
 
 pub one_code : (a b : FaultCode) → number_of a ≡ number_of b → a ≡ b
 one_code a b e = sym (numbered_is a) ∙ ap numbered e ∙ numbered_is b

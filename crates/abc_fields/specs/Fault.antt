@@ -1,7 +1,7 @@
 -- The names and numbers of faults.
 use Rattle.std.specs.Prelude.{ℕ, List, codes}
 use Rattle.abc_fields.specs.declared.fault.FaultCode.{FaultCode}
-use Rattle.abc_fields.specs.declared.fault.FaultCode.TheVariants.{BadReference, BadMeter, BadUnit, BadTempo, BadKey, BadOrder, BadPart, BadVoice, TooManyVoices, BadByte, Unclosed, BadLength, BadTuplet, NestedTuplet, BadBroken, LooseTie, EmptyChord, BigChord, BadEnding, FreeBarRest, KeyRange, MissingKey, TempoRange, UnknownPart, UnevenVoices, TuneTooLong}
+use Rattle.abc_fields.specs.declared.fault.FaultCode.TheVariants.{BadReference, BadMeter, BadUnit, BadTempo, BadKey, BadOrder, BadPart, BadVoice, TooManyVoices, BadByte, Unclosed, BadLength, BadTuplet, NestedTuplet, BadBroken, LooseTie, EmptyChord, BigChord, BadEnding, FreeBarRest, KeyRange, MissingKey, TempoRange, UnknownPart, UnevenVoices, TuneTooLong, BadProgram}
 
 -- The name that the list of faults prints.
 abbrev pub name_of : FaultCode → List ℕ
@@ -31,6 +31,7 @@ name_of TempoRange = codes "TempoRange"
 name_of UnknownPart = codes "UnknownPart"
 name_of UnevenVoices = codes "UnevenVoices"
 name_of TuneTooLong = codes "TuneTooLong"
+name_of BadProgram = codes "BadProgram"
 
 -- Its number: faults at one place are listed in the order of their numbers.
 abbrev pub number_of : FaultCode → ℕ
@@ -60,3 +61,4 @@ number_of TempoRange = 23
 number_of UnknownPart = 24
 number_of UnevenVoices = 25
 number_of TuneTooLong = 26
+number_of BadProgram = 27

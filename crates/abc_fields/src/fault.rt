@@ -63,6 +63,8 @@ pub enum FaultCode {
     UnevenVoices,
     /// A tune that is too long.
     TuneTooLong,
+    /// A program that MIDI has no number for.
+    BadProgram,
 }
 
 impl FaultCode {
@@ -70,7 +72,7 @@ impl FaultCode {
     pub fn number(self) -> u8
         ensures value { result ≡ number_of self }
         ensures own { (other : FaultCode) → number_of other ≡ result → other ≡ self }
-        ensures range { (1 ≤ result) × (result ≤ 26) }
+        ensures range { (1 ≤ result) × (result ≤ 27) }
     {
         self as u8
     }
@@ -106,6 +108,7 @@ impl FaultCode {
             FaultCode::UnknownPart => "UnknownPart",
             FaultCode::UnevenVoices => "UnevenVoices",
             FaultCode::TuneTooLong => "TuneTooLong",
+            FaultCode::BadProgram => "BadProgram",
         }
     }
 }

@@ -7,7 +7,7 @@ use Rattle.std.proofs.lemmas.List.Sums.{AllPass-from_list_all}
 use Rattle.abc_lines.specs.Text.{Text, is_line}
 use Rattle.abc_lines.specs.declared.limits.TheConstants.{LONGEST_LINE}
 use Rattle.abc_scan.specs.declared.class.LineClass.{LineClass}
-use Rattle.abc_scan.specs.declared.class.LineClass.TheVariants.{Blank, Comment, Field, Music}
+use Rattle.abc_scan.specs.declared.class.LineClass.TheVariants.{Blank, Comment, Field, Directive, Music}
 use Rattle.abc_text.specs.Byte.{line_feed}
 use Rattle.abc_text.specs.Cut.{Without, cut_at}
 use Rattle.abc_text.proofs.Cuts.{cut_at-found}
@@ -58,6 +58,7 @@ abbrev kept_line : LineClass → List ℕ → Text → Text
 kept_line Comment line rest = rest
 kept_line Blank line rest = line ∷ rest
 kept_line (Field letter) line rest = line ∷ rest
+kept_line Directive line rest = line ∷ rest
 kept_line Music line rest = line ∷ rest
 
 both : (p q : Bool) → p ≡ true → q ≡ true → (p && q) ≡ true
@@ -75,6 +76,7 @@ module _ (class : List ℕ → LineClass) where
   line_joined Comment line rest = refl
   line_joined Blank line rest = append_assoc line (line_feed ∷ []) (joined rest)
   line_joined (Field letter) line rest = append_assoc line (line_feed ∷ []) (joined rest)
+  line_joined Directive line rest = append_assoc line (line_feed ∷ []) (joined rest)
   line_joined Music line rest = append_assoc line (line_feed ∷ []) (joined rest)
 
   bytes_joined : (lines : Text) → bytes_of_lines class lines ≡ joined (kept lines)
@@ -85,6 +87,7 @@ module _ (class : List ℕ → LineClass) where
   line_unbroken Comment line rest first others = others
   line_unbroken Blank line rest first others = both (is_line line) (list_all is_line rest) first others
   line_unbroken (Field letter) line rest first others = both (is_line line) (list_all is_line rest) first others
+  line_unbroken Directive line rest first others = both (is_line line) (list_all is_line rest) first others
   line_unbroken Music line rest first others = both (is_line line) (list_all is_line rest) first others
 
   kept_unbroken : (lines : Text) → list_all is_line lines ≡ true → list_all is_line (kept lines) ≡ true
@@ -98,6 +101,7 @@ module _ (class : List ℕ → LineClass) where
     line_cells Comment line rest is = ap (λ own. own ++ flat_map cells rest) (none line is)
     line_cells Blank line rest is = refl
     line_cells (Field letter) line rest is = refl
+    line_cells Directive line rest is = refl
     line_cells Music line rest is = refl
 
     kept_cells : (lines : Text) → flat_map cells lines ≡ flat_map cells (kept lines)

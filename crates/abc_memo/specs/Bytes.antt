@@ -3,7 +3,7 @@ use Rattle.std.specs.Prelude.{ℕ, List, [], ◌∷◌, ◌++◌}
 use Rattle.std.specs.List.{flat_map}
 use Rattle.abc_lines.specs.Text.{Text}
 use Rattle.abc_scan.specs.declared.class.LineClass.{LineClass}
-use Rattle.abc_scan.specs.declared.class.LineClass.TheVariants.{Blank, Comment, Field, Music}
+use Rattle.abc_scan.specs.declared.class.LineClass.TheVariants.{Blank, Comment, Field, Directive, Music}
 use Rattle.abc_text.specs.Byte.{line_feed}
 
 -- What a line of this class adds: itself and a line feed, and nothing where it is a comment.
@@ -11,6 +11,7 @@ abbrev pub line_bytes : LineClass → List ℕ → List ℕ
 line_bytes Comment line = []
 line_bytes Blank line = line ++ line_feed ∷ []
 line_bytes (Field letter) line = line ++ line_feed ∷ []
+line_bytes Directive line = line ++ line_feed ∷ []
 line_bytes Music line = line ++ line_feed ∷ []
 
 -- The bytes by which lines are known, by what each is.

@@ -36,7 +36,7 @@ pub fn put_line(bytes: &mut Vec<u8>, class: LineClass, line: &[u8]) -> Result<()
 {
     match class {
         LineClass::Comment => Ok(()),
-        LineClass::Blank | LineClass::Field(_) | LineClass::Music => {
+        LineClass::Blank | LineClass::Field(_) | LineClass::Directive | LineClass::Music => {
             bytes.extend_from_slice(line)?;
             bytes.push(b'\n')?;
             Ok(())

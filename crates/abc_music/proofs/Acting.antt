@@ -37,8 +37,10 @@ says (kinds.Tuplet tuplet) = (refl, refl)
 says (kinds.Broken mark) = refl
 says kinds.Tie = (refl, refl)
 says kinds.Blank = (refl, refl)
+says (kinds.Dynamic dynamic) = (refl, refl)
 says kinds.NoEffect = (refl, refl)
 says (kinds.Field field) = (refl, refl)
+says (kinds.Directive directive) = (refl, refl)
 says kinds.Unclosed = (refl, refl)
 says kinds.BadByte = (refl, refl)
 

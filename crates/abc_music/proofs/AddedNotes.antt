@@ -15,6 +15,7 @@ use Rattle.abc_music.specs.declared.tied.TiedNote.{TiedNote}
 use Rattle.abc_music.specs.Alteration.{alteration_of, with_own}
 use Rattle.abc_music.specs.Pitch.{midi_key, pitch_of}
 use Rattle.abc_music.specs.Sound.{fault_if, length_in, with_note}
+use Rattle.abc_music.specs.Velocity.{velocity_of}
 
 -- a value that is not there, by what the call of `is_none` answers
 pub none_by : (key : Option ℕ) (silent : Bool) → is_some key ≡ not silent → silent ≡ is_none key
@@ -25,25 +26,26 @@ none_by (Some n) false e = refl
 
 -- the parts of what there is after one more note, as the code makes them
 pub with_note_is : (settings : Settings) (broken : List Ratio) (outer : Option WrittenLength) (column : ℕ) (note : Note) (tied : Bool) (inside : Inside)
-    (by : ℤ) (key : Option ℕ) (length : Grains × Bool) (silent : Bool)
+    (by : ℤ) (key : Option ℕ) (length : Grains × Bool) (velocity : ℕ) (silent : Bool)
     (accidentals : Accidentals) (tones : List Tone) (tied_notes : List TiedNote) (faults : List (ℕ × FaultCode))
     → by ≡ alteration_of settings inside.accidentals note
     → key ≡ midi_key (pitch_of settings.shift note by)
     → length ≡ length_in settings broken note.length outer
+    → velocity ≡ velocity_of settings.dynamic
     → silent ≡ is_none key
     → accidentals ≡ with_own inside.accidentals note
-    → tones ≡ inside.tones ++ record { key = key; length = length.0; tied = tied } ∷ []
+    → tones ≡ inside.tones ++ record { key = key; length = length.0; velocity = velocity; tied = tied } ∷ []
     → tied_notes ≡ (if tied then inside.tied ++ record { letter = note.letter; octave = note.octave; alteration = by } ∷ [] else inside.tied)
     → faults ≡ inside.faults ++ (fault_if length.1 column BadLength ++ fault_if silent column KeyRange)
     → ◌≡◌ {A = Inside} (record { accidentals = accidentals; tones = tones; tied = tied_notes; faults = faults; after_note = inside.after_note; big = inside.big })
     (with_note settings broken outer column note tied inside)
-with_note_is settings broken outer column note tied inside by key length silent accidentals tones tied_notes faults b k l s a t n f =
+with_note_is settings broken outer column note tied inside by key length velocity silent accidentals tones tied_notes faults b k l v s a t n f =
     let key_is : key ≡ midi_key (pitch_of settings.shift note (alteration_of settings inside.accidentals note)) =
     k ∙ ap (λ (x : ℤ). midi_key (pitch_of settings.shift note x)) b in
     let silent_is : silent ≡ is_none (midi_key (pitch_of settings.shift note (alteration_of settings inside.accidentals note))) =
     s ∙ ap (λ (x : Option ℕ). is_none x) key_is in
     let tones_are : tones ≡ (with_note settings broken outer column note tied inside).tones =
-    t ∙ (λ i. inside.tones ++ record { key = key_is i; length = (l i).0; tied = tied } ∷ []) in
+    t ∙ (λ i. inside.tones ++ record { key = key_is i; length = (l i).0; velocity = v i; tied = tied } ∷ []) in
     let notes_are : tied_notes ≡ (with_note settings broken outer column note tied inside).tied =
     n ∙ ap (λ (x : ℤ). if tied then inside.tied ++ record { letter = note.letter; octave = note.octave; alteration = x } ∷ [] else inside.tied) b in
     let faults_are : faults ≡ (with_note settings broken outer column note tied inside).faults =

@@ -2,14 +2,14 @@
 use Rattle.std.proofs.Common.{◌≡◌, ℕ, suc, ◌<◌, List, [], ◌∷◌, Some, length, slice_get, refl, arith}
 use Rattle.std.proofs.lemmas.Option.{same_Some}
 use Rattle.abc_fields.specs.declared.signature.Signature.{Signature}
-use Rattle.abc_music.specs.declared.accidentals.Accidentals.{Accidentals}
+use Rattle.abc_music.specs.declared.accidentals.LetterAccidentals.{LetterAccidentals}
 
 -- Signatures that alter each letter alike are the same.
 pub signature_of_parts : (x y : Signature) → x.a ≡ y.a → x.b ≡ y.b → x.c ≡ y.c → x.d ≡ y.d → x.e ≡ y.e → x.f ≡ y.f → x.g ≡ y.g → x ≡ y
 signature_of_parts x y a b c d e f g = λ i. record { a = a i; b = b i; c = c i; d = d i; e = e i; f = f i; g = g i }
 
 -- Accidentals that alter each letter alike are the same.
-pub accidentals_of_parts : (x y : Accidentals) → x.a ≡ y.a → x.b ≡ y.b → x.c ≡ y.c → x.d ≡ y.d → x.e ≡ y.e → x.f ≡ y.f → x.g ≡ y.g → x ≡ y
+pub accidentals_of_parts : (x y : LetterAccidentals) → x.a ≡ y.a → x.b ≡ y.b → x.c ≡ y.c → x.d ≡ y.d → x.e ≡ y.e → x.f ≡ y.f → x.g ≡ y.g → x ≡ y
 accidentals_of_parts x y a b c d e f g = λ i. record { a = a i; b = b i; c = c i; d = d i; e = e i; f = f i; g = g i }
 
 -- Lists of the same length with the same element at each place are the same.

@@ -1,11 +1,11 @@
 -- BadLength stands at each of the first sixteen notes of a chord that has no length.
-use Rattle.std.proofs.Common.{◌≡◌, ◌∙◌, ◌↔◌, ℕ, zero, suc, ◌+◌, ◌-◌, ◌<◌, ◌≤◌, Bool, true, false, List, [], ◌∷◌, ◌++◌, length, take, Option, Some, None, refl, sym, ap, subst, append-nil, append_assoc, length-append, arith}
+use Rattle.std.proofs.Common.{◌≡◌, ◌∙◌, ◌↔◌, ℕ, suc, ◌+◌, ◌-◌, ◌<◌, ◌≤◌, Bool, true, false, List, [], ◌∷◌, ◌++◌, length, take, Option, Some, None, refl, sym, ap, subst, append-nil, append_assoc, length-append, arith}
 use Rattle.std.specs.Prelude.{◌||◌, nat_lt, if◌then◌else◌, filter}
 use Rattle.std.proofs.lemmas.Bool.Decides.{nat_tests}
 use Rattle.std.proofs.Math.Seq.{take-nil}
 use Rattle.std.proofs.lemmas.List.Elements.{filter-append}
 use Rattle.abc_fields.specs.declared.fault.FaultCode.{FaultCode}
-use Rattle.abc_fields.specs.declared.fault.FaultCode.TheVariants.{BadByte, BadLength, BigChord, EmptyChord, KeyRange, LooseTie}
+use Rattle.abc_fields.specs.declared.fault.FaultCode.TheVariants.{BadByte, BadLength, BigChord, KeyRange, LooseTie}
 use Rattle.abc_scan.specs.declared.chord.Chord.{Chord}
 use Rattle.abc_scan.specs.declared.note.Note.{Note}
 use Rattle.abc_scan.specs.declared.parts.ChordPartKind.{ChordPartKind}
@@ -16,12 +16,11 @@ use Rattle.abc_time.specs.declared.grains.Grains.{Grains}
 use Rattle.abc_time.specs.declared.ratio.Ratio.{Ratio}
 use Rattle.abc_music.specs.declared.chords.Outside.{Outside}
 use Rattle.abc_music.specs.declared.item.TheConstants.{MOST_NOTES}
-use Rattle.abc_music.specs.declared.item.Tone.{Tone}
 use Rattle.abc_music.specs.declared.settings.Settings.{Settings}
 use Rattle.abc_music.specs.declared.sound.Inside.{Inside}
 use Rattle.abc_music.specs.Broken.{has_note, is_note_part}
 use Rattle.abc_music.specs.ChordFaults.{AreFaultsOf, BadLengthsAtNotes, IsFaultOf, is_bad_length}
-use Rattle.abc_music.specs.Chords.{inside_from, inside_of, tie_follows, with_chord_note, with_dropped, with_fault, with_kind, with_part}
+use Rattle.abc_music.specs.Chords.{inside_from, inside_of, tie_follows, with_chord_note, with_kind, with_part}
 use Rattle.abc_music.specs.Column.{column_of}
 use Rattle.abc_music.specs.Lasting.{IsPlace, Lasts, factors_at}
 use Rattle.abc_music.specs.Lengths.{length_by, or_unit, texts_of}

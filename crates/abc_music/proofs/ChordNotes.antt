@@ -182,7 +182,7 @@ module _ (settings : Settings) (broken : List Ratio) (outside : Outside) where
       ∙ kind_bigs part.kind part.from part.to (tie_follows parts) inside parts
 
 -- the places that are taken
-take_place : {A : Type 0} (xs : List A) (n k : ℕ) → k < n → slice_get (take n xs) k ≡ slice_get xs k
+pub take_place : {A : Type 0} (xs : List A) (n k : ℕ) → k < n → slice_get (take n xs) k ≡ slice_get xs k
 take_place [] n k h = ap (λ l. slice_get l k) (take-nil n)
 take_place (x ∷ xs) zero k h = absurd (omega arith)
 take_place (x ∷ xs) (suc n) zero h = refl

@@ -2,13 +2,17 @@ pub mod Acting
 pub mod AddedNotes
 pub mod Alike
 pub mod BarCounts
+pub mod Canonical
 pub mod ChordFaults
+pub mod ChordKeys
 pub mod ChordNotes
 pub mod ChordTones
 pub mod Factors
 pub mod InsideLoop
 pub mod Lasting
+pub mod Octaves
 pub mod LooseTies
 pub mod NoteKeys
 pub mod Pitches
+pub mod Reaching
 pub mod WholeParts

@@ -1,8 +1,7 @@
 -- What alters a note is what alters it by the rule.
-use Rattle.std.proofs.Common.{◌≡◌, ◌∙◌, ℕ, ℤ, Bool, true, false, List, [], ◌∷◌, ◌++◌, reverse, Option, Some, None, unwrap_or, refl, sym, ap}
-use Rattle.std.specs.Prelude.{All, find, ◌&&◌, ◌==◌, option_map}
+use Rattle.std.proofs.Common.{◌≡◌, ◌∙◌, ℤ, Bool, true, false, List, [], ◌∷◌, ◌++◌, reverse, Option, Some, None, unwrap_or, refl, ap}
+use Rattle.std.specs.Prelude.{All, find, ◌&&◌, option_map}
 use Rattle.std.specs.Option.{option_or}
-use Rattle.std.specs.Ordering.{int_eq}
 use Rattle.std.proofs.lemmas.Bool.{eqb-true, and_parts}
 use Rattle.std.proofs.lemmas.Bool.Decides.{Decides-int_eq, Decides-eqb}
 use Rattle.std.proofs.lemmas.List.{reverse-append}
@@ -13,13 +12,11 @@ use Rattle.abc_scan.specs.declared.note.Note.{Note}
 use Rattle.abc_text.specs.declared.accidental.Accidental.{Accidental}
 use Rattle.abc_text.specs.Accidental.{alteration as accidental_alteration}
 use Rattle.abc_text.specs.Letter.{capital}
-use Rattle.abc_time.specs.declared.ratio.Ratio.{Ratio}
 use Rattle.abc_music.specs.declared.accidentals.Accidentals.{Accidentals}
-use Rattle.abc_music.specs.declared.item.Tone.{Tone}
 use Rattle.abc_music.specs.declared.settings.Settings.{Settings}
 use Rattle.abc_music.specs.declared.tied.TiedNote.{TiedNote}
 use Rattle.abc_music.specs.Accidentals.{written_on}
-use Rattle.abc_music.specs.Alteration.{alteration_of, goes_on_in, own_alteration, tied_alteration}
+use Rattle.abc_music.specs.Alteration.{alteration_of, goes_on_in, tied_alteration}
 use Rattle.abc_music.specs.NoteKeys.{IsSame, IsAltered, NotesSoundTheirKeys}
 use Rattle.abc_music.specs.Sound.{tone_in}
 
@@ -61,10 +58,10 @@ last_found note before behind tied same h =
 pub altered_by : (settings : Settings) (accidentals : Accidentals) (note : Note) → IsAltered settings accidentals note (alteration_of settings accidentals note)
 altered_by settings accidentals note =
     let signature = signature_alteration settings.signature note.letter in
-    let behind_own : ℤ = unwrap_or (written_on accidentals note.letter) (unwrap_or (tied_alteration settings.tied note) signature) in
+    let behind_own : ℤ = unwrap_or (written_on accidentals note) (unwrap_or (tied_alteration settings.tied note) signature) in
     let no_own : note.accidental ≡ None → alteration_of settings accidentals note ≡ behind_own =
     λ e. ap (λ (a : Option Accidental). unwrap_or (option_map accidental_alteration a) behind_own) e in
-    let no_written : written_on accidentals note.letter ≡ None → behind_own ≡ unwrap_or (tied_alteration settings.tied note) signature =
+    let no_written : written_on accidentals note ≡ None → behind_own ≡ unwrap_or (tied_alteration settings.tied note) signature =
     λ e. ap (λ w. unwrap_or w (unwrap_or (tied_alteration settings.tied note) signature)) e in
     record {
       own = λ accidental e. ap (λ (a : Option Accidental). unwrap_or (option_map accidental_alteration a) behind_own) e;

@@ -3,7 +3,6 @@ use Rattle.std.specs.Prelude.{Bool, ◌&&◌, ◌==◌, ℤ, Option, Some, None,
 use Rattle.std.specs.Option.{option_map}
 use Rattle.std.specs.Ordering.{int_eq}
 use Rattle.abc_text.specs.Accidental.{alteration as accidental_alteration}
-use Rattle.abc_text.specs.declared.letter.Letter.{Letter}
 use Rattle.abc_text.specs.Letter.{capital}
 use Rattle.abc_fields.specs.Signature.{alteration as signature_alteration}
 use Rattle.abc_scan.specs.declared.note.Note.{Note}
@@ -24,20 +23,20 @@ goes_on_in note tied = (capital tied.letter == capital note.letter) && int_eq ti
 abbrev pub tied_alteration : List TiedNote → Note → Option ℤ
 tied_alteration tied note = option_map (λ t. t.alteration) (find (goes_on_in note) (reverse tied))
 
--- A note is altered by its own accidental, else by the last one that was written on its letter in the bar,
+-- A note is altered by its own accidental, else by the last one in the bar that reaches it,
 -- else as the note of the same letter and octave from which a tie leads here, else by the signature.
 abbrev pub alteration_of : Settings → Accidentals → Note → ℤ
 alteration_of settings accidentals note =
     unwrap_or (own_alteration note)
-    (unwrap_or (written_on accidentals note.letter)
+    (unwrap_or (written_on accidentals note)
     (unwrap_or (tied_alteration settings.tied note)
     (signature_alteration settings.signature note.letter)))
 
--- The accidentals after one more, if there is one.
-abbrev pub with_written : Accidentals → Letter → Option ℤ → Accidentals
-with_written accidentals letter None = accidentals
-with_written accidentals letter (Some by) = with_accidental accidentals letter by
+-- The accidentals after that of one more note, if it has one.
+abbrev pub with_written : Accidentals → Note → Option ℤ → Accidentals
+with_written accidentals note None = accidentals
+with_written accidentals note (Some by) = with_accidental accidentals note by
 
 -- The accidentals after the own one of a note.
 abbrev pub with_own : Accidentals → Note → Accidentals
-with_own accidentals note = with_written accidentals note.letter (own_alteration note)
+with_own accidentals note = with_written accidentals note (own_alteration note)

@@ -12,6 +12,8 @@ use Rattle.abc_music.specs.declared.item.Item.{Item}
 use Rattle.abc_music.specs.declared.item.Item.TheVariants as items
 use Rattle.abc_music.specs.declared.item.TheConstants.{HIGHEST_KEY, MOST_NOTES}
 use Rattle.abc_music.specs.declared.item.Tone.{Tone}
+use Rattle.abc_music.specs.declared.program.TheConstants.{HIGHEST_PROGRAM}
+use Rattle.abc_music.specs.Velocity.{IsVelocity}
 
 -- What a cell gives: its items, and its faults, each with its column.
 pub record Items : Type 0 where
@@ -34,10 +36,11 @@ and_faults given more = record given { faults = given.faults ++ more }
 abbrev pub IsWithinLongest : Grains → Type 0
 IsWithinLongest length = length.0 ≤ grains_of_the_longest_length
 
--- A tone that MIDI has a key for, or a silent one (SMF 1.0), and that is not too long.
+-- A tone that MIDI has a key for, or a silent one (SMF 1.0), that is not too long, with a velocity that MIDI has.
 pub record IsTone (tone : Tone) : Type 0 where
   pub key : IfSome tone.key (λ key. key ≤ HIGHEST_KEY)
   pub length : IsWithinLongest tone.length
+  pub velocity : IsVelocity tone.velocity
 
 -- The tones of a note or a chord: at least one, and no more than count.
 pub record AreTones (tones : List Tone) : Type 0 where
@@ -62,5 +65,6 @@ IsItem (items.Tempo opening micros out) = IfSome micros FitsInTempoEvent
 IsItem (items.Meter opening meter) = IfSome meter IsMeterInRange
 IsItem (items.Key opening key) = IfSome key (λ k. IsSharps k.0)
 IsItem (items.Voice opening name) = Unit {0}
+IsItem (items.Program opening number) = IfSome number (λ n. n ≤ HIGHEST_PROGRAM)
 IsItem (items.Title title) = Unit {0}
 IsItem (items.Order order) = parts_of order ≡ Ok tt

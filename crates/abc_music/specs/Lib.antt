@@ -4,6 +4,7 @@ pub mod Alteration
 pub mod BarRest
 pub mod Broken
 pub mod ChordFaults
+pub mod ChordKeys
 pub mod ChordNotes
 pub mod Chords
 pub mod Column
@@ -13,6 +14,8 @@ pub mod Lengths
 pub mod LooseTies
 pub mod NoteKeys
 pub mod Pitch
+pub mod Program
+pub mod Reaching
 pub mod Settings
 pub mod Sound
 pub mod Tempo
@@ -20,4 +23,5 @@ pub mod TempoItem
 pub mod TimeTokens
 pub mod Tuplet
 pub mod Unit
+pub mod Velocity
 pub mod VoiceShift

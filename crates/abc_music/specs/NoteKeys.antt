@@ -1,5 +1,5 @@
 -- What alters a note, and the key that it sounds, apart from how it is computed. ABC 2.1 sections 4.1, 4.2 and 4.11.
-use Rattle.std.specs.Prelude.{◌≡◌, ℕ, ℤ, Bool, List, [], ◌∷◌, ◌++◌, All, Option, Some, None}
+use Rattle.std.specs.Prelude.{◌≡◌, ℕ, ℤ, Bool, List, [], ◌∷◌, ◌++◌, All, Some, None}
 use Rattle.abc_fields.specs.Signature.{alteration as signature_alteration}
 use Rattle.abc_scan.specs.declared.note.Note.{Note}
 use Rattle.abc_text.specs.declared.accidental.Accidental.{Accidental}
@@ -13,21 +13,21 @@ use Rattle.abc_music.specs.declared.settings.Settings.{Settings}
 use Rattle.abc_music.specs.declared.tied.TiedNote.{TiedNote}
 use Rattle.abc_music.specs.Accidentals.{written_on}
 use Rattle.abc_music.specs.Pitch.{midi_key, pitch_of}
-use Rattle.abc_music.specs.TimeTokens.{Played, note_played}
+use Rattle.abc_music.specs.TimeTokens.{note_played}
 
 -- A tied note has the letter and the octave of a note, as they are written.
 abbrev pub IsSame : Note → TiedNote → Type 0
 IsSame note tied = (capital tied.letter ≡ capital note.letter) × (tied.octave ≡ note.octave)
 
--- What alters a note: its own accidental; else the last one on its letter, where these hold in its voice; else what altered
+-- What alters a note: its own accidental; else the last one that reaches it, where these hold in its voice; else what altered
 -- the last tied note of its letter and octave in the time token before; else the signature. That of a tied note is
 -- our own.
 pub record IsAltered (settings : Settings) (accidentals : Accidentals) (note : Note) (by : ℤ) : Type 0 where
   pub own : (accidental : Accidental) → note.accidental ≡ Some accidental → by ≡ accidental_alteration accidental
-  pub written : (last : ℤ) → note.accidental ≡ None → written_on accidentals note.letter ≡ Some last → by ≡ last
-  pub tied : (before behind : List TiedNote) (tied : TiedNote) → note.accidental ≡ None → written_on accidentals note.letter ≡ None
+  pub written : (last : ℤ) → note.accidental ≡ None → written_on accidentals note ≡ Some last → by ≡ last
+  pub tied : (before behind : List TiedNote) (tied : TiedNote) → note.accidental ≡ None → written_on accidentals note ≡ None
       → settings.tied ≡ before ++ tied ∷ behind → IsSame note tied → All (λ other. ¬ IsSame note other) behind → by ≡ tied.alteration
-  pub signature : note.accidental ≡ None → written_on accidentals note.letter ≡ None → All (λ other. ¬ IsSame note other) settings.tied
+  pub signature : note.accidental ≡ None → written_on accidentals note ≡ None → All (λ other. ¬ IsSame note other) settings.tied
       → by ≡ signature_alteration settings.signature note.letter
 
 -- A note sounds the key of its pitch, as what alters it says.

@@ -15,6 +15,7 @@ use Rattle.abc_music.specs.Alteration.{alteration_of, with_own}
 use Rattle.abc_music.specs.Lengths.{length_or_unit, texts_of}
 use Rattle.abc_music.specs.Pitch.{midi_key, pitch_of}
 use Rattle.abc_music.specs.Tuplet.{tuplet_factors}
+use Rattle.abc_music.specs.Velocity.{velocity_of}
 
 -- The length of what is written so, and perhaps behind its chord, in a note, chord or rest with these
 -- factors of broken rhythm, and whether it is refused.
@@ -36,6 +37,7 @@ abbrev pub tone_in : Settings → Accidentals → List Ratio → Option WrittenL
 tone_in settings accidentals broken outer note tied = record {
   key = key_in settings accidentals note;
   length = (length_in settings broken note.length outer).0;
+  velocity = velocity_of settings.dynamic;
   tied = tied;
 }
 

@@ -1,14 +1,17 @@
 //! The accidentals that hold in a bar.
 
-ghost use Rattle.std.specs.Prelude.{◌≡◌};
-ghost use Rattle.abc_music.specs.Accidentals.{with_accidental, written_on};
+ghost use Rattle.std.specs.Prelude.{◌≡◌, ◌↔◌, [], IsTrue, OnOk};
+ghost use Rattle.abc_music.specs.Accidentals.{letters_in, no_accidentals, on_letter, reach_of, with_accidental, with_letter, with_octave, written_on};
 
-use abc_scan::Letter;
+use abc_scan::{Letter, Note, Reach};
+use std::alloc::{AllocError, Global};
+use std::collections::BTreeMap;
+use std::marker::Model;
 
-/// By how many semitones the accidentals that were written in a bar alter each letter, in every octave;
-/// None where there was none (ABC 2.1 section 4.2).
-#[derive(Clone, Copy)]
-pub struct Accidentals {
+/// By how many semitones the accidentals that were written in a bar alter each letter; None where there was
+/// none (ABC 2.1 section 4.2).
+#[derive(Clone, Copy, PartialEq, Eq)]
+pub struct LetterAccidentals {
     pub c: Option<i8>,
     pub d: Option<i8>,
     pub e: Option<i8>,
@@ -18,8 +21,8 @@ pub struct Accidentals {
     pub b: Option<i8>,
 }
 
-/// No accidentals, as at the beginning of a bar.
-pub const NO_ACCIDENTALS: Accidentals = Accidentals {
+/// No accidentals on any letter.
+const NO_LETTERS: LetterAccidentals = LetterAccidentals {
     c: None,
     d: None,
     e: None,
@@ -29,10 +32,37 @@ pub const NO_ACCIDENTALS: Accidentals = Accidentals {
     b: None,
 };
 
-impl Accidentals {
+/// The accidentals on the letters of each octave that has any. Contracts see them as a list, in which the octaves
+/// rise: whatever the order is in which the same accidentals were written, it is the same list.
+#[derive(Drop)]
+pub struct OctaveAccidentals {
+    octaves: BTreeMap<i64, LetterAccidentals>,
+}
+
+impl Model for OctaveAccidentals {
+    ghost use Rattle.std.specs.Prelude.{List, ℤ};
+    ghost use Rattle.abc_music.specs.declared.accidentals.LetterAccidentals.{LetterAccidentals};
+
+    ghost Value = { List (ℤ × LetterAccidentals) };
+
+    ghost view = { λ o. o.octaves.entries };
+}
+
+/// The accidentals that were written in a bar, as far as they reach (ABC 2.1 section 11.3).
+#[derive(Clone, Drop)]
+pub enum Accidentals {
+    /// None is heard on another note.
+    Own,
+    /// Each is heard on its letter in its octave.
+    InOctaves(OctaveAccidentals),
+    /// Each is heard on its letter in every octave.
+    OnLetters(LetterAccidentals),
+}
+
+impl LetterAccidentals {
     /// By how many semitones the last accidental that was written on a letter alters it, if there is one.
-    pub(crate) fn on(&self, letter: Letter) -> Option<i8>
-        ensures { result ≡ written_on self.now letter }
+    fn on(&self, letter: Letter) -> Option<i8>
+        ensures { result ≡ on_letter self.now letter }
     {
         match letter {
             Letter::C => self.c,
@@ -46,8 +76,8 @@ impl Accidentals {
     }
 
     /// Puts one more accidental on a letter.
-    pub(crate) fn set(&mut self, letter: Letter, by: i8)
-        ensures { self.new ≡ with_accidental self.old letter by }
+    fn set(&mut self, letter: Letter, by: i8)
+        ensures { self.new ≡ with_letter self.old letter by }
     {
         match letter {
             Letter::C => self.c = Some(by),
@@ -57,6 +87,111 @@ impl Accidentals {
             Letter::G => self.g = Some(by),
             Letter::A => self.a = Some(by),
             Letter::B => self.b = Some(by),
+        }
+    }
+}
+
+impl OctaveAccidentals {
+    /// No accidentals in any octave.
+    fn new(alloc: Global) -> OctaveAccidentals
+        ensures { result ≡ [] }
+    {
+        OctaveAccidentals {
+            octaves: BTreeMap::new(alloc),
+        }
+    }
+
+    /// The accidentals in an octave.
+    #[tactic(auto, unfolding(crate::specs::Accidentals::letters_in))]
+    fn letters_in(&self, octave: i64) -> LetterAccidentals
+        ensures { result ≡ letters_in self.now octave }
+    {
+        self.octaves.get(&octave).copied().unwrap_or(NO_LETTERS)
+    }
+
+    /// Puts one more accidental on a letter in an octave.
+    #[tactic(auto, unfolding(crate::specs::Accidentals::with_octave))]
+    fn set(&mut self, octave: i64, letter: Letter, by: i8) -> Result<(), AllocError>
+        ensures { OnOk result (self.new ≡ with_octave self.old octave letter by) }
+    {
+        let mut letters = self.letters_in(octave);
+        letters.set(letter, by);
+        self.octaves.insert(octave, letters)?;
+        Ok(())
+    }
+
+    /// Whether both have the same accidentals in each octave.
+    pub(crate) fn same(&self, other: &OctaveAccidentals) -> bool
+        ensures { IsTrue result ↔ (self.now ≡ other.now) }
+    {
+        self.octaves == other.octaves
+    }
+}
+
+impl Clone for OctaveAccidentals {
+    ghost is_clone = { λ accidentals copy. copy ≡ accidentals };
+
+    fn clone(&self) -> Result<OctaveAccidentals, AllocError> {
+        Ok(OctaveAccidentals {
+            octaves: self.octaves.clone()?,
+        })
+    }
+}
+
+impl Accidentals {
+    /// No accidentals, as at the beginning of a bar, that reach so far.
+    pub fn none(alloc: Global, reach: Reach) -> Accidentals
+        ensures { result ≡ no_accidentals reach }
+    {
+        match reach {
+            Reach::Not => Accidentals::Own,
+            Reach::Octave => Accidentals::InOctaves(OctaveAccidentals::new(alloc)),
+            Reach::Pitch => Accidentals::OnLetters(NO_LETTERS),
+        }
+    }
+
+    /// How far they reach.
+    pub fn reach(&self) -> Reach
+        ensures { result ≡ reach_of self.now }
+    {
+        match self {
+            Accidentals::Own => Reach::Not,
+            Accidentals::InOctaves(_) => Reach::Octave,
+            Accidentals::OnLetters(_) => Reach::Pitch,
+        }
+    }
+
+    /// By how many semitones the last of the accidentals that reach a note alters it, if there is one.
+    pub fn on(&self, note: Note) -> Option<i8>
+        ensures { result ≡ written_on self.now note }
+    {
+        match self {
+            Accidentals::Own => None,
+            Accidentals::InOctaves(octaves) => octaves.letters_in(note.octave).on(note.letter),
+            Accidentals::OnLetters(letters) => letters.on(note.letter),
+        }
+    }
+
+    /// Puts the accidental of one more note behind the others.
+    pub fn set(&mut self, note: Note, by: i8) -> Result<(), AllocError>
+        ensures { OnOk result (self.new ≡ with_accidental self.old note by) }
+    {
+        match self {
+            Accidentals::Own => {}
+            Accidentals::InOctaves(octaves) => octaves.set(note.octave, note.letter, by)?,
+            Accidentals::OnLetters(letters) => letters.set(note.letter, by),
+        }
+        Ok(())
+    }
+
+    /// Takes the accidentals away; those that come reach as far.
+    pub fn clear(&mut self)
+        ensures { self.new ≡ no_accidentals (reach_of self.old) }
+    {
+        match self {
+            Accidentals::Own => {}
+            Accidentals::InOctaves(octaves) => octaves.octaves.clear(),
+            Accidentals::OnLetters(letters) => *letters = NO_LETTERS,
         }
     }
 }

@@ -1,6 +1,6 @@
 //! By how many semitones notes are altered.
 
-ghost use Rattle.std.specs.Prelude.{◌≡◌};
+ghost use Rattle.std.specs.Prelude.{◌≡◌, OnOk};
 ghost use Rattle.abc_music.specs.Alteration.{alteration_of, goes_on_in, own_alteration, tied_alteration, with_own};
 
 use crate::accidentals::Accidentals;
@@ -8,6 +8,7 @@ use crate::settings::Settings;
 use crate::tied::TiedNote;
 use abc_fields::alteration;
 use abc_scan::Note;
+use std::alloc::AllocError;
 
 /// The alteration that the note's own accidental says, if it has one.
 fn own_alteration(note: Note) -> Option<i8>
@@ -32,14 +33,14 @@ fn tied_alteration(tied: &[TiedNote], note: Note) -> Option<i8>
 }
 
 /// By how many semitones a note is altered (ABC 2.1 sections 4.2 and 4.11): by its own accidental, else by
-/// the last one on its letter in the bar, else as the note that is tied to it, else by the signature.
+/// the last one in the bar that reaches it, else as the note that is tied to it, else by the signature.
 pub(crate) fn alteration_of(settings: &Settings, accidentals: &Accidentals, note: Note) -> i8
     ensures { result ≡ alteration_of settings.now accidentals.now note }
 {
     if let Some(by) = own_alteration(note) {
         return by;
     }
-    if let Some(by) = accidentals.on(note.letter) {
+    if let Some(by) = accidentals.on(note) {
         return by;
     }
     if let Some(by) = tied_alteration(settings.tied.as_slice(), note) {
@@ -48,11 +49,12 @@ pub(crate) fn alteration_of(settings: &Settings, accidentals: &Accidentals, note
     alteration(&settings.signature, note.letter)
 }
 
-/// Puts a note's own accidental, if it has one, on its letter.
-pub(crate) fn write_own(accidentals: &mut Accidentals, note: Note)
-    ensures { accidentals.new ≡ with_own accidentals.old note }
+/// Puts a note's own accidental, if it has one, behind the others.
+pub(crate) fn write_own(accidentals: &mut Accidentals, note: Note) -> Result<(), AllocError>
+    ensures { OnOk result (accidentals.new ≡ with_own accidentals.old note) }
 {
     if let Some(by) = own_alteration(note) {
-        accidentals.set(note.letter, by);
+        accidentals.set(note, by)?;
     }
+    Ok(())
 }

@@ -133,7 +133,7 @@ pub(crate) fn inside_of(
     ensures value { IfOk result (λ inside. inside ≡ inside_of settings.now broken.now outside parts.now) }
     ensures range { IfOk result (λ inside. AreCounted inside.tones) }
 {
-    let mut inside = Inside::new(alloc, settings);
+    let mut inside = Inside::new(alloc, settings)?;
     for (at, part) in parts.iter().enumerate() {
         let tied = tie_follows(&parts[at + 1..]);
         add_part(settings, broken, outside, part, tied, &mut inside)?;

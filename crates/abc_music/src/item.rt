@@ -3,6 +3,7 @@
 ghost use Rattle.std.specs.Prelude.{◌≡◌, All, [], ◌∷◌, ◌++◌, IfOk, OnOk};
 ghost use Rattle.abc_music.specs.Item.{IsItem, nothing, and_item, and_faults};
 
+use crate::velocity::USUAL_VELOCITY;
 use abc_fields::{FaultCode, Meter};
 use abc_scan::BarLine;
 use abc_text::{Sequence, ShortSequence};
@@ -25,6 +26,8 @@ pub struct Tone {
     pub length: Grains,
     /// The key of MIDI, 60 being the middle C; None where MIDI has none for it, and it is silent.
     pub key: Option<u8>,
+    /// The velocity of MIDI, 1 to 127.
+    pub velocity: u8,
     /// Whether a tie follows it.
     pub tied: bool,
 }
@@ -34,6 +37,7 @@ impl Default for Tone {
         Tone {
             key: None,
             length: Grains(0),
+            velocity: USUAL_VELOCITY,
             tied: false,
         }
     }
@@ -82,6 +86,12 @@ pub enum Item {
     Voice {
         opening: bool,
         name: Sequence<u8>,
+    },
+    /// A program of MIDI, 0 to 127; None where the directive is refused. In a header the last one that is not
+    /// refused counts, and a file header's stands before those of the tune's header.
+    Program {
+        opening: bool,
+        number: Option<u8>,
     },
     Title(Sequence<u8>),
     /// The order of the parts.

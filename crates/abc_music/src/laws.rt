@@ -1,9 +1,11 @@
 //! What holds of the music of every voice. Each function has no body: its contract is the law.
 
+ghost use Rattle.abc_music.specs.ChordKeys.{ChordsSoundTheirKeys, NotesAreAsLoud, ChordsAreAsLoud};
 ghost use Rattle.abc_music.specs.ChordNotes.{ChordsSound, BigAtTheSeventeenth};
 ghost use Rattle.abc_music.specs.Lasting.{NotesLast, RestsLast, BarRestsLast, FreeBarRests};
 ghost use Rattle.abc_music.specs.LooseTies.{TiesBehindNotes};
 ghost use Rattle.abc_music.specs.NoteKeys.{NotesSoundTheirKeys};
+ghost use Rattle.abc_music.specs.Reaching.{AccidentalsReach, SameWhereHeardAlike};
 
 /// A note or a rest lasts the unit times what is written, what its tuplet says and what the marks of broken
 /// rhythm say that act on it, exactly; where that is no length it lasts one unit, and that is a fault.
@@ -30,8 +32,23 @@ pub fn loose_ties_of_chords()
     ensures { TiesBehindNotes }
 {}
 
-/// A note sounds the key of its pitch, altered by its own accidental, else by the last one on its letter, else as
-/// the last tied note of its letter and octave before it, else by the signature.
+/// A note hears of the notes before it in its bar the last accidental that reaches it: of its letter in any octave, of
+/// its letter in its octave, or none. What is kept of them is nothing else, whatever the order they were written in.
+pub fn reach_of_accidentals()
+    ensures last { AccidentalsReach }
+    ensures alike { SameWhereHeardAlike }
+{}
+
+/// A note sounds the key of its pitch, altered by its own accidental, else by the last one that reaches it, else as
+/// the last tied note of its letter and octave before it, else by the signature. The notes of a chord hear the
+/// accidentals of those before them in the chord as they hear others.
 pub fn keys_of_notes()
-    ensures { NotesSoundTheirKeys }
+    ensures alone { NotesSoundTheirKeys }
+    ensures chords { ChordsSoundTheirKeys }
+{}
+
+/// The notes of a voice, alone and in chords, are as loud as its last dynamic says.
+pub fn velocities_of_notes()
+    ensures alone { NotesAreAsLoud }
+    ensures chords { ChordsAreAsLoud }
 {}

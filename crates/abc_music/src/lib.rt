@@ -15,6 +15,7 @@ mod lengths;
 mod meter;
 mod numbers;
 mod pitch;
+mod program;
 mod same;
 mod settings;
 mod sound;
@@ -24,9 +25,10 @@ mod tied;
 mod time_tokens;
 mod tuplet;
 mod unit;
+mod velocity;
 mod voice_shift;
 
-pub use accidentals::{Accidentals, NO_ACCIDENTALS};
+pub use accidentals::{Accidentals, LetterAccidentals, OctaveAccidentals};
 pub use bar_rest::bar_rest_of;
 pub use broken::{Behind, BrokenFactors, acting_marks, behind_after, has_note, is_bad_mark};
 pub use chord_laws::bad_lengths_of_chords;
@@ -35,9 +37,11 @@ pub use column::{FIRST_COLUMN, column_of};
 pub use item::{HIGHEST_KEY, Item, Items, LocalFault, MOST_NOTES, MOST_VOICES, Tone};
 pub use laws::{
     keys_of_notes, lengths_of_bar_rests, lengths_of_notes, loose_ties_of_chords, notes_of_chords,
+    reach_of_accidentals, velocities_of_notes,
 };
 pub use meter::TuneMeter;
-pub use numbers::{key_numbers, music_limits};
+pub use numbers::{key_numbers, music_limits, sound_numbers};
+pub use program::{HIGHEST_PROGRAM, program_of};
 pub use settings::Settings;
 pub use sound::Inside;
 pub use tempo::TuneTempo;
@@ -46,4 +50,5 @@ pub use tied::TiedNote;
 pub use time_tokens::{chord_played, note_played, rest_played};
 pub use tuplet::{OpenTuplet, tuplet_opened};
 pub use unit::UnitLength;
+pub use velocity::{HIGHEST_VELOCITY, USUAL_VELOCITY, velocities_of_dynamics, velocity_of};
 pub use voice_shift::VoiceShift;

@@ -5,7 +5,9 @@ ghost use Rattle.abc_music.specs.declared.broken.TheConstants.{MOST_MARKS};
 ghost use Rattle.abc_music.specs.declared.column.TheConstants.{FIRST_COLUMN};
 ghost use Rattle.abc_music.specs.declared.item.TheConstants.{HIGHEST_KEY, MOST_NOTES, MOST_VOICES};
 ghost use Rattle.abc_music.specs.declared.pitch.TheConstants.{MIDDLE_C, OCTAVE};
+ghost use Rattle.abc_music.specs.declared.program.TheConstants.{HIGHEST_PROGRAM};
 ghost use Rattle.abc_music.specs.declared.tuplet.TheConstants.{LARGEST_TUPLET_NUMBER};
+ghost use Rattle.abc_music.specs.declared.velocity.TheConstants.{HIGHEST_VELOCITY, USUAL_VELOCITY};
 
 /// The keys of MIDI end at 127, the middle C is 60, and an octave has twelve semitones (SMF 1.0, ABC 2.1
 /// section 4.1).
@@ -13,6 +15,14 @@ pub fn key_numbers()
     ensures highest { HIGHEST_KEY ≡ 127 }
     ensures middle_c { MIDDLE_C ≡ 60 }
     ensures octave { OCTAVE ≡ pos 12 }
+{}
+
+/// The velocities and programs of MIDI end at 127 (SMF 1.0), and notes without a dynamic have the velocity 80,
+/// which is our own.
+pub fn sound_numbers()
+    ensures highest { HIGHEST_VELOCITY ≡ 127 }
+    ensures usual { USUAL_VELOCITY ≡ 80 }
+    ensures programs { HIGHEST_PROGRAM ≡ 127 }
 {}
 
 /// A tune has at most fifteen voices, a chord sixteen notes that count, a tuplet numbers up to 64, and broken

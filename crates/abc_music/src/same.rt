@@ -2,7 +2,7 @@
 
 ghost use Rattle.std.specs.Prelude.{◌≡◌, ◌↔◌, IsTrue, slice_get};
 
-use crate::accidentals::Accidentals;
+use crate::accidentals::{Accidentals, LetterAccidentals};
 use crate::meter::TuneMeter;
 use crate::settings::Settings;
 use crate::tempo::TuneTempo;
@@ -11,6 +11,7 @@ use crate::tuplet::OpenTuplet;
 use crate::unit::UnitLength;
 use crate::voice_shift::VoiceShift;
 use abc_fields::Signature;
+use abc_scan::Dynamic;
 
 impl TuneMeter {
     /// Whether both are the same meter.
@@ -69,10 +70,10 @@ fn same_alteration(by: Option<i8>, other: Option<i8>) -> bool
     by == other
 }
 
-impl Accidentals {
+impl LetterAccidentals {
     /// Whether both alter the same letters, each alike.
     #[tactic(auto, using(crate::proofs::Alike::accidentals_of_parts))]
-    fn same(&self, other: &Accidentals) -> bool
+    fn same(&self, other: &LetterAccidentals) -> bool
         ensures { IsTrue result ↔ (self.now ≡ other.now) }
     {
         same_alteration(self.c, other.c)
@@ -83,6 +84,27 @@ impl Accidentals {
             && same_alteration(self.a, other.a)
             && same_alteration(self.b, other.b)
     }
+}
+
+impl Accidentals {
+    /// Whether both reach as far and say the same.
+    fn same(&self, other: &Accidentals) -> bool
+        ensures { IsTrue result ↔ (self.now ≡ other.now) }
+    {
+        match (self, other) {
+            (Accidentals::Own, Accidentals::Own) => true,
+            (Accidentals::InOctaves(octaves), Accidentals::InOctaves(with)) => octaves.same(with),
+            (Accidentals::OnLetters(letters), Accidentals::OnLetters(with)) => letters.same(with),
+            _ => false,
+        }
+    }
+}
+
+/// Whether both dynamics are the same, or there is none.
+fn same_dynamic(dynamic: Option<Dynamic>, other: Option<Dynamic>) -> bool
+    ensures { IsTrue result ↔ (dynamic ≡ other) }
+{
+    dynamic == other
 }
 
 /// Whether both are the same open tuplet, or there is none.
@@ -145,5 +167,6 @@ impl Settings {
             && self.accidentals.same(&other.accidentals)
             && same_tuplet(self.tuplet, other.tuplet)
             && same_tied(self.tied.as_slice(), other.tied.as_slice())
+            && same_dynamic(self.dynamic, other.dynamic)
     }
 }

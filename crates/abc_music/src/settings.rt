@@ -3,13 +3,14 @@
 ghost use Rattle.std.specs.Prelude.{◌≡◌};
 ghost use Rattle.abc_music.specs.Settings.{without_accidentals};
 
-use crate::accidentals::{Accidentals, NO_ACCIDENTALS};
+use crate::accidentals::Accidentals;
 use crate::meter::TuneMeter;
 use crate::tied::TiedNote;
 use crate::tuplet::OpenTuplet;
 use crate::unit::UnitLength;
 use crate::voice_shift::VoiceShift;
 use abc_fields::Signature;
+use abc_scan::Dynamic;
 use abc_text::ShortSequence;
 use std::alloc::AllocError;
 
@@ -21,12 +22,14 @@ pub struct Settings {
     pub unit: UnitLength,
     pub signature: Signature,
     pub shift: VoiceShift,
-    /// The accidentals written since the last bar line, key or part.
+    /// The accidentals written since the last bar line, key or part, as far as they reach.
     pub accidentals: Accidentals,
     /// The tuplet that the next note, chord or rest belongs to.
     pub tuplet: Option<OpenTuplet>,
     /// The tied notes of the last note, chord or rest.
     pub tied: ShortSequence<TiedNote>,
+    /// The last dynamic; None where none stood.
+    pub dynamic: Option<Dynamic>,
 }
 
 impl Settings {
@@ -34,7 +37,7 @@ impl Settings {
     pub fn clear_accidentals(&mut self)
         ensures { self.new ≡ without_accidentals self.old }
     {
-        self.accidentals = NO_ACCIDENTALS;
+        self.accidentals.clear();
     }
 }
 
@@ -47,9 +50,10 @@ impl Clone for Settings {
             unit: self.unit,
             signature: self.signature,
             shift: self.shift,
-            accidentals: self.accidentals,
+            accidentals: self.accidentals.clone()?,
             tuplet: self.tuplet,
             tied: self.tied.clone()?,
+            dynamic: self.dynamic,
         })
     }
 }

@@ -1,6 +1,6 @@
 //! Notes as they sound.
 
-ghost use Rattle.std.specs.Prelude.{◌≡◌, if◌then◌else◌, [], ◌∷◌, ◌++◌, All, OnOk};
+ghost use Rattle.std.specs.Prelude.{◌≡◌, if◌then◌else◌, [], ◌∷◌, ◌++◌, All, IfOk, OnOk};
 ghost use Rattle.abc_music.specs.Item.{IsTone, IsWithinLongest};
 ghost use Rattle.abc_music.specs.Sound.{fault_if, length_in, no_notes, with_note};
 
@@ -12,6 +12,7 @@ use crate::lengths::length_or_unit;
 use crate::pitch::key_of;
 use crate::settings::Settings;
 use crate::tied::TiedNote;
+use crate::velocity::velocity_of;
 use abc_fields::FaultCode;
 use abc_scan::{Note, WrittenLength};
 use abc_text::{Sequence, ShortSequence};
@@ -35,17 +36,17 @@ pub struct Inside {
 
 impl Inside {
     /// No note yet.
-    pub(crate) fn new(alloc: Global, settings: &Settings) -> Inside
-        ensures { result ≡ no_notes settings.now }
+    pub(crate) fn new(alloc: Global, settings: &Settings) -> Result<Inside, AllocError>
+        ensures { IfOk result (λ inside. inside ≡ no_notes settings.now) }
     {
-        Inside {
-            accidentals: settings.accidentals,
+        Ok(Inside {
+            accidentals: settings.accidentals.clone()?,
             tones: ShortSequence::new(alloc),
             tied: ShortSequence::new(alloc),
             faults: Sequence::new(alloc),
             after_note: false,
             big: false,
-        }
+        })
     }
 }
 
@@ -140,8 +141,14 @@ pub(crate) fn add_note(
         alteration,
     };
     push_note_faults(&mut inside.faults, refused, key.is_none(), column)?;
-    push_tone(&mut inside.tones, Tone { key, length, tied })?;
+    let tone = Tone {
+        length,
+        key,
+        velocity: velocity_of(settings.dynamic),
+        tied,
+    };
+    push_tone(&mut inside.tones, tone)?;
     push_tied_if(&mut inside.tied, tied, tied_note)?;
-    write_own(&mut inside.accidentals, note);
+    write_own(&mut inside.accidentals, note)?;
     Ok(())
 }

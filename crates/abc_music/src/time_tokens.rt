@@ -66,7 +66,7 @@ pub fn note_played(
     ensures settings { OnOk result (settings.new ≡ (note_played settings.old broken.now tied from note).settings) }
     ensures items { OnOk result (items.new ≡ with_played items.old (note_played settings.old broken.now tied from note)) }
 {
-    let mut inside = Inside::new(alloc, settings);
+    let mut inside = Inside::new(alloc, settings)?;
     add_note(
         settings,
         broken,

@@ -2,10 +2,11 @@
 use Rattle.std.proofs.Common.{refl}
 use Rattle.abc_book.specs.Block.{blocks_of}
 use Rattle.abc_lines.specs.Text.{spliced}
+use Rattle.abc_scan.specs.Directive.{directive_of}
 use Rattle.abc_rework.specs.WorkedEdits.{WorkedEdits}
 
 pub worked_edits : WorkedEdits
-unfolding spliced blocks_of
+unfolding spliced blocks_of directive_of
 worked_edits = record {
   nothing = (refl, refl);
   line_put = (refl, refl);

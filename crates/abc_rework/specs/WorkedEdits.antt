@@ -1,12 +1,12 @@
--- Edits of small texts, worked by hand: how many cells are fresh and how many tunes are touched. A field is a cell, a
--- line of music has one before each bar line and one behind the last, and the state is what the last M: set, or `0`.
--- Our own.
+-- Edits of small texts, worked by hand: how many cells are fresh and how many tunes are touched. A field is a cell and a
+-- directive too, a line of music has one before each bar line and one behind the last, and the state is what the last M:
+-- set, or `0`. Our own.
 use Rattle.std.specs.Prelude.{◌≡◌, ℕ, ◌==◌, if◌then◌else◌, List, [], ◌∷◌, codes, slice_index, None, unwrap_or}
 use Rattle.std.specs.List.{slice_split}
 use Rattle.abc_lines.specs.Text.{Splice, Text}
 use Rattle.abc_scan.specs.Class.{class_of}
 use Rattle.abc_scan.specs.declared.class.LineClass.{LineClass}
-use Rattle.abc_scan.specs.declared.class.LineClass.TheVariants.{Blank, Comment, Field, Music}
+use Rattle.abc_scan.specs.declared.class.LineClass.TheVariants.{Blank, Comment, Field, Directive, Music}
 use Rattle.abc_tunebook.specs.Rules.{Rules}
 use Rattle.abc_rework.specs.Fresh.{fresh_after, touched_after}
 use Rattle.abc_fold.specs.Steps.{Steps}
@@ -27,6 +27,7 @@ abbrev pub toy_cells : LineClass → List ℕ → List (List ℕ)
 toy_cells Blank line = []
 toy_cells Comment line = []
 toy_cells (Field letter) line = line ∷ []
+toy_cells Directive line = line ∷ []
 toy_cells Music line = slice_split (λ byte. byte == 124) line
 
 abbrev pub toy_rules : Rules ℕ (List ℕ) ℕ ℕ

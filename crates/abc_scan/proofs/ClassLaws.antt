@@ -1,12 +1,14 @@
 -- Each class stands exactly where its words hold.
 use Rattle.std.proofs.Common.{◌≡◌, ℕ, Bool, true, false, cond, not, ◌&&◌, Option, Some, None, List, [], ◌∷◌, ◌++◌, refl, sym, ap, ◌∙◌, subst, ⊎_elim, IsTrue}
 use Rattle.std.specs.Prelude.{◌↔◌, ◌==◌}
-use Rattle.std.proofs.lemmas.Bool.{eqb-true, eq-eqb, eqb-false, and_parts, and_from, or_from, cases_Bool, both_ways, not_from_true, not_from_false, false_from_ne_true, not-true, cond-true, cond-false}
+use Rattle.std.proofs.lemmas.Bool.{eqb-true, eq-eqb, eqb-false, and_parts, and_from, or_from, cases_Bool, both_ways, not_from_true, not_from_false, false_from_ne_true, not-true, cond-true, cond-false, false≢true}
 use Rattle.std.proofs.lemmas.List.Elements.{All-nil, All-cons, All-head, All-tail}
 use Rattle.abc_scan.specs.declared.class.LineClass.{LineClass}
-use Rattle.abc_scan.specs.declared.class.LineClass.TheVariants.{Blank, Comment, Field, Music}
+use Rattle.abc_scan.specs.declared.class.LineClass.TheVariants.{Blank, Comment, Field, Directive, Music}
 use Rattle.abc_text.specs.Blank.{is_blank}
-use Rattle.abc_scan.specs.Class.{first_visible, names_field, is_music_letter, begins_bar, field_letter, field_or_music, class_by, class_of_text, IsBlankLine, IsCommentLine, IsFieldLine}
+use Rattle.abc_scan.specs.Class.{first_visible, names_field, is_music_letter, begins_bar, field_letter, field_or_music, class_by, class_of_text, IsBlankLine, BeginsWithPercent, IsFieldLine}
+use Rattle.abc_scan.specs.Directive.{is_directive, IsDirectiveLine}
+use Rattle.abc_scan.proofs.Directives.{directive-line, line-directive, directive-percent}
 
 -- the first visible byte behind a blank, and in front
 visible_later : (b : ℕ) (bs : List ℕ) → is_blank b ≡ true → first_visible (b ∷ bs) ≡ first_visible bs
@@ -27,7 +29,7 @@ pub blank_to : (text : List ℕ) → IsBlankLine text → first_visible text ≡
 blank_to [] h = refl
 blank_to (b ∷ bs) h = visible_later b bs (All-head (λ b. IsTrue (is_blank b)) b bs h) ∙ blank_to bs (All-tail (λ b. IsTrue (is_blank b)) b bs h)
 
-pub comment_from : (text : List ℕ) → first_visible text ≡ Some 37 → IsCommentLine text
+pub comment_from : (text : List ℕ) → first_visible text ≡ Some 37 → BeginsWithPercent text
 comment_from [] e = cc
 comment_from (b ∷ bs) e = ⊎_elim
     (λ blank. let h = comment_from bs (sym (visible_later b bs blank) ∙ e) in (b ∷ h.0, h.1, All-cons (λ x. IsTrue (is_blank x)) b h.0 blank h.2, ap (λ l. b ∷ l) h.3))
@@ -74,76 +76,108 @@ field_visible text letter h =
     let seen = named_visible letter h.named in
     (ap first_visible h.spelling ∙ visible_here letter (58 ∷ h.value) seen.0, seen.1)
 
--- the four classes, from what the first visible byte and the letter say
-pub record Told (seen letter : Option ℕ) (B C : Type 0) (F : ℕ → Type 0) : Type 0 where
+-- the five classes, from what the first visible byte and the letter say, and whether a directive is read
+pub record Told (seen letter : Option ℕ) (directive : Bool) (B P D : Type 0) (F : ℕ → Type 0) : Type 0 where
   pub blank_is : seen ≡ None → B
   pub is_blank : B → seen ≡ None
-  pub comment_is : seen ≡ Some 37 → C
-  pub is_comment : C → seen ≡ Some 37
+  pub percent_is : seen ≡ Some 37 → P
+  pub is_percent : P → seen ≡ Some 37
+  pub directive_is : directive ≡ true → D
+  pub is_directive : D → directive ≡ true
+  pub directive_seen : D → seen ≡ Some 37
   pub field_is : (l : ℕ) → letter ≡ Some l → F l
   pub is_field : (l : ℕ) → F l → letter ≡ Some l
   pub is_seen : (l : ℕ) → F l → (seen ≡ Some l) × ((l == 37) ≡ false)
 
-pub told : (text : List ℕ) → Told (first_visible text) (field_letter text) (IsBlankLine text) (IsCommentLine text) (IsFieldLine text)
+pub told : (text : List ℕ) → Told (first_visible text) (field_letter text) (is_directive text) (IsBlankLine text) (BeginsWithPercent text) (IsDirectiveLine text) (IsFieldLine text)
 told text = record {
   blank_is = blank_from text;
   is_blank = blank_to text;
-  comment_is = comment_from text;
-  is_comment = λ h. ap first_visible h.3 ∙ comment_to h.0 h.1 h.2;
+  percent_is = comment_from text;
+  is_percent = λ h. ap first_visible h.3 ∙ comment_to h.0 h.1 h.2;
+  directive_is = directive-line text;
+  is_directive = line-directive text;
+  directive_seen = λ h. let p = directive-percent text h in ap first_visible p.1;
   field_is = field_from text;
   is_field = field_to text;
   is_seen = field_visible text;
 }
 
-pub record Laws (r : LineClass) (B C : Type 0) (F : ℕ → Type 0) : Type 0 where
+pub record Laws (r : LineClass) (B P D : Type 0) (F : ℕ → Type 0) : Type 0 where
   pub blank : (r ≡ Blank) ↔ B
-  pub comment : (r ≡ Comment) ↔ C
+  pub comment : (r ≡ Comment) ↔ (P × (D → ⊥))
+  pub directive : (r ≡ Directive) ↔ D
   pub field : (l : ℕ) → (r ≡ Field l) ↔ F l
-  pub music : (r ≡ Music) ↔ ((B → ⊥) × (C → ⊥) × ((l : ℕ) → F l → ⊥))
+  pub music : (r ≡ Music) ↔ ((B → ⊥) × ((P × (D → ⊥)) → ⊥) × (D → ⊥) × ((l : ℕ) → F l → ⊥))
 
-laws_blank : (letter : Option ℕ) {B C : Type 0} {F : ℕ → Type 0} → Told None letter B C F → Laws Blank B C F
-laws_blank letter t = record {
+laws_blank : (letter : Option ℕ) (directive : Bool) {B P D : Type 0} {F : ℕ → Type 0} → Told None letter directive B P D F → Laws Blank B P D F
+laws_blank letter directive t = record {
   blank = (λ _. t.blank_is refl, λ _. refl);
-  comment = (λ e. cc, λ h. let k = t.is_comment h in cc);
+  comment = (λ e. cc, λ h. let k = t.is_percent h.0 in cc);
+  directive = (λ e. cc, λ h. let k = t.directive_seen h in cc);
   field = λ l. (λ e. cc, λ h. let k = (t.is_seen l h).0 in cc);
   music = (λ e. cc, λ h. absurd (h.0 (t.blank_is refl)));
 }
 
-laws_comment : (letter : Option ℕ) {B C : Type 0} {F : ℕ → Type 0} → Told (Some 37) letter B C F → Laws Comment B C F
-laws_comment letter t = record {
+no_field : (l : ℕ) → Some 37 ≡ Some l → (l == 37) ≡ false → ⊥
+no_field l seen other = let same : l ≡ 37 = cc in both_ways (l == 37) other (eq-eqb l 37 same)
+
+laws_directive : (letter : Option ℕ) {B P D : Type 0} {F : ℕ → Type 0} → Told (Some 37) letter true B P D F → Laws Directive B P D F
+laws_directive letter t = record {
   blank = (λ e. cc, λ h. let k = t.is_blank h in cc);
-  comment = (λ _. t.comment_is refl, λ _. refl);
-  field = λ l. (λ e. cc, λ h. let k = t.is_seen l h in let same : l ≡ 37 = cc in absurd (both_ways (l == 37) k.1 (eq-eqb l 37 same)));
-  music = (λ e. cc, λ h. absurd (h.1 (t.comment_is refl)));
+  comment = (λ e. cc, λ h. absurd (h.1 (t.directive_is refl)));
+  directive = (λ _. t.directive_is refl, λ _. refl);
+  field = λ l. (λ e. cc, λ h. let k = t.is_seen l h in absurd (no_field l k.0 k.1));
+  music = (λ e. cc, λ h. absurd (h.2 (t.directive_is refl)));
 }
 
-laws_field : (b l : ℕ) {B C : Type 0} {F : ℕ → Type 0} → (b ≡ 37 → ⊥) → Told (Some b) (Some l) B C F → Laws (Field l) B C F
-laws_field b l differs t = record {
+laws_comment : (letter : Option ℕ) {B P D : Type 0} {F : ℕ → Type 0} → Told (Some 37) letter false B P D F → Laws Comment B P D F
+laws_comment letter {B} {P} {D} t =
+    let none : D → ⊥ = λ d. false≢true (t.is_directive d) in
+    record {
+      blank = (λ e. cc, λ h. let k = t.is_blank h in cc);
+      comment = (λ _. (t.percent_is refl, none), λ _. refl);
+      directive = (λ e. cc, λ h. absurd (none h));
+      field = λ l. (λ e. cc, λ h. let k = t.is_seen l h in absurd (no_field l k.0 k.1));
+      music = (λ e. cc, λ h. absurd (h.1 (t.percent_is refl, none)));
+    }
+
+laws_field : (b l : ℕ) (directive : Bool) {B P D : Type 0} {F : ℕ → Type 0} → (b ≡ 37 → ⊥) → Told (Some b) (Some l) directive B P D F → Laws (Field l) B P D F
+laws_field b l directive differs t = record {
   blank = (λ e. cc, λ h. let k = t.is_blank h in cc);
-  comment = (λ e. cc, λ h. let k = t.is_comment h in absurd (differs cc));
+  comment = (λ e. cc, λ h. let k = t.is_percent h.0 in absurd (differs cc));
+  directive = (λ e. cc, λ h. let k = t.directive_seen h in absurd (differs cc));
   field = λ m. (λ e. t.field_is m cc, λ h. let k = t.is_field m h in cc);
-  music = (λ e. cc, λ h. absurd (h.2 l (t.field_is l refl)));
+  music = (λ e. cc, λ h. absurd (h.3 l (t.field_is l refl)));
 }
 
-laws_music : (b : ℕ) {B C : Type 0} {F : ℕ → Type 0} → (b ≡ 37 → ⊥) → Told (Some b) None B C F → Laws Music B C F
-laws_music b differs t = record {
+laws_music : (b : ℕ) (directive : Bool) {B P D : Type 0} {F : ℕ → Type 0} → (b ≡ 37 → ⊥) → Told (Some b) None directive B P D F → Laws Music B P D F
+laws_music b directive differs t = record {
   blank = (λ e. cc, λ h. let k = t.is_blank h in cc);
-  comment = (λ e. cc, λ h. let k = t.is_comment h in absurd (differs cc));
+  comment = (λ e. cc, λ h. let k = t.is_percent h.0 in absurd (differs cc));
+  directive = (λ e. cc, λ h. let k = t.directive_seen h in absurd (differs cc));
   field = λ m. (λ e. cc, λ h. let k = t.is_field m h in cc);
-  music = (λ _. (λ h. let k : Some b ≡ None = t.is_blank h in cc, λ h. let k = t.is_comment h in differs cc, λ m h. let k : None ≡ Some m = t.is_field m h in cc), λ _. refl);
+  music = (
+    λ _. (λ h. let k : Some b ≡ None = t.is_blank h in cc, λ h. let k = t.is_percent h.0 in differs cc, λ h. let k = t.directive_seen h in differs cc, λ m h. let k : None ≡ Some m = t.is_field m h in cc),
+    λ _. refl,
+  );
 }
 
-laws_seen : (b : ℕ) (letter : Option ℕ) {B C : Type 0} {F : ℕ → Type 0} → (b ≡ 37 → ⊥) → Told (Some b) letter B C F → Laws (field_or_music letter) B C F
-laws_seen b None differs t = laws_music b differs t
-laws_seen b (Some l) differs t = laws_field b l differs t
+laws_seen : (b : ℕ) (letter : Option ℕ) (directive : Bool) {B P D : Type 0} {F : ℕ → Type 0} → (b ≡ 37 → ⊥) → Told (Some b) letter directive B P D F → Laws (field_or_music letter) B P D F
+laws_seen b None directive differs t = laws_music b directive differs t
+laws_seen b (Some l) directive differs t = laws_field b l directive differs t
 
-laws_some : (b : ℕ) (letter : Option ℕ) (test : Bool) {B C : Type 0} {F : ℕ → Type 0} → (b == 37) ≡ test → Told (Some b) letter B C F → Laws (cond test Comment (field_or_music letter)) B C F
-laws_some b letter true {B} {C} {F} e t = laws_comment letter (subst (λ x. Told (Some x) letter B C F) (eqb-true b 37 e) t)
-laws_some b letter false e t = laws_seen b letter (eqb-false b 37 e) t
+laws_percent : (letter : Option ℕ) (directive : Bool) {B P D : Type 0} {F : ℕ → Type 0} → Told (Some 37) letter directive B P D F → Laws (cond directive Directive Comment) B P D F
+laws_percent letter true t = laws_directive letter t
+laws_percent letter false t = laws_comment letter t
 
-laws_at : (seen letter : Option ℕ) {B C : Type 0} {F : ℕ → Type 0} → Told seen letter B C F → Laws (class_by seen letter) B C F
-laws_at None letter t = laws_blank letter t
-laws_at (Some b) letter t = laws_some b letter (b == 37) refl t
+laws_some : (b : ℕ) (letter : Option ℕ) (directive test : Bool) {B P D : Type 0} {F : ℕ → Type 0} → (b == 37) ≡ test → Told (Some b) letter directive B P D F → Laws (cond test (cond directive Directive Comment) (field_or_music letter)) B P D F
+laws_some b letter directive true {B} {P} {D} {F} e t = laws_percent letter directive (subst (λ x. Told (Some x) letter directive B P D F) (eqb-true b 37 e) t)
+laws_some b letter directive false e t = laws_seen b letter directive (eqb-false b 37 e) t
 
-pub laws : (text : List ℕ) (r : LineClass) → r ≡ class_of_text text → Laws r (IsBlankLine text) (IsCommentLine text) (IsFieldLine text)
-laws text r e = subst (λ x. Laws x (IsBlankLine text) (IsCommentLine text) (IsFieldLine text)) (sym e) (laws_at _ _ (told text))
+laws_at : (seen letter : Option ℕ) (directive : Bool) {B P D : Type 0} {F : ℕ → Type 0} → Told seen letter directive B P D F → Laws (class_by seen letter directive) B P D F
+laws_at None letter directive t = laws_blank letter directive t
+laws_at (Some b) letter directive t = laws_some b letter directive (b == 37) refl t
+
+pub laws : (text : List ℕ) (r : LineClass) → r ≡ class_of_text text → Laws r (IsBlankLine text) (BeginsWithPercent text) (IsDirectiveLine text) (IsFieldLine text)
+laws text r e = subst (λ x. Laws x (IsBlankLine text) (BeginsWithPercent text) (IsDirectiveLine text) (IsFieldLine text)) (sym e) (laws_at _ _ _ (told text))

@@ -1,11 +1,13 @@
 -- Each text of a line has one cutting.
 use Rattle.std.proofs.Common.{◌≡◌, ℕ, zero, suc, ◌<◌, ◌≤◌, Bool, true, false, Option, Some, None, List, [], ◌∷◌, ◌++◌, length, take, drop, refl, sym, ap, ◌∙◌, subst, inl, inr, ⊎_elim, arith, length-append, length-take-le}
 use Rattle.std.specs.List.{AllPass}
+use Rattle.std.specs.Option.{option_map}
 use Rattle.std.proofs.Math.Seq.{drop-append_seam}
 use Rattle.std.proofs.lemmas.List.{take-append-le}
 use Rattle.std.proofs.lemmas.Bool.{cases_lt, false≢true}
 use Rattle.std.proofs.lemmas.List.Elements.{All-nil, All-take, All-drop, All-head}
 use Rattle.abc_scan.specs.declared.chord.Chord.{Chord}
+use Rattle.abc_scan.specs.declared.dynamic.Dynamic.{Dynamic}
 use Rattle.abc_scan.specs.declared.start.Start.{Start}
 use Rattle.abc_scan.specs.declared.start.Start.TheVariants as starts
 use Rattle.abc_scan.specs.declared.token.TokenKind.{TokenKind}
@@ -17,13 +19,14 @@ use Rattle.abc_scan.specs.Broken.{broken_at}
 use Rattle.abc_scan.specs.Chord.{IsChord, chord_at}
 use Rattle.abc_scan.specs.Cutting.{as_kind}
 use Rattle.abc_scan.specs.Delimited.{IsDelimited, delimited_at}
+use Rattle.abc_scan.specs.Dynamic.{IsDynamic, dynamic_of}
 use Rattle.abc_scan.specs.Ending.{IsEnding, ending_at}
 use Rattle.abc_scan.specs.InlineField.{inline_field_at}
 use Rattle.abc_scan.specs.Line.{CutsEachText, CutsOnce}
 use Rattle.abc_scan.specs.NoEffect.{IsExtraSpace, IsSingle, HasNoEffect, extra_space_at}
 use Rattle.abc_scan.specs.Note.{note_at, rest_at}
 use Rattle.abc_scan.specs.Start.{start_of}
-use Rattle.abc_scan.specs.Token.{Spells, line_kinds, or_else, reading_by, reading_at}
+use Rattle.abc_scan.specs.Token.{Spells, line_kinds, or_else, loud_or_silent, enclosed, reading_by, reading_at}
 use Rattle.abc_scan.specs.Tuplet.{tuplet_at}
 use Rattle.abc_scan.proofs.BarRests.{bar_rest_longest, bar_rest_sound, extra_space_longest, extra_space_sound}
 use Rattle.abc_scan.proofs.Bars.{bar_longest, bar_sound}
@@ -31,7 +34,9 @@ use Rattle.abc_scan.proofs.Brokens.{broken_longest, broken_sound}
 use Rattle.abc_scan.proofs.Chords.{chord_longest, chord_sound}
 use Rattle.abc_scan.proofs.Cuttings.{Reads, cuts_from, only_cutting}
 use Rattle.abc_scan.proofs.Delimiters.{delimited_longest, delimited_sound}
+use Rattle.abc_scan.proofs.Dynamics.{dynamic-sound, dynamic-read, dynamic-none, dynamic-delimited, byte-no_dynamic, space-no_dynamic}
 use Rattle.abc_scan.proofs.Endings.{is_range_byte, ending_bytes, ending_longest, ending_sound}
+use Rattle.abc_text.proofs.Fronts.{take_exact}
 use Rattle.abc_scan.proofs.InlineFields.{inline_field_longest, inline_field_sound}
 use Rattle.abc_scan.proofs.Notes.{note_longest, note_sound, rest_longest, rest_sound}
 use Rattle.abc_scan.proofs.Readings.{Finds, IsFront, one_front}
@@ -116,9 +121,25 @@ parenthesis_finds text front (Some r) read one =
       same = λ e. absurd (omega (arith, two, one, e));
     }
 
-silent_finds : (after_bar : Bool) (text front rest : List ℕ) → text ≡ front ++ rest → HasNoEffect front → Finds (reading_at after_bar text) front kinds.NoEffect
-silent_finds after_bar text front rest cut is = ⊎_elim
-    (λ (d : IsDelimited front). by_start starts.Delimited after_bar text front kinds.NoEffect (delimited_starts text front rest cut d) (finds-sized kinds.NoEffect (delimited_at text) front (length front) (delimited_longest text front rest cut d) (omega arith)))
+-- what stands between delimiters
+enclosed_read : (text : List ℕ) (size : ℕ) → delimited_at text ≡ Some size → option_map (enclosed text) (delimited_at text) ≡ Some (enclosed text size)
+enclosed_read text size read = ap (option_map (enclosed text)) read
+
+enclosed_finds : (after_bar : Bool) (text front rest : List ℕ) (kind : TokenKind) → text ≡ front ++ rest → IsDelimited front → loud_or_silent (dynamic_of front) ≡ kind → Finds (reading_at after_bar text) front kind
+enclosed_finds after_bar text front rest kind cut d is =
+    let size = length front in
+    let own : take size text ≡ front = ap (take size) cut ∙ take_exact size front rest refl in
+    by_start starts.Delimited after_bar text front kind (delimited_starts text front rest cut d) (record {
+      found = kind;
+      size = size;
+      is_read = enclosed_read text size (delimited_longest text front rest cut d) ∙ (λ i. Some ((ap (λ l. loud_or_silent (dynamic_of l)) own ∙ is) i, size));
+      long = omega arith;
+      same = λ _. refl;
+    })
+
+silent_finds : (after_bar : Bool) (text front rest : List ℕ) → text ≡ front ++ rest → HasNoEffect front → ((dynamic : Dynamic) → IsDynamic front dynamic → ⊥) → Finds (reading_at after_bar text) front kinds.NoEffect
+silent_finds after_bar text front rest cut is none = ⊎_elim
+    (λ (d : IsDelimited front). enclosed_finds after_bar text front rest kinds.NoEffect cut d (ap loud_or_silent (dynamic-none front none)))
     (λ other. ⊎_elim
     (λ (s : IsExtraSpace front). let l = extra_space_longest text front rest cut s in by_start starts.Space after_bar text front kinds.NoEffect (space_starts text front rest cut s) (finds-sized kinds.NoEffect (extra_space_at text) front l.size l.is_read l.long))
     (λ (one : IsSingle front).
@@ -154,8 +175,11 @@ token_longest after_bar text front rest kinds.Tie cut is =
     by_start starts.Tie after_bar text front kinds.Tie (tie_starts text front rest cut is) (finds-one kinds.Tie front (ap length is))
 token_longest after_bar text front rest kinds.Blank cut is =
     by_start starts.Blank after_bar text front kinds.Blank (blank_starts text front rest cut is) (finds-one kinds.Blank front (ap length is.spelling))
-token_longest after_bar text front rest kinds.NoEffect cut is = silent_finds after_bar text front rest cut is
+token_longest after_bar text front rest (kinds.Dynamic dynamic) cut is =
+    enclosed_finds after_bar text front rest (kinds.Dynamic dynamic) cut (dynamic-delimited front dynamic is) (ap loud_or_silent (dynamic-read front dynamic is))
+token_longest after_bar text front rest kinds.NoEffect cut is = silent_finds after_bar text front rest cut is.0 is.1
 token_longest after_bar text front rest (kinds.Field field) cut is = absurd is
+token_longest after_bar text front rest (kinds.Directive directive) cut is = absurd is
 token_longest after_bar text front rest kinds.Unclosed cut is = absurd is
 token_longest after_bar text front rest kinds.BadByte cut is = absurd is
 
@@ -171,9 +195,20 @@ bracket_sound after_bar text (Some r) kind size read e =
 
 parenthesis_sound : (after_bar : Bool) (b : ℕ) (rest : List ℕ) (o : Option (Tuplet × ℕ)) (kind : TokenKind) (size : ℕ) → b ≡ 40 → tuplet_at (b ∷ rest) ≡ o → or_else (as_kind (λ t. kinds.Tuplet t) o) (Some (kinds.NoEffect, 1)) ≡ Some (kind, size) → IsToken after_bar (b ∷ rest) kind size
 parenthesis_sound after_bar b rest None kind size known read e =
-    one-sound kinds.NoEffect (IsToken after_bar (b ∷ rest)) kind size (one_front b rest, inr (inr (record { byte = 40; spelling = ap (λ x. x ∷ []) known; silent = refl }))) e
+    one-sound kinds.NoEffect (IsToken after_bar (b ∷ rest)) kind size (one_front b rest, (inr (inr (record { byte = 40; spelling = ap (λ x. x ∷ []) known; silent = refl })), byte-no_dynamic (b ∷ []) refl)) e
 parenthesis_sound after_bar b rest (Some r) kind size known read e =
     wrapped-sound (λ t. kinds.Tuplet t) (IsToken after_bar (b ∷ rest)) (Some r) kind size (λ x n found. tuplet_sound (b ∷ rest) x n (read ∙ found)) e
+
+spells_enclosed : (after_bar : Bool) (front : List ℕ) (o : Option Dynamic) → dynamic_of front ≡ o → IsDelimited front → Spells after_bar front (loud_or_silent o)
+spells_enclosed after_bar front None e d = (inl d, λ dynamic is. let k : None ≡ Some dynamic = sym e ∙ dynamic-read front dynamic is in cc)
+spells_enclosed after_bar front (Some dynamic) e d = dynamic-sound front dynamic e
+
+enclosed_sound : (after_bar : Bool) (text : List ℕ) (o : Option ℕ) (kind : TokenKind) (size : ℕ) → delimited_at text ≡ o → option_map (enclosed text) o ≡ Some (kind, size) → IsToken after_bar text kind size
+enclosed_sound after_bar text None kind size read e = cc
+enclosed_sound after_bar text (Some n) kind size read e =
+    let same : enclosed text n ≡ (kind, size) = cc in
+    let s = delimited_sound text n read in
+    subst (λ (x : TokenKind × ℕ). IsToken after_bar text x.0 x.1) same (s.0, spells_enclosed after_bar (take n text) (dynamic_of (take n text)) refl s.1)
 
 read_sound : (start : Start) (after_bar : Bool) (b : ℕ) (rest : List ℕ) (kind : TokenKind) (size : ℕ) → Known b start → reading_by start after_bar (b ∷ rest) ≡ Some (kind, size) → IsToken after_bar (b ∷ rest) kind size
 read_sound starts.Note after_bar b rest kind size known e =
@@ -197,11 +232,11 @@ read_sound starts.Tie after_bar b rest kind size known e =
 read_sound starts.Blank after_bar b rest kind size known e =
     one-sound kinds.Blank (IsToken after_bar (b ∷ rest)) kind size (one_front b rest, record { byte = b; spelling = refl; blank = known }) e
 read_sound starts.Delimited after_bar b rest kind size known e =
-    sized-sound kinds.NoEffect (IsToken after_bar (b ∷ rest)) (delimited_at (b ∷ rest)) kind size (λ n read. let s = delimited_sound (b ∷ rest) n read in (s.0, inl s.1)) e
+    enclosed_sound after_bar (b ∷ rest) (delimited_at (b ∷ rest)) kind size refl e
 read_sound starts.Space after_bar b rest kind size known e =
-    sized-sound kinds.NoEffect (IsToken after_bar (b ∷ rest)) (extra_space_at (b ∷ rest)) kind size (λ n read. let s = extra_space_sound (b ∷ rest) n read in (s.0, inr (inl s.1))) e
+    sized-sound kinds.NoEffect (IsToken after_bar (b ∷ rest)) (extra_space_at (b ∷ rest)) kind size (λ n read. let s = extra_space_sound (b ∷ rest) n read in (s.0, (inr (inl s.1), space-no_dynamic (take n (b ∷ rest)) s.1.written s.1.spelling))) e
 read_sound starts.Single after_bar b rest kind size known e =
-    one-sound kinds.NoEffect (IsToken after_bar (b ∷ rest)) kind size (one_front b rest, inr (inr (record { byte = b; spelling = refl; silent = known }))) e
+    one-sound kinds.NoEffect (IsToken after_bar (b ∷ rest)) kind size (one_front b rest, (inr (inr (record { byte = b; spelling = refl; silent = known })), byte-no_dynamic (b ∷ []) refl)) e
 read_sound starts.Nothing after_bar b rest kind size known e = cc
 
 token_sound : (after_bar : Bool) (text : List ℕ) (kind : TokenKind) (size : ℕ) → reading_at after_bar text ≡ Some (kind, size) → IsFront text size × Spells after_bar (take size text) kind

@@ -15,8 +15,10 @@ pub mod Endings
 pub mod Comments
 pub mod Closings
 pub mod Delimiters
+pub mod Dynamics
 pub mod InlineFields
 pub mod Frames
+pub mod Directives
 pub mod ClassLaws
 pub mod Starts
 pub mod Chords

@@ -7,7 +7,7 @@ use Rattle.std.proofs.lemmas.Nat.{pow_pos}
 use Rattle.std.proofs.lemmas.Bool.{cond-false, cond_both, eqb-false, and_left}
 use Rattle.std.proofs.lemmas.List.Elements.{All-nil, All-cons}
 use Rattle.abc_scan.specs.declared.class.LineClass.{LineClass}
-use Rattle.abc_scan.specs.declared.class.LineClass.TheVariants.{Blank, Comment, Field, Music}
+use Rattle.abc_scan.specs.declared.class.LineClass.TheVariants as classes
 use Rattle.abc_scan.specs.declared.chord.Chord.{Chord}
 use Rattle.abc_scan.specs.declared.length.WrittenLength.{WrittenLength}
 use Rattle.abc_scan.specs.declared.parts.ChordPartKind.{ChordPartKind}
@@ -17,16 +17,18 @@ use Rattle.abc_scan.specs.declared.token.TokenKind.{TokenKind}
 use Rattle.abc_scan.specs.declared.token.TokenKind.TheVariants as kinds
 use Rattle.abc_scan.specs.Class.{class_of, IsFieldLine}
 use Rattle.abc_scan.specs.Length.{number_or, factor, written_length, IsLength, HasFactor}
-use Rattle.abc_scan.specs.Text.{before_comment, without_comment, content}
+use Rattle.abc_scan.specs.Directive.{IsDirectiveLine, directive_of}
+use Rattle.abc_scan.specs.Text.{before_comment, without_comment}
 use Rattle.abc_scan.specs.Chord.{SpellsPart, part_kinds, inside_of, IsChord}
 use Rattle.abc_scan.specs.Cutting.{alone_at, IsCuttingFrom, IsSpan, JoinFromTo}
-use Rattle.abc_scan.specs.Line.{cutting_of, tokens_in, tokens_of, covered_in, covered_of, HasPartLength, HasLength}
+use Rattle.abc_scan.specs.Line.{cutting_of, directive_token, tokens_in, tokens_of, covered_in, covered_of, HasPartLength, HasLength}
 use Rattle.abc_scan.specs.Token.{Spells, opens, alone_of, is_bar, line_kinds, reading_at, next_token}
 use Rattle.abc_text.specs.Digit.{is_digit, decimal}
 use Rattle.abc_text.specs.Ending.{without_return}
 use Rattle.abc_text.proofs.Decimals.{decimal-lt}
 use Rattle.abc_text.proofs.Endings.{without_return-le}
 use Rattle.abc_scan.proofs.ClassLaws.{laws, field_visible}
+use Rattle.abc_scan.proofs.Directives.{directive-read, directive-percent}
 use Rattle.abc_scan.proofs.Cuttings.{next_only, next_size, cut-all}
 use Rattle.abc_scan.proofs.Laws.{reads_tokens, cuts_each}
 
@@ -86,8 +88,10 @@ token-range after_bar text (kinds.Tuplet tuplet) is = tt
 token-range after_bar text (kinds.Broken broken) is = tt
 token-range after_bar text kinds.Tie is = tt
 token-range after_bar text kinds.Blank is = tt
+token-range after_bar text (kinds.Dynamic dynamic) is = tt
 token-range after_bar text kinds.NoEffect is = tt
 token-range after_bar text (kinds.Field field) is = tt
+token-range after_bar text (kinds.Directive directive) is = tt
 token-range after_bar text kinds.Unclosed is = tt
 token-range after_bar text kinds.BadByte is = tt
 
@@ -121,8 +125,8 @@ before_comment-le : (before : ℕ) (text : List ℕ) → length (before_comment 
 before_comment-le before [] = omega arith
 before_comment-le before (b ∷ bs) = cond_both ((b == 37) && not (before == 92)) [] (b ∷ before_comment b bs) (λ l. length l ≤ length (b ∷ bs)) (λ _. omega arith) (λ _. let rest = before_comment-le b bs in omega (arith, rest))
 
-content-le : (line : List ℕ) → length (content line) ≤ length line
-content-le line = let a = before_comment-le 32 (without_return line) in let b = without_return-le line in omega (arith, a, b)
+read-le : (line : List ℕ) → length (without_comment (without_return line)) ≤ length line
+read-le line = let a = before_comment-le 32 (without_return line) in let b = without_return-le line in omega (arith, a, b)
 
 field_some : (text : List ℕ) (letter : ℕ) → IsFieldLine text letter → 0 < length (without_comment text)
 field_some text letter is =
@@ -130,26 +134,40 @@ field_some text letter is =
     let kept : without_comment text ≡ letter ∷ before_comment letter (58 ∷ is.value) = ap without_comment is.spelling ∙ cond-false _ _ _ (and_left (letter == 37) (not (32 == 92)) seen.1) in
     subst (λ l. 0 < length l) (sym kept) (omega arith)
 
-laid_in : (line : List ℕ) (class : LineClass) → class_of line ≡ class → Laid 0 (tokens_in class (content line)) (covered_in class (content line)) (length line)
-laid_in line Blank e = record { spans = All-nil (IsSpan (length line)); joined = refl; lengths = All-nil (λ t. HasLength t.kind) }
-laid_in line Comment e = record { spans = All-nil (IsSpan (length line)); joined = refl; lengths = All-nil (λ t. HasLength t.kind) }
-laid_in line (Field letter) e =
+-- a directive is one token, and not empty
+directive-laid : (text : List ℕ) (len : ℕ) → IsDirectiveLine text → length text ≤ len → Laid 0 (directive_token (directive_of text) (length text)) (length text) len
+directive-laid text len is fits =
+    let first = directive-percent text is in
+    let some : 0 < length text = omega (arith, ap length first.1) in
+    subst (λ o. Laid 0 (directive_token o (length text)) (length text) len) (sym (directive-read text is.0 is.1)) (record {
+      spans = All-cons (IsSpan len) _ [] (some, fits) (All-nil (IsSpan len));
+      joined = (refl, refl);
+      lengths = All-cons (λ t. HasLength t.kind) _ [] tt (All-nil (λ t. HasLength t.kind));
+    })
+
+laid_in : (line : List ℕ) (class : LineClass) → class_of line ≡ class → Laid 0 (tokens_in class (without_return line)) (covered_in class (without_return line)) (length line)
+laid_in line classes.Blank e = record { spans = All-nil (IsSpan (length line)); joined = refl; lengths = All-nil (λ t. HasLength t.kind) }
+laid_in line classes.Comment e = record { spans = All-nil (IsSpan (length line)); joined = refl; lengths = All-nil (λ t. HasLength t.kind) }
+laid_in line (classes.Field letter) e =
     let field = ((laws (without_return line) (class_of line) refl).field letter).0 e in
     let some = field_some (without_return line) letter field in
     record {
-      spans = All-cons (IsSpan (length line)) _ [] (some, content-le line) (All-nil (IsSpan (length line)));
+      spans = All-cons (IsSpan (length line)) _ [] (some, read-le line) (All-nil (IsSpan (length line)));
       joined = (refl, refl);
       lengths = All-cons (λ t. HasLength t.kind) _ [] tt (All-nil (λ t. HasLength t.kind));
     }
-laid_in line Music e =
-    let short = content-le line in
-    let sum : 0 + length (content line) ≡ length (content line) = omega arith in
-    let is = cuts_each (content line) in
-    let l = laid_cut false 0 (content line) (cutting_of (content line)) (length line) is (omega (arith, short)) in
+laid_in line classes.Directive e =
+    directive-laid (without_return line) (length line) ((laws (without_return line) (class_of line) refl).directive.0 e) (without_return-le line)
+laid_in line classes.Music e =
+    let text = without_comment (without_return line) in
+    let short = read-le line in
+    let sum : 0 + length text ≡ length text = omega arith in
+    let is = cuts_each text in
+    let l = laid_cut false 0 text (cutting_of text) (length line) is (omega (arith, short)) in
     record {
       spans = l.0;
-      joined = subst (JoinFromTo 0 (cutting_of (content line))) sum l.1;
-      lengths = cut-all line_kinds Spells HasLength token-range token-alone false 0 (content line) (cutting_of (content line)) is;
+      joined = subst (JoinFromTo 0 (cutting_of text)) sum l.1;
+      lengths = cut-all line_kinds Spells HasLength token-range token-alone false 0 text (cutting_of text) is;
     }
 
 pub laid : (line : List ℕ) → Laid 0 (tokens_of line) (covered_of line) (length line)

@@ -4,8 +4,9 @@ use Rattle.std.specs.Char.{is_ascii_alphabetic}
 use Rattle.abc_text.specs.Blank.{is_blank}
 use Rattle.abc_text.specs.Ending.{without_return}
 use Rattle.abc_scan.specs.declared.class.LineClass.{LineClass}
-use Rattle.abc_scan.specs.declared.class.LineClass.TheVariants.{Blank, Comment, Field, Music}
+use Rattle.abc_scan.specs.declared.class.LineClass.TheVariants.{Blank, Comment, Field, Directive, Music}
 use Rattle.abc_scan.specs.Byte.{percent, plus_sign, colon, bar_stroke}
+use Rattle.abc_scan.specs.Directive.{is_directive, IsDirectiveLine}
 
 -- The first byte of a text that is no blank.
 abbrev pub first_visible : List ℕ → Option ℕ
@@ -37,16 +38,17 @@ abbrev pub field_or_music : Option ℕ → LineClass
 field_or_music None = Music
 field_or_music (Some letter) = Field letter
 
--- The class by the first visible byte and the field's letter.
-abbrev pub class_by : Option ℕ → Option ℕ → LineClass
-class_by None letter = Blank
-class_by (Some b) letter = if b == percent then Comment else field_or_music letter
+-- The class by the first visible byte, the field's letter, and whether it is a directive.
+abbrev pub class_by : Option ℕ → Option ℕ → Bool → LineClass
+class_by None letter directive = Blank
+class_by (Some b) letter directive =
+    if b == percent then (if directive then Directive else Comment) else field_or_music letter
 
 -- The class of a text that has no carriage return at its end.
 abbrev pub class_of_text : List ℕ → LineClass
-class_of_text text = class_by (first_visible text) (field_letter text)
+class_of_text text = class_by (first_visible text) (field_letter text) (is_directive text)
 
--- The class of a line. ABC 2.1 section 2.2.
+-- The class of a line. ABC 2.1 sections 2.2 and 11.
 abbrev pub class_of : List ℕ → LineClass
 class_of line = class_of_text (without_return line)
 
@@ -55,8 +57,13 @@ abbrev pub IsBlankLine : List ℕ → Type 0
 IsBlankLine text = All (λ b. IsTrue (is_blank b)) text
 
 -- Blanks, a `%`, and anything. ABC 2.1 section 2.2.
+abbrev pub BeginsWithPercent : List ℕ → Type 0
+BeginsWithPercent text = (blanks : List ℕ) × (rest : List ℕ) × IsBlankLine blanks × (text ≡ blanks ++ percent ∷ rest)
+
+-- Such a line that is no directive. ABC 2.1 sections 2.2 and 11: other directives than those that are read are passed
+-- over.
 abbrev pub IsCommentLine : List ℕ → Type 0
-IsCommentLine text = (blanks : List ℕ) × (rest : List ℕ) × IsBlankLine blanks × (text ≡ blanks ++ percent ∷ rest)
+IsCommentLine text = BeginsWithPercent text × ¬ IsDirectiveLine text
 
 -- A field with this letter: the letter, a colon, and what follows, which after a letter of a note or
 -- rest is not `|` or `:`. ABC 2.1 section 3; the exception is our own.
@@ -68,4 +75,5 @@ pub record IsFieldLine (text : List ℕ) (letter : ℕ) : Type 0 where
 
 -- Whatever is none of these.
 abbrev pub IsMusicLine : List ℕ → Type 0
-IsMusicLine text = ¬ IsBlankLine text × ¬ IsCommentLine text × ((letter : ℕ) → ¬ IsFieldLine text letter)
+IsMusicLine text =
+    ¬ IsBlankLine text × ¬ IsCommentLine text × ¬ IsDirectiveLine text × ((letter : ℕ) → ¬ IsFieldLine text letter)

@@ -1,8 +1,10 @@
 pub mod Byte
 pub mod Text
+pub mod Number
+pub mod Directive
 pub mod Class
 pub mod Length
-pub mod Number
+pub mod Dynamic
 pub mod Note
 pub mod BarRest
 pub mod Bar

@@ -1,17 +1,20 @@
 -- The tokens of a line. ABC 2.1 section 4.
-use Rattle.std.specs.Prelude.{◌≡◌, ℕ, Bool, true, false, List, [], ◌∷◌, length, All}
+use Rattle.std.specs.Prelude.{◌≡◌, ℕ, Bool, true, false, Option, Some, None, List, [], ◌∷◌, length, All}
+use Rattle.abc_text.specs.Ending.{without_return}
 use Rattle.abc_scan.specs.declared.class.LineClass.{LineClass}
-use Rattle.abc_scan.specs.declared.class.LineClass.TheVariants.{Blank, Comment, Field, Music}
+use Rattle.abc_scan.specs.declared.class.LineClass.TheVariants as classes
+use Rattle.abc_scan.specs.declared.directive.Directive.{Directive}
 use Rattle.abc_scan.specs.declared.parts.ChordPartKind.{ChordPartKind}
 use Rattle.abc_scan.specs.declared.parts.ChordPartKind.TheVariants as parts
 use Rattle.abc_scan.specs.declared.spanned.Spanned.{Spanned}
 use Rattle.abc_scan.specs.declared.token.TokenKind.{TokenKind}
 use Rattle.abc_scan.specs.declared.token.TokenKind.TheVariants as kinds
 use Rattle.abc_scan.specs.Cutting.{IsCuttingFrom, cutting_from}
+use Rattle.abc_scan.specs.Directive.{directive_of}
 use Rattle.abc_scan.specs.Field.{field_of}
 use Rattle.abc_scan.specs.Length.{HasFactor}
 use Rattle.abc_scan.specs.Class.{class_of}
-use Rattle.abc_scan.specs.Text.{content}
+use Rattle.abc_scan.specs.Text.{without_comment}
 use Rattle.abc_scan.specs.Token.{Spells, line_kinds, reading_at}
 
 -- The tokens are the whole text of a line cut up.
@@ -26,34 +29,43 @@ cutting_of text = cutting_from line_kinds reading_at false 0 0 text
 abbrev pub field_token : List ℕ → List (Spanned TokenKind)
 field_token text = record { kind = kinds.Field (field_of text); from = 0; to = length text } ∷ []
 
+-- One token of so many bytes, which is the directive that was read.
+abbrev pub directive_token : Option Directive → ℕ → List (Spanned TokenKind)
+directive_token None size = []
+directive_token (Some directive) size = record { kind = kinds.Directive directive; from = 0; to = size } ∷ []
+
 -- Whether lines of a class have tokens: blank lines and comments have none.
 abbrev pub has_tokens : LineClass → Bool
-has_tokens Blank = false
-has_tokens Comment = false
-has_tokens (Field letter) = true
-has_tokens Music = true
+has_tokens classes.Blank = false
+has_tokens classes.Comment = false
+has_tokens (classes.Field letter) = true
+has_tokens classes.Directive = true
+has_tokens classes.Music = true
 
--- The tokens of a text of this class: a field is one, a blank line and a comment have none.
+-- The tokens of a text of this class: a field without its comment is one, a directive with its comment is one, a blank
+-- line and a comment have none.
 abbrev pub tokens_in : LineClass → List ℕ → List (Spanned TokenKind)
-tokens_in Blank text = []
-tokens_in Comment text = []
-tokens_in (Field letter) text = field_token text
-tokens_in Music text = cutting_of text
+tokens_in classes.Blank text = []
+tokens_in classes.Comment text = []
+tokens_in (classes.Field letter) text = field_token (without_comment text)
+tokens_in classes.Directive text = directive_token (directive_of text) (length text)
+tokens_in classes.Music text = cutting_of (without_comment text)
 
--- The tokens of a line, by its class and what is read of it. ABC 2.1 sections 2.2 and 4.
+-- The tokens of a line, by its class and its text without the carriage return. ABC 2.1 sections 2.2, 4 and 11.
 unfoldable pub tokens_of : List ℕ → List (Spanned TokenKind)
-tokens_of line = tokens_in (class_of line) (content line)
+tokens_of line = tokens_in (class_of line) (without_return line)
 
--- How many bytes of a line its tokens cover: a blank line and a comment have none.
+-- How many bytes of a text its tokens cover: a blank line and a comment have none.
 abbrev pub covered_in : LineClass → List ℕ → ℕ
-covered_in Blank text = 0
-covered_in Comment text = 0
-covered_in (Field letter) text = length text
-covered_in Music text = length text
+covered_in classes.Blank text = 0
+covered_in classes.Comment text = 0
+covered_in (classes.Field letter) text = length (without_comment text)
+covered_in classes.Directive text = length text
+covered_in classes.Music text = length (without_comment text)
 
 -- How many bytes the tokens of a line cover.
 unfoldable pub covered_of : List ℕ → ℕ
-covered_of line = covered_in (class_of line) (content line)
+covered_of line = covered_in (class_of line) (without_return line)
 
 -- The length of a chord's part is refused, or a ratio of accepted numbers.
 abbrev pub HasPartLength : ChordPartKind → Type 0
@@ -75,8 +87,10 @@ HasLength (kinds.Tuplet tuplet) = Unit {0}
 HasLength (kinds.Broken broken) = Unit {0}
 HasLength kinds.Tie = Unit {0}
 HasLength kinds.Blank = Unit {0}
+HasLength (kinds.Dynamic dynamic) = Unit {0}
 HasLength kinds.NoEffect = Unit {0}
 HasLength (kinds.Field field) = Unit {0}
+HasLength (kinds.Directive directive) = Unit {0}
 HasLength kinds.Unclosed = Unit {0}
 HasLength kinds.BadByte = Unit {0}
 

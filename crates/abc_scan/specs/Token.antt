@@ -1,5 +1,7 @@
 -- What a music line is made of. ABC 2.1 section 4.
-use Rattle.std.specs.Prelude.{ℕ, Bool, true, false, Option, Some, None, List, if◌then◌else◌, ◌||◌, ◌==◌}
+use Rattle.std.specs.Prelude.{ℕ, Bool, true, false, Option, Some, None, List, take, if◌then◌else◌, ◌||◌, ◌==◌}
+use Rattle.std.specs.Option.{option_map}
+use Rattle.abc_scan.specs.declared.dynamic.Dynamic.{Dynamic}
 use Rattle.abc_scan.specs.declared.start.Start.{Start}
 use Rattle.abc_scan.specs.declared.start.Start.TheVariants as starts
 use Rattle.abc_scan.specs.declared.token.TokenKind.{TokenKind}
@@ -11,6 +13,7 @@ use Rattle.abc_scan.specs.Byte.{quote, exclamation, opening_bracket, opening_bra
 use Rattle.abc_scan.specs.Chord.{IsChord, chord_at}
 use Rattle.abc_scan.specs.Cutting.{Kinds, as_kind, of_kind, next}
 use Rattle.abc_scan.specs.Delimited.{delimited_at}
+use Rattle.abc_scan.specs.Dynamic.{IsDynamic, dynamic_of}
 use Rattle.abc_scan.specs.Ending.{IsEnding, ending_at}
 use Rattle.abc_scan.specs.InlineField.{IsInlineField, inline_field_at}
 use Rattle.abc_scan.specs.NoEffect.{HasNoEffect, extra_space_at}
@@ -19,8 +22,8 @@ use Rattle.abc_scan.specs.Single.{IsBlankToken, IsTie}
 use Rattle.abc_scan.specs.Start.{start_of}
 use Rattle.abc_scan.specs.Tuplet.{IsTuplet, tuplet_at}
 
--- The bytes spell a token of this kind, where a bar line stands directly before them or not. A field line
--- is no token of music, and a byte alone is what spells none.
+-- The bytes spell a token of this kind, where a bar line stands directly before them or not. A field line and a
+-- directive line are no tokens of music, and a byte alone is what spells none.
 abbrev pub Spells : Bool → List ℕ → TokenKind → Type 0
 Spells after_bar text (kinds.Note note) = IsNote text note
 Spells after_bar text (kinds.Rest value) = IsRest text value
@@ -33,8 +36,10 @@ Spells after_bar text (kinds.Tuplet tuplet) = IsTuplet text tuplet
 Spells after_bar text (kinds.Broken broken) = IsBroken text broken
 Spells after_bar text kinds.Tie = IsTie text
 Spells after_bar text kinds.Blank = IsBlankToken text
-Spells after_bar text kinds.NoEffect = HasNoEffect text
+Spells after_bar text (kinds.Dynamic dynamic) = IsDynamic text dynamic
+Spells after_bar text kinds.NoEffect = HasNoEffect text × ((dynamic : Dynamic) → ¬ IsDynamic text dynamic)
 Spells after_bar text (kinds.Field field) = ⊥
+Spells after_bar text (kinds.Directive directive) = ⊥
 Spells after_bar text kinds.Unclosed = ⊥
 Spells after_bar text kinds.BadByte = ⊥
 
@@ -59,8 +64,10 @@ is_bar (kinds.Tuplet tuplet) = false
 is_bar (kinds.Broken broken) = false
 is_bar kinds.Tie = false
 is_bar kinds.Blank = false
+is_bar (kinds.Dynamic dynamic) = false
 is_bar kinds.NoEffect = false
 is_bar (kinds.Field field) = false
+is_bar (kinds.Directive directive) = false
 is_bar kinds.Unclosed = false
 is_bar kinds.BadByte = false
 
@@ -72,6 +79,15 @@ line_kinds = record { alone = alone_of; is_bar = is_bar }
 abbrev pub or_else : Option (TokenKind × ℕ) → Option (TokenKind × ℕ) → Option (TokenKind × ℕ)
 or_else (Some token) other = Some token
 or_else None other = other
+
+-- What a text between delimiters is: a dynamic, or a token without effect.
+abbrev pub loud_or_silent : Option Dynamic → TokenKind
+loud_or_silent None = kinds.NoEffect
+loud_or_silent (Some dynamic) = kinds.Dynamic dynamic
+
+-- The token between delimiters at the front of a text that takes so many bytes.
+abbrev pub enclosed : List ℕ → ℕ → TokenKind × ℕ
+enclosed text size = (loud_or_silent (dynamic_of (take size text)), size)
 
 -- The longest token at the front of a text that begins in this way, if it can be told without memory and
 -- without a search for its end, and how many bytes it takes. A tuplet is longer than its `(`.
@@ -106,7 +122,7 @@ reading_by starts.Parenthesis after_bar text = mark_by starts.Parenthesis after_
 reading_by starts.Broken after_bar text = mark_by starts.Broken after_bar text
 reading_by starts.Tie after_bar text = mark_by starts.Tie after_bar text
 reading_by starts.Blank after_bar text = mark_by starts.Blank after_bar text
-reading_by starts.Delimited after_bar text = of_kind kinds.NoEffect (delimited_at text)
+reading_by starts.Delimited after_bar text = option_map (enclosed text) (delimited_at text)
 reading_by starts.Space after_bar text = mark_by starts.Space after_bar text
 reading_by starts.Single after_bar text = mark_by starts.Single after_bar text
 reading_by starts.Nothing after_bar text = mark_by starts.Nothing after_bar text

@@ -2,19 +2,23 @@
 
 ghost use Rattle.std.specs.Prelude.{◌≡◌, ◌↔◌, ℕ};
 ghost use Rattle.abc_scan.specs.Class.{class_of, class_of_text, first_visible, names_field, is_music_letter, begins_bar, field_letter, IsBlankLine, IsCommentLine, IsFieldLine, IsMusicLine};
+ghost use Rattle.abc_scan.specs.Directive.{IsDirectiveLine};
 ghost use Rattle.abc_text.specs.Ending.{without_return};
 
+use crate::directive::is_directive;
 use abc_text::{is_blank, without_return};
 
-/// What a line of an ABC text is, by its own bytes (ABC 2.1 section 2.2).
+/// What a line of an ABC text is, by its own bytes (ABC 2.1 sections 2.2 and 11).
 #[derive(Clone, Copy)]
 pub enum LineClass {
     /// Nothing but blanks.
     Blank,
-    /// A `%` is the first byte that is no blank.
+    /// A `%` is the first byte that is no blank, and the line is no directive.
     Comment,
     /// An information field, with its letter (or `+`).
     Field(u8),
+    /// A directive.
+    Directive,
     /// Anything else.
     Music,
 }
@@ -74,6 +78,7 @@ fn class_of_text(text: &[u8]) -> LineClass
 {
     match first_visible(text) {
         None => LineClass::Blank,
+        Some(b'%') if is_directive(text) => LineClass::Directive,
         Some(b'%') => LineClass::Comment,
         Some(_) => match field_letter(text) {
             Some(letter) => LineClass::Field(letter),
@@ -87,6 +92,7 @@ pub fn class_of(line: &[u8]) -> LineClass
     ensures value { result ≡ class_of line.now }
     ensures blank { (result ≡ LineClass.Blank) ↔ IsBlankLine (without_return line.now) }
     ensures comment { (result ≡ LineClass.Comment) ↔ IsCommentLine (without_return line.now) }
+    ensures directive { (result ≡ LineClass.Directive) ↔ IsDirectiveLine (without_return line.now) }
     ensures field { (letter : ℕ) → (result ≡ LineClass.Field letter) ↔ IsFieldLine (without_return line.now) letter }
     ensures music { (result ≡ LineClass.Music) ↔ IsMusicLine (without_return line.now) }
 {

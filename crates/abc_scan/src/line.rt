@@ -4,15 +4,18 @@ ghost use Rattle.std.specs.Prelude.{◌≡◌, ◌+◌, IfOk, IsOk, All, length,
 ghost use Rattle.abc_fold.specs.Work.{raised};
 ghost use Rattle.abc_scan.specs.Cutting.{IsSpan, JoinFromTo};
 ghost use Rattle.abc_scan.specs.Class.{class_of};
-ghost use Rattle.abc_scan.specs.Line.{cutting_of, field_token, has_tokens, tokens_in, tokens_of, covered_of, HasLength, CutsEachText, CutsOnce};
+ghost use Rattle.abc_scan.specs.Directive.{directive_of};
+ghost use Rattle.abc_scan.specs.Line.{cutting_of, directive_token, field_token, has_tokens, tokens_in, tokens_of, covered_of, HasLength, CutsEachText, CutsOnce};
 
 use crate::class::{LineClass, class_of};
 use crate::closing::Missing;
+use crate::directive::directive_of;
 use crate::field::field_of;
 use crate::spanned::Spanned;
-use crate::text::content;
+use crate::text::without_comment;
 use crate::token::{Token, TokenKind, is_bar, next_token};
 use abc_fold::Work;
+use abc_text::without_return;
 use std::alloc::{AllocError, Global};
 
 /// A text cut from left to right.
@@ -49,19 +52,36 @@ fn field_token(alloc: Global, text: &[u8]) -> Result<Vec<Token>, AllocError>
     Ok(tokens)
 }
 
-/// The tokens of a text of this class.
+/// One token for the whole text of a directive, with its comment.
+fn directive_token(alloc: Global, text: &[u8]) -> Result<Vec<Token>, AllocError>
+    ensures { IfOk result (λ tokens. tokens.items ≡ directive_token (directive_of text.now) (length text.now)) }
+{
+    let Some(directive) = directive_of(text) else {
+        return Ok(Vec::new(alloc));
+    };
+    let mut tokens = Vec::with_capacity(alloc, 1)?;
+    tokens.push(Spanned {
+        kind: TokenKind::Directive(directive),
+        from: 0,
+        to: text.len(),
+    })?;
+    Ok(tokens)
+}
+
+/// The tokens of a text of this class, which has no carriage return at its end.
 fn tokens_in(alloc: Global, class: LineClass, text: &[u8]) -> Result<Vec<Token>, AllocError>
     ensures tokens { IfOk result (λ tokens. tokens.items ≡ tokens_in class text.now) }
     ensures silent { has_tokens class ≡ false → IsOk result }
 {
     match class {
         LineClass::Blank | LineClass::Comment => Ok(Vec::new(alloc)),
-        LineClass::Field(_) => field_token(alloc, text),
-        LineClass::Music => cut(alloc, text),
+        LineClass::Field(_) => field_token(alloc, without_comment(text)),
+        LineClass::Directive => directive_token(alloc, text),
+        LineClass::Music => cut(alloc, without_comment(text)),
     }
 }
 
-/// The tokens of a line, without its carriage return and comment. Counts one line scanned, also
+/// The tokens of a line, without its carriage return and, but for a directive, its comment. Counts one line scanned, also
 /// where there is no memory for the tokens; a blank line and a comment need none.
 #[tactic(auto, unfolding(crate::specs::Line::tokens_of, crate::specs::Line::covered_of))]
 pub fn scan(alloc: Global, line: &[u8], work: &mut Work) -> Result<Vec<Token>, AllocError>
@@ -74,7 +94,7 @@ pub fn scan(alloc: Global, line: &[u8], work: &mut Work) -> Result<Vec<Token>, A
     ensures counted { work.new ≡ record work.old { scanned = raised work.old.scanned 1 } }
 {
     work.count_scanned();
-    tokens_in(alloc, class_of(line), content(line))
+    tokens_in(alloc, class_of(line), without_return(line))
 }
 
 /// What `scan` cuts a music line into is a cutting of it, each token the longest that begins at its

@@ -7,7 +7,7 @@ ghost use Rattle.abc_scan.specs.Text.{without_comment, content, CutsComments};
 use abc_text::without_return;
 
 /// A text without its comment.
-fn without_comment(text: &[u8]) -> &[u8]
+pub(crate) fn without_comment(text: &[u8]) -> &[u8]
     ensures value { result.now ≡ without_comment text.now }
     ensures bounded { length result.now ≤ length text.now }
 {

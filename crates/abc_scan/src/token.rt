@@ -2,7 +2,8 @@
 
 ghost use Rattle.std.specs.Prelude.{◌≡◌, ◌≤◌, ◌<◌, drop, length, false, IfOk, IfSome};
 ghost use Rattle.abc_scan.specs.Closing.{IsMissing};
-ghost use Rattle.abc_scan.specs.Token.{is_bar, mark_by, reading_by, alone_of, next_token};
+ghost use Rattle.abc_scan.specs.Dynamic.{dynamic_of};
+ghost use Rattle.abc_scan.specs.Token.{is_bar, mark_by, reading_by, alone_of, loud_or_silent, next_token};
 
 use crate::bar::{BarLine, bar_at};
 use crate::bar_rest::bar_rest_at;
@@ -10,6 +11,8 @@ use crate::broken::{BrokenRhythm, broken_at};
 use crate::chord::{Chord, chord_at};
 use crate::closing::Missing;
 use crate::delimited::delimited_at;
+use crate::directive::Directive;
+use crate::dynamic::{Dynamic, dynamic_of};
 use crate::ending::ending_at;
 use crate::field::Field;
 use crate::inline_field::inline_field_at;
@@ -43,10 +46,13 @@ pub enum TokenKind {
     Tie,
     /// One space or tab.
     Blank,
-    /// Quoted text, a decoration, a grace group, an extra space or a byte without effect.
+    Dynamic(Dynamic),
+    /// Quoted text, another decoration, a grace group, an extra space or a byte without effect.
     NoEffect,
     /// A whole field line, without its comment.
     Field(Field),
+    /// A whole directive line, with its comment.
+    Directive(Directive),
     /// A byte that opens what nothing closes.
     Unclosed,
     /// Another byte of a music line that begins no token.
@@ -112,6 +118,28 @@ fn field_at(
         Some((field, size)) => Ok(Some((TokenKind::InlineField(field), size))),
         None => Ok(None),
     }
+}
+
+/// What a text between delimiters is: a dynamic, or a token without effect.
+fn loud_or_silent(text: &[u8]) -> TokenKind
+    ensures { result ≡ loud_or_silent (dynamic_of text.now) }
+{
+    match dynamic_of(text) {
+        Some(dynamic) => TokenKind::Dynamic(dynamic),
+        None => TokenKind::NoEffect,
+    }
+}
+
+/// The token between delimiters at the front of a text, and how many bytes it takes.
+fn enclosed_at(text: &[u8], missing: &mut Missing) -> Option<(TokenKind, usize)>
+    requires { IsMissing missing.old (drop 1 text.now) }
+    ensures value { result ≡ reading_by Start.Delimited false text.now }
+    ensures some { IfSome result (λ r. 0 < r.1) }
+    ensures inside { IfSome result (λ r. r.1 ≤ length text.now) }
+    ensures kept { IsMissing missing.new (drop 1 text.now) }
+{
+    let size = delimited_at(text, missing)?;
+    Some((loud_or_silent(&text[..size]), size))
 }
 
 /// The tuplet at the front of a text, or its `(` alone, and how many bytes it takes.
@@ -187,10 +215,7 @@ pub(crate) fn next_token(
     let found = match start_of(text) {
         Start::InlineField => field_at(alloc, text, missing)?,
         Start::Bracket => bracket_at(alloc, after_bar, text)?,
-        Start::Delimited => match delimited_at(text, missing) {
-            Some(size) => Some((TokenKind::NoEffect, size)),
-            None => None,
-        },
+        Start::Delimited => enclosed_at(text, missing),
         start => mark_at(start, after_bar, text),
     };
     match found {

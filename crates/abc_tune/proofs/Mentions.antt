@@ -30,6 +30,7 @@ placed_from names (items.Key opening key ∷ tune) = placed_from names tune
 placed_from names (items.Voice opening name ∷ tune) = placed_from (with_name names name) tune
 placed_from names (items.Title text ∷ tune) = placed_from names tune
 placed_from names (items.Order text ∷ tune) = placed_from names tune
+placed_from names (items.Program opening number ∷ tune) = placed_from names tune
 
 -- a name is put behind that of the voice without one
 in_front : (b : Bool) (names : List (List ℕ)) (name : List ℕ) → cond b ([] ∷ names) (([] ∷ names) ++ name ∷ []) ≡ [] ∷ cond b names (names ++ name ∷ [])
@@ -56,6 +57,7 @@ behind_nameless names (items.Voice opening name ∷ tune) named =
     ap (λ known. names_from own known tune) (with_named names name named.0) ∙ behind_nameless (with_name names name) tune named.1
 behind_nameless names (items.Title text ∷ tune) named = behind_nameless names tune named.1
 behind_nameless names (items.Order text ∷ tune) named = behind_nameless names tune named.1
+behind_nameless names (items.Program opening number ∷ tune) named = behind_nameless names tune named.1
 
 -- where the voice without a name has a track, it is mentioned
 heard : (tune : List Item) → AreNamed tune → bytes_eq (opening_voice own tune) [] ≡ true → plays_first own tune ≡ true
@@ -74,6 +76,7 @@ heard (items.Voice true name ∷ tune) named opens plays = absurd (cc (named.0, 
 heard (items.Voice false name ∷ tune) named opens plays = absurd (cc)
 heard (items.Title text ∷ tune) named opens plays = heard tune named.1 opens plays
 heard (items.Order text ∷ tune) named opens plays = heard tune named.1 opens plays
+heard (items.Program opening number ∷ tune) named opens plays = heard tune named.1 opens plays
 
 -- beside the voice without a name all others are mentioned
 others : (tune : List Item) → AreNamed tune → length (names_from own ([] ∷ []) tune) ≤ suc (length (behind_items ([], false) tune).0)
@@ -91,6 +94,7 @@ others (items.Voice opening name ∷ tune) named =
     omega (arith, ap length (ap (λ known. names_from own known tune) (with_named [] name named.0) ∙ behind_nameless (with_name [] name) tune named.1), ap length (placed_from (with_name [] name) tune))
 others (items.Title text ∷ tune) named = others tune named.1
 others (items.Order text ∷ tune) named = others tune named.1
+others (items.Program opening number ∷ tune) named = others tune named.1
 
 behind_first : {A : Type 0} (xs : List A) (n : ℕ) → length xs ≤ suc n → length (drop 1 xs) ≤ n
 behind_first [] n few = omega arith

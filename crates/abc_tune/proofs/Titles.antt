@@ -1,5 +1,5 @@
 -- The title of a tune of lines stands in one of them, so no limit but of size is passed.
-use Rattle.std.proofs.Common.{◌≡◌, ◌≤◌, ℕ, Bool, true, false, cond, List, [], ◌∷◌, length, drop, Option, sym, subst, arith, length-drop}
+use Rattle.std.proofs.Common.{◌≡◌, ◌≤◌, ℕ, Bool, true, false, cond, List, [], ◌∷◌, length, drop, Option, Some, None, sym, subst, arith, length-drop}
 use Rattle.std.specs.Prelude.{All, IfSome, nat_le, not, ◌==◌}
 use Rattle.std.specs.List.{flat_map, list_all, list_any}
 use Rattle.std.proofs.lemmas.Bool.{and_parts, cond_both, leb-true}
@@ -15,12 +15,14 @@ use Rattle.abc_music.specs.declared.item.Item.TheVariants as items
 use Rattle.abc_scan.specs.Cell.{cells_of, ends_cell, put_first}
 use Rattle.abc_scan.specs.Class.{class_of}
 use Rattle.abc_scan.specs.Cutting.{alone_at, IsSpan}
-use Rattle.abc_scan.specs.Line.{cutting_of, tokens_in, tokens_of}
+use Rattle.abc_scan.specs.Directive.{directive_of}
+use Rattle.abc_scan.specs.Line.{cutting_of, directive_token, tokens_in, tokens_of}
 use Rattle.abc_scan.specs.Text.{content}
 use Rattle.abc_scan.specs.Token.{Spells, alone_of, line_kinds, opens}
 use Rattle.abc_scan.specs.declared.class.LineClass.{LineClass}
-use Rattle.abc_scan.specs.declared.class.LineClass.TheVariants.{Blank, Comment, Field, Music}
-use Rattle.abc_scan.specs.declared.field.Field.{Field as FieldValue}
+use Rattle.abc_scan.specs.declared.class.LineClass.TheVariants as classes
+use Rattle.abc_scan.specs.declared.directive.Directive.{Directive}
+use Rattle.abc_scan.specs.declared.field.Field.{Field}
 use Rattle.abc_scan.specs.declared.spanned.Spanned.{Spanned}
 use Rattle.abc_scan.specs.declared.token.TokenKind.{TokenKind}
 use Rattle.abc_scan.specs.declared.token.TokenKind.TheVariants as kinds
@@ -28,6 +30,7 @@ use Rattle.abc_scan.proofs.Cuttings.{cut-all}
 use Rattle.abc_scan.proofs.Laws.{cuts_each}
 use Rattle.abc_scan.proofs.Spans.{laid}
 use Rattle.abc_text.specs.Byte.{line_feed}
+use Rattle.abc_text.specs.Ending.{without_return}
 use Rattle.abc_text.proofs.Blanks.{trimmed-le}
 use Rattle.abc_tune.specs.Abc.{cells_in}
 use Rattle.abc_tune.specs.Lines.{HasShortTitle, IsTooLarge, IsTooLongBySize, items_of_lines, by_sections, by_places, by_time}
@@ -43,7 +46,7 @@ abbrev most : ℕ
 most = 65535
 
 -- the value of a field line is no longer than a line may be
-abbrev IsShort : Option FieldValue → Type 0
+abbrev IsShort : Option Field → Type 0
 IsShort field = IfSome field (λ f. length f.value ≤ most)
 
 abbrev IsCellShort : List (Spanned TokenKind) → Type 0
@@ -65,8 +68,10 @@ spelled_short after_bar text (kinds.Tuplet tuplet) is = tt
 spelled_short after_bar text (kinds.Broken broken) is = tt
 spelled_short after_bar text kinds.Tie is = tt
 spelled_short after_bar text kinds.Blank is = tt
+spelled_short after_bar text (kinds.Dynamic dynamic) is = tt
 spelled_short after_bar text kinds.NoEffect is = tt
 spelled_short after_bar text (kinds.Field field) is = absurd is
+spelled_short after_bar text (kinds.Directive directive) is = absurd is
 spelled_short after_bar text kinds.Unclosed is = tt
 spelled_short after_bar text kinds.BadByte is = tt
 
@@ -77,16 +82,22 @@ alone_short : (text : List ℕ) → IsKindShort (alone_at line_kinds text)
 alone_short [] = tt
 alone_short (b ∷ bs) = byte_short b
 
+-- a directive line is none
+directive_short : (o : Option Directive) (size : ℕ) → All (λ token. IsKindShort token.kind) (directive_token o size)
+directive_short None size = All-nil (λ token. IsKindShort token.kind)
+directive_short (Some directive) size = All-cons (λ token. IsKindShort token.kind) _ [] tt (All-nil (λ token. IsKindShort token.kind))
+
 -- the tokens of a line, by its class
-tokens_short : (line : List ℕ) (class : LineClass) → length line ≤ most → All (IsSpan (length line)) (tokens_in class (content line))
-    → All (λ token. IsKindShort token.kind) (tokens_in class (content line))
-tokens_short line Blank short spans = All-nil (λ token. IsKindShort token.kind)
-tokens_short line Comment short spans = All-nil (λ token. IsKindShort token.kind)
-tokens_short line (Field letter) short spans =
+tokens_short : (line : List ℕ) (class : LineClass) → length line ≤ most → All (IsSpan (length line)) (tokens_in class (without_return line))
+    → All (λ token. IsKindShort token.kind) (tokens_in class (without_return line))
+tokens_short line classes.Blank short spans = All-nil (λ token. IsKindShort token.kind)
+tokens_short line classes.Comment short spans = All-nil (λ token. IsKindShort token.kind)
+tokens_short line (classes.Field letter) short spans =
     let inside = (All-head (IsSpan (length line)) _ [] spans).1 in
     let value = trimmed-le (drop 2 (content line)) in
     All-cons (λ token. IsKindShort token.kind) _ [] (omega (arith, short, inside, value, length-drop 2 (content line))) (All-nil (λ token. IsKindShort token.kind))
-tokens_short line Music short spans =
+tokens_short line classes.Directive short spans = directive_short (directive_of (without_return line)) (length (without_return line))
+tokens_short line classes.Music short spans =
     cut-all line_kinds Spells IsKindShort spelled_short alone_short false 0 (content line) (cutting_of (content line)) (cuts_each (content line))
 
 -- its cells
@@ -104,7 +115,7 @@ cells_short (token ∷ tokens) all =
 
 line_short : (line : List ℕ) → length line ≤ most → All IsCellShort (cells_in line)
 unfolding tokens_of
-line_short line short = cells_short (tokens_in (class_of line) (content line)) (tokens_short line (class_of line) short (laid line).spans)
+line_short line short = cells_short (tokens_in (class_of line) (without_return line)) (tokens_short line (class_of line) short (laid line).spans)
 
 lines_short : (lines : List (List ℕ)) → list_all is_line lines ≡ true → All IsCellShort (flat_map cells_in lines)
 lines_short [] are = All-nil IsCellShort
@@ -129,6 +140,7 @@ first_title (items.Key opening key ∷ tune) all = first_title tune all
 first_title (items.Voice opening name ∷ tune) all = first_title tune all
 first_title (items.Title text ∷ tune) all = All-head (λ title. length title ≤ most) text (titles_said tune) all
 first_title (items.Order text ∷ tune) all = first_title tune all
+first_title (items.Program opening number ∷ tune) all = first_title tune all
 
 pub short_title : HasShortTitle
 short_title opening lines are =

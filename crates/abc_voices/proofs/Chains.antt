@@ -263,7 +263,7 @@ module _ (previous : List Tone) (token : TimeToken) (tokens : List TimeToken) wh
           goes = chain_goes token tokens place key tone (tied_with key past) stands own_key (same.tied key)
 
           note : Sounding
-          note = record { key = key; on = record { 0 = token.at }; off = record { 0 = chain_end token.at tone key (tied_with key past) tokens } }
+          note = record { key = key; on = record { 0 = token.at }; off = record { 0 = chain_end token.at tone key (tied_with key past) tokens }; velocity = tone.velocity }
 
           each : (b : Bool) → nat_lt (tones_with key past) (tied_with key previous) ≡ b → IsBegun previous all place (cond b [] (note ∷ []))
           each true below =
@@ -272,7 +272,7 @@ module _ (previous : List Tone) (token : TimeToken) (tokens : List TimeToken) wh
           each false above =
               begins note
               (joins_none place key tone stands own_key (omega (arith, same.tones key, ltb-false (tones_with key past) (tied_with key previous) above)))
-              (record { tone = tone; stands = stands; key = own_key; others = goes.others; chain = goes.chain; on = refl; off = sym goes.ends }) refl
+              (record { tone = tone; stands = stands; key = own_key; others = goes.others; chain = goes.chain; on = refl; off = sym goes.ends; velocity = refl }) refl
 
 -- counts of tones with one more behind them
 swapped : (b c : Bool) (n : ℕ) → cond c (suc (cond b (suc n) n)) (cond b (suc n) n) ≡ cond b (suc (cond c (suc n) n)) (cond c (suc n) n)
@@ -418,14 +418,15 @@ module _ (previous : List Tone) (token : TimeToken) (tokens : List TimeToken) wh
       let key : tone.key ≡ Some joined.key = ap (λ (t : Tone). t.key) (sym one) ∙ joined.same_key in
       let few : tones_with joined.key past < tied_with joined.key previous =
       subst (λ (n : ℕ). n < tied_with joined.key previous) (sym (same.tones joined.key)) (joined_below previous token.tones before place joined.key tone stands key joined) in
-      is ∙ sym (ap (begun past tone) key ∙ ap (λ b. cond b [] (record { key = joined.key; on = record { 0 = token.at }; off = record { 0 = chain_end token.at tone joined.key (tied_with joined.key past) tokens } } ∷ [])) (lt-ltb (tones_with joined.key past) (tied_with joined.key previous) few))
+      is ∙ sym (ap (begun past tone) key ∙ ap (λ b. cond b [] (record { key = joined.key; on = record { 0 = token.at }; off = record { 0 = chain_end token.at tone joined.key (tied_with joined.key past) tokens }; velocity = tone.velocity } ∷ [])) (lt-ltb (tones_with joined.key past) (tied_with joined.key previous) few))
   one_is place past tone own stands same (begins note none of is) =
       let one : of.tone ≡ tone = some_same of.tone tone (sym of.stands ∙ stands) in
       let key : tone.key ≡ Some note.key = ap (λ (t : Tone). t.key) (sym one) ∙ of.key in
       let ends : note.off.0 ≡ chain_end token.at tone note.key (tied_with note.key past) tokens =
       of.off ∙ chain_is token tokens place note.key tone (tied_with note.key past) stands key (same.tied note.key) of.others of.chain in
-      let it : Sounding = record { key = note.key; on = record { 0 = token.at }; off = record { 0 = chain_end token.at tone note.key (tied_with note.key past) tokens } } in
-      let equal : note ≡ it = λ i. record { key = note.key; on = record { 0 = of.on i }; off = record { 0 = ends i } } in
+      let it : Sounding = record { key = note.key; on = record { 0 = token.at }; off = record { 0 = chain_end token.at tone note.key (tied_with note.key past) tokens }; velocity = tone.velocity } in
+      let loud : note.velocity ≡ tone.velocity = of.velocity ∙ ap (λ (t : Tone). t.velocity) one in
+      let equal : note ≡ it = λ i. record { key = note.key; on = record { 0 = of.on i }; off = record { 0 = ends i }; velocity = loud i } in
       is ∙ ap (λ (n : Sounding). n ∷ []) equal
       ∙ sym (ap (begun past tone) key ∙ ap (λ b. cond b [] (it ∷ [])) (each (nat_lt (tones_with note.key past) (tied_with note.key previous)) refl key))
     where

@@ -379,6 +379,7 @@ walks (items.Key opening key ∷ rest) = field_step (items.Key opening key) rest
 walks (items.Voice opening name ∷ rest) = plain_step (items.Voice opening name) rest refl refl (walks rest)
 walks (items.Title title ∷ rest) = plain_step (items.Title title) rest refl refl (walks rest)
 walks (items.Order text ∷ rest) = plain_step (items.Order text) rest refl refl (walks rest)
+walks (items.Program opening number ∷ rest) = field_step (items.Program opening number) rest refl refl (walks rest)
 
 pub moves_by_strains : MovesByStrains
 moves_by_strains part strains are =

@@ -1,5 +1,5 @@
 -- What a tune opens with, its parts and its voices are said by its fields alone: music changes none of them.
-use Rattle.std.proofs.Common.{◌≡◌, ℕ, Bool, true, false, cond, List, [], ◌∷◌, Option, None, refl, sym, subst, ap, ◌∙◌}
+use Rattle.std.proofs.Common.{◌≡◌, ℕ, ◌-◌, Bool, true, false, cond, List, [], ◌∷◌, Option, None, refl, sym, subst, ap, ◌∙◌}
 use Rattle.std.proofs.lemmas.List.Elements.{All-filter}
 use Rattle.std.specs.Prelude.{not, ℤ, pos, All}
 use Rattle.std.specs.List.{cons_option}
@@ -11,11 +11,11 @@ use Rattle.abc_fields.specs.declared.meter.Meter.{Meter}
 use Rattle.abc_fields.specs.declared.meter.Meter.TheVariants as meters
 use Rattle.abc_repeat.specs.Order.{sections_of, has_unknown}
 use Rattle.abc_time.specs.declared.grains.Grains.{Grains}
-use Rattle.abc_voices.specs.Turns.{set_by_all, set_by_one, score_along}
+use Rattle.abc_voices.specs.Turns.{set_by_all, set_by_one, programs_along, score_along}
 use Rattle.abc_voices.specs.Arrange.{or_else, usual_tempo}
 use Rattle.abc_voices.specs.Change.{tempo_of, meter_of, key_of}
 use Rattle.abc_voices.specs.Fields.{is_music, fields}
-use Rattle.abc_voices.specs.Opening.{tempo_past, meter_past, key_past, order_past, past_all, title_before, title_of}
+use Rattle.abc_voices.specs.Opening.{tempo_past, meter_past, key_past, program_past, order_past, past_all, title_before, title_of}
 use Rattle.abc_voices.specs.Section.{letter_of, letters, declared_or, opening_voice}
 use Rattle.abc_voices.specs.declared.stage.Stage.{Stage}
 use Rattle.abc_voices.specs.Track.{names_past, names_from, everyone}
@@ -26,7 +26,7 @@ abbrev there : Bor Item → Item
 there step = step.now
 
 -- what is alike at a note or chord, a rest, a bar line and the beginning of an ending is alike at all music
-of_music : {V : Type 0} (f : Item → V) (v : V) → ((tones : List Tone) (length : Grains) → f (items.Tone tones length) ≡ v)
+pub of_music : {V : Type 0} (f : Item → V) (v : V) → ((tones : List Tone) (length : Grains) → f (items.Tone tones length) ≡ v)
     → ((length : Grains) (bar : Bool) → f (items.Rest length bar) ≡ v) → ((line : _) → f (items.Bar line) ≡ v)
     → ((numbers : ℕ) → f (items.Ending numbers) ≡ v) → (item : Item) → is_music item ≡ true → f item ≡ v
 of_music f v tone rest bar ending (items.Number number) h = cc
@@ -41,6 +41,7 @@ of_music f v tone rest bar ending (items.Key opening key) h = cc
 of_music f v tone rest bar ending (items.Voice opening name) h = cc
 of_music f v tone rest bar ending (items.Title text) h = cc
 of_music f v tone rest bar ending (items.Order text) h = cc
+of_music f v tone rest bar ending (items.Program opening number) h = cc
 
 -- what is taken on from step to step, and stays where it is at music
 left_step : {A V W : Type 0} (item_of : A → Item) (f : V → List A → W) (past : V → Item → V)
@@ -129,6 +130,13 @@ key_kept item music v = of_music (key_past v) v (λ _ _. refl) (λ _ _. refl) (�
 key_given : (tune : List (Bor Item)) → past_all there key_past None (fields there tune) ≡ past_all there key_past None tune
 key_given tune = from_left there (past_all there key_past) key_past (λ _ _ _. refl) key_kept None tune
 
+-- the program with which the tune opens
+program_kept : (item : Item) → is_music item ≡ true → (v : Option ℕ) → program_past v item ≡ v
+program_kept item music v = of_music (program_past v) v (λ _ _. refl) (λ _ _. refl) (λ _. refl) (λ _. refl) item music
+
+program_given : (tune : List (Bor Item)) → past_all there program_past None (fields there tune) ≡ past_all there program_past None tune
+program_given tune = from_left there (past_all there program_past) program_past (λ _ _ _. refl) program_kept None tune
+
 -- the title
 title_kept : (item : Item) → is_music item ≡ true → (v : List ℕ) → title_before v item ≡ v
 title_kept item music v = of_music (title_before v) v (λ _ _. refl) (λ _ _. refl) (λ _. refl) (λ _. refl) item music
@@ -139,12 +147,13 @@ title_given tune = from_right there (title_of there) title_before (λ _ _. refl)
 -- the score of stages
 score_fields : (tune : List (Bor Item)) (first count : ℕ) (stages : List Stage) → score_along (fields there tune) first count stages ≡ score_along tune first count stages
 score_fields tune first count stages =
-    score_same _ _ _ _ _ _ _ _ (title_given tune) refl
+    score_same _ _ _ _ _ _ _ _ _ _ (title_given tune) refl
     (conductor_same _ _ _ _ _ _
     (ap (λ v. (record { 0 = 0 }, or_else usual_tempo v) ∷ set_by_all tempo_of 0 stages) (tempo_given tune))
     (ap (λ v. (record { 0 = 0 }, or_else meters.Free v) ∷ set_by_one meter_of first 0 stages) (meter_given tune))
     (ap (λ v. (record { 0 = 0 }, or_else (pos 0, false) v) ∷ set_by_one key_of first 0 stages) (key_given tune)))
     refl
+    (ap (λ v. programs_along v stages first (count - first)) (program_given tune))
 
 pub score_given : (tune given : List (Bor Item)) (first count : ℕ) (stages : List Stage) → given ≡ fields there tune
     → score_along given first count stages ≡ score_along tune first count stages

@@ -18,13 +18,14 @@ use Rattle.abc_voices.specs.Section.{letters, sections}
 use Rattle.abc_voices.specs.declared.score.Score.{Score}
 use Rattle.abc_voices.specs.declared.stage.Part.{Part}
 use Rattle.abc_voices.specs.declared.stage.Stage.{Stage}
-use Rattle.abc_voices.specs.Turns.{IsStage, length_along, steps_of, notes_along, voices_along, set_by_all, set_by_one, parts_differ, is_stage_uneven, first_place, changes_along, end_along, score_along}
-use Rattle.abc_voices.specs.Arrange.{play_in, longest, played_sections, voice_notes, all_notes, set_in, first_of, differ, is_uneven, voices_notes, last_off, end_of, changes_of, score_of, or_else, usual_tempo, arranged_of}
-use Rattle.abc_voices.specs.Change.{tempo_of, meter_of, key_of, set_from}
+use Rattle.abc_voices.specs.Turns.{IsStage, length_along, steps_of, notes_along, for_voices, voices_along, set_by_all, set_by_one, parts_differ, is_stage_uneven, first_place, changes_along, programs_by, programs_along, end_along, score_along}
+use Rattle.abc_voices.specs.Arrange.{play_in, longest, played_sections, voice_notes, all_notes, set_in, first_of, differ, is_uneven, voices_notes, last_off, end_of, changes_of, programs_in, programs_of, score_of, or_else, usual_tempo, arranged_of}
+use Rattle.abc_voices.specs.Change.{tempo_of, meter_of, key_of, program_of, set_from, behind}
+use Rattle.abc_voices.specs.ScoreChanges.{programs_that_stand}
 use Rattle.abc_voices.specs.TiedNotes.{notes_from}
-use Rattle.abc_voices.specs.Opening.{tempo_past, meter_past, key_past, order_past, past_all}
+use Rattle.abc_voices.specs.Opening.{tempo_past, meter_past, key_past, program_past, order_past, past_all}
 use Rattle.abc_voices.specs.Stage.{part_of, stage_of}
-use Rattle.abc_voices.specs.Track.{everyone, nameless_plays, names_from, names_past}
+use Rattle.abc_voices.specs.Track.{everyone, nameless_plays, names_from, names_past, tracks}
 use Rattle.abc_voices.proofs.Fitting.Kept.{played_kept}
 use Rattle.abc_voices.proofs.Mapped.{conductor_same, score_same, laid_same}
 use Rattle.abc_voices.proofs.Staged.{stages_are, total_within}
@@ -69,15 +70,19 @@ notes_here voices k voice at (section ∷ played) e =
     ap (λ steps. notes_from there at steps (notes_along k (at + longest there voices section) (map (stage_of voices) played))) (steps_here section voices k voice e)
     ∙ ap (notes_from there at (play_in there section voice)) (notes_here voices k voice (at + longest there voices section) played e)
 
--- the notes of the voices from a place on
-voices_here : (voices : List (List ℕ)) (played : List Sectioned) (k : ℕ) (rest : List (List ℕ)) → drop k voices ≡ rest
-    → voices_along (map (stage_of voices) played) k (length rest) ≡ map (λ voice. all_notes (voice_notes there voices voice 0 played)) rest
-voices_here voices played k [] e = refl
-voices_here voices played k (voice ∷ rest) e =
-    let here : Front voices k voice rest = front voices k voice rest e in
-    let later = map (λ v. all_notes (voice_notes there voices v 0 played)) rest in
-    ap (λ notes. all_notes notes ∷ voices_along (map (stage_of voices) played) (k + 1) (length rest)) (notes_here voices k voice 0 played here.found)
-    ∙ ap (λ l. all_notes (voice_notes there voices voice 0 played) ∷ l) (voices_here voices played (k + 1) rest here.behind)
+-- what there is for the voices from a place on, where it is known for each by what is left of them there
+voices_here : {X : Type 0} (one : ℕ → X) (own : List ℕ → X) (voices : List (List ℕ))
+    → ((k : ℕ) (voice : List ℕ) (rest : List (List ℕ)) → drop k voices ≡ voice ∷ rest → one k ≡ own voice)
+    → (k : ℕ) (rest : List (List ℕ)) → drop k voices ≡ rest → for_voices one k (length rest) ≡ map own rest
+voices_here one own voices same k [] e = refl
+voices_here one own voices same k (voice ∷ rest) e =
+    ap (λ x. x ∷ for_voices one (k + 1) (length rest)) (same k voice rest e)
+    ∙ ap (λ l. own voice ∷ l) (voices_here one own voices same (k + 1) rest (front voices k voice rest e).behind)
+
+-- the notes of the voice at a place, by what is left of the voices there
+all_here_of : (voices : List (List ℕ)) (played : List Sectioned) (k : ℕ) (voice : List ℕ) (rest : List (List ℕ)) → drop k voices ≡ voice ∷ rest
+    → all_notes (notes_along k 0 (map (stage_of voices) played)) ≡ all_notes (voice_notes there voices voice 0 played)
+all_here_of voices played k voice rest e = ap all_notes (notes_here voices k voice 0 played (front voices k voice rest e).found)
 
 -- what all voices set
 all_here : {V : Type 0} (value_of : Item → Option V) (voices : List (List ℕ)) (at : ℕ) (played : List Sectioned)
@@ -110,6 +115,13 @@ one_here value_of voices k at (section ∷ played) =
     (track_here value_of section voices k at (drop k voices) refl)
     ∙ ap (λ l. flat_map (λ voice. set_from there value_of at (play_in there section voice)) (first_of (drop k voices)) ++ l)
     (one_here value_of voices k (at + longest there voices section) played)
+
+-- the programs of the voice at a place, by what is left of the voices there
+programs_here : (opening : Option ℕ) (voices : List (List ℕ)) (played : List Sectioned) (k : ℕ) (voice : List ℕ) (rest : List (List ℕ)) → drop k voices ≡ voice ∷ rest
+    → programs_by opening (map (stage_of voices) played) k ≡ programs_in there opening voices played voice
+programs_here opening voices played k voice rest e =
+    ap (λ sets. programs_that_stand (behind opening sets))
+    (one_here program_of voices k 0 played ∙ ap (λ those. set_in there program_of voices (first_of those) 0 played) e)
 
 any_map : {X Y : Type 0} (p : Y → Bool) (q : X → Bool) (f : X → Y) → ((x : X) → p (f x) ≡ q x) → (xs : List X) → list_any p (map f xs) ≡ list_any q xs
 any_map p q f h [] = refl
@@ -147,6 +159,7 @@ name_past known (items.Key opening key) = omega arith
 name_past known (items.Voice opening name) = names_more known name (list_any (bytes_eq name) known)
 name_past known (items.Title title) = omega arith
 name_past known (items.Order order) = omega arith
+name_past known (items.Program opening number) = omega arith
 
 names_within : (known : List (List ℕ)) (tune : List (Bor Item)) → length known ≤ length (names_from there known tune)
 names_within known [] = omega arith
@@ -161,15 +174,31 @@ first_fits false n h = h
 pub first_within : (tune : List (Bor Item)) → first_place tune ≤ length (everyone there tune)
 first_within tune = first_fits (nameless_plays there tune) (length (everyone there tune)) (names_within ([] ∷ []) tune)
 
--- the notes of the tracks
+-- what the tracks have
+tracks_of : {X : Type 0} (one : ℕ → X) (own : List ℕ → X) (tune : List (Bor Item))
+    → ((k : ℕ) (voice : List ℕ) (rest : List (List ℕ)) → drop k (everyone there tune) ≡ voice ∷ rest → one k ≡ own voice)
+    → for_voices one (first_place tune) (length (everyone there tune) - first_place tune) ≡ map own (tracks there tune)
+tracks_of one own tune same =
+    let voices = everyone there tune in
+    let first = first_place tune in
+    ap (for_voices one first) (sym (length-drop first voices))
+    ∙ voices_here one own voices same first (drop first voices) refl
+    ∙ ap (map own) (tracks_here (nameless_plays there tune) voices)
+
+-- their notes
 pub voices_of : (tune : List (Bor Item)) → voices_along (map (stage_of (everyone there tune)) (played_sections there tune)) (first_place tune) (length (everyone there tune) - first_place tune) ≡ voices_notes there tune
 voices_of tune =
     let voices = everyone there tune in
     let played = played_sections there tune in
-    let first = first_place tune in
-    ap (voices_along (map (stage_of voices) played) first) (sym (length-drop first voices))
-    ∙ voices_here voices played first (drop first voices) refl
-    ∙ ap (map (λ voice. all_notes (voice_notes there voices voice 0 played))) (tracks_here (nameless_plays there tune) voices)
+    tracks_of (λ one. all_notes (notes_along one 0 (map (stage_of voices) played))) (λ voice. all_notes (voice_notes there voices voice 0 played)) tune (all_here_of voices played)
+
+-- their programs
+pub programs_are : (tune : List (Bor Item)) → programs_along (past_all there program_past None tune) (map (stage_of (everyone there tune)) (played_sections there tune)) (first_place tune) (length (everyone there tune) - first_place tune) ≡ programs_of there tune
+programs_are tune =
+    let opening = past_all there program_past None tune in
+    let voices = everyone there tune in
+    let played = played_sections there tune in
+    tracks_of (programs_by opening (map (stage_of voices) played)) (programs_in there opening voices played) tune (programs_here opening voices played)
 
 -- when they end
 pub end_of_stages : (tune : List (Bor Item))
@@ -198,7 +227,7 @@ changes_here tune =
 pub score_of_stages : (tune : List (Bor Item))
     → score_along tune (first_place tune) (length (everyone there tune)) (map (stage_of (everyone there tune)) (played_sections there tune)) ≡ score_of there tune
 score_of_stages tune =
-    score_same _ _ _ _ _ _ _ _ refl (end_of_stages tune) (changes_here tune) (voices_of tune)
+    score_same _ _ _ _ _ _ _ _ _ _ refl (end_of_stages tune) (changes_here tune) (voices_of tune) (programs_are tune)
 
 -- the stages of the sections that a tune plays
 abbrev pub AreOf : List (Bor Item) → List Stage → Type 0

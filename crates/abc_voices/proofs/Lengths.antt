@@ -1,6 +1,6 @@
 -- Stages that are played one after another, one stage more.
 use Rattle.std.proofs.Common.{◌≡◌, ℕ, suc, max, ◌+◌, ◌-◌, ◌<◌, List, [], ◌∷◌, ◌++◌, drop, get_or, length, refl, sym, ap, subst, ◌∙◌, append_assoc, arith}
-use Rattle.std.specs.Prelude.{All, Option}
+use Rattle.std.specs.Prelude.{All, Option, Some, None}
 use Rattle.std.specs.List.{flat_map}
 use Rattle.std.proofs.lemmas.List.{drop_more}
 use Rattle.std.proofs.lemmas.List.Elements.{All-nil, All-cons, All-head, All-tail, All-get_or}
@@ -10,8 +10,9 @@ use Rattle.abc_time.specs.declared.grains.Grains.{Grains}
 use Rattle.abc_voices.specs.declared.score.Sounding.{Sounding}
 use Rattle.abc_voices.specs.declared.stage.Stage.{Stage}
 use Rattle.abc_voices.specs.declared.stage.Turn.{Turn}
-use Rattle.abc_voices.specs.Turns.{IsStage, stages_in, length_along, notes_along, voices_along, set_at, set_by_one}
-use Rattle.abc_voices.specs.Arrange.{all_notes, last_off}
+use Rattle.abc_voices.specs.Turns.{IsStage, stages_in, length_along, for_voices, set_at, set_by_one}
+use Rattle.abc_voices.specs.Arrange.{last_off}
+use Rattle.abc_voices.specs.Change.{behind}
 
 -- what holds of each stage holds at its turn
 pub are_stages : (turns : List Turn) → All IsStage (stages_in turns) → All (λ turn. IsStage turn.stage.now) turns
@@ -46,21 +47,26 @@ pub stage_played : (turns : List Turn) (k : ℕ) (turn : Turn) → k < length tu
 stage_played turns k turn within is all =
     subst (λ (one : Turn). IsStage one.stage.now) (sym is) (All-get_or (λ (one : Turn). IsStage one.stage.now) turns k turn within all)
 
--- the notes of one voice more
-pub voices_more : (stages : List Stage) (voice count : ℕ) → voice < count
-    → voices_along stages voice (count - voice) ≡ all_notes (notes_along voice 0 stages) ∷ voices_along stages (voice + 1) (count - (voice + 1))
-voices_more stages voice count within =
+-- what one voice more has
+voices_more : {X : Type 0} (one : ℕ → X) (voice count : ℕ) → voice < count
+    → for_voices one voice (count - voice) ≡ one voice ∷ for_voices one (voice + 1) (count - (voice + 1))
+voices_more one voice count within =
     let next : count - voice ≡ suc (count - (voice + 1)) = omega arith in
-    ap (voices_along stages voice) next
+    ap (for_voices one voice) next
 
-pub voices_step : (stages : List Stage) (voice count : ℕ) (seen : List (List Sounding)) (notes : List Sounding) (whole : List (List Sounding)) → voice < count
-    → notes ≡ all_notes (notes_along voice 0 stages) → seen ++ voices_along stages voice (count - voice) ≡ whole
-    → (seen ++ notes ∷ []) ++ voices_along stages (voice + 1) (count - (voice + 1)) ≡ whole
-voices_step stages voice count seen notes whole within is before =
-    append_assoc seen (notes ∷ []) (voices_along stages (voice + 1) (count - (voice + 1)))
-    ∙ ap (λ n. seen ++ n ∷ voices_along stages (voice + 1) (count - (voice + 1))) is
-    ∙ ap (λ l. seen ++ l) (sym (voices_more stages voice count within))
+pub voices_step : {X : Type 0} (one : ℕ → X) (voice count : ℕ) (seen : List X) (own : X) (whole : List X) → voice < count
+    → own ≡ one voice → seen ++ for_voices one voice (count - voice) ≡ whole
+    → (seen ++ own ∷ []) ++ for_voices one (voice + 1) (count - (voice + 1)) ≡ whole
+voices_step one voice count seen own whole within is before =
+    append_assoc seen (own ∷ []) (for_voices one (voice + 1) (count - (voice + 1)))
+    ∙ ap (λ n. seen ++ n ∷ for_voices one (voice + 1) (count - (voice + 1))) is
+    ∙ ap (λ l. seen ++ l) (sym (voices_more one voice count within))
     ∙ before
+
+-- what is set behind what holds at the beginning
+pub behind_nothing : {V : Type 0} (opening : Option V) (sets : List (Grains × V)) → behind opening [] ++ sets ≡ behind opening sets
+behind_nothing None sets = refl
+behind_nothing (Some value) sets = refl
 
 -- when notes and others are over
 pub last_off_append : (at : ℕ) (xs ys : List Sounding) → last_off at (xs ++ ys) ≡ last_off (last_off at xs) ys

@@ -6,6 +6,7 @@ pub mod Given
 pub mod Layouts
 pub mod Lengths
 pub mod Mapped
+pub mod OnTicks
 pub mod Owned
 pub mod Placed
 pub mod Staged

@@ -16,21 +16,22 @@ use Rattle.abc_time.specs.Grains.{grains_of_the_latest_end}
 use Rattle.abc_time.specs.declared.grains.Grains.{Grains}
 use Rattle.abc_voices.specs.declared.score.Change.{Change}
 use Rattle.abc_voices.specs.declared.arranged.Arranged.{Arranged}
+use Rattle.abc_voices.specs.declared.score.ProgramChange.{ProgramChange}
 use Rattle.abc_voices.specs.declared.score.Score.{Score}
 use Rattle.abc_voices.specs.declared.score.Sounding.{Sounding}
 use Rattle.abc_repeat.specs.Mark.{is_ending}
 use Rattle.abc_repeat.specs.Order.{sections_of, has_unknown}
 use Rattle.abc_repeat.specs.Play.{play_of}
-use Rattle.abc_voices.specs.Arrange.{play_in, size_in, length_in, longest, played_sections, voice_notes, all_notes, set_in, plays_time, takes_time, last_off, differ, is_uneven, total, voices_notes, end_of, changes_of, score_of, arranged_of, or_else, usual_tempo, first_of, sections_played, places_played, is_too_long}
-use Rattle.abc_voices.specs.Change.{tempo_of, meter_of, key_of, set_from, at_moment}
-use Rattle.abc_voices.specs.ScoreChanges.{changes_that_stand}
+use Rattle.abc_voices.specs.Arrange.{play_in, size_in, length_in, longest, played_sections, voice_notes, all_notes, set_in, plays_time, takes_time, last_off, differ, is_uneven, total, voices_notes, end_of, changes_of, programs_in, programs_of, score_of, arranged_of, or_else, usual_tempo, first_of, sections_played, places_played, is_too_long}
+use Rattle.abc_voices.specs.Change.{tempo_of, meter_of, key_of, program_of, set_from, at_moment, behind}
+use Rattle.abc_voices.specs.ScoreChanges.{changes_that_stand, programs_that_stand}
 use Rattle.abc_music.specs.declared.item.TheConstants.{MOST_VOICES}
 use Rattle.abc_voices.specs.declared.limits.TheConstants.{LONGEST_TITLE}
 use Rattle.abc_voices.specs.TiedNotes.{Notes, notes_from, before}
 use Rattle.abc_voices.specs.EndingFields.{with_fields_in_endings, with_fields_in_endings_from, set_down, waits, region_past}
 use Rattle.abc_voices.specs.declared.ending_fields.Region.{Region}
 use Rattle.abc_voices.specs.declared.ending_fields.Region.TheVariants.{Common}
-use Rattle.abc_voices.specs.Opening.{past_all, order_past, tempo_past, meter_past, key_past, title_of, title_before}
+use Rattle.abc_voices.specs.Opening.{past_all, order_past, tempo_past, meter_past, key_past, program_past, title_of, title_before}
 use Rattle.abc_voices.specs.Play.{marks_of, places_of, played, duration}
 use Rattle.abc_voices.specs.Section.{is_section, is_step, letter_of, letters, opening_voice, declared_or, part, part_from, sections, sections_from, voice_past}
 use Rattle.abc_voices.specs.Step.{mark_of, length_of, tones_of}
@@ -415,19 +416,36 @@ changes_mapped item_of tune =
     (with_opening item_of meter_of meter_past meters.Free _ _ tune firsts)
     (with_opening item_of key_of key_past (pos 0, false) _ _ tune firsts)
 
--- a score of its parts
-abbrev scored : List ℕ → ℕ → List Change → List (List Sounding) → Score
-scored title end changes voices = record { title = title; end = record { 0 = end }; conductor = changes; voices = voices }
+-- the programs of a voice, and of each that has a track
+program_of_voice : {A : Type 0} (item_of : A → Item) (tune : List A) (voice : List ℕ)
+    → programs_in item_of (past_all item_of program_past None tune) (everyone item_of tune) (played_sections item_of tune) voice
+    ≡ programs_in own (past_all own program_past None (map item_of tune)) (everyone own (map item_of tune)) (played_sections own (map item_of tune)) voice
+program_of_voice item_of tune voice =
+    ap (λ opening. programs_in item_of opening (everyone item_of tune) (played_sections item_of tune) voice) (past_all_mapped item_of program_past None tune)
+    ∙ ap (λ sets. programs_that_stand (behind (past_all own program_past None (map item_of tune)) sets)) (set_along item_of program_of (voice ∷ []) tune)
 
-pub score_same : (title title2 : List ℕ) (end end2 : ℕ) (changes changes2 : List Change) (voices voices2 : List (List Sounding))
-    → title ≡ title2 → end ≡ end2 → changes ≡ changes2 → voices ≡ voices2 → scored title end changes voices ≡ scored title2 end2 changes2 voices2
-score_same title title2 end end2 changes changes2 voices voices2 p q r s =
-    ap (λ x. scored x end changes voices) p ∙ ap (λ x. scored title2 x changes voices) q
-    ∙ ap (λ x. scored title2 end2 x voices) r ∙ ap (scored title2 end2 changes2) s
+programs_mapped : {A : Type 0} (item_of : A → Item) (tune : List A) → programs_of item_of tune ≡ programs_of own (map item_of tune)
+programs_mapped item_of tune =
+    map_same
+    (programs_in item_of (past_all item_of program_past None tune) (everyone item_of tune) (played_sections item_of tune))
+    (programs_in own (past_all own program_past None (map item_of tune)) (everyone own (map item_of tune)) (played_sections own (map item_of tune)))
+    (program_of_voice item_of tune)
+    (tracks item_of tune)
+    ∙ ap (map (programs_in own (past_all own program_past None (map item_of tune)) (everyone own (map item_of tune)) (played_sections own (map item_of tune)))) (tracks_mapped item_of tune)
+
+-- a score of its parts
+abbrev scored : List ℕ → ℕ → List Change → List (List Sounding) → List (List ProgramChange) → Score
+scored title end changes voices programs = record { title = title; end = record { 0 = end }; conductor = changes; voices = voices; programs = programs }
+
+pub score_same : (title title2 : List ℕ) (end end2 : ℕ) (changes changes2 : List Change) (voices voices2 : List (List Sounding)) (programs programs2 : List (List ProgramChange))
+    → title ≡ title2 → end ≡ end2 → changes ≡ changes2 → voices ≡ voices2 → programs ≡ programs2
+    → scored title end changes voices programs ≡ scored title2 end2 changes2 voices2 programs2
+score_same title title2 end end2 changes changes2 voices voices2 programs programs2 p q r s t =
+    λ i. scored (p i) (q i) (r i) (s i) (t i)
 
 pub score_mapped : {A : Type 0} (item_of : A → Item) (tune : List A) → score_of item_of tune ≡ score_of own (map item_of tune)
 score_mapped item_of tune =
-    score_same _ _ _ _ _ _ _ _ (title_mapped item_of tune) (end_mapped item_of tune) (changes_mapped item_of tune) (voices_notes_mapped item_of tune)
+    score_same _ _ _ _ _ _ _ _ _ _ (title_mapped item_of tune) (end_mapped item_of tune) (changes_mapped item_of tune) (voices_notes_mapped item_of tune) (programs_mapped item_of tune)
 
 -- a layout of its parts
 abbrev laid : Score → Bool → Bool → Arranged

@@ -20,6 +20,7 @@ own_is voice current (items.Voice true name) = refl
 own_is voice current (items.Voice false name) = refl
 own_is voice current (items.Title text) = refl
 own_is voice current (items.Order text) = refl
+own_is voice current (items.Program opening number) = refl
 
 both : (a b : Bool) → (a && b) ≡ (b && a)
 both true true = refl

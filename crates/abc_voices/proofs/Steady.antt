@@ -1,8 +1,8 @@
 -- A tune whose fields change nothing while it is played goes on as it opens.
-use Rattle.std.proofs.Common.{◌≡◌, ℕ, ◌+◌, Bool, true, false, cond, List, [], ◌∷◌, ◌++◌, map, Option, Some, None, refl, sym, ap, subst, ◌∙◌}
+use Rattle.std.proofs.Common.{◌≡◌, ℕ, zero, suc, ◌+◌, Bool, true, false, cond, List, [], ◌∷◌, ◌++◌, map, Option, Some, None, refl, sym, ap, subst, ◌∙◌}
 use Rattle.std.specs.Borrow.{Bor}
-use Rattle.std.specs.Prelude.{ℤ, pos, unwrap_or, not, ◌&&◌, bytes_eq, All, IfSome, slice_get}
-use Rattle.std.specs.List.{cons_option, flat_map}
+use Rattle.std.specs.Prelude.{ℤ, pos, is_some, unwrap_or, not, ◌&&◌, bytes_eq, All, IfSome, slice_get}
+use Rattle.std.specs.List.{cons_option, flat_map, list_all}
 use Rattle.std.proofs.lemmas.List.Elements.{All-nil, All-cons, All-head, All-tail}
 use Rattle.abc_music.specs.declared.item.Item.{Item}
 use Rattle.abc_music.specs.declared.item.Item.TheVariants as items
@@ -10,29 +10,23 @@ use Rattle.abc_fields.specs.declared.meter.Meter.{Meter}
 use Rattle.abc_fields.specs.declared.meter.Meter.TheVariants as meters
 use Rattle.abc_voices.specs.declared.stage.Part.{Part}
 use Rattle.abc_voices.specs.declared.stage.Stage.{Stage}
-use Rattle.abc_voices.specs.Turns.{IsSteady, steps_of, set_by_all, set_by_one, changes_along}
+use Rattle.abc_voices.specs.Turns.{IsSteady, PlaysNone, steps_of, set_by_all, set_by_one, changes_along, programs_by, programs_along}
 use Rattle.abc_voices.specs.Arrange.{played_sections, or_else, usual_tempo}
-use Rattle.abc_voices.specs.Change.{tempo_of, meter_of, key_of, at_moment, set_from}
-use Rattle.abc_voices.specs.ScoreChanges.{changes_that_stand}
-use Rattle.abc_voices.specs.Fields.{is_music, is_change, is_steady, fields}
+use Rattle.abc_voices.specs.Change.{tempo_of, meter_of, key_of, program_of, at_moment, set_from, behind}
+use Rattle.abc_voices.specs.ScoreChanges.{changes_that_stand, programs_that_stand}
+use Rattle.abc_voices.specs.Fields.{is_music, is_change, is_steady, sets_program, keeps_programs, fields}
 use Rattle.abc_voices.specs.Opening.{tempo_past, meter_past, key_past, past_all}
 use Rattle.abc_voices.specs.Section.{is_step, voice_past, part_from}
 use Rattle.abc_voices.specs.Stage.{part_of, stage_of}
 use Rattle.abc_voices.specs.Step.{is_field, length_of}
 use Rattle.abc_voices.specs.Track.{everyone}
 use Rattle.abc_voices.proofs.Fitting.Kept.{got, part_played, played_kept}
+use Rattle.abc_voices.proofs.Given.{of_music}
 use Rattle.abc_voices.proofs.Mapped.{conductor_same}
 
 -- an item behind a reference
 abbrev there : Bor Item → Item
 there step = step.now
-
--- a step that is no field that is played, and one that changes nothing
-abbrev IsPlain : Bor Item → Type 0
-IsPlain step = is_field step.now ≡ false
-
-abbrev ChangesNothing : Bor Item → Type 0
-ChangesNothing step = is_change step.now ≡ false
 
 -- such a step sets nothing
 sets_no_tempo : (item : Item) → is_field item ≡ false → tempo_of item ≡ None
@@ -48,6 +42,7 @@ sets_no_tempo (items.Key opening key) h = cc
 sets_no_tempo (items.Voice opening name) h = refl
 sets_no_tempo (items.Title text) h = refl
 sets_no_tempo (items.Order text) h = refl
+sets_no_tempo (items.Program opening number) h = cc
 
 sets_no_meter : (item : Item) → is_field item ≡ false → meter_of item ≡ None
 sets_no_meter (items.Number number) h = refl
@@ -62,6 +57,7 @@ sets_no_meter (items.Key opening key) h = cc
 sets_no_meter (items.Voice opening name) h = refl
 sets_no_meter (items.Title text) h = refl
 sets_no_meter (items.Order text) h = refl
+sets_no_meter (items.Program opening number) h = cc
 
 sets_no_key : (item : Item) → is_field item ≡ false → key_of item ≡ None
 sets_no_key (items.Number number) h = refl
@@ -76,55 +72,44 @@ sets_no_key (items.Key opening key) h = cc
 sets_no_key (items.Voice opening name) h = refl
 sets_no_key (items.Title text) h = refl
 sets_no_key (items.Order text) h = refl
+sets_no_key (items.Program opening number) h = cc
 
 -- nor do steps, parts and stages of such steps
-module _ {V : Type 0} (value_of : Item → Option V) (sets_none : (item : Item) → is_field item ≡ false → value_of item ≡ None) where
-  set_by_steps : (at : ℕ) (steps : List (Bor Item)) → All IsPlain steps → set_from there value_of at steps ≡ []
+module _ {V : Type 0} (value_of : Item → Option V) (kind : Item → Bool) (sets_none : (item : Item) → kind item ≡ false → value_of item ≡ None) where
+  abbrev SetsNone : Bor Item → Type 0
+  SetsNone step = kind step.now ≡ false
+
+  set_by_steps : (at : ℕ) (steps : List (Bor Item)) → All SetsNone steps → set_from there value_of at steps ≡ []
   set_by_steps at [] plain = refl
   set_by_steps at (step ∷ steps) plain =
-      ap (λ value. cons_option (at_moment at value) (set_from there value_of (at + length_of step.now) steps)) (sets_none step.now (All-head IsPlain step steps plain))
-      ∙ set_by_steps (at + length_of step.now) steps (All-tail IsPlain step steps plain)
+      ap (λ value. cons_option (at_moment at value) (set_from there value_of (at + length_of step.now) steps)) (sets_none step.now (All-head SetsNone step steps plain))
+      ∙ set_by_steps (at + length_of step.now) steps (All-tail SetsNone step steps plain)
 
-  abbrev IsPlainPart : Part → Type 0
-  IsPlainPart part = All IsPlain part.steps
+  abbrev SetsNonePart : Part → Type 0
+  SetsNonePart part = All SetsNone part.steps
 
-  set_by_parts : (at : ℕ) (parts : List Part) → All IsPlainPart parts → flat_map (λ part. set_from there value_of at part.steps) parts ≡ []
+  set_by_parts : (at : ℕ) (parts : List Part) → All SetsNonePart parts → flat_map (λ part. set_from there value_of at part.steps) parts ≡ []
   set_by_parts at [] plain = refl
   set_by_parts at (part ∷ parts) plain =
-      ap (λ sets. sets ++ flat_map (λ p. set_from there value_of at p.steps) parts) (set_by_steps at part.steps (All-head IsPlainPart part parts plain))
-      ∙ set_by_parts at parts (All-tail IsPlainPart part parts plain)
+      ap (λ sets. sets ++ flat_map (λ p. set_from there value_of at p.steps) parts) (set_by_steps at part.steps (All-head SetsNonePart part parts plain))
+      ∙ set_by_parts at parts (All-tail SetsNonePart part parts plain)
 
-  all_set_nothing : (at : ℕ) (stages : List Stage) → All IsSteady stages → set_by_all value_of at stages ≡ []
+  all_set_nothing : (at : ℕ) (stages : List Stage) → All (PlaysNone kind) stages → set_by_all value_of at stages ≡ []
   all_set_nothing at [] steady = refl
   all_set_nothing at (stage ∷ stages) steady =
-      ap (λ sets. sets ++ set_by_all value_of (at + stage.longest.0) stages) (set_by_parts at stage.parts (All-head IsSteady stage stages steady))
-      ∙ all_set_nothing (at + stage.longest.0) stages (All-tail IsSteady stage stages steady)
+      ap (λ sets. sets ++ set_by_all value_of (at + stage.longest.0) stages) (set_by_parts at stage.parts (All-head (PlaysNone kind) stage stages steady))
+      ∙ all_set_nothing (at + stage.longest.0) stages (All-tail (PlaysNone kind) stage stages steady)
 
-  set_by_part : (at : ℕ) (part : Option Part) → IfSome part IsPlainPart → set_from there value_of at (steps_of part) ≡ []
+  set_by_part : (at : ℕ) (part : Option Part) → IfSome part SetsNonePart → set_from there value_of at (steps_of part) ≡ []
   set_by_part at None plain = refl
   set_by_part at (Some part) plain = set_by_steps at part.steps plain
 
-  one_sets_nothing : (voice at : ℕ) (stages : List Stage) → All IsSteady stages → set_by_one value_of voice at stages ≡ []
+  one_sets_nothing : (voice at : ℕ) (stages : List Stage) → All (PlaysNone kind) stages → set_by_one value_of voice at stages ≡ []
   one_sets_nothing voice at [] steady = refl
   one_sets_nothing voice at (stage ∷ stages) steady =
       ap (λ sets. sets ++ set_by_one value_of voice (at + stage.longest.0) stages)
-      (set_by_part at (slice_get stage.parts voice) (got IsPlainPart stage.parts voice (All-head IsSteady stage stages steady)))
-      ∙ one_sets_nothing voice (at + stage.longest.0) stages (All-tail IsSteady stage stages steady)
-
--- where the fields of a tune change nothing, no step of it does
-music_plain : (item : Item) → is_music item ≡ true → is_change item ≡ false
-music_plain (items.Number number) h = cc
-music_plain (items.Tone tones length) h = refl
-music_plain (items.Rest length bar) h = refl
-music_plain (items.Bar line) h = refl
-music_plain (items.Ending numbers) h = refl
-music_plain (items.Section letter) h = cc
-music_plain (items.Tempo opening micros out) h = cc
-music_plain (items.Meter opening meter) h = cc
-music_plain (items.Key opening key) h = cc
-music_plain (items.Voice opening name) h = cc
-music_plain (items.Title text) h = cc
-music_plain (items.Order text) h = cc
+      (set_by_part at (slice_get stage.parts voice) (got SetsNonePart stage.parts voice (All-head (PlaysNone kind) stage stages steady)))
+      ∙ one_sets_nothing voice (at + stage.longest.0) stages (All-tail (PlaysNone kind) stage stages steady)
 
 and_first : (a b : Bool) → (a && b) ≡ true → a ≡ true
 and_first true b h = refl
@@ -138,66 +123,93 @@ not_true : (a : Bool) → not a ≡ true → a ≡ false
 not_true true h = cc
 not_true false h = refl
 
-steady_step : (step : Bor Item) (tune : List (Bor Item)) (music : Bool) → is_music step.now ≡ music
-    → is_steady there (cond (not music) (step ∷ fields there tune) (fields there tune)) ≡ true
-    → ChangesNothing step × (is_steady there (fields there tune) ≡ true)
-steady_step step tune true is steady = (music_plain step.now is, steady)
-steady_step step tune false is steady = (
-  not_true (is_change step.now) (and_first (not (is_change step.now)) (is_steady there (fields there tune)) steady),
-  and_rest (not (is_change step.now)) (is_steady there (fields there tune)) steady,
-)
-
-steady_steps : (tune : List (Bor Item)) → is_steady there (fields there tune) ≡ true → All ChangesNothing tune
-steady_steps [] steady = All-nil ChangesNothing
-steady_steps (step ∷ tune) steady =
-    let both = steady_step step tune (is_music step.now) refl steady in
-    All-cons ChangesNothing step tune both.0 (steady_steps tune both.1)
-
--- nor is a field played of it
 plain_step : (field takes : Bool) → (field && takes) ≡ false → takes ≡ true → field ≡ false
 plain_step true takes h e = sym e ∙ h
 plain_step false takes h e = refl
 
-plain_more : (voice current : List ℕ) (step : Bor Item) (rest : List (Bor Item)) → ChangesNothing step → All IsPlain rest
-    → (takes mine : Bool) → is_step step.now ≡ takes → All IsPlain (cond (takes && mine) (step ∷ rest) rest)
-plain_more voice current step rest none plain false mine e = plain
-plain_more voice current step rest none plain true false e = plain
-plain_more voice current step rest none plain true true e = All-cons IsPlain step rest (plain_step (is_field step.now) (is_step step.now) none e) plain
+-- what is such at no music and at none of the fields of a tune that are played is such at nothing that is played
+module _ (kind : Item → Bool) (music_not : (item : Item) → is_music item ≡ true → (kind item && is_step item) ≡ false) where
+  abbrev IsPlain : Bor Item → Type 0
+  IsPlain step = kind step.now ≡ false
 
-plain_part : (voice current : List ℕ) (steps : List (Bor Item)) → All ChangesNothing steps → All IsPlain (part_from there voice current steps)
-plain_part voice current [] none = All-nil IsPlain
-plain_part voice current (step ∷ steps) none =
-    plain_more voice current step (part_from there voice (voice_past current step.now) steps) (All-head ChangesNothing step steps none)
-    (plain_part voice (voice_past current step.now) steps (All-tail ChangesNothing step steps none))
-    (is_step step.now) (bytes_eq current voice) refl
+  abbrev ChangesNothing : Bor Item → Type 0
+  ChangesNothing step = (kind step.now && is_step step.now) ≡ false
 
-plain_parts : (section : List ℕ × List (Bor Item)) (voices : List (List ℕ)) → All ChangesNothing section.1
-    → All (λ part. All IsPlain part.steps) (map (part_of section) voices)
-plain_parts section [] none = All-nil (λ (part : Part). All IsPlain part.steps)
-plain_parts (opening, steps) (voice ∷ voices) none =
-    All-cons (λ (part : Part). All IsPlain part.steps) (part_of (opening, steps) voice) (map (part_of (opening, steps)) voices)
-    (part_played there IsPlain opening steps voice (plain_part voice opening steps none)) (plain_parts (opening, steps) voices none)
+  abbrev none_of : List (Bor Item) → Bool
+  none_of steps = list_all (λ step. not (kind step.now && is_step step.now)) steps
 
-steady_stages : (voices : List (List ℕ)) (played : List (List ℕ × List (Bor Item))) → All (λ section. All ChangesNothing section.1) played
-    → All IsSteady (map (stage_of voices) played)
-steady_stages voices [] none = All-nil IsSteady
-steady_stages voices (section ∷ played) none =
-    let P : List ℕ × List (Bor Item) → Type 0 = λ one. All ChangesNothing one.1 in
-    All-cons IsSteady (stage_of voices section) (map (stage_of voices) played) (plain_parts section voices (All-head P section played none))
-    (steady_stages voices played (All-tail P section played none))
+  steady_step : (step : Bor Item) (tune : List (Bor Item)) (music : Bool) → is_music step.now ≡ music
+      → none_of (cond (not music) (step ∷ fields there tune) (fields there tune)) ≡ true
+      → ChangesNothing step × (none_of (fields there tune) ≡ true)
+  steady_step step tune true e steady = (music_not step.now e, steady)
+  steady_step step tune false e steady = (
+    not_true (kind step.now && is_step step.now) (and_first (not (kind step.now && is_step step.now)) (none_of (fields there tune)) steady),
+    and_rest (not (kind step.now && is_step step.now)) (none_of (fields there tune)) steady,
+  )
+
+  steady_steps : (tune : List (Bor Item)) → none_of (fields there tune) ≡ true → All ChangesNothing tune
+  steady_steps [] steady = All-nil ChangesNothing
+  steady_steps (step ∷ tune) steady =
+      let both = steady_step step tune (is_music step.now) refl steady in
+      All-cons ChangesNothing step tune both.0 (steady_steps tune both.1)
+
+  plain_more : (voice current : List ℕ) (step : Bor Item) (rest : List (Bor Item)) → ChangesNothing step → All IsPlain rest
+      → (takes mine : Bool) → is_step step.now ≡ takes → All IsPlain (cond (takes && mine) (step ∷ rest) rest)
+  plain_more voice current step rest none plain false mine e = plain
+  plain_more voice current step rest none plain true false e = plain
+  plain_more voice current step rest none plain true true e = All-cons IsPlain step rest (plain_step (kind step.now) (is_step step.now) none e) plain
+
+  plain_part : (voice current : List ℕ) (steps : List (Bor Item)) → All ChangesNothing steps → All IsPlain (part_from there voice current steps)
+  plain_part voice current [] none = All-nil IsPlain
+  plain_part voice current (step ∷ steps) none =
+      plain_more voice current step (part_from there voice (voice_past current step.now) steps) (All-head ChangesNothing step steps none)
+      (plain_part voice (voice_past current step.now) steps (All-tail ChangesNothing step steps none))
+      (is_step step.now) (bytes_eq current voice) refl
+
+  plain_parts : (section : List ℕ × List (Bor Item)) (voices : List (List ℕ)) → All ChangesNothing section.1
+      → All (λ part. All IsPlain part.steps) (map (part_of section) voices)
+  plain_parts section [] none = All-nil (λ (part : Part). All IsPlain part.steps)
+  plain_parts (opening, steps) (voice ∷ voices) none =
+      All-cons (λ (part : Part). All IsPlain part.steps) (part_of (opening, steps) voice) (map (part_of (opening, steps)) voices)
+      (part_played there IsPlain opening steps voice (plain_part voice opening steps none)) (plain_parts (opening, steps) voices none)
+
+  steady_stages : (voices : List (List ℕ)) (played : List (List ℕ × List (Bor Item))) → All (λ section. All ChangesNothing section.1) played
+      → All (PlaysNone kind) (map (stage_of voices) played)
+  steady_stages voices [] none = All-nil (PlaysNone kind)
+  steady_stages voices (section ∷ played) none =
+      let P : List ℕ × List (Bor Item) → Type 0 = λ one. All ChangesNothing one.1 in
+      All-cons (PlaysNone kind) (stage_of voices section) (map (stage_of voices) played) (plain_parts section voices (All-head P section played none))
+      (steady_stages voices played (All-tail P section played none))
+
+  pub none_along : (tune given : List (Bor Item)) (stages : List Stage) → given ≡ fields there tune
+      → stages ≡ map (stage_of (everyone there tune)) (played_sections there tune)
+      → none_of given ≡ true → All (PlaysNone kind) stages
+  none_along tune given stages is are steady =
+      subst (All (PlaysNone kind)) (sym are)
+      (steady_stages (everyone there tune) (played_sections there tune)
+      (played_kept there ChangesNothing tune (steady_steps tune (sym (ap none_of is) ∙ steady))))
+
+-- music changes nothing
+music_plain : (item : Item) → is_music item ≡ true → is_change item ≡ false
+music_plain item music = of_music is_change false (λ _ _. refl) (λ _ _. refl) (λ _. refl) (λ _. refl) item music
+
+music_keeps : (item : Item) → is_music item ≡ true → (sets_program item && is_step item) ≡ false
+music_keeps item music = of_music (λ one. sets_program one && is_step one) false (λ _ _. refl) (λ _ _. refl) (λ _. refl) (λ _. refl) item music
 
 pub steady_along : (tune given : List (Bor Item)) (stages : List Stage) → given ≡ fields there tune
     → stages ≡ map (stage_of (everyone there tune)) (played_sections there tune)
     → is_steady there given ≡ true → All IsSteady stages
-steady_along tune given stages is are steady =
-    subst (All IsSteady) (sym are)
-    (steady_stages (everyone there tune) (played_sections there tune)
-    (played_kept there ChangesNothing tune (steady_steps tune (sym (ap (is_steady there) is) ∙ steady))))
+steady_along = none_along is_field music_plain
+
+pub kept_along : (tune given : List (Bor Item)) (stages : List Stage) → given ≡ fields there tune
+    → stages ≡ map (stage_of (everyone there tune)) (played_sections there tune)
+    → keeps_programs there given ≡ true → All (PlaysNone sets_program) stages
+kept_along = none_along sets_program music_keeps
 
 -- the changes of steady stages are those with which their tune opens
-pub opening_is : {V : Type 0} (found behind : Option V) (usual value : V) → value ≡ unwrap_or found usual → found ≡ behind → value ≡ or_else usual behind
-opening_is None behind usual value is same = is ∙ ap (or_else usual) same
-opening_is (Some other) behind usual value is same = is ∙ ap (or_else usual) same
+pub opening_is : {V : Type 0} (found last : Option V) (usual value : V) → value ≡ unwrap_or found usual → found ≡ last → value ≡ or_else usual last
+opening_is None last usual value is same = is ∙ ap (or_else usual) same
+opening_is (Some other) last usual value is same = is ∙ ap (or_else usual) same
 
 pub steady_changes : (given : List (Bor Item)) (first : ℕ) (stages : List Stage) (tempo : ℕ) (meter : Meter) (key : ℤ × Bool) → All IsSteady stages
     → tempo ≡ or_else usual_tempo (past_all there tempo_past None given) → meter ≡ or_else meters.Free (past_all there meter_past None given)
@@ -205,6 +217,22 @@ pub steady_changes : (given : List (Bor Item)) (first : ℕ) (stages : List Stag
     → changes_that_stand ((record { 0 = 0 }, tempo) ∷ []) ((record { 0 = 0 }, meter) ∷ []) ((record { 0 = 0 }, key) ∷ []) ≡ changes_along given first stages
 steady_changes given first stages tempo meter key steady p q r =
     conductor_same _ _ _ _ _ _
-    (ap (λ v. (record { 0 = 0 }, v) ∷ []) p ∙ ap (λ l. (record { 0 = 0 }, or_else usual_tempo (past_all there tempo_past None given)) ∷ l) (sym (all_set_nothing tempo_of sets_no_tempo 0 stages steady)))
-    (ap (λ v. (record { 0 = 0 }, v) ∷ []) q ∙ ap (λ l. (record { 0 = 0 }, or_else meters.Free (past_all there meter_past None given)) ∷ l) (sym (one_sets_nothing meter_of sets_no_meter first 0 stages steady)))
-    (ap (λ v. (record { 0 = 0 }, v) ∷ []) r ∙ ap (λ l. (record { 0 = 0 }, or_else (pos 0, false) (past_all there key_past None given)) ∷ l) (sym (one_sets_nothing key_of sets_no_key first 0 stages steady)))
+    (ap (λ v. (record { 0 = 0 }, v) ∷ []) p ∙ ap (λ l. (record { 0 = 0 }, or_else usual_tempo (past_all there tempo_past None given)) ∷ l) (sym (all_set_nothing tempo_of is_field sets_no_tempo 0 stages steady)))
+    (ap (λ v. (record { 0 = 0 }, v) ∷ []) q ∙ ap (λ l. (record { 0 = 0 }, or_else meters.Free (past_all there meter_past None given)) ∷ l) (sym (one_sets_nothing meter_of is_field sets_no_meter first 0 stages steady)))
+    (ap (λ v. (record { 0 = 0 }, v) ∷ []) r ∙ ap (λ l. (record { 0 = 0 }, or_else (pos 0, false) (past_all there key_past None given)) ∷ l) (sym (one_sets_nothing key_of is_field sets_no_key first 0 stages steady)))
+
+-- the programs of stages that set none are those with which their tune opens
+no_program : (value : Option ℕ) → is_some value ≡ false → value ≡ None
+no_program None h = refl
+no_program (Some number) h = cc
+
+one_keeps : (opening : Option ℕ) (voice : ℕ) (stages : List Stage) → All (PlaysNone sets_program) stages → programs_by opening [] voice ≡ programs_by opening stages voice
+one_keeps opening voice stages kept =
+    ap (λ sets. programs_that_stand (behind opening sets)) (sym (one_sets_nothing program_of sets_program (λ item. no_program (program_of item)) voice 0 stages kept))
+
+pub programs_kept : (opening : Option ℕ) (voice count : ℕ) (stages : List Stage) → All (PlaysNone sets_program) stages
+    → programs_along opening [] voice count ≡ programs_along opening stages voice count
+programs_kept opening voice zero stages kept = refl
+programs_kept opening voice (suc count) stages kept =
+    ap (λ own. own ∷ programs_along opening [] (voice + 1) count) (one_keeps opening voice stages kept)
+    ∙ ap (λ others. programs_by opening stages voice ∷ others) (programs_kept opening (voice + 1) count stages kept)

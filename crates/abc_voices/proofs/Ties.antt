@@ -88,7 +88,7 @@ begun_same : (f g : ℕ → ℕ) → ((key : ℕ) → f key ≡ g key) → (at :
     → begun_by f at past tone tokens key ≡ begun_by g at past tone tokens key
 begun_same f g same at past tone tokens None = refl
 begun_same f g same at past tone tokens (Some key) =
-    ap (λ n. cond (nat_lt (tones_with key past) n) [] (record { key = key; on = record { 0 = at }; off = record { 0 = chain_end at tone key (tied_with key past) tokens } } ∷ [])) (same key)
+    ap (λ n. cond (nat_lt (tones_with key past) n) [] (record { key = key; on = record { 0 = at }; off = record { 0 = chain_end at tone key (tied_with key past) tokens }; velocity = tone.velocity } ∷ [])) (same key)
 
 both : {X : Type 0} {a b c d : List X} → a ≡ b → c ≡ d → a ++ c ≡ b ++ d
 both {b = b} {c = c} p q = ap (λ x. x ++ c) p ∙ ap (λ y. b ++ y) q
@@ -114,7 +114,7 @@ begun_past : (key : ℕ) (tied more : ℕ → ℕ) → IsOneMore key tied more �
     → begun_by tied at past tone tokens own ≡ begun_by more at past tone tokens own
 begun_past key tied more one at past tone tokens None far = refl
 begun_past key tied more one at past tone tokens (Some own) far =
-    let N : List Sounding = record { key = own; on = record { 0 = at }; off = record { 0 = chain_end at tone own (tied_with own past) tokens } } ∷ [] in
+    let N : List Sounding = record { key = own; on = record { 0 = at }; off = record { 0 = chain_end at tone own (tied_with own past) tokens }; velocity = tone.velocity } ∷ [] in
     elim (cases_Bool (own == key)) [
       | inl is_own ↦
           let is : own ≡ key = eqb-true own key is_own in
@@ -159,7 +159,7 @@ take_other : (key : ℕ) (tied more : ℕ → ℕ) → IsOneMore key tied more �
     → IsTaken key tied more at own (tone ∷ past) tones tokens
     → IsTaken key tied more at own past (tone ∷ tones) tokens
 take_other key tied more one at own past tone tones tokens other is apart rest =
-    let N : Sounding = record { key = other; on = record { 0 = at }; off = record { 0 = chain_end at tone other (tied_with other past) tokens } } in
+    let N : Sounding = record { key = other; on = record { 0 = at }; off = record { 0 = chain_end at tone other (tied_with other past) tokens }; velocity = tone.velocity } in
     let T : List Sounding = begun_at tied at (tone ∷ past) tones tokens in
     let M : List Sounding = begun_at more at (tone ∷ past) tones tokens in
     let b : Bool = nat_lt (tones_with other past) (tied other) in
@@ -180,7 +180,7 @@ take_own : (key : ℕ) (tied more : ℕ → ℕ) → IsOneMore key tied more →
     → IsTaken key tied more at own past (tone ∷ tones) tokens
 take_own key tied more one at own past tone tones tokens is few rest =
     let count : ℕ = tones_with key past in
-    let N : Sounding = record { key = key; on = record { 0 = at }; off = record { 0 = chain_end at tone key (tied_with key past) tokens } } in
+    let N : Sounding = record { key = key; on = record { 0 = at }; off = record { 0 = chain_end at tone key (tied_with key past) tokens }; velocity = tone.velocity } in
     let T : List Sounding = begun_at tied at (tone ∷ past) tones tokens in
     let M : List Sounding = begun_at more at (tone ∷ past) tones tokens in
     let is_own : (key == key) ≡ true = eq-eqb key key refl in
@@ -266,9 +266,9 @@ unjoined_same f g same (token ∷ tokens) = all_same f g same token.at [] token.
 -- each tone begins a note by itself
 alone : (key at : ℕ) (past : List Tone) (tone : Tone) (tokens : List TimeToken)
     → begun_by (λ k. 0) at past tone tokens (Some key)
-    ≡ record { key = key; on = record { 0 = at }; off = record { 0 = chain_end at tone key (tied_with key past) tokens } } ∷ []
+    ≡ record { key = key; on = record { 0 = at }; off = record { 0 = chain_end at tone key (tied_with key past) tokens }; velocity = tone.velocity } ∷ []
 alone key at past tone tokens =
-    ap (λ b. cond b [] (record { key = key; on = record { 0 = at }; off = record { 0 = chain_end at tone key (tied_with key past) tokens } } ∷ []))
+    ap (λ b. cond b [] (record { key = key; on = record { 0 = at }; off = record { 0 = chain_end at tone key (tied_with key past) tokens }; velocity = tone.velocity } ∷ []))
     (le-ltb (tones_with key past) 0 (omega arith))
 
 abbrev IsSameLinked : TokenNotes → TokenNotes → Type 0
@@ -297,23 +297,23 @@ one_more key tone past is tied =
     }
 
 -- the note of a tone by itself, and that of its chain
-abbrev its_note : ℕ → ℕ → ℕ → Sounding
-its_note key at off = record { key = key; on = record { 0 = at }; off = record { 0 = off } }
+abbrev its_note : ℕ → Tone → ℕ → ℕ → Sounding
+its_note key tone at off = record { key = key; on = record { 0 = at }; off = record { 0 = off }; velocity = tone.velocity }
 
 -- a tied tone takes the note that it is joined with
 tied_one : (at : ℕ) (tokens : List TimeToken) (begun : List Sounding) (past : List Tone) (tone : Tone) (key : ℕ)
     → tone.key ≡ Some key → tone.tied ≡ true
     → IsSameLinked (record {
-      begun = begun ++ its_note key at (first_off key (at + tone.length.0) (unjoined (λ k. tied_with k past) tokens)) ∷ [];
+      begun = begun ++ its_note key tone at (first_off key (at + tone.length.0) (unjoined (λ k. tied_with k past) tokens)) ∷ [];
       next = without_first key (unjoined (λ k. tied_with k past) tokens);
-    }) (record { begun = begun ++ its_note key at (chain_end at tone key (tied_with key past) tokens) ∷ []; next = unjoined (λ k. tied_with k (tone ∷ past)) tokens })
+    }) (record { begun = begun ++ its_note key tone at (chain_end at tone key (tied_with key past) tokens) ∷ []; next = unjoined (λ k. tied_with k (tone ∷ past)) tokens })
 tied_one at [] begun past tone key is tied = refl
 tied_one at (token ∷ tokens) begun past tone key is tied =
     let end : ℕ = at + tone.length.0 in
     let took : IsTaken key (λ k. tied_with k past) (λ k. tied_with k (tone ∷ past)) token.at end [] token.tones tokens =
     take_all key (λ k. tied_with k past) (λ k. tied_with k (tone ∷ past)) (one_more key tone past is tied) token.at end [] token.tones tokens (omega arith) in
     linked_by
-    (ap (λ off. begun ++ its_note key at off ∷ [])
+    (ap (λ off. begun ++ its_note key tone at off ∷ [])
     (took.off ∙ ap (λ t. end_by end (behind tokens token.at key) (cond t (tone_at key (tied_with key past) [] token.tones) None)) (sym tied)))
     took.left
 
@@ -327,16 +327,16 @@ with_one at tokens begun past tone None tied is e =
     (λ k. uncounted_tied k tone past (and_right tone.tied (is_key k tone.key) (ap (is_key k) is))) tokens)
 with_one at tokens begun past tone (Some key) false is e =
     let next : List Sounding = unjoined (λ k. tied_with k past) tokens in
-    ap (λ t. with_note (own_note at tone.length.0 key) (record { begun = begun; next = next }) (next_place t key next)) e
+    ap (λ t. with_note (own_note at tone key) (record { begun = begun; next = next }) (next_place t key next)) e
     ∙ linked_by
-    (ap (λ off. begun ++ its_note key at off ∷ []) (sym (untied at key (tied_with key past) tone tokens e))
+    (ap (λ off. begun ++ its_note key tone at off ∷ []) (sym (untied at key (tied_with key past) tone tokens e))
     ∙ ap (λ notes. begun ++ notes) (sym (alone key at past tone tokens)))
     (unjoined_same (λ k. tied_with k past) (λ k. tied_with k (tone ∷ past))
     (λ k. uncounted_tied k tone past (ap (λ t. t && is_key k tone.key) e)) tokens)
 with_one at tokens begun past tone (Some key) true is e =
     let next : List Sounding = unjoined (λ k. tied_with k past) tokens in
-    ap (λ t. with_note (own_note at tone.length.0 key) (record { begun = begun; next = next }) (next_place t key next)) e
-    ∙ with_taken key (own_note at tone.length.0 key) (record { begun = begun; next = next })
+    ap (λ t. with_note (own_note at tone key) (record { begun = begun; next = next }) (next_place t key next)) e
+    ∙ with_taken key (own_note at tone key) (record { begun = begun; next = next })
     ∙ tied_one at tokens begun past tone key is e
     ∙ linked_by (ap (λ notes. begun ++ notes) (sym (alone key at past tone tokens))) refl
 

@@ -28,6 +28,7 @@ declared (items.Voice true name ∷ tune) = refl
 declared (items.Voice false name ∷ tune) = declared tune
 declared (items.Title text ∷ tune) = declared tune
 declared (items.Order text ∷ tune) = declared tune
+declared (items.Program opening number ∷ tune) = declared tune
 
 -- one item more to look back at
 one_more : (opening : List ℕ) (item : Item) (past : List Item)
@@ -45,6 +46,7 @@ one_more opening (items.Voice true name) past = refl
 one_more opening (items.Voice false name) past = refl
 one_more opening (items.Title text) past = refl
 one_more opening (items.Order text) past = refl
+one_more opening (items.Program at number) past = refl
 
 -- a letter leaves the voice
 same_voice : (voice : List ℕ) (item : Item) → is_section item ≡ true → voice_past voice item ≡ voice
@@ -60,6 +62,7 @@ same_voice voice (items.Key opening key) h = cc
 same_voice voice (items.Voice opening name) h = cc
 same_voice voice (items.Title text) h = cc
 same_voice voice (items.Order text) h = cc
+same_voice voice (items.Program opening number) h = cc
 
 -- the current voice behind items
 abbrev after : List ℕ → List Item → List ℕ

@@ -15,7 +15,7 @@ use Rattle.abc_time.specs.declared.grains.Grains.{Grains}
 use Rattle.abc_voices.specs.declared.stage.Part.{Part}
 use Rattle.abc_voices.specs.declared.stage.Stage.{Stage}
 use Rattle.abc_voices.specs.Turns.{IsPart, IsStage, length_along, steps_of, set_by_all, set_by_one}
-use Rattle.abc_voices.specs.Change.{at_moment, set_from}
+use Rattle.abc_voices.specs.Change.{at_moment, set_from, behind}
 use Rattle.abc_voices.specs.Opening.{order_past, past_all}
 use Rattle.abc_voices.specs.Play.{duration}
 use Rattle.abc_voices.specs.Step.{length_of}
@@ -89,11 +89,11 @@ all_set value_of opening end stages sets early all e =
     subst (All (IsBefore end)) (sym e)
     (All-cons (IsBefore end) (record { 0 = 0 }, opening) (set_by_all value_of 0 stages) (omega arith) (all_before value_of end 0 stages (omega arith) all))
 
-pub one_set : {V : Type 0} (value_of : Item → Option V) (voice : ℕ) (opening : V) (end : ℕ) (stages : List Stage) (sets : List (Grains × V)) → length_along stages ≤ end → All IsStage stages
-    → sets ≡ (record { 0 = 0 }, opening) ∷ set_by_one value_of voice 0 stages → All (IsBefore end) sets
+pub one_set : {V : Type 0} (value_of : Item → Option V) (voice : ℕ) (opening : Option V) (end : ℕ) (stages : List Stage) (sets : List (Grains × V)) → length_along stages ≤ end → All IsStage stages
+    → sets ≡ behind opening (set_by_one value_of voice 0 stages) → All (IsBefore end) sets
 one_set value_of voice opening end stages sets early all e =
     subst (All (IsBefore end)) (sym e)
-    (All-cons (IsBefore end) (record { 0 = 0 }, opening) (set_by_one value_of voice 0 stages) (omega arith) (one_before value_of voice end 0 stages (omega arith) all))
+    (one_more end 0 opening (set_by_one value_of voice 0 stages) (omega arith) (one_before value_of voice end 0 stages (omega arith) all))
 
 -- an order that is accepted
 abbrev pub IsAccepted : Option (List ℕ) → Type 0
@@ -112,6 +112,7 @@ order_step order (items.Key opening key) h is = h
 order_step order (items.Voice opening name) h is = h
 order_step order (items.Title title) h is = h
 order_step order (items.Order text) h is = λ other e. let same : text ≡ other = cc in subst (λ t. parts_of t ≡ Ok tt) same is
+order_step order (items.Program opening number) h is = h
 
 pub order_accepted : (tune : List (Bor Item)) (order : Option (List ℕ)) → IsAccepted order → All (λ step. IsItem step.now) tune
     → IsAccepted (past_all (λ step. step.now) order_past order tune)

@@ -13,13 +13,14 @@ use Rattle.abc_time.specs.declared.grains.Grains.{Grains}
 use Rattle.abc_time.specs.Grains.{grains_of_the_latest_end}
 use Rattle.abc_voices.specs.declared.arranged.Arranged.{Arranged}
 use Rattle.abc_voices.specs.declared.limits.TheConstants.{LONGEST_TITLE}
+use Rattle.abc_voices.specs.declared.score.ProgramChange.{ProgramChange}
 use Rattle.abc_voices.specs.declared.score.Score.{Score}
 use Rattle.abc_voices.specs.declared.score.Sounding.{Sounding}
-use Rattle.abc_voices.specs.Change.{tempo_of, meter_of, key_of, set_from}
-use Rattle.abc_voices.specs.ScoreChanges.{changes_that_stand}
+use Rattle.abc_voices.specs.Change.{tempo_of, meter_of, key_of, program_of, set_from, behind}
+use Rattle.abc_voices.specs.ScoreChanges.{changes_that_stand, programs_that_stand}
 use Rattle.abc_voices.specs.TiedNotes.{Notes, notes_from}
 use Rattle.abc_voices.specs.EndingFields.{with_fields_in_endings}
-use Rattle.abc_voices.specs.Opening.{tempo_past, meter_past, key_past, order_past, past_all, title_of}
+use Rattle.abc_voices.specs.Opening.{tempo_past, meter_past, key_past, program_past, order_past, past_all, title_of}
 use Rattle.abc_voices.specs.Play.{places_of, played, duration}
 use Rattle.abc_voices.specs.Section.{letters, sections, part}
 use Rattle.abc_voices.specs.Track.{everyone, tracks}
@@ -123,13 +124,24 @@ changes_of item_of tune =
     ((record { 0 = 0 }, or_else meters.Free (past_all item_of meter_past None tune)) ∷ set_in item_of meter_of voices first 0 played)
     ((record { 0 = 0 }, or_else (pos 0, false) (past_all item_of key_past None tune)) ∷ set_in item_of key_of voices first 0 played)
 
--- The score of a tune: its title, its end, its changes and the notes of each voice.
+-- The programs of a voice in sections that are played, behind the one with which a tune opens, if it opens with one.
+abbrev pub programs_in : {A : Type 0} → (A → Item) → Option ℕ → List (List ℕ) → List (List ℕ × List A) → List ℕ → List ProgramChange
+programs_in item_of opening voices played voice =
+    programs_that_stand (behind opening (set_in item_of program_of voices (voice ∷ []) 0 played))
+
+-- The programs of each voice that has a track. Nothing is restored at a repeat.
+abbrev pub programs_of : {A : Type 0} → (A → Item) → List A → List (List ProgramChange)
+programs_of item_of tune =
+    map (programs_in item_of (past_all item_of program_past None tune) (everyone item_of tune) (played_sections item_of tune)) (tracks item_of tune)
+
+-- The score of a tune: its title, its end, its changes, and the notes and the programs of each voice.
 abbrev pub score_of : {A : Type 0} → (A → Item) → List A → Score
 score_of item_of tune = record {
   title = title_of item_of tune;
   end = record { 0 = end_of item_of tune };
   conductor = changes_of item_of tune;
   voices = voices_notes item_of tune;
+  programs = programs_of item_of tune;
 }
 
 -- A tune laid out: its score, whether voices of a section that is played are uneven, whether the order names a

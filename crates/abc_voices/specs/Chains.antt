@@ -46,7 +46,7 @@ first_moment [] = 0
 first_moment (token ∷ tokens) = token.at
 
 -- The note of the chain that begins with the tone at a place of the first time token: from the beginning of its first
--- tone to the end of its last.
+-- tone to the end of its last, as loud as its first.
 pub record IsNoteOf (tokens : List TimeToken) (place : ℕ) (note : Sounding) : Type 0 where
   pub tone : Tone
   pub stands : slice_get (first_tones tokens) place ≡ Some tone
@@ -55,6 +55,7 @@ pub record IsNoteOf (tokens : List TimeToken) (place : ℕ) (note : Sounding) : 
   pub chain : IsChain tokens place others
   pub on : note.on.0 ≡ first_moment tokens
   pub off : note.off.0 ≡ end_of_chain tokens place others
+  pub velocity : note.velocity ≡ tone.velocity
 
 -- What is heard by the tone at a place of the first time token, behind one with these tones: nothing where it is silent
 -- or one of those is joined with it, else the note of the chain that it begins.

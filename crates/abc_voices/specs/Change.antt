@@ -1,4 +1,4 @@
--- The changes of tempo, meter and key that are played, at their moments.
+-- The changes of tempo, meter, key and program that are played, at their moments.
 use Rattle.std.specs.Prelude.{ℕ, ℤ, ◌+◌, Bool, List, [], ◌∷◌, Option, Some, None}
 use Rattle.std.specs.List.{cons_option}
 use Rattle.abc_music.specs.declared.item.Item.{Item}
@@ -20,6 +20,11 @@ abbrev pub key_of : Item → Option (ℤ × Bool)
 key_of (items.Key opening key) = key
 key_of _ = None
 
+-- The program that a directive sets, if it sets one.
+abbrev pub program_of : Item → Option ℕ
+program_of (items.Program opening number) = number
+program_of _ = None
+
 -- A value at a moment, if there is one.
 abbrev pub at_moment : {V : Type 0} → ℕ → Option V → Option (Grains × V)
 at_moment at None = None
@@ -30,3 +35,7 @@ abbrev pub set_from : {A V : Type 0} → (A → Item) → (Item → Option V) �
 set_from item_of value_of at [] = []
 set_from item_of value_of at (step ∷ steps) =
     cons_option (at_moment at (value_of (item_of step))) (set_from item_of value_of (at + length_of (item_of step)) steps)
+
+-- What is set, behind what holds at the beginning, if something does.
+abbrev pub behind : {V : Type 0} → Option V → List (Grains × V) → List (Grains × V)
+behind opening sets = cons_option (at_moment 0 opening) sets

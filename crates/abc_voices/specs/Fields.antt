@@ -1,8 +1,9 @@
 -- The items of a tune that its fields give.
-use Rattle.std.specs.Prelude.{Bool, true, false, not, ◌&&◌, List, filter}
+use Rattle.std.specs.Prelude.{Bool, true, false, not, ◌&&◌, List, filter, is_some}
 use Rattle.std.specs.List.{list_all}
 use Rattle.abc_music.specs.declared.item.Item.{Item}
 use Rattle.abc_music.specs.declared.item.Item.TheVariants as items
+use Rattle.abc_voices.specs.Change.{program_of}
 use Rattle.abc_voices.specs.Section.{is_step}
 use Rattle.abc_voices.specs.Step.{is_field}
 
@@ -14,13 +15,21 @@ is_music (items.Bar line) = true
 is_music (items.Ending numbers) = true
 is_music _ = false
 
--- Whether an item changes the tempo, the meter or the key while a tune is played.
+-- Whether an item may change the tempo, the meter, the key or the program while a tune is played.
 abbrev pub is_change : Item → Bool
 is_change item = is_field item && is_step item
 
 -- Whether none of a tune's steps does.
 abbrev pub is_steady : {A : Type 0} → (A → Item) → List A → Bool
 is_steady item_of tune = list_all (λ step. not (is_change (item_of step))) tune
+
+-- Whether an item sets a program.
+abbrev pub sets_program : Item → Bool
+sets_program item = is_some (program_of item)
+
+-- Whether none of a tune's steps does while the tune is played.
+abbrev pub keeps_programs : {A : Type 0} → (A → Item) → List A → Bool
+keeps_programs item_of tune = list_all (λ step. not (sets_program (item_of step) && is_step (item_of step))) tune
 
 -- The steps of a tune that are no music.
 abbrev pub fields : {A : Type 0} → (A → Item) → List A → List A

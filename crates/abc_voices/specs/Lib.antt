@@ -5,6 +5,7 @@ pub mod EndingFields
 pub mod Endings
 pub mod Fields
 pub mod Limits
+pub mod OnTicks
 pub mod Opening
 pub mod Owned
 pub mod Play

@@ -19,6 +19,11 @@ abbrev pub key_past : Option (ℤ × Bool) → Item → Option (ℤ × Bool)
 key_past key (items.Key true opening) = opening
 key_past key _ = key
 
+-- The program behind an item: the last directive of the header that sets one says it.
+abbrev pub program_past : Option ℕ → Item → Option ℕ
+program_past program (items.Program true (Some number)) = Some number
+program_past program _ = program
+
 -- The order of the parts behind an item: the last one counts. Our own.
 abbrev pub order_past : Option (List ℕ) → Item → Option (List ℕ)
 order_past order (items.Order text) = Some text

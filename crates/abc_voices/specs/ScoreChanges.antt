@@ -1,10 +1,11 @@
--- The changes of a score: of tempo, meter and key. Our own.
+-- The changes of a score: of tempo, meter and key, and of the programs of voices. Our own.
 use Rattle.std.specs.Prelude.{ℕ, ℤ, Bool, List, ◌++◌, Option, Some, None, map, filter_map}
 use Rattle.abc_fields.specs.declared.meter.Meter.{Meter}
 use Rattle.abc_fields.specs.declared.meter.Meter.TheVariants as meters
 use Rattle.abc_time.specs.declared.grains.Grains.{Grains}
 use Rattle.abc_voices.specs.declared.score.Change.{Change}
 use Rattle.abc_voices.specs.declared.score.ChangeKind.TheVariants as kinds
+use Rattle.abc_voices.specs.declared.score.ProgramChange.{ProgramChange}
 use Rattle.abc_voices.specs.Ticks.{last_of_each_tick}
 
 -- A tempo at a moment.
@@ -27,3 +28,11 @@ key_change (at, key) = record { at = at; what = kinds.Key key.0 key.1 }
 abbrev pub changes_that_stand : List (Grains × ℕ) → List (Grains × Meter) → List (Grains × (ℤ × Bool)) → List Change
 changes_that_stand tempos meters keys =
     map tempo_change (last_of_each_tick tempos) ++ filter_map meter_change (last_of_each_tick meters) ++ map key_change (last_of_each_tick keys)
+
+-- A program at a moment.
+abbrev pub program_change : Grains × ℕ → ProgramChange
+program_change (at, number) = record { at = at; number = number }
+
+-- The programs that stand.
+abbrev pub programs_that_stand : List (Grains × ℕ) → List ProgramChange
+programs_that_stand programs = map program_change (last_of_each_tick programs)

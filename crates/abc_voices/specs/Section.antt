@@ -12,6 +12,7 @@ is_step (items.Ending numbers) = true
 is_step (items.Tempo opening micros out) = not opening
 is_step (items.Meter opening meter) = not opening
 is_step (items.Key opening key) = not opening
+is_step (items.Program opening number) = not opening
 is_step _ = false
 
 -- The letter of the section that begins behind an item, if one does.

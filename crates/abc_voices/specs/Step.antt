@@ -7,11 +7,12 @@ use Rattle.abc_repeat.specs.declared.mark.Mark.{Mark}
 use Rattle.abc_repeat.specs.declared.mark.Mark.TheVariants as marks
 use Rattle.abc_repeat.specs.Mark.{is_play, is_single}
 
--- A field that is played with the notes: of tempo, meter or key. Our own.
+-- A field or a directive that is played with the notes: of tempo, meter, key or program. Our own.
 abbrev pub is_field : Item → Bool
 is_field (items.Tempo opening micros out) = true
 is_field (items.Meter opening meter) = true
 is_field (items.Key opening key) = true
+is_field (items.Program opening number) = true
 is_field _ = false
 
 -- A bar line or the beginning of an ending is a mark of how its section is played; all else takes its turn.

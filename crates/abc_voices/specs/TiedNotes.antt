@@ -12,10 +12,15 @@ pub record TokenNotes : Type 0 where
   pub next : List Sounding
 
 -- The note of a tone that is tied to none.
-abbrev pub own_note : ℕ → ℕ → ℕ → Sounding
-own_note at grains key = record { key = key; on = record { 0 = at }; off = record { 0 = at + grains } }
+abbrev pub own_note : ℕ → Tone → ℕ → Sounding
+own_note at tone key = record {
+  key = key;
+  on = record { 0 = at };
+  off = record { 0 = at + tone.length.0 };
+  velocity = tone.velocity;
+}
 
--- A note that lasts to the end of the one at this place.
+-- A note that lasts to the end of the one at this place, as loud as it begins.
 abbrev pub lengthened : Sounding → List Sounding → ℕ → Sounding
 lengthened note next place = record note { off = (slice_index_or next place note).off }
 
@@ -33,7 +38,7 @@ next_place tied key next = if tied then position (λ note. note.key == key) next
 abbrev pub with_key : ℕ → Tone → TokenNotes → Option ℕ → TokenNotes
 with_key at tone linked None = linked
 with_key at tone linked (Some key) =
-    with_note (own_note at tone.length.0 key) linked (next_place tone.tied key linked.next)
+    with_note (own_note at tone key) linked (next_place tone.tied key linked.next)
 
 -- More tones of a time token at this moment.
 abbrev pub with_tones : ℕ → TokenNotes → List Tone → TokenNotes

@@ -7,16 +7,17 @@ use Rattle.abc_music.specs.Item.{IsItem}
 use Rattle.abc_fields.specs.declared.meter.Meter.TheVariants as meters
 use Rattle.abc_time.specs.declared.grains.Grains.{Grains}
 use Rattle.abc_voices.specs.declared.score.Change.{Change}
+use Rattle.abc_voices.specs.declared.score.ProgramChange.{ProgramChange}
 use Rattle.abc_voices.specs.declared.score.Score.{Score}
 use Rattle.abc_voices.specs.declared.score.Sounding.{Sounding}
 use Rattle.abc_voices.specs.declared.stage.Part.{Part}
 use Rattle.abc_voices.specs.declared.stage.Stage.{Stage}
 use Rattle.abc_voices.specs.declared.stage.Turn.{Turn}
 use Rattle.abc_voices.specs.Arrange.{all_notes, takes_time, last_off, or_else, usual_tempo}
-use Rattle.abc_voices.specs.Change.{tempo_of, meter_of, key_of, set_from}
-use Rattle.abc_voices.specs.ScoreChanges.{changes_that_stand}
+use Rattle.abc_voices.specs.Change.{tempo_of, meter_of, key_of, program_of, set_from, behind}
+use Rattle.abc_voices.specs.ScoreChanges.{changes_that_stand, programs_that_stand}
 use Rattle.abc_voices.specs.TiedNotes.{Notes, notes_from}
-use Rattle.abc_voices.specs.Opening.{tempo_past, meter_past, key_past, past_all, title_of}
+use Rattle.abc_voices.specs.Opening.{tempo_past, meter_past, key_past, program_past, past_all, title_of}
 use Rattle.abc_voices.specs.Play.{duration}
 use Rattle.abc_voices.specs.Step.{is_field}
 use Rattle.abc_voices.specs.Track.{nameless_plays}
@@ -31,9 +32,13 @@ pub record IsPart (longest : Grains) (part : Part) : Type 0 where
 pub record IsStage (stage : Stage) : Type 0 where
   pub parts : All (IsPart stage.longest) stage.parts
 
+-- A stage in which no such item is played.
+abbrev pub PlaysNone : (Item → Bool) → Stage → Type 0
+PlaysNone is stage = All (λ part. All (λ step. is step.now ≡ false) part.steps) stage.parts
+
 -- A stage in which no field is played.
 abbrev pub IsSteady : Stage → Type 0
-IsSteady stage = All (λ part. All (λ step. is_field step.now ≡ false) part.steps) stage.parts
+IsSteady stage = PlaysNone is_field stage
 
 -- The stages of some turns.
 abbrev pub stages_in : List Turn → List Stage
@@ -57,10 +62,14 @@ abbrev pub notes_along : ℕ → ℕ → List Stage → Notes
 notes_along voice at [] = record { first = []; others = [] }
 notes_along voice at (stage ∷ stages) = before_rest voice at stage (notes_along voice (at + stage.longest.0) stages)
 
+-- What there is for each of so many voices, from the one at this place on.
+abbrev pub for_voices : {X : Type 0} → (ℕ → X) → ℕ → ℕ → List X
+for_voices one voice zero = []
+for_voices one voice (suc count) = one voice ∷ for_voices one (voice + 1) count
+
 -- The notes of so many voices, from the one at this place on.
 abbrev pub voices_along : List Stage → ℕ → ℕ → List (List Sounding)
-voices_along stages voice zero = []
-voices_along stages voice (suc count) = all_notes (notes_along voice 0 stages) ∷ voices_along stages (voice + 1) count
+voices_along stages voice count = for_voices (λ one. all_notes (notes_along one 0 stages)) voice count
 
 -- What the parts of a stage set when it is played from a moment on.
 abbrev pub set_beside : {V : Type 0} → (Item → Option V) → ℕ → Stage → List (Grains × V)
@@ -101,6 +110,14 @@ changes_along tune first stages =
 abbrev pub first_place : List (Bor Item) → ℕ
 first_place tune = if nameless_plays (λ step. step.now) tune then 0 else 1
 
+-- The programs of the voice at this place, behind the one with which a tune opens, if it opens with one.
+abbrev pub programs_by : Option ℕ → List Stage → ℕ → List ProgramChange
+programs_by opening stages voice = programs_that_stand (behind opening (set_by_one program_of voice 0 stages))
+
+-- The programs of so many voices, from the one at this place on.
+abbrev pub programs_along : Option ℕ → List Stage → ℕ → ℕ → List (List ProgramChange)
+programs_along opening stages voice count = for_voices (programs_by opening stages) voice count
+
 -- When stages end: one after another, or with a note that lasts longer.
 abbrev pub end_along : List Stage → List (List Sounding) → ℕ
 end_along stages voices = last_off (length_along stages) (flat_map (λ notes. notes) voices)
@@ -112,4 +129,5 @@ score_along tune first count stages = record {
   end = record { 0 = end_along stages (voices_along stages first (count - first)) };
   conductor = changes_along tune first stages;
   voices = voices_along stages first (count - first);
+  programs = programs_along (past_all (λ step. step.now) program_past None tune) stages first (count - first);
 }

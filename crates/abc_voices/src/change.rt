@@ -1,9 +1,9 @@
-//! Changes of tempo, meter and key, at their moments.
+//! Changes of tempo, meter, key and program, at their moments.
 
 ghost use Rattle.std.specs.Prelude.{◌≡◌, ◌+◌, ◌++◌, ◌≤◌, Option, OnOk};
 ghost use Rattle.abc_music.specs.declared.item.Item.{Item};
 ghost use Rattle.abc_time.specs.Grains.{grains_of_the_latest_end};
-ghost use Rattle.abc_voices.specs.Change.{tempo_of, meter_of, key_of, set_from};
+ghost use Rattle.abc_voices.specs.Change.{tempo_of, meter_of, key_of, program_of, set_from};
 ghost use Rattle.abc_voices.specs.Play.{duration};
 
 use crate::step::length_of;
@@ -12,7 +12,7 @@ use abc_music::Item;
 use abc_time::Grains;
 use std::alloc::AllocError;
 
-/// A sort of changes: tempos, meters or keys.
+/// A sort of changes: tempos, meters, keys or programs.
 pub(crate) trait Setting {
     /// What a change of this sort sets.
     type Value: Copy;
@@ -68,6 +68,22 @@ impl Setting for Keys {
     fn value_of(item: &Item) -> Option<(i8, bool)> {
         match item {
             Item::Key { key, .. } => *key,
+            _ => None,
+        }
+    }
+}
+
+/// Programs, as MIDI counts them.
+pub(crate) struct Programs;
+
+impl Setting for Programs {
+    type Value = u8;
+
+    ghost value_of = { program_of };
+
+    fn value_of(item: &Item) -> Option<u8> {
+        match item {
+            Item::Program { number, .. } => *number,
             _ => None,
         }
     }

@@ -1,8 +1,9 @@
 //! The items of a tune that its fields give.
 
 ghost use Rattle.std.specs.Prelude.{◌≡◌, IfOk};
-ghost use Rattle.abc_voices.specs.Fields.{is_music, is_change, is_steady, fields};
+ghost use Rattle.abc_voices.specs.Fields.{is_music, is_change, is_steady, sets_program, keeps_programs, fields};
 
+use crate::change::{Programs, Setting};
 use crate::section::is_step;
 use crate::step::is_field;
 use abc_music::Item;
@@ -18,18 +19,34 @@ fn is_music(item: &Item) -> bool
     )
 }
 
-/// Whether it changes the tempo, the meter or the key while a tune is played.
+/// Whether it may change the tempo, the meter, the key or the program while a tune is played.
 fn is_change(item: &Item) -> bool
     ensures { result ≡ is_change item.now }
 {
     is_field(item) && is_step(item)
 }
 
-/// Whether none of a tune's fields changes its tempo, its meter or its key while it is played.
+/// Whether none of a tune's fields changes its tempo, its meter, its key or a program while it is played.
 pub(crate) fn is_steady(given: &[&Item]) -> bool
     ensures { result ≡ is_steady (λ step. step.now) given.now }
 {
     given.iter().all(|item| !is_change(item))
+}
+
+/// Whether it sets a program.
+fn sets_program(item: &Item) -> bool
+    ensures { result ≡ sets_program item.now }
+{
+    Programs::value_of(item).is_some()
+}
+
+/// Whether none of a tune's fields sets a program while it is played.
+pub(crate) fn keeps_programs(given: &[&Item]) -> bool
+    ensures { result ≡ keeps_programs (λ step. step.now) given.now }
+{
+    given
+        .iter()
+        .all(|item| !(sets_program(item) && is_step(item)))
 }
 
 /// The items of a tune that are no music. They are few, and they alone say what the tune opens with, which parts it

@@ -2,6 +2,7 @@
 
 ghost use Rattle.abc_voices.specs.Chains.{HearsChains, HearsNoOthers};
 ghost use Rattle.abc_voices.specs.Endings.{MovesByStrains};
+ghost use Rattle.abc_voices.specs.OnTicks.{HaveProgramsOnTicks};
 ghost use Rattle.abc_voices.specs.Ties.{PlaysChains, VoicesPlayChains};
 ghost use Rattle.abc_voices.specs.Voices.{AreOfVoices};
 
@@ -22,9 +23,16 @@ pub fn ties_in_play()
     ensures voices { VoicesPlayChains }
 {}
 
-/// Of the fields of tempo, meter and key those that stand between a bar that ended an ending and the sign of the
-/// strain's next ending are played with that one, and no other field is moved.
+/// Of the fields of tempo, meter and key and the directives of programs those that stand between a bar that ended an ending and the sign of the
+/// strain's next ending are played with that one, and nothing else is moved.
 #[tactic(auto, using(crate::proofs::Endings::moves_by_strains))]
 pub fn fields_before_endings()
     ensures { MovesByStrains }
+{}
+
+/// On each tick a voice has the last program that it plays there, in order of play; on the tick with which the tune
+/// begins, where it plays none, the last one that the header sets; and no other one. A repeat restores none. Our own.
+#[tactic(auto, using(crate::proofs::OnTicks::programs_on_ticks))]
+pub fn programs_on_ticks()
+    ensures { HaveProgramsOnTicks }
 {}

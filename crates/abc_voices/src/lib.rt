@@ -12,6 +12,7 @@ mod limits;
 mod notes;
 mod opening;
 mod play;
+mod programs;
 mod score;
 mod score_changes;
 mod score_laws;
@@ -30,8 +31,10 @@ mod voice;
 
 pub use abc_music::MOST_VOICES;
 pub use arranged::{Arranged, BuildFault};
-pub use laws::{fields_before_endings, ties_in_play, voices_by_looking_back};
+pub use laws::{fields_before_endings, programs_on_ticks, ties_in_play, voices_by_looking_back};
 pub use layout::arrange;
-pub use limits::{LONGEST_TITLE, MOST_CHANGES, MOST_NOTES, is_within_limits, score_limits};
-pub use score::{Change, ChangeKind, Score, Sounding};
+pub use limits::{
+    LONGEST_TITLE, MOST_CHANGES, MOST_NOTES, MOST_PROGRAMS, is_within_limits, score_limits,
+};
+pub use score::{Change, ChangeKind, ProgramChange, Score, Sounding};
 pub use score_laws::{scores_fit, too_long_by_a_limit};

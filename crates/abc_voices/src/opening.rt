@@ -1,7 +1,7 @@
 //! What a tune opens with, its title and the order of its parts.
 
 ghost use Rattle.std.specs.Prelude.{◌≡◌, None, option_copied};
-ghost use Rattle.abc_voices.specs.Opening.{tempo_past, meter_past, key_past, order_past, past_all, title_of};
+ghost use Rattle.abc_voices.specs.Opening.{tempo_past, meter_past, key_past, program_past, order_past, past_all, title_of};
 
 use abc_fields::Meter;
 use abc_music::Item;
@@ -56,6 +56,23 @@ pub(crate) fn opening_key(tune: &[&Item]) -> Option<(i8, bool)>
         }
     }
     key
+}
+
+/// The program with which a tune opens, where its header sets one.
+pub(crate) fn opening_program(tune: &[&Item]) -> Option<u8>
+    ensures { result ≡ past_all (λ step. step.now) program_past None tune.now }
+{
+    let mut program = None;
+    for item in tune {
+        if let Item::Program {
+            opening: true,
+            number: Some(number),
+        } = item
+        {
+            program = Some(*number);
+        }
+    }
+    program
 }
 
 /// The order of a tune's parts, where its header has one.

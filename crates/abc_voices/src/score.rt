@@ -13,6 +13,8 @@ pub struct Score {
     pub conductor: Sequence<Change>,
     /// The notes of each voice, in any order.
     pub voices: Sequence<Sequence<Sounding>>,
+    /// The programs of each voice, in any order.
+    pub programs: Sequence<Sequence<ProgramChange>>,
 }
 
 /// A change of tempo, meter or key.
@@ -32,6 +34,14 @@ pub enum ChangeKind {
     Key { sharps: i8, minor: bool },
 }
 
+/// A program that a voice changes to.
+#[derive(Clone, Copy, Debug, PartialEq, Eq)]
+pub struct ProgramChange {
+    pub at: Grains,
+    /// 0 to 127.
+    pub number: u8,
+}
+
 /// A note that sounds from one moment to another.
 #[derive(Clone, Copy, Debug, PartialEq, Eq)]
 pub struct Sounding {
@@ -39,4 +49,6 @@ pub struct Sounding {
     pub key: u8,
     pub on: Grains,
     pub off: Grains,
+    /// How loud it sounds, 1 to 127: as its first tone does.
+    pub velocity: u8,
 }

@@ -1,10 +1,10 @@
-//! The changes of a score.
+//! The changes and the programs of a score.
 
 ghost use Rattle.std.specs.Prelude.{◌≡◌, ◌≤◌, ◌++◌, All, IfOk, OnOk, map, filter_map};
 ghost use Rattle.abc_time.specs.Grains.{grains_of_the_latest_end};
-ghost use Rattle.abc_voices.specs.ScoreChanges.{tempo_change, meter_change, key_change, changes_that_stand};
+ghost use Rattle.abc_voices.specs.ScoreChanges.{tempo_change, meter_change, key_change, program_change, changes_that_stand, programs_that_stand};
 
-use crate::score::{Change, ChangeKind};
+use crate::score::{Change, ChangeKind, ProgramChange};
 use crate::ticks::last_of_each_tick;
 use abc_fields::Meter;
 use abc_time::Grains;
@@ -54,6 +54,22 @@ fn put_key_changes(out: &mut Vec<Change>, keys: &[(Grains, (i8, bool))]) -> Resu
     Ok(())
 }
 
+/// Puts programs as changes.
+fn put_program_changes(
+    out: &mut Vec<ProgramChange>,
+    programs: &[(Grains, u8)],
+) -> Result<(), AllocError>
+    ensures { OnOk result (out.new.items ≡ out.old.items ++ map program_change programs.now) }
+{
+    for (at, number) in programs {
+        out.push(ProgramChange {
+            at: *at,
+            number: *number,
+        })?;
+    }
+    Ok(())
+}
+
 /// The changes of a score, of the tempos, meters and keys in order of play.
 pub(crate) fn changes_that_stand(
     alloc: Global,
@@ -70,5 +86,18 @@ pub(crate) fn changes_that_stand(
     put_tempo_changes(&mut changes, &last_of_each_tick(alloc, tempos)?)?;
     put_meter_changes(&mut changes, &last_of_each_tick(alloc, meters)?)?;
     put_key_changes(&mut changes, &last_of_each_tick(alloc, keys)?)?;
+    Ok(changes)
+}
+
+/// The programs of a voice, of those in order of play.
+pub(crate) fn programs_that_stand(
+    alloc: Global,
+    programs: &[(Grains, u8)],
+) -> Result<Vec<ProgramChange>, AllocError>
+    requires { All (λ set. set.0.0 ≤ grains_of_the_latest_end) programs.now }
+    ensures { IfOk result (λ changes. changes.items ≡ programs_that_stand programs.now) }
+{
+    let mut changes = Vec::new(alloc);
+    put_program_changes(&mut changes, &last_of_each_tick(alloc, programs)?)?;
     Ok(changes)
 }

@@ -29,9 +29,10 @@ pub(crate) fn is_step(item: &Item) -> bool
 {
     match item {
         Item::Tone { .. } | Item::Rest { .. } | Item::Bar(_) | Item::Ending(_) => true,
-        Item::Tempo { opening, .. } | Item::Meter { opening, .. } | Item::Key { opening, .. } => {
-            !*opening
-        }
+        Item::Tempo { opening, .. }
+        | Item::Meter { opening, .. }
+        | Item::Key { opening, .. }
+        | Item::Program { opening, .. } => !*opening,
         _ => false,
     }
 }

@@ -1,9 +1,9 @@
-//! What voices set in stages that are played one after another: tempos, meters and keys.
+//! What voices set in stages that are played one after another: tempos, meters, keys and programs.
 
-ghost use Rattle.std.specs.Prelude.{◌≡◌, ◌+◌, ◌≤◌, ◌∷◌, ◌++◌, All, IfOk, OnOk};
+ghost use Rattle.std.specs.Prelude.{◌≡◌, ◌+◌, ◌≤◌, [], ◌∷◌, ◌++◌, All, IfOk, OnOk};
 ghost use Rattle.abc_time.specs.Grains.{grains_of_the_latest_end};
 ghost use Rattle.abc_voices.specs.Turns.{IsStage, IsPart, stages_in, length_along, set_beside, set_by_all, set_at, set_by_one};
-ghost use Rattle.abc_voices.specs.Change.{tempo_of, set_from};
+ghost use Rattle.abc_voices.specs.Change.{tempo_of, set_from, behind};
 
 use crate::change::{Setting, Tempos, put_set};
 use crate::stage::{Part, Stage, Turn};
@@ -82,25 +82,54 @@ fn put_stage<S: Setting>(
     }
 }
 
-/// What a voice sets in the stages that are played, behind the one with which the tune opens.
+/// Puts what a voice sets in the stages that are played.
 #[tactic(auto, unfolding(abc_time::specs::Grains::grains_of_a_whole_note, abc_time::specs::Grains::grains_of_the_latest_end))]
+fn put_stages<S: Setting>(
+    sets: &mut Vec<(Grains, S::Value)>,
+    turns: &[Turn],
+    voice: usize,
+) -> Result<(), AllocError>
+    requires stages { All (λ turn. IsStage turn.stage.now) turns.now }
+    requires in_time { length_along (stages_in turns.now) ≤ grains_of_the_latest_end }
+    ensures { OnOk result (sets.new.items
+        ≡ sets.old.items ++ set_by_one S.value_of voice 0 (stages_in turns.now)) }
+{
+    let mut at = Grains(0);
+    for turn in turns {
+        put_stage::<S>(sets, at, turn.stage, voice)?;
+        at.0 += turn.stage.longest.0;
+    }
+    Ok(())
+}
+
+/// What holds at the beginning, if something does.
+fn opened<S: Setting>(
+    alloc: Global,
+    opening: Option<S::Value>,
+) -> Result<Vec<(Grains, S::Value)>, AllocError>
+    ensures { IfOk result (λ sets. sets.items ≡ behind opening []) }
+{
+    let mut sets = Vec::new(alloc);
+    if let Some(value) = opening {
+        sets.push((Grains(0), value))?;
+    }
+    Ok(sets)
+}
+
+/// What a voice sets in the stages that are played, behind what holds at the beginning, if something does.
+#[tactic(auto, using(crate::proofs::Lengths::behind_nothing))]
 pub(crate) fn one_along<S: Setting>(
     alloc: Global,
     turns: &[Turn],
     voice: usize,
-    opening: S::Value,
+    opening: Option<S::Value>,
 ) -> Result<Vec<(Grains, S::Value)>, AllocError>
     requires stages { All (λ turn. IsStage turn.stage.now) turns.now }
     requires in_time { length_along (stages_in turns.now) ≤ grains_of_the_latest_end }
     ensures { IfOk result (λ sets. sets.items
-        ≡ (record { 0 = 0 }, opening) ∷ set_by_one S.value_of voice 0 (stages_in turns.now)) }
+        ≡ behind opening (set_by_one S.value_of voice 0 (stages_in turns.now))) }
 {
-    let mut sets = Vec::new(alloc);
-    sets.push((Grains(0), opening))?;
-    let mut at = Grains(0);
-    for turn in turns {
-        put_stage::<S>(&mut sets, at, turn.stage, voice)?;
-        at.0 += turn.stage.longest.0;
-    }
+    let mut sets = opened::<S>(alloc, opening)?;
+    put_stages::<S>(&mut sets, turns, voice)?;
     Ok(sets)
 }

@@ -8,13 +8,13 @@ use abc_music::Item;
 use abc_repeat::Mark;
 use abc_time::Grains;
 
-/// Whether it is a field that is played with the notes.
+/// Whether it is a field or a directive that is played with the notes.
 pub(crate) fn is_field(item: &Item) -> bool
     ensures { result ≡ is_field item.now }
 {
     matches!(
         item,
-        Item::Tempo { .. } | Item::Meter { .. } | Item::Key { .. }
+        Item::Tempo { .. } | Item::Meter { .. } | Item::Key { .. } | Item::Program { .. }
     )
 }
 

@@ -45,6 +45,7 @@ fn begin_note(
         key,
         on: at,
         off: Grains(at.0 + tone.length.0),
+        velocity: tone.velocity,
     };
     if let Some(place) = next_place(tone.tied, key, next) {
         note.off = next.remove(place).off;

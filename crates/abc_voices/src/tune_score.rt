@@ -4,13 +4,14 @@ ghost use Rattle.std.specs.Prelude.{true, ◌≡◌, ◌≢◌, ◌<◌, ◌≤�
 ghost use Rattle.std.specs.List.{flat_map};
 ghost use Rattle.abc_time.specs.Grains.{grains_of_the_latest_end};
 ghost use Rattle.abc_voices.specs.declared.stage.StageFault.TheVariants.{TooMany, TooLate};
-ghost use Rattle.abc_voices.specs.Turns.{IsStage, IsSteady, stages_in, length_along, voices_along, changes_along, end_along, score_along};
+ghost use Rattle.abc_voices.specs.Turns.{IsStage, IsSteady, PlaysNone, stages_in, length_along, voices_along, changes_along, end_along, score_along};
 ghost use Rattle.abc_voices.specs.Arrange.{last_off};
-ghost use Rattle.abc_voices.specs.Fields.{is_steady};
+ghost use Rattle.abc_voices.specs.Fields.{is_steady, sets_program, keeps_programs};
 
 use crate::change::{Keys, Meters};
 use crate::fields::is_steady;
 use crate::opening::{opening_key, opening_meter, opening_tempo, title_of};
+use crate::programs::voices_programs;
 use crate::score::{Change, Score, Sounding};
 use crate::score_changes::changes_that_stand;
 use crate::setting::{one_along, tempos_along};
@@ -47,8 +48,8 @@ fn changes_along(
         return changes_that_stand(alloc, &[(start, tempo)], &[(start, meter)], &[(start, key)]);
     }
     let tempos = tempos_along(alloc, turns, tempo)?;
-    let meters = one_along::<Meters>(alloc, turns, first, meter)?;
-    let keys = one_along::<Keys>(alloc, turns, first, key)?;
+    let meters = one_along::<Meters>(alloc, turns, first, Some(meter))?;
+    let keys = one_along::<Keys>(alloc, turns, first, Some(key))?;
     changes_that_stand(alloc, &tempos, &meters, &keys)
 }
 
@@ -78,6 +79,7 @@ pub(crate) fn score_along(
     requires total { total.0 ≡ length_along (stages_in turns.now) }
     requires in_time { total.0 ≤ grains_of_the_latest_end }
     requires steady { is_steady (λ step. step.now) given.now ≡ true → All IsSteady (stages_in turns.now) }
+    requires kept { keeps_programs (λ step. step.now) given.now ≡ true → All (PlaysNone sets_program) (stages_in turns.now) }
     requires voices { first ≤ count }
     ensures value { IfOk result (λ score. score ≡ score_along given.now first count (stages_in turns.now)) }
     ensures in_time { IfOk result (λ score. score.end.0 ≤ grains_of_the_latest_end) }
@@ -91,11 +93,13 @@ pub(crate) fn score_along(
         return Err(StageFault::TooLate);
     }
     let changes = changes_along(alloc, given, turns, first)?;
+    let programs = voices_programs(alloc, given, turns, first, count)?;
     let title = Sequence::from_slice(alloc, title_of(given))?;
     Ok(Score {
         title,
         end,
         conductor: Sequence::from(changes),
         voices,
+        programs,
     })
 }

@@ -1,19 +1,24 @@
 -- Items of tunes as the worked examples write them: a note lasts one grain. Our own.
-use Rattle.std.specs.Prelude.{ℕ, pos, Bool, true, false, List, [], ◌∷◌, Option, Some}
+use Rattle.std.specs.Prelude.{ℕ, pos, Bool, true, false, List, [], ◌∷◌, Option, Some, None}
 use Rattle.abc_music.specs.declared.item.Item.{Item}
 use Rattle.abc_music.specs.declared.item.Item.TheVariants as items
 use Rattle.abc_music.specs.declared.item.Tone.{Tone}
 use Rattle.abc_voices.specs.declared.score.Change.{Change}
 use Rattle.abc_voices.specs.declared.score.ChangeKind.TheVariants as kinds
+use Rattle.abc_voices.specs.declared.score.ProgramChange.{ProgramChange}
 use Rattle.abc_voices.specs.declared.score.Sounding.{Sounding}
 
 -- The items of a tune are what they are.
 abbrev pub own : Item → Item
 own item = item
 
--- A tone of a key, or a silent one, of so many grains, that is tied or not.
+-- A tone of a key, or a silent one, of so many grains, that is tied or not, with a velocity, and one with that of a tune
+-- without dynamics.
+abbrev pub tone_with : ℕ → Option ℕ → ℕ → Bool → Tone
+tone_with velocity key grains tied = record { key = key; length = record { 0 = grains }; tied = tied; velocity = velocity }
+
 abbrev pub tone : Option ℕ → ℕ → Bool → Tone
-tone key grains tied = record { key = key; length = record { 0 = grains }; tied = tied }
+tone key grains tied = tone_with 80 key grains tied
 
 -- Tones that sound together, one grain long.
 abbrev pub chord : List Tone → Item
@@ -25,6 +30,17 @@ note key = chord (tone (Some key) 1 false ∷ [])
 
 abbrev pub tied : ℕ → Item
 tied key = chord (tone (Some key) 1 true ∷ [])
+
+-- The same with a velocity.
+abbrev pub note_with : ℕ → ℕ → Item
+note_with velocity key = chord (tone_with velocity (Some key) 1 false ∷ [])
+
+abbrev pub tied_with : ℕ → ℕ → Item
+tied_with velocity key = chord (tone_with velocity (Some key) 1 true ∷ [])
+
+-- A note of a key that lasts for a tick.
+abbrev pub held : ℕ → Item
+held key = items.Tone (tone (Some key) 484323840 false ∷ []) (record { 0 = 484323840 })
 
 -- A rest, and a rest of bars.
 abbrev pub rest : Item
@@ -77,9 +93,25 @@ declared_1 = items.Voice true (49 ∷ [])
 abbrev pub tempo : ℕ → Item
 tempo micros = items.Tempo false (Some micros) false
 
--- A key that sounds from one grain to another.
+-- A program of the header, and of the body, and one of each that is refused.
+abbrev pub opening_program : ℕ → Item
+opening_program number = items.Program true (Some number)
+
+abbrev pub program : ℕ → Item
+program number = items.Program false (Some number)
+
+abbrev pub refused_opening : Item
+refused_opening = items.Program true None
+
+abbrev pub refused : Item
+refused = items.Program false None
+
+-- A key that sounds from one grain to another, with a velocity, and with that of a tune without dynamics.
+abbrev pub sounding_with : ℕ → ℕ → ℕ → ℕ → Sounding
+sounding_with velocity key on off = record { key = key; on = record { 0 = on }; off = record { 0 = off }; velocity = velocity }
+
 abbrev pub sounding : ℕ → ℕ → ℕ → Sounding
-sounding key on off = record { key = key; on = record { 0 = on }; off = record { 0 = off } }
+sounding key on off = sounding_with 80 key on off
 
 -- A tempo and a key without sharps at a grain.
 abbrev pub tempo_change : ℕ → ℕ → Change
@@ -87,3 +119,7 @@ tempo_change at micros = record { at = record { 0 = at }; what = kinds.Tempo mic
 
 abbrev pub key_change : ℕ → Change
 key_change at = record { at = record { 0 = at }; what = kinds.Key (pos 0) false }
+
+-- A program at a grain.
+abbrev pub program_change : ℕ → ℕ → ProgramChange
+program_change at number = record { at = record { 0 = at }; number = number }

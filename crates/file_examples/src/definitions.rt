@@ -75,8 +75,8 @@ pub fn changes_that_a_file_can_hold()
 
 /// At one tick offs come before ons, and each by key; the end comes last. Our own.
 pub fn the_order_at_a_tick()
-    ensures { in_order (end_event 240 ∷ note_on 0 62 240 ∷ note_off 0 64 240 ∷ note_on 0 60 240 ∷ note_off 0 60 240 ∷ note_on 0 64 0 ∷ [])
-        ≡ note_on 0 64 0 ∷ note_off 0 60 240 ∷ note_off 0 64 240 ∷ note_on 0 60 240 ∷ note_on 0 62 240 ∷ end_event 240 ∷ [] }
+    ensures { in_order (end_event 240 ∷ note_on 0 62 80 240 ∷ note_off 0 64 240 ∷ note_on 0 60 80 240 ∷ note_off 0 60 240 ∷ note_on 0 64 80 0 ∷ [])
+        ≡ note_on 0 64 80 0 ∷ note_off 0 60 240 ∷ note_off 0 64 240 ∷ note_on 0 60 80 240 ∷ note_on 0 62 80 240 ∷ end_event 240 ∷ [] }
 {}
 
 /// At tick 0 the title comes before the tempo, and the tempo before the meter and the key, in whatever order they are
@@ -90,14 +90,14 @@ pub fn the_order_of_an_opening()
 /// Two notes of 240 ticks, one behind the other: the first ends before the second begins. SMF 1.0; the order is our
 /// own.
 pub fn notes_in_turn()
-    ensures { encode_upper (track_body 480 (voice_events 0 (sounding 60 0 240 ∷ sounding 62 240 480 ∷ [])))
+    ensures { encode_upper (track_body 480 (voice_events 0 [] (sounding 60 0 240 ∷ sounding 62 240 480 ∷ [])))
         ≡ codes "00903C508170803C4000903E508170803E4000FF2F00" }
 {}
 
 /// A note whose on and off fall on one tick is not written, also where its moments differ. Our own.
 pub fn a_note_within_a_tick()
     ensures same_moment { note_events 0 (sounding 60 240 240) ≡ [] }
-    ensures later_grain { note_events 0 (record { key = 60; on = record { 0 = 484323840 }; off = record { 0 = 968647679 } }) ≡ [] }
+    ensures later_grain { note_events 0 (record { key = 60; on = record { 0 = 484323840 }; off = record { 0 = 968647679 }; velocity = 80 }) ≡ [] }
 {}
 
 /// The ninth voice has channel 8 and the tenth channel 10, since the tenth channel is for percussion. General MIDI.
@@ -106,8 +106,8 @@ pub fn channels()
     ensures ninth { channel_of 8 ≡ 8 }
     ensures tenth { channel_of 9 ≡ 10 }
     ensures fifteenth { channel_of 14 ≡ 15 }
-    ensures ninth_on { (note_on (channel_of 8) 60 0).bytes ≡ 0x98 ∷ 0x3C ∷ 0x50 ∷ [] }
-    ensures tenth_on { (note_on (channel_of 9) 60 0).bytes ≡ 0x9A ∷ 0x3C ∷ 0x50 ∷ [] }
+    ensures ninth_on { (note_on (channel_of 8) 60 80 0).bytes ≡ 0x98 ∷ 0x3C ∷ 0x50 ∷ [] }
+    ensures tenth_on { (note_on (channel_of 9) 60 80 0).bytes ≡ 0x9A ∷ 0x3C ∷ 0x50 ∷ [] }
 {}
 
 /// No title, no event. Our own.
@@ -129,6 +129,7 @@ pub fn the_first_file()
       end = record { 0 = 116237721600 };
       conductor = change_at 0 (Tempo 500000) ∷ change_at 0 (Key (pos 0) false) ∷ [];
       voices = (sounding 60 0 240 ∷ []) ∷ [];
+      programs = [] ∷ [];
     }))
         ≡ codes "4D546864000000060001000201E04D54726B0000001700FF03014100FF510307A12000FF590200008170FF2F004D54726B0000000D00903C508170803C4000FF2F00" }
 {}
@@ -136,7 +137,7 @@ pub fn the_first_file()
 /// Seven notes in the time of four: each moment is rounded down by itself, so that they last 137 ticks, and the last one
 /// 138. The bytes are those of a second compiler.
 pub fn moments_rounded_down()
-    ensures { encode_upper (track 960 (voice_events 0 (
+    ensures { encode_upper (track 960 (voice_events 0 [] (
         seventh 60 0 ∷ seventh 62 1 ∷ seventh 64 2 ∷ seventh 65 3 ∷ seventh 67 4 ∷ seventh 69 5 ∷ seventh 71 6 ∷ [])))
         ≡ codes "4D54726B0000004300903C508109803C4000903E508109803E4000904050810980404000904150810980414000904350810980434000904550810980454000904750810A80474000FF2F00" }
 {}
@@ -154,7 +155,7 @@ pub fn changes_at_one_tick()
 /// Notes in no order, several at one tick, and two that begin and end within one tick. The bytes are those of a second
 /// compiler.
 pub fn notes_at_one_tick()
-    ensures { encode_upper (track 960 (voice_events 0 (
+    ensures { encode_upper (track 960 (voice_events 0 [] (
         sounding 64 0 480 ∷ sounding 60 0 480 ∷ sounding 67 480 960 ∷ sounding 60 480 481 ∷ sounding 61 480 480
         ∷ sounding 127 960 960 ∷ sounding 0 0 960 ∷ [])))
         ≡ codes "4D54726B0000002E0090005000903C50009040508360803C400080404000903C500090435001803C40835F8000400080434000FF2F00" }
@@ -167,6 +168,7 @@ pub fn the_latest_end()
       end = at_tick 251658240;
       conductor = change_at 251658240 (Meter 2 1) ∷ [];
       voices = (sounding 60 0 251658240 ∷ []) ∷ [];
+      programs = [] ∷ [];
     }))
         ≡ codes "4D546864000000060001000201E04D54726B0000000FF8808000FF58040200180800FF2F004D54726B0000000F00903C50F8808000803C4000FF2F00" }
 {}
@@ -174,6 +176,6 @@ pub fn the_latest_end()
 /// The header of fifteen voices, the most, counts sixteen tracks; a voice without notes has a track of its end alone.
 /// SMF 1.0.
 pub fn fifteen_voices()
-    ensures { encode_upper (file_bytes (record { title = []; end = at_tick 0; conductor = []; voices = replicate 15 [] }))
+    ensures { encode_upper (file_bytes (record { title = []; end = at_tick 0; conductor = []; voices = replicate 15 []; programs = replicate 15 [] }))
         ≡ codes "4D546864000000060001001001E0" ++ concat (replicate 16 (codes "4D54726B0000000400FF2F00")) }
 {}

@@ -6,15 +6,15 @@ ghost use Rattle.std.specs.Prelude.{◌≡◌, true, false, [], ◌∷◌, Some,
 ghost use Rattle.std.specs.List.{list_any};
 ghost use Rattle.abc_music.specs.declared.item.Item.TheVariants as items;
 ghost use Rattle.abc_repeat.specs.Strain.{strains_of};
-ghost use Rattle.abc_voices.specs.Arrange.{changes_of, end_of, is_uneven, played_sections, set_in, voices_notes};
-ghost use Rattle.abc_voices.specs.Change.{tempo_of};
+ghost use Rattle.abc_voices.specs.Arrange.{changes_of, end_of, is_uneven, places_played, played_sections, programs_of, set_in, voices_notes};
+ghost use Rattle.abc_voices.specs.Change.{program_of, tempo_of};
 ghost use Rattle.abc_voices.specs.Endings.{between_endings_in, without_fields};
 ghost use Rattle.abc_voices.specs.EndingFields.{with_fields_in_endings};
 ghost use Rattle.abc_voices.specs.Play.{marks_of, played};
 ghost use Rattle.abc_voices.specs.Section.{part, sections};
 ghost use Rattle.abc_voices.specs.Ties.{heard, tokens_from};
 ghost use Rattle.abc_voices.specs.Track.{tracks};
-ghost use Rattle.file_examples.specs.Tunes.{own, tone, chord, note, tied, rest, bar_rest, single, opening, closing, between, double, first, second, part_a, part_b, voice_1, voice_2, declared_1, tempo, sounding, tempo_change, key_change};
+ghost use Rattle.file_examples.specs.Tunes.{own, tone, chord, note, tied, rest, bar_rest, single, opening, closing, between, double, first, second, part_a, part_b, voice_1, voice_2, declared_1, tempo, sounding, tempo_change, key_change, note_with, tied_with, held, opening_program, program, refused_opening, refused, sounding_with, program_change};
 
 /// A section begins at each part, and goes on in the voice that is the current one there. ABC 2.1 sections 3.1.9 and 7.
 pub fn sections_of_a_tune()
@@ -105,4 +105,45 @@ pub fn tempos_at_a_tick()
     ensures behind { set_in own tempo_of ([] ∷ []) ([] ∷ []) 0
         (([], opening ∷ note 69 ∷ single ∷ first ∷ note 71 ∷ closing ∷ tempo 1000000 ∷ single ∷ second ∷ note 66 ∷ double ∷ []) ∷ [])
         ≡ (record { 0 = 3 }, 1000000) ∷ [] }
+{}
+
+/// A note is as loud as its first tone, `!f!C-!p!C` and over a repeat `|:!p!C!f!C-:|`; notes that are not joined are each
+/// as loud as their own, `!f!C!p!C`. Our own.
+pub fn velocities_of_notes()
+    ensures joined { heard (tokens_from 0 (tied_with 105 60 ∷ note_with 45 60 ∷ []) []) ≡ sounding_with 105 60 0 2 ∷ [] }
+    ensures repeated { voices_notes own (opening ∷ note_with 45 60 ∷ tied_with 105 60 ∷ closing ∷ [])
+        ≡ (sounding_with 105 60 3 4 ∷ sounding_with 105 60 1 3 ∷ sounding_with 45 60 0 1 ∷ []) ∷ [] }
+    ensures apart { heard (tokens_from 0 (note_with 105 60 ∷ note_with 45 60 ∷ []) []) ≡ sounding_with 45 60 1 2 ∷ sounding_with 105 60 0 1 ∷ [] }
+{}
+
+/// A voice has the last program of its header, or the last one that it plays on the first tick in its place; one that is
+/// refused sets none. Our own.
+pub fn programs_at_the_beginning()
+    ensures none { programs_of own (note 60 ∷ []) ≡ [] ∷ [] }
+    ensures played { programs_of own (program 41 ∷ note 60 ∷ []) ≡ (program_change 0 41 ∷ []) ∷ [] }
+    ensures opening { programs_of own (opening_program 5 ∷ opening_program 7 ∷ refused_opening ∷ note 60 ∷ []) ≡ (program_change 0 7 ∷ []) ∷ [] }
+    ensures replaced { programs_of own (opening_program 5 ∷ program 3 ∷ program 41 ∷ note 60 ∷ []) ≡ (program_change 0 41 ∷ []) ∷ [] }
+    ensures on_the_tick { programs_of own (opening_program 5 ∷ note 60 ∷ program 41 ∷ note 62 ∷ []) ≡ (program_change 1 41 ∷ []) ∷ [] }
+    ensures refused { programs_of own (opening_program 5 ∷ refused ∷ note 60 ∷ []) ≡ (program_change 0 5 ∷ []) ∷ [] }
+{}
+
+/// Each voice has the programs that it plays, and none is restored at a repeat: `|:C`, program 41, `D:|E` behind program 5.
+/// Our own.
+pub fn programs_in_play()
+    ensures own { programs_of own (opening_program 5 ∷ voice_1 ∷ note 60 ∷ voice_2 ∷ program 6 ∷ note 62 ∷ [])
+        ≡ (program_change 0 5 ∷ []) ∷ (program_change 0 6 ∷ []) ∷ [] }
+    ensures repeated { programs_of own (opening_program 5 ∷ opening ∷ held 60 ∷ program 41 ∷ held 62 ∷ closing ∷ held 64 ∷ [])
+        ≡ (program_change 1452971520 41 ∷ program_change 484323840 41 ∷ program_change 0 5 ∷ []) ∷ [] }
+    ensures behind { set_in own program_of ([] ∷ []) ([] ∷ []) 0
+        (([], opening ∷ note 69 ∷ single ∷ first ∷ note 71 ∷ closing ∷ program 41 ∷ single ∷ second ∷ note 66 ∷ double ∷ []) ∷ [])
+        ≡ (record { 0 = 3 }, 41) ∷ [] }
+{}
+
+/// A program takes its turn in the play, also one that is refused, but no time: ties go on over it, and a voice that plays
+/// nothing else is not uneven. Our own.
+pub fn programs_take_no_time()
+    ensures places { places_played own (note 60 ∷ refused ∷ program 41 ∷ []) ≡ 3 }
+    ensures tied { heard (tokens_from 0 (tied 60 ∷ program 41 ∷ note 60 ∷ []) []) ≡ sounding 60 0 2 ∷ [] }
+    ensures even { list_any (is_uneven own ([] ∷ (49 ∷ []) ∷ (50 ∷ []) ∷ []))
+        (played_sections own (voice_1 ∷ note 60 ∷ voice_2 ∷ program 41 ∷ [])) ≡ false }
 {}

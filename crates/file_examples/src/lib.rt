@@ -6,3 +6,4 @@
 
 pub mod definitions;
 pub mod layouts;
+pub mod voice_tracks;

@@ -8,7 +8,7 @@ use Rattle.abc_fields.specs.declared.fault.FaultCode.TheVariants.{BadByte, TuneT
 use Rattle.abc_lines.specs.Text.{Text}
 use Rattle.abc_scan.specs.Class.{class_of}
 use Rattle.abc_scan.specs.declared.class.LineClass.{LineClass}
-use Rattle.abc_scan.specs.declared.class.LineClass.TheVariants.{Blank, Comment, Field, Music}
+use Rattle.abc_scan.specs.declared.class.LineClass.TheVariants.{Blank, Comment, Field, Directive, Music}
 use Rattle.abc_tunebook.specs.Book.{Book, book_of}
 use Rattle.abc_tunebook.specs.Rules.{Rules}
 use Rattle.live_examples.specs.declared.toy.Played.{Played}
@@ -31,6 +31,7 @@ abbrev pub cells_of_class : LineClass → List ℕ → List (List ℕ)
 cells_of_class Blank line = []
 cells_of_class Comment line = []
 cells_of_class (Field letter) line = line ∷ []
+cells_of_class Directive line = line ∷ []
 cells_of_class Music line = line ∷ []
 
 -- The cells of a line.
@@ -66,6 +67,7 @@ abbrev pub bytes_of_class : LineClass → Played → List ℕ
 bytes_of_class Blank one = []
 bytes_of_class Comment one = []
 bytes_of_class (Field letter) one = []
+bytes_of_class Directive one = []
 bytes_of_class Music one = one.byte ∷ one.line
 
 -- Whether a tune has too many lines for a file.

@@ -6,7 +6,7 @@ use Rattle.abc_compiler.specs.Lawful.{AreLawful}
 use Rattle.abc_fold.specs.Steps.{Steps, IsResumable, steps_of, resumable_where_equal}
 use Rattle.abc_scan.specs.Class.{class_of}
 use Rattle.abc_scan.specs.declared.class.LineClass.{LineClass}
-use Rattle.abc_scan.specs.declared.class.LineClass.TheVariants.{Blank, Comment, Field, Music}
+use Rattle.abc_scan.specs.declared.class.LineClass.TheVariants.{Blank, Comment, Field, Directive, Music}
 use Rattle.live_examples.specs.declared.toy.Played.{Played}
 use Rattle.live_examples.specs.Toy.{cells_of, cells_of_class, next_byte, no_byte, played, toy_rules}
 
@@ -22,6 +22,7 @@ silent_class : (class : LineClass) (line : List ℕ) → (cells_of_class class l
 silent_class Blank line = (λ none. inl refl, λ silent. refl)
 silent_class Comment line = (λ none. inr refl, λ silent. refl)
 silent_class (Field letter) line = (λ none. absurd cc, λ silent. elim silent [ inl blank ↦ absurd cc | inr comment ↦ absurd cc ])
+silent_class Directive line = (λ none. absurd cc, λ silent. elim silent [ inl blank ↦ absurd cc | inr comment ↦ absurd cc ])
 silent_class Music line = (λ none. absurd cc, λ silent. elim silent [ inl blank ↦ absurd cc | inr comment ↦ absurd cc ])
 
 pub toy_without_cells : (line : List ℕ) → (cells_of line ≡ []) ↔ ((class_of line ≡ Blank) ⊎ (class_of line ≡ Comment))

@@ -47,7 +47,7 @@ fn items_of(
     let mut items = Vec::new(alloc);
     match class_of(line) {
         LineClass::Blank | LineClass::Comment => Ok(items),
-        LineClass::Field(_) | LineClass::Music => {
+        LineClass::Field(_) | LineClass::Directive | LineClass::Music => {
             let cell = Sequence::from_slice(alloc, line)?;
             let (_, played) = Toy.step(alloc, &byte, &cell, work)?;
             items.push(played)?;

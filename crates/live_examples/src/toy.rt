@@ -134,7 +134,7 @@ fn cells_of(alloc: Global, line: &[u8]) -> Result<Vec<Sequence<u8>>, AllocError>
     let mut cells = Vec::new(alloc);
     match class_of(line) {
         LineClass::Blank | LineClass::Comment => Ok(cells),
-        LineClass::Field(_) | LineClass::Music => {
+        LineClass::Field(_) | LineClass::Directive | LineClass::Music => {
             cells.push(Sequence::from_slice(alloc, line)?)?;
             Ok(cells)
         }
@@ -153,7 +153,7 @@ fn put_line(file: &mut Sequence<u8>, one: &Played) -> Result<(), AllocError>
     ensures { OnOk result (file.new ≡ file.old ++ bytes_of_class (class_of one.now.line) one.now) }
 {
     match class_of(one.line.as_slice()) {
-        LineClass::Blank | LineClass::Comment | LineClass::Field(_) => Ok(()),
+        LineClass::Blank | LineClass::Comment | LineClass::Field(_) | LineClass::Directive => Ok(()),
         LineClass::Music => {
             file.push(one.byte)?;
             put_bytes(file, one.line.as_slice())

@@ -18,11 +18,11 @@ unfolding header
 header_put out tracks = regroup out (codes "MThd") (big_bytes 4 6) (big_bytes 2 1) (big_bytes 2 tracks) (big_bytes 2 480)
 
 -- the file up to the voices, and the voices
-pub opened : (score : Score) (fresh head out : List ℕ) (count tick : ℕ) (events : List Event) → fresh ≡ [] → count ≡ length score.voices → head ≡ fresh ++ header (count + 1) → tick ≡ tick_at score.end.0 → events ≡ conductor_events score.title score.conductor → out ≡ head ++ track tick events → out ++ voice_tracks (tick_at score.end.0) 0 score.voices ≡ file_bytes score
+pub opened : (score : Score) (fresh head out : List ℕ) (count tick : ℕ) (events : List Event) → fresh ≡ [] → count ≡ length score.voices → head ≡ fresh ++ header (count + 1) → tick ≡ tick_at score.end.0 → events ≡ conductor_events score.title score.conductor → out ≡ head ++ track tick events → out ++ voice_tracks (tick_at score.end.0) 0 score.programs score.voices ≡ file_bytes score
 unfolding file_bytes
 opened score fresh head out count tick events e f g h i j =
     let first : head ≡ header (length score.voices + 1) = g ∙ ap (λ l. l ++ header (count + 1)) e ∙ ap (λ n. header (n + 1)) f in
     let second : track tick events ≡ track (tick_at score.end.0) (conductor_events score.title score.conductor) =
     ap (λ t. track t events) h ∙ ap (track (tick_at score.end.0)) i in
-    ap (λ l. l ++ voice_tracks (tick_at score.end.0) 0 score.voices)
+    ap (λ l. l ++ voice_tracks (tick_at score.end.0) 0 score.programs score.voices)
     (j ∙ ap (λ l. l ++ track tick events) first ∙ ap (λ l. header (length score.voices + 1) ++ l) second)

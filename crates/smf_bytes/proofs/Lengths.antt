@@ -1,5 +1,5 @@
 -- Events within the limits end in time, and their tracks are not too long.
-use Rattle.std.proofs.Common.{◌≡◌, ℕ, zero, suc, ◌+◌, ◌-◌, ◌*◌, ◌/◌, ◌%◌, ◌^◌, ◌<◌, ◌≤◌, ◌==◌, cond, inl, inr, List, [], ◌∷◌, ◌++◌, length, map, arith, length-append, refl, sym, ap, subst}
+use Rattle.std.proofs.Common.{◌≡◌, ℕ, zero, suc, ◌+◌, ◌-◌, ◌*◌, ◌/◌, ◌%◌, ◌^◌, ◌<◌, ◌≤◌, ◌==◌, cond, inl, inr, List, [], ◌∷◌, ◌++◌, length, flat_map, map, arith, length-append, refl, sym, ap, subst}
 use Rattle.std.specs.List.{All}
 use Rattle.std.specs.Int.{w8, trailing_zeros, cast_unsigned}
 use Rattle.byteorder.specs.Endian.{big_bytes}
@@ -11,11 +11,12 @@ use Rattle.smf_bytes.specs.declared.event.Event.{Event}
 use Rattle.abc_voices.specs.declared.score.Change.{Change}
 use Rattle.abc_voices.specs.declared.score.ChangeKind.{ChangeKind}
 use Rattle.abc_voices.specs.declared.score.ChangeKind.TheVariants.{Tempo, Meter, Key}
+use Rattle.abc_voices.specs.declared.score.ProgramChange.{ProgramChange}
 use Rattle.abc_voices.specs.declared.score.Sounding.{Sounding}
 use Rattle.smf_bytes.specs.Number.{leading_bytes, number_text}
 use Rattle.smf_bytes.specs.Order.{insert_event, in_order}
-use Rattle.smf_bytes.specs.Event.{meta_event, title_events, change_bytes, change_event, note_events, note_off, note_on, end_event}
-use Rattle.abc_voices.specs.Limits.{IsChangeWithin, IsSoundingWithin}
+use Rattle.smf_bytes.specs.Event.{meta_event, title_events, change_bytes, change_event, note_events, note_off, note_on, program_event, end_event}
+use Rattle.abc_voices.specs.Limits.{IsChangeWithin, IsProgramWithin, IsSoundingWithin}
 use Rattle.smf_bytes.specs.Track.{timed, track_body, conductor_events, voice_events}
 use Rattle.smf_bytes.proofs.Ordered.{less, past, here}
 
@@ -104,18 +105,29 @@ conductor_length end title changes short few =
 note_room : (channel : ℕ) (note : Sounding) → room (note_events channel note) ≤ 14
 note_room channel note =
     elim (cases_Bool (tick_at note.on.0 == tick_at note.off.0)) [
-      | inl same ↦ omega (arith, ap room (ap (λ b. cond b [] (note_on channel note.key (tick_at note.on.0) ∷ note_off channel note.key (tick_at note.off.0) ∷ [])) same))
-      | inr other ↦ omega (arith, ap room (ap (λ b. cond b [] (note_on channel note.key (tick_at note.on.0) ∷ note_off channel note.key (tick_at note.off.0) ∷ [])) other))
+      | inl same ↦ omega (arith, ap room (ap (λ b. cond b [] (note_on channel note.key note.velocity (tick_at note.on.0) ∷ note_off channel note.key (tick_at note.off.0) ∷ [])) same))
+      | inr other ↦ omega (arith, ap room (ap (λ b. cond b [] (note_on channel note.key note.velocity (tick_at note.on.0) ∷ note_off channel note.key (tick_at note.off.0) ∷ [])) other))
     ]
 
-notes_room : (channel : ℕ) (notes : List Sounding) → room (voice_events channel notes) ≤ 14 * length notes
+notes_room : (channel : ℕ) (notes : List Sounding) → room (flat_map (note_events channel) notes) ≤ 14 * length notes
 notes_room channel [] = omega arith
 notes_room channel (note ∷ notes) =
-    omega (arith, room-append (note_events channel note) (voice_events channel notes), note_room channel note, notes_room channel notes)
+    omega (arith, room-append (note_events channel note) (flat_map (note_events channel) notes), note_room channel note, notes_room channel notes)
+
+programs_room : (channel : ℕ) (programs : List ProgramChange) → room (map (program_event channel) programs) ≤ 6 * length programs
+programs_room channel [] = omega arith
+programs_room channel (change ∷ programs) = omega (arith, programs_room channel programs)
 
 -- a voice's track length fits 32 bits
-pub voice_length : (end channel : ℕ) (notes : List Sounding) → length notes ≤ 16000000 → length (track_body end (voice_events channel notes)) < 2 ^ 32
-voice_length end channel notes few = omega (arith, body_length end (voice_events channel notes), notes_room channel notes)
+pub voice_length : (end channel : ℕ) (programs : List ProgramChange) (notes : List Sounding) → length programs ≤ 1000001 → length notes ≤ 16000000 → length (track_body end (voice_events channel programs notes)) < 2 ^ 32
+voice_length end channel programs notes rare few =
+    omega (
+      arith,
+      body_length end (voice_events channel programs notes),
+      room-append (map (program_event channel) programs) (flat_map (note_events channel) notes),
+      programs_room channel programs,
+      notes_room channel notes,
+    )
 
 -- no event comes after the tick
 abbrev pub EndBy : ℕ → List Event → Type 0
@@ -140,7 +152,7 @@ conductor_ticks end title changes within =
 note_ticks : (end : Grains) (channel : ℕ) (note : Sounding) → IsSoundingWithin end note → EndBy (tick_at end.0) (note_events channel note)
 note_ticks end channel note within =
     let P : Event → Type 0 = λ event. event.tick ≤ tick_at end.0 in
-    let on = note_on channel note.key (tick_at note.on.0) in
+    let on = note_on channel note.key note.velocity (tick_at note.on.0) in
     let off = note_off channel note.key (tick_at note.off.0) in
     let off_in_time : tick_at note.off.0 ≤ tick_at end.0 = tick_at-le note.off.0 end.0 within.before_end in
     let on_in_time : tick_at note.on.0 ≤ tick_at end.0 = tick_at-le note.on.0 end.0 (omega (arith, within.forward, within.before_end)) in
@@ -149,9 +161,22 @@ note_ticks end channel note within =
       | inr other ↦ subst (All P) (sym (ap (λ b. cond b [] (on ∷ off ∷ [])) other)) (All-cons P on (off ∷ []) on_in_time (All-cons P off [] off_in_time (All-nil P)))
     ]
 
-pub voice_ticks : (end : Grains) (channel : ℕ) (notes : List Sounding) → All (IsSoundingWithin end) notes → EndBy (tick_at end.0) (voice_events channel notes)
-voice_ticks end channel [] within = All-nil (λ event. event.tick ≤ tick_at end.0)
-voice_ticks end channel (note ∷ notes) within =
-    All-append (λ event. event.tick ≤ tick_at end.0) (note_events channel note) (voice_events channel notes)
+notes_ticks : (end : Grains) (channel : ℕ) (notes : List Sounding) → All (IsSoundingWithin end) notes → EndBy (tick_at end.0) (flat_map (note_events channel) notes)
+notes_ticks end channel [] within = All-nil (λ event. event.tick ≤ tick_at end.0)
+notes_ticks end channel (note ∷ notes) within =
+    All-append (λ event. event.tick ≤ tick_at end.0) (note_events channel note) (flat_map (note_events channel) notes)
     (note_ticks end channel note (All-head (IsSoundingWithin end) note notes within))
-    (voice_ticks end channel notes (All-tail (IsSoundingWithin end) note notes within))
+    (notes_ticks end channel notes (All-tail (IsSoundingWithin end) note notes within))
+
+programs_ticks : (end : Grains) (channel : ℕ) (programs : List ProgramChange) → All (IsProgramWithin end) programs → EndBy (tick_at end.0) (map (program_event channel) programs)
+programs_ticks end channel [] within = All-nil (λ event. event.tick ≤ tick_at end.0)
+programs_ticks end channel (change ∷ programs) within =
+    All-cons (λ event. event.tick ≤ tick_at end.0) (program_event channel change) (map (program_event channel) programs)
+    (tick_at-le change.at.0 end.0 (All-head (IsProgramWithin end) change programs within).before_end)
+    (programs_ticks end channel programs (All-tail (IsProgramWithin end) change programs within))
+
+pub voice_ticks : (end : Grains) (channel : ℕ) (programs : List ProgramChange) (notes : List Sounding) → All (IsProgramWithin end) programs → All (IsSoundingWithin end) notes
+    → EndBy (tick_at end.0) (voice_events channel programs notes)
+voice_ticks end channel programs notes first within =
+    All-append (λ event. event.tick ≤ tick_at end.0) (map (program_event channel) programs) (flat_map (note_events channel) notes)
+    (programs_ticks end channel programs first) (notes_ticks end channel notes within)

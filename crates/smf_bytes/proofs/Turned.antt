@@ -1,9 +1,8 @@
 -- A voice's events in another order: its notes taken from the last to the first.
-use Rattle.std.proofs.Common.{◌≡◌, ℕ, ◌≤◌, ◌==◌, Bool, true, false, cond, arith, List, [], ◌∷◌, ◌++◌, length, map, refl, sym, ap, subst, ◌∙◌}
+use Rattle.std.proofs.Common.{◌≡◌, ℕ, ◌==◌, true, false, cond, List, [], ◌∷◌, ◌++◌, length, flat_map, map, refl, sym, ap, subst, ◌∙◌}
 use Rattle.std.specs.Prelude.{All, IsPermutation, codes, take}
 use Rattle.std.proofs.Math.Seq.{take-append_seam}
 use Rattle.byteorder.specs.Endian.{big_bytes}
-use Rattle.std.proofs.lemmas.Bool.Decides.{nat_tests}
 use Rattle.std.proofs.lemmas.Grind.{flat_map-append}
 use Rattle.std.proofs.lemmas.List.{append-nil, append_assoc, map-append}
 use Rattle.std.proofs.lemmas.List.Elements.{All-head, All-tail}
@@ -11,20 +10,21 @@ use Rattle.std.proofs.lemmas.List.Sorted.{All-permutation, IsPermutation-append_
 use Rattle.abc_time.specs.declared.grains.Grains.{Grains}
 use Rattle.abc_time.specs.Grains.{tick_at}
 use Rattle.abc_voices.specs.Limits.{IsSoundingWithin}
+use Rattle.abc_voices.specs.declared.score.ProgramChange.{ProgramChange}
 use Rattle.abc_voices.specs.declared.score.Sounding.{Sounding}
 use Rattle.smf_bytes.specs.declared.event.Event.{Event}
-use Rattle.smf_bytes.specs.declared.note_event.NoteEvent.{NoteEvent}
-use Rattle.smf_bytes.specs.Note.{all_ends, ends_of, event_at, is_on, key_in, note_at, tick_in}
-use Rattle.smf_bytes.specs.Event.{end_event, note_events, note_off, note_on}
+use Rattle.smf_bytes.specs.declared.voice_event.VoiceEvent.{VoiceEvent}
+use Rattle.smf_bytes.specs.declared.voice_event.VoiceEventKind.TheVariants.{NoteOff, NoteOn}
+use Rattle.smf_bytes.specs.Voice.{all_ends, all_of, change_of, ends_of, event_at}
+use Rattle.smf_bytes.specs.Event.{end_event, note_events, note_off, note_on, program_event}
 use Rattle.smf_bytes.specs.Track.{timed, track, track_body, voice_events}
-use Rattle.smf_bytes.proofs.Notes.{event_of}
 use Rattle.smf_bytes.proofs.Ordered.{in_order_permutation}
 
 ends_push : (notes : List Sounding) (note : Sounding) → all_ends (notes ++ note ∷ []) ≡ all_ends notes ++ ends_of note
 ends_push notes note = flat_map-append ends_of notes (note ∷ []) ∙ ap (λ l. all_ends notes ++ l) (append-nil (ends_of note))
 
 -- the last note's events go behind the events so far
-pub one_back : (all events events' : List NoteEvent) (left left' : List Sounding) (note : Sounding) → left ≡ left' ++ note ∷ [] → IsPermutation (events ++ ends_of note) events'
+pub one_back : (all events events' : List VoiceEvent) (left left' : List Sounding) (note : Sounding) → left ≡ left' ++ note ∷ [] → IsPermutation (events ++ ends_of note) events'
     → IsPermutation all (events ++ all_ends left) → IsPermutation all (events' ++ all_ends left')
 one_back all events events' left left' note e f p =
     let own = ends_of note in
@@ -37,39 +37,40 @@ one_back all events events' left left' note e f p =
     (IsPermutation-append_right events (others ++ own) (own ++ others) (IsPermutation-append_comm others own))))
     (IsPermutation-append_left others (events ++ own) events' f)
 
--- the parts of a number
-parts : (tick : ℕ) (on : Bool) (key : ℕ) → key ≤ 127 → (tick_in (note_at tick on key) ≡ tick) × (is_on (note_at tick on key) ≡ on) × (key_in (note_at tick on key) ≡ key)
-parts tick true key h = (omega (arith, h), grind (arith, nat_tests), omega (arith, h))
-parts tick false key h = (omega (arith, h), grind (arith, nat_tests), omega (arith, h))
-
-there : (channel tick : ℕ) (on : Bool) (key : ℕ) → key ≤ 127 → event_at channel (note_at tick on key) ≡ event_of channel tick on key
-there channel tick on key h =
-    let note = note_at tick on key in
-    let p = parts tick on key h in
-    ap (λ t. event_of channel t (is_on note) (key_in note)) p.0 ∙ ap (λ b. event_of channel tick b (key_in note)) p.1
-    ∙ ap (event_of channel tick on) p.2
-
-own_events : (channel : ℕ) (note : Sounding) → note.key ≤ 127 → map (event_at channel) (ends_of note) ≡ note_events channel note
-own_events channel note h = elim (tick_at note.on.0 == tick_at note.off.0) as (λ b. map (event_at channel) (cond b [] (note_at (tick_at note.on.0) true note.key ∷ note_at (tick_at note.off.0) false note.key ∷ [])) ≡ cond b [] (note_on channel note.key (tick_at note.on.0) ∷ note_off channel note.key (tick_at note.off.0) ∷ [])) [
+own_events : (channel : ℕ) (note : Sounding) → map (event_at channel) (ends_of note) ≡ note_events channel note
+own_events channel note = elim (tick_at note.on.0 == tick_at note.off.0) as (λ b. map (event_at channel) (cond b [] (begins note ∷ ends note ∷ [])) ≡ cond b [] (note_on channel note.key note.velocity (tick_at note.on.0) ∷ note_off channel note.key (tick_at note.off.0) ∷ [])) [
   | true ↦ refl
-  | false ↦
-      ap (λ e. e ∷ event_at channel (note_at (tick_at note.off.0) false note.key) ∷ []) (there channel (tick_at note.on.0) true note.key h)
-      ∙ ap (λ e. note_on channel note.key (tick_at note.on.0) ∷ e ∷ []) (there channel (tick_at note.off.0) false note.key h)
+  | false ↦ refl
 ]
+  where
+    begins : Sounding → VoiceEvent
+    begins note = record { tick = tick_at note.on.0; kind = NoteOn; key = note.key; value = note.velocity }
 
--- the notes of a voice as they begin and end are its events
-own_all : (channel : ℕ) (end : Grains) (notes : List Sounding) → All (IsSoundingWithin end) notes → map (event_at channel) (all_ends notes) ≡ voice_events channel notes
-own_all channel end [] within = refl
-own_all channel end (note ∷ notes) within =
-    let P = IsSoundingWithin end in
-    let this : IsSoundingWithin end note = All-head P note notes within in
+    ends : Sounding → VoiceEvent
+    ends note = record { tick = tick_at note.off.0; kind = NoteOff; key = note.key; value = 64 }
+
+-- the notes of a voice as they begin and end are their events
+own_notes : (channel : ℕ) (notes : List Sounding) → map (event_at channel) (all_ends notes) ≡ flat_map (note_events channel) notes
+own_notes channel [] = refl
+own_notes channel (note ∷ notes) =
     map-append (event_at channel) (ends_of note) (all_ends notes)
-    ∙ ap (λ l. l ++ map (event_at channel) (all_ends notes)) (own_events channel note this.key)
-    ∙ ap (λ l. note_events channel note ++ l) (own_all channel end notes (All-tail P note notes within))
+    ∙ ap (λ l. l ++ map (event_at channel) (all_ends notes)) (own_events channel note)
+    ∙ ap (λ l. note_events channel note ++ l) (own_notes channel notes)
 
-pub in_events : (channel : ℕ) (end : Grains) (notes : List Sounding) (ends : List NoteEvent) → All (IsSoundingWithin end) notes → IsPermutation (all_ends notes) ends → IsPermutation (voice_events channel notes) (map (event_at channel) ends)
-in_events channel end notes ends within p =
-    subst (λ (l : List Event). IsPermutation l (map (event_at channel) ends)) (own_all channel end notes within) (IsPermutation-map (event_at channel) (all_ends notes) ends p)
+own_programs : (channel : ℕ) (programs : List ProgramChange) → map (event_at channel) (map change_of programs) ≡ map (program_event channel) programs
+own_programs channel [] = refl
+own_programs channel (change ∷ programs) = ap (λ l. program_event channel change ∷ l) (own_programs channel programs)
+
+own_all : (channel : ℕ) (programs : List ProgramChange) (notes : List Sounding) → map (event_at channel) (all_of programs notes) ≡ voice_events channel programs notes
+own_all channel programs notes =
+    map-append (event_at channel) (map change_of programs) (all_ends notes)
+    ∙ ap (λ l. l ++ map (event_at channel) (all_ends notes)) (own_programs channel programs)
+    ∙ ap (λ l. map (program_event channel) programs ++ l) (own_notes channel notes)
+
+pub in_events : (channel : ℕ) (programs : List ProgramChange) (notes : List Sounding) (events : List VoiceEvent) → IsPermutation (all_of programs notes) events
+    → IsPermutation (voice_events channel programs notes) (map (event_at channel) events)
+in_events channel programs notes events p =
+    subst (λ (l : List Event). IsPermutation l (map (event_at channel) events)) (own_all channel programs notes) (IsPermutation-map (event_at channel) (all_of programs notes) events p)
 
 -- events in another order make the same track
 pub same_body : (end : ℕ) (xs ys : List Event) → IsPermutation xs ys → track_body end xs ≡ track_body end ys
@@ -88,5 +89,5 @@ last_within end left left' note e within =
     (All-head P note left' turned, All-tail P note left' turned)
 
 -- what a slice of all items leaves of them
-pub restored : (n : ℕ) (ys rest : List NoteEvent) → length ys ≡ n → take n (ys ++ rest) ≡ ys
+pub restored : (n : ℕ) (ys rest : List VoiceEvent) → length ys ≡ n → take n (ys ++ rest) ≡ ys
 restored n ys rest h = subst (λ m. take m (ys ++ rest) ≡ ys) h (take-append_seam ys rest)

@@ -7,6 +7,7 @@ use Rattle.smf_bytes.specs.declared.event.Event.{Event}
 use Rattle.abc_voices.specs.declared.score.Change.{Change}
 use Rattle.abc_voices.specs.declared.score.ChangeKind.{ChangeKind}
 use Rattle.abc_voices.specs.declared.score.ChangeKind.TheVariants.{Tempo, Meter, Key}
+use Rattle.abc_voices.specs.declared.score.ProgramChange.{ProgramChange}
 use Rattle.abc_voices.specs.declared.score.Sounding.{Sounding}
 use Rattle.smf_bytes.specs.Number.{number_text}
 
@@ -42,15 +43,25 @@ change_event change =
 abbrev pub note_off : ℕ → ℕ → ℕ → Event
 note_off channel key tick = record { tick = tick; class = 1; key = key; bytes = (128 + channel) ∷ key ∷ 64 ∷ [] }
 
--- Note on, 9c kk vv, with the velocity 80 (SMF 1.0; the velocity is our own).
-abbrev pub note_on : ℕ → ℕ → ℕ → Event
-note_on channel key tick = record { tick = tick; class = 2; key = key; bytes = (144 + channel) ∷ key ∷ 80 ∷ [] }
+-- Program change, Cc pp (SMF 1.0). At one tick it comes behind the notes off and before the notes on. Our own.
+abbrev pub program_change : ℕ → ℕ → ℕ → Event
+program_change channel number tick =
+    record { tick = tick; class = 2; key = 0; bytes = (192 + channel) ∷ number ∷ [] }
+
+-- Note on, 9c kk vv, with the velocity vv (SMF 1.0).
+abbrev pub note_on : ℕ → ℕ → ℕ → ℕ → Event
+note_on channel key velocity tick =
+    record { tick = tick; class = 3; key = key; bytes = (144 + channel) ∷ key ∷ velocity ∷ [] }
 
 -- A note is its on and its off, unless both fall on one tick: then it is not written. Our own.
 abbrev pub note_events : ℕ → Sounding → List Event
 note_events channel note =
     if tick_at note.on.0 == tick_at note.off.0 then [] else
-    note_on channel note.key (tick_at note.on.0) ∷ note_off channel note.key (tick_at note.off.0) ∷ []
+    note_on channel note.key note.velocity (tick_at note.on.0) ∷ note_off channel note.key (tick_at note.off.0) ∷ []
+
+-- A voice's change of program as an event, at the tick of its moment. Our own.
+abbrev pub program_event : ℕ → ProgramChange → Event
+program_event channel change = program_change channel change.number (tick_at change.at.0)
 
 -- The end of a track, FF 2F 00 (SMF 1.0).
 abbrev pub end_event : ℕ → Event

@@ -2,6 +2,7 @@
 use Rattle.std.specs.Prelude.{ℕ, ◌+◌, List, [], ◌∷◌, ◌++◌, length, codes}
 use Rattle.byteorder.specs.Endian.{big_bytes}
 use Rattle.abc_time.specs.Grains.{tick_at}
+use Rattle.abc_voices.specs.declared.score.ProgramChange.{ProgramChange}
 use Rattle.abc_voices.specs.declared.score.Score.{Score}
 use Rattle.abc_voices.specs.declared.score.Sounding.{Sounding}
 use Rattle.smf_bytes.specs.Track.{chunk, track, conductor_events, voice_events, channel_of}
@@ -11,11 +12,12 @@ use Rattle.smf_bytes.specs.Track.{chunk, track, conductor_events, voice_events, 
 unfoldable pub header : ℕ → List ℕ
 header tracks = chunk (codes "MThd") (big_bytes 2 1 ++ big_bytes 2 tracks ++ big_bytes 2 480)
 
--- A track for each voice, from the voice of this place on.
-abbrev pub voice_tracks : ℕ → ℕ → List (List Sounding) → List ℕ
-voice_tracks end place [] = []
-voice_tracks end place (notes ∷ voices) =
-    track end (voice_events (channel_of place) notes) ++ voice_tracks end (place + 1) voices
+-- A track for each voice, from the voice of this place on, with the programs of the same place: there are as many
+-- lists of them.
+abbrev pub voice_tracks : ℕ → ℕ → List (List ProgramChange) → List (List Sounding) → List ℕ
+voice_tracks end place (changes ∷ programs) (notes ∷ voices) =
+    track end (voice_events (channel_of place) changes notes) ++ voice_tracks end (place + 1) programs voices
+voice_tracks end place _ _ = []
 
 -- A file is its chunks one after another: the header, the conductor's track, the voices' tracks. All
 -- tracks end with the tune.
@@ -23,4 +25,4 @@ unfoldable pub file_bytes : Score → List ℕ
 file_bytes score =
     header (length score.voices + 1)
     ++ track (tick_at score.end.0) (conductor_events score.title score.conductor)
-    ++ voice_tracks (tick_at score.end.0) 0 score.voices
+    ++ voice_tracks (tick_at score.end.0) 0 score.programs score.voices

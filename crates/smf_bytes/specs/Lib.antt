@@ -1,7 +1,7 @@
 pub mod Event
 pub mod File
-pub mod Note
 pub mod Number
 pub mod Order
 pub mod Track
+pub mod Voice
 pub mod Written

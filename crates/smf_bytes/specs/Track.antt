@@ -3,10 +3,11 @@ use Rattle.std.specs.Prelude.{ℕ, ◌+◌, ◌-◌, nat_lt, if◌then◌else◌
 use Rattle.byteorder.specs.Endian.{big_bytes}
 use Rattle.smf_bytes.specs.declared.event.Event.{Event}
 use Rattle.abc_voices.specs.declared.score.Change.{Change}
+use Rattle.abc_voices.specs.declared.score.ProgramChange.{ProgramChange}
 use Rattle.abc_voices.specs.declared.score.Sounding.{Sounding}
 use Rattle.smf_bytes.specs.Number.{number_text}
 use Rattle.smf_bytes.specs.Order.{in_order}
-use Rattle.smf_bytes.specs.Event.{title_events, change_event, note_events, end_event}
+use Rattle.smf_bytes.specs.Event.{title_events, change_event, note_events, program_event, end_event}
 
 -- A chunk: four bytes that say its type, its length in 32 bits, its bytes (SMF 1.0).
 abbrev pub chunk : List ℕ → List ℕ → List ℕ
@@ -29,9 +30,9 @@ track end events = chunk (codes "MTrk") (track_body end events)
 abbrev pub conductor_events : List ℕ → List Change → List Event
 conductor_events title changes = title_events title ++ map change_event changes
 
--- The events of a voice, on a channel.
-abbrev pub voice_events : ℕ → List Sounding → List Event
-voice_events channel notes = flat_map (note_events channel) notes
+-- The events of a voice, on a channel: its changes of program, and its notes.
+abbrev pub voice_events : ℕ → List ProgramChange → List Sounding → List Event
+voice_events channel programs notes = map (program_event channel) programs ++ flat_map (note_events channel) notes
 
 -- Voices take the channels in turn from 0, without the tenth, which is for percussion (General MIDI).
 abbrev pub channel_of : ℕ → ℕ

@@ -5,7 +5,7 @@ ghost use Rattle.std.specs.Cmp.Lexicographic.{pointwise, slice_cmp, nat_list_eq_
 ghost use Rattle.std.specs.Ordering.{nat_cmp};
 ghost use Rattle.abc_voices.specs.declared.score.ChangeKind.{ChangeKind};
 ghost use Rattle.smf_bytes.specs.declared.event_bytes.TheConstants.{ROOM_IN_PLACE};
-ghost use Rattle.smf_bytes.specs.Event.{change_bytes, note_off, note_on};
+ghost use Rattle.smf_bytes.specs.Event.{change_bytes, note_off, note_on, program_change};
 
 use smallvec::SmallVec;
 use std::alloc::{AllocError, Global};
@@ -98,5 +98,6 @@ impl fmt::Debug for EventBytes {
 pub fn room_in_place()
     ensures changes { (what : ChangeKind) → length (change_bytes what) ≤ ROOM_IN_PLACE }
     ensures note_offs { (channel key tick : ℕ) → length (note_off channel key tick).bytes ≤ ROOM_IN_PLACE }
-    ensures note_ons { (channel key tick : ℕ) → length (note_on channel key tick).bytes ≤ ROOM_IN_PLACE }
+    ensures programs { (channel number tick : ℕ) → length (program_change channel number tick).bytes ≤ ROOM_IN_PLACE }
+    ensures note_ons { (channel key velocity tick : ℕ) → length (note_on channel key velocity tick).bytes ≤ ROOM_IN_PLACE }
 {}

@@ -3,7 +3,7 @@ ghost use Rattle.std.specs.Prelude.{◌≡◌, ◌≤◌, ◌<◌, ◌^◌, ◌+
 ghost use Rattle.abc_time.specs.Grains.{grains_of_the_latest_end, tick_at};
 ghost use Rattle.abc_music.specs.declared.item.TheConstants.{MOST_VOICES};
 ghost use Rattle.smf_bytes.specs.File.{header, voice_tracks, file_bytes};
-ghost use Rattle.abc_voices.specs.Limits.{IsWithinLimits, IsVoiceWithin};
+ghost use Rattle.abc_voices.specs.Limits.{AreProgramsWithin, IsWithinLimits, IsVoiceWithin};
 ghost use Rattle.smf_bytes.specs.Track.{track, voice_events, channel_of};
 
 use crate::chunk::{put_u16, put_u32};
@@ -12,7 +12,7 @@ use crate::track::{TrackEvents, put_track};
 use crate::voice::{channel, voice};
 use abc_text::Sequence;
 use abc_time::{Grains, tick_of};
-use abc_voices::{Score, Sounding};
+use abc_voices::{ProgramChange, Score, Sounding};
 use std::alloc::{AllocError, Global};
 
 /// The Standard MIDI File of a score: format 1, 480 ticks to a quarter note, first the title and the
@@ -31,8 +31,9 @@ pub fn file_of(alloc: Global, score: &Score) -> Result<Vec<u8>, AllocError>
         score.conductor.as_slice(),
     )?;
     put_track(&mut file, end, TrackEvents::Conductor(changes))?;
+    let programs = score.programs.as_slice();
     for (place, notes) in score.voices.as_slice().iter().enumerate() {
-        put_voice(alloc, &mut file, score.end, place, notes)?;
+        put_voice(alloc, &mut file, score.end, place, &programs[place], notes)?;
     }
     Ok(file)
 }
@@ -57,15 +58,17 @@ fn put_voice(
     out: &mut Vec<u8>,
     end: Grains,
     place: usize,
+    programs: &Sequence<ProgramChange>,
     notes: &Sequence<Sounding>,
 ) -> Result<(), AllocError>
     requires end { end.0 ≤ grains_of_the_latest_end }
     requires place { place < MOST_VOICES }
+    requires programs { AreProgramsWithin end programs.now }
     requires notes { IsVoiceWithin end notes.now }
     ensures { OnOk result (out.new.items
-        ≡ out.old.items ++ track (tick_at end.0) (voice_events (channel_of place) notes.now)) }
+        ≡ out.old.items ++ track (tick_at end.0) (voice_events (channel_of place) programs.now notes.now)) }
 {
     let channel = channel(place);
-    let notes = voice(alloc, end, notes.as_slice())?;
-    put_track(out, tick_of(end), TrackEvents::Voice { channel, notes })
+    let events = voice(alloc, end, programs.as_slice(), notes.as_slice())?;
+    put_track(out, tick_of(end), TrackEvents::Voice { channel, events })
 }

@@ -7,15 +7,15 @@ mod conductor;
 mod event;
 mod event_bytes;
 mod file;
-mod note_event;
 mod number;
 mod order;
 mod track;
 mod voice;
+mod voice_event;
 
 pub use abc_voices::{
-    Change, ChangeKind, LONGEST_TITLE, MOST_CHANGES, MOST_NOTES, MOST_VOICES, Score, Sounding,
-    is_within_limits, score_limits,
+    Change, ChangeKind, LONGEST_TITLE, MOST_CHANGES, MOST_NOTES, MOST_PROGRAMS, MOST_VOICES,
+    ProgramChange, Score, Sounding, is_within_limits, score_limits,
 };
 pub use event::Event;
 pub use event_bytes::{EventBytes, ROOM_IN_PLACE, room_in_place};

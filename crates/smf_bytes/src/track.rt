@@ -1,15 +1,15 @@
 //! Tracks as chunks.
 ghost use Rattle.std.specs.Prelude.{◌≡◌, ◌≤◌, ◌<◌, ◌^◌, ◌-◌, ◌++◌, ◌∷◌, [], length, map, All, OnOk};
 ghost use Rattle.smf_bytes.specs.Number.{number_text};
-ghost use Rattle.smf_bytes.specs.Note.{event_at, note_bytes};
+ghost use Rattle.smf_bytes.specs.Voice.{bytes_of, event_at};
 ghost use Rattle.smf_bytes.specs.Track.{track_body, track};
 ghost use Rattle.smf_bytes.specs.Written.{HasChannel, events_in};
 
 use crate::chunk::put_u32;
 use crate::event::Event;
-use crate::note_event::{NoteEvent, order_notes};
 use crate::number::{leading, put_number};
 use crate::order::order_events;
+use crate::voice_event::{VoiceEvent, VoiceEventKind, order_voice};
 use byteorder::{BigEndian, ByteOrder};
 use std::alloc::AllocError;
 
@@ -19,7 +19,10 @@ pub(crate) enum TrackEvents {
     /// Those of the first track.
     Conductor(Vec<Event>),
     /// Those of a voice, on a channel.
-    Voice { channel: u8, notes: Vec<NoteEvent> },
+    Voice {
+        channel: u8,
+        events: Vec<VoiceEvent>,
+    },
 }
 
 /// Appends the track of these events that ends at the tick `end`.
@@ -50,7 +53,7 @@ fn put_body(out: &mut Vec<u8>, end: u32, events: TrackEvents) -> Result<(), Allo
 {
     match events {
         TrackEvents::Conductor(events) => put_events(out, end, events),
-        TrackEvents::Voice { channel, notes } => put_notes(out, end, channel, notes),
+        TrackEvents::Voice { channel, events } => put_voice_events(out, end, channel, events),
     }
 }
 
@@ -70,38 +73,59 @@ fn put_events(out: &mut Vec<u8>, end: u32, events: Vec<Event>) -> Result<(), All
     put_end(out, end - before)
 }
 
-/// Appends the events of notes in their order, each after its delta time, and the end of the track.
-fn put_notes(
+/// Appends the events of a voice in their order, each after its delta time, and the end of the track.
+fn put_voice_events(
     out: &mut Vec<u8>,
     end: u32,
     channel: u8,
-    notes: Vec<NoteEvent>,
+    events: Vec<VoiceEvent>,
 ) -> Result<(), AllocError>
     requires channel { channel < 16 }
     requires end { end < 2 ^ 28 }
-    requires before_end { All (λ event. event.tick ≤ end) (map (event_at channel) notes.items) }
-    ensures { OnOk result (out.new.items ≡ out.old.items ++ track_body end (map (event_at channel) notes.items)) }
+    requires before_end { All (λ event. event.tick ≤ end) (map (event_at channel) events.items) }
+    ensures { OnOk result (out.new.items ≡ out.old.items ++ track_body end (map (event_at channel) events.items)) }
 {
-    let ordered = order_notes(notes)?;
+    let ordered = order_voice(events)?;
     out.reserve(5 * ordered.len())?;
     let mut before = 0;
-    for note in &ordered {
-        let tick = note.tick();
-        put_note(out, tick - before, channel, *note)?;
-        before = tick;
+    for event in &ordered {
+        let delta = event.tick - before;
+        before = event.tick;
+        put_voice_event(out, delta, channel, *event)?;
     }
     put_end(out, end - before)
 }
 
-/// Appends a note that begins or ends, so many ticks behind the event before it. A delta time of one byte or
-/// two, as most are, goes in together with the note.
-#[tactic(auto, unfolding(crate::specs::Number::number_text))]
-fn put_note(out: &mut Vec<u8>, delta: u32, channel: u8, note: NoteEvent) -> Result<(), AllocError>
+/// Appends an event of a voice, so many ticks behind the one before it.
+fn put_voice_event(
+    out: &mut Vec<u8>,
+    delta: u32,
+    channel: u8,
+    event: VoiceEvent,
+) -> Result<(), AllocError>
     requires delta { delta < 2 ^ 28 }
     requires channel { channel < 16 }
-    ensures { OnOk result (out.new.items ≡ out.old.items ++ number_text delta ++ note_bytes channel note) }
+    ensures { OnOk result (out.new.items
+        ≡ out.old.items ++ number_text delta ++ bytes_of event.kind channel event.key event.value) }
 {
-    let [status, key, velocity] = note_bytes(channel, note);
+    match event.kind {
+        VoiceEventKind::NoteOff => put_note(out, delta, [0x80 + channel, event.key, event.value]),
+        VoiceEventKind::NoteOn => put_note(out, delta, [0x90 + channel, event.key, event.value]),
+        VoiceEventKind::ProgramChange => {
+            put_number(out, delta)?;
+            out.extend_from_slice(&[0xC0 + channel, event.value])
+        }
+    }
+}
+
+/// Appends the bytes of a note that begins or ends, so many ticks behind the event before it. A delta time of one
+/// byte or two, as most are, goes in together with them.
+#[tactic(auto, unfolding(crate::specs::Number::number_text))]
+fn put_note(out: &mut Vec<u8>, delta: u32, bytes: [u8; 3]) -> Result<(), AllocError>
+    requires delta { delta < 2 ^ 28 }
+    ensures { OnOk result (out.new.items ≡ out.old.items ++ number_text delta ++ bytes) }
+{
+    let [status, key, velocity] = bytes;
     if delta < 0x80 {
         out.extend_from_slice(&[delta as u8, status, key, velocity])
     } else if delta < 0x4000 {
@@ -109,19 +133,7 @@ fn put_note(out: &mut Vec<u8>, delta: u32, channel: u8, note: NoteEvent) -> Resu
         out.extend_from_slice(&[leading(delta / 0x80), last, status, key, velocity])
     } else {
         put_number(out, delta)?;
-        out.extend_from_slice(&[status, key, velocity])
-    }
-}
-
-/// What a track holds of a note that begins or ends, after its delta time.
-fn note_bytes(channel: u8, note: NoteEvent) -> [u8; 3]
-    requires { channel < 16 }
-    ensures { result ≡ note_bytes channel note }
-{
-    if note.is_on() {
-        [0x90 + channel, note.key(), 80]
-    } else {
-        [0x80 + channel, note.key(), 64]
+        out.extend_from_slice(&bytes)
     }
 }
 

@@ -1,14 +1,14 @@
-//! The events of a voice: its notes on and off.
-ghost use Rattle.std.specs.Prelude.{◌≡◌, ◌≤◌, ◌<◌, ◌++◌, [], ◌∷◌, length, IfOk, IsPermutation, OnOk};
+//! The events of a voice: its changes of program, its notes on and off.
+ghost use Rattle.std.specs.Prelude.{◌≡◌, ◌≤◌, ◌<◌, ◌++◌, [], ◌∷◌, length, map, All, IfOk, IsPermutation, OnOk};
 ghost use Rattle.abc_time.specs.Grains.{grains_of_the_latest_end};
 ghost use Rattle.abc_music.specs.declared.item.TheConstants.{MOST_VOICES};
-ghost use Rattle.abc_voices.specs.Limits.{IsSoundingWithin, IsVoiceWithin};
-ghost use Rattle.smf_bytes.specs.Note.{all_ends, ends_of};
+ghost use Rattle.abc_voices.specs.Limits.{AreProgramsWithin, IsProgramWithin, IsSoundingWithin, IsVoiceWithin};
+ghost use Rattle.smf_bytes.specs.Voice.{all_of, change_of, ends_of};
 ghost use Rattle.smf_bytes.specs.Track.{channel_of};
 
-use crate::note_event::NoteEvent;
+use crate::voice_event::{VoiceEvent, VoiceEventKind};
 use abc_time::{Grains, tick_of};
-use abc_voices::Sounding;
+use abc_voices::{ProgramChange, Sounding};
 use std::alloc::{AllocError, Global};
 
 /// How far an event is moved back at most: over the events of a chord with as many notes as one may have.
@@ -26,26 +26,54 @@ pub(crate) fn channel(place: usize) -> u8
     }
 }
 
+/// The velocity with which each note ends. Our own.
+const RELEASE_VELOCITY: u8 = 64;
+
 /// The events of a voice, of a tune that ends at `end`, in some order. A play's notes are found from its last
-/// to its first: turned round, they give their events sorted but for notes that overlap far.
+/// to its first: turned round, they give their events sorted but for notes that overlap far. Most voices change
+/// their program at their start alone, so programs go before the notes.
 pub(crate) fn voice(
     alloc: Global,
     end: Grains,
+    programs: &[ProgramChange],
     notes: &[Sounding],
-) -> Result<Vec<NoteEvent>, AllocError>
+) -> Result<Vec<VoiceEvent>, AllocError>
     requires end { end.0 ≤ grains_of_the_latest_end }
+    requires programs { AreProgramsWithin end programs.now }
     requires notes { IsVoiceWithin end notes.now }
-    ensures { IfOk result (λ events. IsPermutation (all_ends notes.now) events.items) }
+    ensures { IfOk result (λ events. IsPermutation (all_of programs.now notes.now) events.items) }
 {
-    let mut events = Vec::with_capacity(alloc, 2 * notes.len())?;
+    let mut events = Vec::with_capacity(alloc, programs.len() + 2 * notes.len())?;
+    put_programs(&mut events, end, programs)?;
     for note in notes.iter().rev() {
         push_note(&mut events, end, note)?;
     }
     Ok(events)
 }
 
+/// Puts the changes of program to the events.
+fn put_programs(
+    events: &mut Vec<VoiceEvent>,
+    end: Grains,
+    programs: &[ProgramChange],
+) -> Result<(), AllocError>
+    requires end { end.0 ≤ grains_of_the_latest_end }
+    requires programs { All (IsProgramWithin end) programs.now }
+    ensures { OnOk result (events.new.items ≡ events.old.items ++ map change_of programs.now) }
+{
+    for change in programs {
+        events.push(VoiceEvent {
+            tick: tick_of(change.at),
+            kind: VoiceEventKind::ProgramChange,
+            key: 0,
+            value: change.number,
+        })?;
+    }
+    Ok(())
+}
+
 /// Puts the on and the off of a note to the events, unless both fall on one tick.
-fn push_note(events: &mut Vec<NoteEvent>, end: Grains, note: &Sounding) -> Result<(), AllocError>
+fn push_note(events: &mut Vec<VoiceEvent>, end: Grains, note: &Sounding) -> Result<(), AllocError>
     requires end { end.0 ≤ grains_of_the_latest_end }
     requires note { IsSoundingWithin end note.now }
     ensures { OnOk result (IsPermutation (events.old.items ++ ends_of note.now) events.new.items) }
@@ -55,8 +83,18 @@ fn push_note(events: &mut Vec<NoteEvent>, end: Grains, note: &Sounding) -> Resul
     if on != off {
         put(
             events,
-            NoteEvent::new(on, true, note.key),
-            NoteEvent::new(off, false, note.key),
+            VoiceEvent {
+                tick: on,
+                kind: VoiceEventKind::NoteOn,
+                key: note.key,
+                value: note.velocity,
+            },
+            VoiceEvent {
+                tick: off,
+                kind: VoiceEventKind::NoteOff,
+                key: note.key,
+                value: RELEASE_VELOCITY,
+            },
         )?;
     }
     Ok(())
@@ -64,7 +102,7 @@ fn push_note(events: &mut Vec<NoteEvent>, end: Grains, note: &Sounding) -> Resul
 
 /// Puts the on and the off of a note to other events. Unless the on comes last of them, each is moved back to its
 /// place.
-fn put(events: &mut Vec<NoteEvent>, on: NoteEvent, off: NoteEvent) -> Result<(), AllocError>
+fn put(events: &mut Vec<VoiceEvent>, on: VoiceEvent, off: VoiceEvent) -> Result<(), AllocError>
     ensures { OnOk result (IsPermutation (events.old.items ++ on ∷ off ∷ []) events.new.items) }
 {
     let place = events.len();
@@ -79,7 +117,7 @@ fn put(events: &mut Vec<NoteEvent>, on: NoteEvent, off: NoteEvent) -> Result<(),
 }
 
 /// Moves an event back to its place among those just before it.
-fn move_back(events: &mut [NoteEvent], from: usize)
+fn move_back(events: &mut [VoiceEvent], from: usize)
     requires { from < length events.old }
     ensures permutation { IsPermutation events.old events.new }
     ensures length { length events.new ≡ length events.old }

@@ -7,6 +7,7 @@ use Rattle.abc_fields.specs.declared.voice.Voice.{Voice}
 use Rattle.abc_scan.specs.declared.length.WrittenLength.{WrittenLength}
 use Rattle.abc_scan.specs.declared.length.WrittenLength.TheVariants.{Factor}
 use Rattle.abc_text.specs.declared.letter.Letter.{Letter}
+use Rattle.abc_scan.specs.declared.parts.ChordPartKind.{ChordPartKind}
 use Rattle.abc_scan.specs.declared.spanned.Spanned.{Spanned}
 use Rattle.abc_scan.specs.declared.token.TokenKind.{TokenKind}
 use Rattle.abc_scan.specs.declared.token.TokenKind.TheVariants as kinds
@@ -32,6 +33,10 @@ plain = Factor 1 1
 -- A token from one byte of a line to another, counted from 0.
 abbrev pub token : TokenKind → ℕ → ℕ → Spanned TokenKind
 token kind from to = record { kind = kind; from = from; to = to }
+
+-- A part from one byte of a chord to another, counted from 0.
+abbrev pub part : ChordPartKind → ℕ → ℕ → Spanned ChordPartKind
+part kind from to = record { kind = kind; from = from; to = to }
 
 -- A shift with these parts.
 abbrev pub shift : Option ℤ → Option ℤ → Option ℤ → Shift

@@ -1,13 +1,13 @@
 -- The steps along cells are the look back.
 use Rattle.std.proofs.Common.{◌≡◌, List, [], ◌∷◌, Option, Some, None, refl, sym, subst, ap, ◌∙◌}
-use Rattle.abc_scan.specs.declared.field.Field.{Field}
 use Rattle.abc_bars.specs.declared.entry.Entry.{Entry}
 use Rattle.abc_bars.specs.declared.entry.Entry.TheVariants as entries
 use Rattle.abc_bars.specs.Defaults.{no_defaults}
 use Rattle.abc_bars.specs.Entry.{opening_after}
-use Rattle.abc_bars.specs.Step.{field_in, stepped}
-use Rattle.abc_bars.specs.LookBack.Along.{CellTokens, IsLookBack, fields_behind, file_header_begins, given_along, items_along, place_after, state_after, states_along, tune_begins, views_along, with_field_line}
-use Rattle.abc_bars.specs.LookBack.Place.{Place, InFileHeader, behind_line, place_behind, view}
+use Rattle.abc_bars.specs.HeaderLine.{HeaderLine}
+use Rattle.abc_bars.specs.Step.{line_in, stepped}
+use Rattle.abc_bars.specs.LookBack.Along.{CellTokens, IsLookBack, file_header_begins, given_along, items_along, lines_behind, place_after, state_after, states_along, tune_begins, views_along, with_line}
+use Rattle.abc_bars.specs.LookBack.Place.{Place, InFileHeader, behind_file_header, place_behind, view}
 use Rattle.abc_bars.proofs.LookBack.Places.{stepped_back}
 use Rattle.abc_music.specs.Item.{Items}
 use Rattle.std.specs.Option.{option_map}
@@ -53,16 +53,16 @@ pub same_behind : (here there : Place) (cells : List CellTokens) → view here �
 same_behind here there cells same =
     sym (behind-cells here cells) ∙ ap (λ (entry : Entry). state_after to entry cells) same ∙ behind-cells there cells
 
--- The place behind the cells of a file header: its field lines stand before it.
-line-behind : (before : List Field) (field : Option Field) → behind_line before field ≡ InFileHeader (with_field_line field before)
+-- The place behind the cells of a file header: its lines stand before it.
+line-behind : (before : List HeaderLine) (line : Option HeaderLine) → behind_file_header before line ≡ InFileHeader (with_line line before)
 line-behind before None = refl
-line-behind before (Some field) = refl
+line-behind before (Some line) = refl
 
-fields-along : (before : List Field) (cells : List CellTokens) → place_after (InFileHeader before) cells ≡ InFileHeader (fields_behind cells before)
-fields-along before [] = refl
-fields-along before (cell ∷ cells) =
-    ap (λ (place : Place). place_after place cells) (line-behind before (field_in cell))
-    ∙ fields-along (with_field_line (field_in cell) before) cells
+lines-along : (before : List HeaderLine) (cells : List CellTokens) → place_after (InFileHeader before) cells ≡ InFileHeader (lines_behind cells before)
+lines-along before [] = refl
+lines-along before (cell ∷ cells) =
+    ap (λ (place : Place). place_after place cells) (line-behind before (line_in cell))
+    ∙ lines-along (with_line (line_in cell) before) cells
 
 -- What opens a tune is the view of the place where it begins.
 opened : (header : Option (List CellTokens))
@@ -70,7 +70,7 @@ opened : (header : Option (List CellTokens))
 opened None = refl
 opened (Some cells) =
     ap (λ (state : Entry). opening_after (Some state))
-    (behind-cells file_header_begins cells ∙ ap view (fields-along [] cells))
+    (behind-cells file_header_begins cells ∙ ap view (lines-along [] cells))
 
 pub file_header_looked_back : IsLookBack to giving (entries.FileHeader no_defaults) file_header_begins
 file_header_looked_back = from_view file_header_begins

@@ -98,6 +98,8 @@ hearing_of roll (kinds.Broken mark) = Nobody
 hearing_of roll kinds.Tie = Nobody
 hearing_of roll kinds.Blank = Nobody
 hearing_of roll kinds.NoEffect = Nobody
+hearing_of roll (kinds.Dynamic dynamic) = Here
+hearing_of roll (kinds.Directive directive) = Nobody
 hearing_of roll kinds.Unclosed = Nobody
 hearing_of roll kinds.BadByte = Nobody
 

@@ -3,10 +3,10 @@ use Rattle.std.proofs.Common.{◌≡◌, List, [], ◌∷◌, refl, sym, ap, ◌
 use Rattle.abc_fields.specs.declared.key.Key.{Key}
 use Rattle.abc_scan.specs.declared.spanned.Spanned.{Spanned}
 use Rattle.abc_scan.specs.declared.token.TokenKind.{TokenKind}
+use Rattle.abc_bars.specs.HeaderLine.{HeaderLine}
 use Rattle.abc_bars.specs.declared.body.Body.{Body}
 use Rattle.abc_bars.specs.declared.cell.Given.{Given}
 use Rattle.abc_bars.specs.declared.defaults.Defaults.{Defaults}
-use Rattle.abc_scan.specs.declared.field.Field.{Field}
 use Rattle.abc_bars.specs.Cell.{cell_given, given_from, nothing_given, tie_ahead, with_token}
 use Rattle.abc_bars.specs.LookBack.Held.{held_at}
 use Rattle.abc_bars.specs.LookBack.Cells.{behind_tokens, looked_back}
@@ -15,7 +15,7 @@ use Rattle.abc_bars.specs.LookBack.Place.{opening_at}
 use Rattle.abc_bars.proofs.LookBack.Held.{body_behind_element}
 use Rattle.abc_bars.proofs.LookBack.Tokens.{token_leaves}
 
-module _ (values : Defaults) (fields : List Field) (key : Key) where
+module _ (values : Defaults) (fields : List HeaderLine) (key : Key) where
   abbrev opening : Body
   opening = opening_at values fields key
 

@@ -3,7 +3,7 @@ use Rattle.std.proofs.Common.{◌≡◌, ◌≤◌, ℕ, zero, suc, List, [], �
 use Rattle.std.specs.List.{IsDistinct, slice_get}
 use Rattle.std.specs.Map.{keys_of}
 use Rattle.abc_fields.specs.declared.key.Key.{Key}
-use Rattle.abc_scan.specs.declared.field.Field.{Field}
+use Rattle.abc_bars.specs.HeaderLine.{HeaderLine}
 use Rattle.abc_bars.specs.declared.body.Body.{Body}
 use Rattle.abc_bars.specs.declared.body.Current.TheVariants.{Unnamed}
 use Rattle.abc_bars.specs.declared.defaults.Defaults.{Defaults}
@@ -48,7 +48,7 @@ each-at by [] at name there = absurd (cc)
 each-at by (first ∷ names) zero name there = let same : first ≡ name = cc in ap (λ n. Some (by n)) same
 each-at by (first ∷ names) (suc at) name there = each-at by names at name there
 
-module _ (values : Defaults) (fields : List Field) (key : Key) where
+module _ (values : Defaults) (fields : List HeaderLine) (key : Key) where
   pub held_placed : (before : List Element) → held_at (opening_at values fields key) before ≡ placed_at (opening_at values fields key) before
   unfolding held_at placed_at
   held_placed before =

@@ -1,23 +1,25 @@
 -- What alters a note at a place is what looking back finds, and its key is that of its pitch as it is altered so.
-use Rattle.std.proofs.Common.{◌≡◌, ◌∙◌, ℕ, suc, zero, ◌+◌, ℤ, Bool, true, false, ◌||◌, cond, List, [], ◌∷◌, ◌++◌, length, map, take, Option, Some, None, unwrap_or, refl, sym, ap, subst, append-nil, append_assoc}
-use Rattle.std.specs.Prelude.{All}
+use Rattle.std.proofs.Common.{◌≡◌, ◌∙◌, ℕ, suc, zero, ◌+◌, ℤ, Bool, true, false, ◌||◌, cond, List, [], ◌∷◌, ◌++◌, length, map, take, Option, Some, None, refl, sym, ap, subst, append-nil, append_assoc}
+use Rattle.std.specs.Prelude.{All, is_none}
 use Rattle.std.specs.Option.{option_or}
 use Rattle.std.proofs.lemmas.List.{map-append}
 use Rattle.std.proofs.lemmas.List.Elements.{All-cons, All-head, All-map, All-nil, All-same, All-tail}
 use Rattle.abc_fields.specs.declared.fault.FaultCode.{FaultCode}
-use Rattle.abc_fields.specs.declared.fault.FaultCode.TheVariants.{BadByte, BigChord, LooseTie}
+use Rattle.abc_fields.specs.declared.fault.FaultCode.TheVariants.{BadByte, BadProgram, BigChord, LooseTie}
 use Rattle.abc_fields.specs.declared.key.Key.{Key}
 use Rattle.abc_fields.specs.Signature.{alteration as signature_alteration}
 use Rattle.abc_scan.specs.declared.chord.Chord.{Chord}
-use Rattle.abc_scan.specs.declared.field.Field.{Field}
+use Rattle.abc_scan.specs.declared.directive.Directive.{Directive}
+use Rattle.abc_scan.specs.declared.directive.Directive.TheVariants as directives
+use Rattle.abc_scan.specs.declared.directive.Reach.{Reach}
 use Rattle.abc_scan.specs.declared.note.Note.{Note}
 use Rattle.abc_scan.specs.declared.parts.ChordPartKind.{ChordPartKind}
 use Rattle.abc_scan.specs.declared.parts.ChordPartKind.TheVariants as parts
 use Rattle.abc_scan.specs.declared.spanned.Spanned.{Spanned}
 use Rattle.abc_scan.specs.declared.token.TokenKind.{TokenKind}
 use Rattle.abc_scan.specs.declared.token.TokenKind.TheVariants as kinds
-use Rattle.abc_text.specs.declared.letter.Letter.{Letter}
 use Rattle.abc_time.specs.declared.ratio.Ratio.{Ratio}
+use Rattle.abc_bars.specs.HeaderLine.{HeaderLine}
 use Rattle.abc_bars.specs.declared.body.Body.{Body}
 use Rattle.abc_bars.specs.declared.body.Current.{Current}
 use Rattle.abc_bars.specs.declared.body.Current.TheVariants.{Unnamed, At}
@@ -31,11 +33,12 @@ use Rattle.abc_music.specs.declared.item.TheConstants.{MOST_NOTES}
 use Rattle.abc_music.specs.declared.settings.Settings.{Settings}
 use Rattle.abc_music.specs.declared.sound.Inside.{Inside}
 use Rattle.abc_music.specs.declared.tied.TiedNote.{TiedNote}
-use Rattle.abc_music.specs.Accidentals.{written_on}
+use Rattle.abc_music.specs.Accidentals.{reach_of, written_on}
 use Rattle.abc_music.specs.Alteration.{alteration_of, with_own}
 use Rattle.abc_music.specs.Broken.{factors_of, has_note, is_time_token}
 use Rattle.abc_music.specs.Chords.{inside_from, inside_of, tie_follows, with_dropped, with_fault as with_part_fault}
 use Rattle.abc_music.specs.Column.{column_of}
+use Rattle.abc_music.specs.Program.{program_of}
 use Rattle.abc_music.specs.NoteKeys.{IsAltered, IsSame}
 use Rattle.abc_music.specs.Pitch.{midi_key, pitch_of}
 use Rattle.abc_music.specs.Sound.{no_notes, with_note as with_sounding}
@@ -43,77 +46,33 @@ use Rattle.abc_music.specs.TimeTokens.{chord_by, first_length}
 use Rattle.abc_music.proofs.NoteKeys.{altered_by}
 use Rattle.abc_bars.specs.Body.{here, mentioned}
 use Rattle.abc_bars.specs.BodyFields.{field_given}
-use Rattle.abc_bars.specs.Cell.{is_tie_token, mentioned_by_chord, nothing_given, tie_ahead, with_ending, with_fault, with_fault_if, with_kind, with_some_fault, with_token}
+use Rattle.abc_bars.specs.Cell.{is_tie_token, mentioned_by_chord, nothing_given, tie_ahead, with_directive, with_ending, with_fault, with_fault_if, with_item, with_kind, with_some_fault, with_token}
 use Rattle.abc_bars.specs.LookBack.Cells.{behind_tokens, looked_back}
 use Rattle.abc_bars.specs.LookBack.Element.{Element}
 use Rattle.abc_bars.specs.LookBack.Held.{held_at}
-use Rattle.abc_bars.specs.LookBack.Keys.{AreWrittenAlike, ChordsHaveKeys, GivesTones, IsAlteredAt, IsLastInBar, IsNoneAmong, IsNoneInBar, NotesHaveKeys, Standing, heard_of, key_at, keys_from, standing}
+use Rattle.abc_bars.specs.LookBack.Keys.{AreWrittenAlike, ChordsHaveKeys, GivesTones, IsAlteredAt, IsLastAmong, IsNoneAmong, NotesHaveKeys, Standing, heard_of, key_at, keys_from, standing}
 use Rattle.abc_bars.specs.LookBack.Place.{opening_at}
 use Rattle.abc_bars.specs.LookBack.Ties.{IsTimeBefore, tied_notes}
-use Rattle.abc_bars.specs.LookBack.Voice.{accidental_at, accidental_said, accidentals_at, alteration_at, counted_notes, newest_written, notes_among, settings_at, shift_at, signature_at, tied_at, written_by}
+use Rattle.abc_bars.specs.LookBack.Voice.{accidentals_at, accidentals_of, alteration_at, counted_notes, newest_written, notes_among, notes_of_bar, settings_at, shift_at, signature_at, tied_at, written_by}
 use Rattle.abc_bars.proofs.LookBack.Held.{here_found}
-use Rattle.abc_bars.proofs.LookBack.Tied.{AreBehind, alteration-at, behind-none, behind-own, either, no-room, one-more, room-left}
+use Rattle.abc_bars.proofs.LookBack.Accidentals.{newest_heard}
+use Rattle.abc_bars.proofs.LookBack.Tied.{AreBehind, alteration-at, behind-none, either, no-room, one-more, room-left}
 use Rattle.abc_bars.proofs.LookBack.Ties.{Passed, altered, left-by, passed-over, tied-last}
 
--- The accidentals behind notes of a chord, newest first.
-abbrev behind_notes : List Element → List Note → Accidentals
-behind_notes before [] = accidentals_at before
-behind_notes before (note ∷ earlier) = with_own (behind_notes before earlier) note
-
-are-behind : (before : List Element) (earlier : List Note) → AreBehind before (behind_notes before earlier) earlier
-are-behind before [] = behind-none before
-are-behind before (note ∷ earlier) = behind-own before (behind_notes before earlier) earlier note (are-behind before earlier)
-
 -- The last accidental among notes is the one that is found.
-last-among : (letter : Letter) (nearer further : List Note) (note : Note) (by : ℤ) → written_by letter note ≡ Some by → All (λ other. written_by letter other ≡ None) nearer
-    → newest_written letter (nearer ++ note ∷ further) ≡ Some by
-last-among letter [] further note by e none = ap (λ o. option_or o (newest_written letter further)) e
-last-among letter (first ∷ nearer) further note by e none =
-    ap (λ o. option_or o (newest_written letter (nearer ++ note ∷ further))) (All-head (λ other. written_by letter other ≡ None) first nearer none)
-    ∙ last-among letter nearer further note by e (All-tail (λ other. written_by letter other ≡ None) first nearer none)
+last-among : (reach : Reach) (note : Note) (nearer further : List Note) (other : Note) (by : ℤ)
+    → written_by reach note other ≡ Some by → All (λ silent. written_by reach note silent ≡ None) nearer
+    → newest_written reach note (nearer ++ other ∷ further) ≡ Some by
+last-among reach note [] further other by e none = ap (λ o. option_or o (newest_written reach note further)) e
+last-among reach note (first ∷ nearer) further other by e none =
+    ap (λ o. option_or o (newest_written reach note (nearer ++ other ∷ further))) (All-head (λ silent. written_by reach note silent ≡ None) first nearer none)
+    ∙ last-among reach note nearer further other by e (All-tail (λ silent. written_by reach note silent ≡ None) first nearer none)
 
-none-among : (letter : Letter) (notes : List Note) → IsNoneAmong letter notes → newest_written letter notes ≡ None
-none-among letter [] none = refl
-none-among letter (first ∷ notes) none =
-    ap (λ o. option_or o (newest_written letter notes)) (All-head (λ other. written_by letter other ≡ None) first notes none)
-    ∙ none-among letter notes (All-tail (λ other. written_by letter other ≡ None) first notes none)
-
--- A token that says nothing of a letter.
-abbrev Silent : Letter → Element → Type 0
-Silent letter other = accidental_said letter other.kind ≡ None
-
-last-in-bar : (letter : Letter) (nearer further : List Element) (token : Element) (by : ℤ) → accidental_said letter token.kind ≡ Some (Some by) → All (Silent letter) nearer
-    → accidental_at letter (nearer ++ token ∷ further) ≡ Some by
-unfolding accidental_at
-last-in-bar letter [] further token by e none = ap (λ o. unwrap_or o (accidental_at letter further)) e
-last-in-bar letter (first ∷ nearer) further token by e none =
-    ap (λ o. unwrap_or o (accidental_at letter (nearer ++ token ∷ further))) (All-head (Silent letter) first nearer none)
-    ∙ last-in-bar letter nearer further token by e (All-tail (Silent letter) first nearer none)
-
-in-bar-by : (letter : Letter) (element : Element) (before : List Element) (by : ℤ) (said : Option (Option ℤ)) → accidental_said letter element.kind ≡ said
-    → unwrap_or said (accidental_at letter before) ≡ Some by → (accidental_at letter before ≡ Some by → IsLastInBar letter before by) → IsLastInBar letter (element ∷ before) by
-in-bar-by letter element before by None says e h =
-    let is = h e in
-    record {
-      nearer = element ∷ is.nearer;
-      token = is.token;
-      further = is.further;
-      split = ap (λ l. element ∷ l) is.split;
-      writes = is.writes;
-      none = All-cons (Silent letter) element is.nearer says is.none;
-    }
-in-bar-by letter element before by (Some said) says e h =
-    record { nearer = []; token = element; further = before; split = refl; writes = says ∙ ap Some e; none = All-nil (Silent letter) }
-
--- What is found stands in the bar.
-in-bar-of : (letter : Letter) (before : List Element) (by : ℤ) → accidental_at letter before ≡ Some by → IsLastInBar letter before by
-unfolding accidental_at
-in-bar-of letter [] by e = cc
-in-bar-of letter (element ∷ before) by e = in-bar-by letter element before by (accidental_said letter element.kind) refl e (in-bar-of letter before by)
-
-none-in-bar : (letter : Letter) (before : List Element) (found : Option ℤ) → accidental_at letter before ≡ found → IsNoneInBar letter before → accidental_at letter before ≡ None
-none-in-bar letter before None e none = e
-none-in-bar letter before (Some by) e none = absurd (none by (in-bar-of letter before by e))
+none-among : (reach : Reach) (note : Note) (notes : List Note) → IsNoneAmong reach note notes → newest_written reach note notes ≡ None
+none-among reach note [] none = refl
+none-among reach note (first ∷ notes) none =
+    ap (λ o. option_or o (newest_written reach note notes)) (All-head (λ silent. written_by reach note silent ≡ None) first notes none)
+    ∙ none-among reach note notes (All-tail (λ silent. written_by reach note silent ≡ None) first notes none)
 
 -- A tied note is not alike.
 abbrev Apart : Note → TiedNote → Type 0
@@ -143,23 +102,26 @@ all-apart opening note [] h = All-nil (Apart note)
 all-apart opening note (element ∷ before) h = apart-by opening note element before (is_time_token element.kind) refl h (all-apart opening note before)
 
 module _ (opening : Settings) (before : List Element) (earlier : List Note) (note : Note) where
-  abbrev accidentals : Accidentals
-  accidentals = behind_notes before earlier
+  abbrev reach : Reach
+  reach = reach_of opening.accidentals
 
-  found : IsAltered (settings_at opening before) accidentals note (alteration_of (settings_at opening before) accidentals note)
-  found = altered_by (settings_at opening before) accidentals note
+  -- The notes whose accidentals can be heard.
+  abbrev others : List Note
+  others = earlier ++ notes_of_bar before
 
-  is-altered : alteration_of (settings_at opening before) accidentals note ≡ alteration_at opening (tied_at opening before) before earlier note
-  is-altered = alteration-at opening before accidentals earlier note (are-behind before earlier)
+  found : IsAltered (settings_at opening before) (accidentals_of reach others) note (alteration_of (settings_at opening before) (accidentals_of reach others) note)
+  found = altered_by (settings_at opening before) (accidentals_of reach others) note
 
-  written-is : written_on accidentals note.letter ≡ option_or (newest_written note.letter earlier) (accidental_at note.letter before)
-  written-is = are-behind before earlier note.letter
+  is-altered : alteration_of (settings_at opening before) (accidentals_of reach others) note ≡ alteration_at opening (tied_at opening before) before earlier note
+  is-altered = alteration-at opening before (accidentals_of reach others) earlier note refl
 
-  written-before : IsNoneAmong note.letter earlier → written_on accidentals note.letter ≡ accidental_at note.letter before
-  written-before none = written-is ∙ ap (λ o. option_or o (accidental_at note.letter before)) (none-among note.letter earlier none)
+  written-last : (by : ℤ) → IsLastAmong reach note others by → written_on (accidentals_of reach others) note ≡ Some by
+  written-last by last =
+      newest_heard reach others note
+      ∙ ap (newest_written reach note) last.split ∙ last-among reach note last.nearer last.further last.other by last.writes last.none
 
-  not-written : IsNoneAmong note.letter earlier → IsNoneInBar note.letter before → written_on accidentals note.letter ≡ None
-  not-written none out = written-before none ∙ none-in-bar note.letter before (accidental_at note.letter before) refl out
+  not-written : IsNoneAmong reach note others → written_on (accidentals_of reach others) note ≡ None
+  not-written none = newest_heard reach others note ∙ none-among reach note others none
 
   tied-is : (settings_at opening before).tied ≡ tied_at opening before
   unfolding settings_at
@@ -172,20 +134,15 @@ module _ (opening : Settings) (before : List Element) (earlier : List Note) (not
   pub by-rule : IsAlteredAt (record { opening = opening; before = before }) earlier note
   by-rule = record {
     own = λ accidental e. sym is-altered ∙ found.own accidental e;
-    in_chord = λ by e last.
-        sym is-altered ∙ found.written by e
-        (written-is ∙ ap (λ o. option_or o (accidental_at note.letter before)) (ap (newest_written note.letter) last.split ∙ last-among note.letter last.nearer last.further last.note by last.writes last.none));
-    in_bar = λ by e none last.
-        sym is-altered ∙ found.written by e
-        (written-before none ∙ ap (accidental_at note.letter) last.split ∙ last-in-bar note.letter last.nearer last.further last.token by last.writes last.none);
-    tied = λ token further front back last e none out time is alike apart.
+    written = λ by e last. sym is-altered ∙ found.written by e (written-last by last);
+    tied = λ token further front back last e none time is alike apart.
         sym is-altered
-        ∙ found.tied (map (altered opening further) front) (map (altered opening further) back) (altered opening further last) e (not-written none out)
+        ∙ found.tied (map (altered opening further) front) (map (altered opening further) back) (altered opening further last) e (not-written none)
         (tied-is ∙ tied-last opening before further token time ∙ ap (map (altered opening further)) is ∙ map-append (altered opening further) front (last ∷ back))
         alike (All-map (Apart note) (altered opening further) back apart);
-    signature = λ e none out h.
+    signature = λ e none h.
         sym is-altered
-        ∙ found.signature e (not-written none out) (All-same (Apart note) (settings_at opening before).tied (tied_at opening before) tied-is (all-apart opening note before h))
+        ∙ found.signature e (not-written none) (All-same (Apart note) (settings_at opening before).tied (tied_at opening before) tied-is (all-apart opening note before h))
         ∙ ap (λ s. signature_alteration s note.letter) signature-is;
   }
 
@@ -200,7 +157,7 @@ module _ (opening : Settings) (before : List Element) (broken : List Ratio) (out
   abbrev here_at : Standing
   here_at = record { opening = opening; before = before }
 
-  key-is : (accidentals : Accidentals) (earlier : List Note) (note : Note) → AreBehind before accidentals earlier
+  key-is : (accidentals : Accidentals) (earlier : List Note) (note : Note) → AreBehind opening before accidentals earlier
       → midi_key (pitch_of (settings_at opening before).shift note (alteration_of (settings_at opening before) accidentals note)) ≡ key_at here_at earlier note
   key-is accidentals earlier note h = λ i. midi_key (pitch_of (same-shift opening before i) note (alteration-at opening before accidentals earlier note h i))
 
@@ -211,9 +168,9 @@ module _ (opening : Settings) (before : List Element) (broken : List Ratio) (out
       ≡ map heard_of inside.tones ++ keys_from here_at outside.tied earlier (take room (notes_among rest))
 
   step : (kind : ChordPartKind) (from to : ℕ) (rest : List (Spanned ChordPartKind))
-      → ((room : ℕ) (inside : Inside) (earlier : List Note) → length inside.tones + room ≡ MOST_NOTES → AreBehind before inside.accidentals earlier → Sounds rest room inside inside earlier)
+      → ((room : ℕ) (inside : Inside) (earlier : List Note) → length inside.tones + room ≡ MOST_NOTES → AreBehind opening before inside.accidentals earlier → Sounds rest room inside inside earlier)
       → (room : ℕ) (inside : Inside) (earlier : List Note)
-      → length inside.tones + room ≡ MOST_NOTES → AreBehind before inside.accidentals earlier
+      → length inside.tones + room ≡ MOST_NOTES → AreBehind opening before inside.accidentals earlier
       → Sounds (record { kind = kind; from = from; to = to } ∷ rest) room inside inside earlier
   step (parts.Note note) from to rest ih zero inside earlier size h =
       let column : ℕ = column_of (outside.from + from) in
@@ -236,7 +193,7 @@ module _ (opening : Settings) (before : List Element) (broken : List Ratio) (out
       ≡ map heard_of inside.tones ++ ((key_at here_at earlier note, tied) ∷ later) in
       let r : Sounds rest room (record full { after_note = true }) full (note ∷ earlier) =
       ih room (record full { after_note = true }) (note ∷ earlier) (one-more inside.tones _ room size)
-      (behind-own before inside.accidentals earlier note h) in
+      (ap (λ (a : Accidentals). with_own a note) h) in
       subst Q (sym (room-left (length inside.tones) room size))
       (r
       ∙ ap (λ l. l ++ later) (map-append heard_of inside.tones _)
@@ -253,7 +210,7 @@ module _ (opening : Settings) (before : List Element) (broken : List Ratio) (out
       ih room (record (with_part_fault (column_of (outside.from + from)) BadByte inside) { after_note = false }) earlier size h
 
   sounds : (rest : List (Spanned ChordPartKind)) (room : ℕ) (inside : Inside) (earlier : List Note)
-      → length inside.tones + room ≡ MOST_NOTES → AreBehind before inside.accidentals earlier → Sounds rest room inside inside earlier
+      → length inside.tones + room ≡ MOST_NOTES → AreBehind opening before inside.accidentals earlier → Sounds rest room inside inside earlier
   sounds [] zero inside earlier size h = sym (append-nil (map heard_of inside.tones))
   sounds [] (suc room) inside earlier size h = sym (append-nil (map heard_of inside.tones))
   sounds (part ∷ rest) room inside earlier size h = step part.kind part.from part.to rest (sounds rest) room inside earlier size h
@@ -263,9 +220,9 @@ chord-sounds : (at : Standing) (broken : List Ratio) (outside : Outside) (chord 
     → map heard_of (inside_of (settings_at at.opening at.before) broken outside chord.parts).tones ≡ keys_from at outside.tied [] (counted_notes chord)
 unfolding settings_at counted_notes
 chord-sounds at broken outside chord =
-    sounds at.opening at.before broken outside chord.parts MOST_NOTES (no_notes (settings_at at.opening at.before)) [] refl (behind-none at.before)
+    sounds at.opening at.before broken outside chord.parts MOST_NOTES (no_notes (settings_at at.opening at.before)) [] refl (behind-none at.opening at.before)
 
-same-accidentals : (opening : Settings) (before : List Element) → (settings_at opening before).accidentals ≡ accidentals_at before
+same-accidentals : (opening : Settings) (before : List Element) → (settings_at opening before).accidentals ≡ accidentals_at (reach_of opening.accidentals) before
 unfolding settings_at
 same-accidentals opening before = refl
 
@@ -273,7 +230,7 @@ note-key : (at : Standing) (note : Note)
     → midi_key (pitch_of (settings_at at.opening at.before).shift note (alteration_of (settings_at at.opening at.before) (settings_at at.opening at.before).accidentals note)) ≡ key_at at [] note
 note-key at note =
     ap (λ accidentals. midi_key (pitch_of (settings_at at.opening at.before).shift note (alteration_of (settings_at at.opening at.before) accidentals note))) (same-accidentals at.opening at.before)
-    ∙ (λ i. midi_key (pitch_of (same-shift at.opening at.before i) note (alteration-at at.opening at.before (accidentals_at at.before) [] note (behind-none at.before) i)))
+    ∙ (λ i. midi_key (pitch_of (same-shift at.opening at.before i) note (alteration-at at.opening at.before (accidentals_at (reach_of at.opening.accidentals) at.before) [] note (behind-none at.opening at.before) i)))
 
 -- What stands before a token that is no tie, whatever follows it.
 pub tie-next : (front ahead : List (Spanned TokenKind)) (token : Spanned TokenKind) → is_tie_token token.kind ≡ false → tie_ahead (front ++ token ∷ ahead) ≡ tie_ahead front
@@ -308,6 +265,10 @@ ending-items : (given : Given) (place : ℕ) (passes : Option ℕ) → (more : L
 ending-items given place None = ([], sym (append-nil _))
 ending-items given place (Some passes) = (_, refl)
 
+directive-items : (given : Given) (place : ℕ) (directive : Directive) → (more : List Item) × ((with_directive given place directive).items.items ≡ given.items.items ++ more)
+directive-items given place (directives.Program written) = (_, fault-if-items (with_item given (items.Program false (program_of written))) (is_none (program_of written)) place BadProgram)
+directive-items given place (directives.Reach reaching) = ([], sym (append-nil _))
+
 adds : (given : Given) (place : ℕ) (kind : TokenKind) (ahead : List (Spanned TokenKind)) → (more : List Item) × ((with_kind given place kind ahead).items.items ≡ given.items.items ++ more)
 adds given place (kinds.Note note) ahead = (_, refl)
 adds given place (kinds.Rest length) ahead = (_, refl)
@@ -322,6 +283,8 @@ adds given place (kinds.Broken mark) ahead = ([], fault-if-items given _ place _
 adds given place kinds.Tie ahead = ([], tie-items given given.after_note place LooseTie ∙ sym (append-nil _))
 adds given place kinds.Blank ahead = ([], sym (append-nil _))
 adds given place kinds.NoEffect ahead = ([], sym (append-nil _))
+adds given place (kinds.Dynamic dynamic) ahead = ([], sym (append-nil _))
+adds given place (kinds.Directive directive) ahead = directive-items given place directive
 adds given place kinds.Unclosed ahead = ([], sym (append-nil _))
 adds given place kinds.BadByte ahead = ([], sym (append-nil _))
 
@@ -357,13 +320,13 @@ mentioned-in body (Unnamed settings) = refl
 mentioned-in body (At place) = refl
 
 -- What holds for the current voice where a token mentions it.
-pub here-is : (values : Defaults) (fields : List Field) (key : Key) (before : List Element)
+pub here-is : (values : Defaults) (fields : List HeaderLine) (key : Key) (before : List Element)
     → here (mentioned (held_at (opening_at values fields key) before)) ≡ settings_at (standing values fields key before).opening (standing values fields key before).before
 here-is values fields key before =
     let body : Body = held_at (opening_at values fields key) before in
     mentioned-in body body.current ∙ here_found values fields key before
 
-note-gives : (values : Defaults) (fields : List Field) (key : Key) (before : List Element) (start : Given) (place : ℕ) (note : Note) (ahead : List (Spanned TokenKind))
+note-gives : (values : Defaults) (fields : List HeaderLine) (key : Key) (before : List Element) (start : Given) (place : ℕ) (note : Note) (ahead : List (Spanned TokenKind))
     → GivesTones (with_kind (record start { body = held_at (opening_at values fields key) before }) place (kinds.Note note) ahead).items.items
     ((key_at (standing values fields key before) [] note, tie_ahead ahead) ∷ [])
 note-gives values fields key before start place note ahead =
@@ -379,12 +342,12 @@ note-gives values fields key before start place note ahead =
           ∙ ap (λ k. (k, tie_ahead ahead) ∷ []) (note-key at note),
     )
 
-chord-items : (b : Bool) (settings : Settings) (place : ℕ) (inside : Inside) → b ≡ true
+pub chord-items : (b : Bool) (settings : Settings) (place : ℕ) (inside : Inside) → b ≡ true
     → (chord_by b settings place inside).items ≡ items.Tone inside.tones (first_length inside.tones) ∷ []
 chord-items true settings place inside e = refl
 chord-items false settings place inside e = cc
 
-chord-gives : (values : Defaults) (fields : List Field) (key : Key) (before : List Element) (start : Given) (place : ℕ) (chord : Chord) (ahead : List (Spanned TokenKind)) → has_note chord.parts ≡ true
+chord-gives : (values : Defaults) (fields : List HeaderLine) (key : Key) (before : List Element) (start : Given) (place : ℕ) (chord : Chord) (ahead : List (Spanned TokenKind)) → has_note chord.parts ≡ true
     → GivesTones (with_kind (record start { body = held_at (opening_at values fields key) before }) place (kinds.Chord chord) ahead).items.items
     (keys_from (standing values fields key before) (tie_ahead ahead) [] (counted_notes chord))
 chord-gives values fields key before start place chord ahead e =

@@ -58,7 +58,7 @@ module _ (opening : Body) (before : List Element) (front ahead : List (Spanned T
     (gives : (start : Given) → factors_of start.behind ahead ≡ factors_at (front ++ token ∷ ahead) (length front)
     → (item : Item) × ((with_kind (record start { body = held_at opening (behind_tokens front before) }) token.from token.kind ahead).items.items ≡ start.items.items ++ item ∷ [])
     × Holds item) where
-  between : GivesItem (looked_back opening before (nothing_given opening) (front ++ token ∷ ahead)).items.items Holds
+  pub between : GivesItem (looked_back opening before (nothing_given opening) (front ++ token ∷ ahead)).items.items Holds
   between =
       let split = split-behind opening before (nothing_given opening) front ahead token no_tie in
       let start : Given = split.0 in

@@ -19,12 +19,14 @@ use Rattle.abc_fields.specs.Meter.{meter_of}
 use Rattle.abc_fields.specs.Spelling.Voice.{IsVoice}
 use Rattle.abc_fields.specs.Unit.{unit_of}
 use Rattle.abc_fields.specs.Voice.{voice_of}
+use Rattle.abc_music.specs.declared.accidentals.Accidentals.{Accidentals}
 use Rattle.abc_music.specs.declared.settings.Settings.{Settings}
+use Rattle.abc_music.specs.Accidentals.{no_accidentals, reach_of}
 use Rattle.abc_music.specs.Settings.{without_accidentals}
-use Rattle.abc_scan.specs.declared.field.Field.{Field}
 use Rattle.abc_scan.specs.declared.token.TokenKind.{TokenKind}
 use Rattle.abc_scan.specs.declared.token.TokenKind.TheVariants as kinds
 use Rattle.abc_time.specs.declared.ratio.Ratio.{Ratio}
+use Rattle.abc_bars.specs.HeaderLine.{HeaderLine}
 use Rattle.abc_bars.specs.declared.body.Body.{Body}
 use Rattle.abc_bars.specs.declared.defaults.Defaults.{Defaults}
 use Rattle.abc_bars.specs.declared.field_kind.FieldKind.{FieldKind}
@@ -43,9 +45,10 @@ use Rattle.abc_bars.specs.LookBack.Header.{header_at}
 use Rattle.abc_bars.specs.LookBack.Held.{Roll, place_of_current, roll_of}
 use Rattle.abc_bars.proofs.LookBack.ByPlace.{Each, Former, First, Hearing, Here, Music, New, Nobody, each_if, field_hearing, hearing_of, here_if, is_current, music_at, music_behind, roll_at, roll_behind, settings_in, unnamed_behind, unnamed_music, voice_said, with_heard, placed_at}
 use Rattle.abc_bars.specs.LookBack.Place.{opening_at}
-use Rattle.abc_bars.specs.LookBack.Voice.{accidental_at, accidentals_at, settings_at}
+use Rattle.abc_bars.specs.LookBack.Voice.{accidentals_at, settings_at}
 use Rattle.abc_bars.proofs.BodyOpenings.{opening_names}
 use Rattle.abc_bars.proofs.DeclaredVoices.{declared_keys, distinct_names}
+use Rattle.abc_bars.proofs.LookBack.Accidentals.{reach_kept}
 use Rattle.abc_bars.proofs.LookBack.ByName.{Agrees, Fits, IsNamed, behind, finds, hearing_by, known_behind, place-name, unnamed_after}
 use Rattle.abc_bars.proofs.LookBack.Heard.{held}
 use Rattle.abc_bars.proofs.LookBack.Known.{at-by}
@@ -69,7 +72,16 @@ acts (kinds.Bar bar) = true
 acts (kinds.Tuplet mark) = true
 acts (kinds.InlineField field) = acts-field (kind_of field.letter) field.value
 acts (kinds.Field field) = acts-field (kind_of field.letter) field.value
-acts _ = false
+acts (kinds.BarRest bars) = false
+acts (kinds.Ending passes) = false
+acts (kinds.Broken mark) = false
+acts kinds.Tie = false
+acts kinds.Blank = false
+acts kinds.NoEffect = false
+acts (kinds.Dynamic dynamic) = true
+acts (kinds.Directive directive) = false
+acts kinds.Unclosed = false
+acts kinds.BadByte = false
 
 here-is : (b : Bool) → here_if b ≡ cond b Here Nobody
 here-is true = refl
@@ -110,6 +122,8 @@ hearing-is roll (kinds.Broken mark) = refl
 hearing-is roll kinds.Tie = refl
 hearing-is roll kinds.Blank = refl
 hearing-is roll kinds.NoEffect = refl
+hearing-is roll (kinds.Dynamic dynamic) = refl
+hearing-is roll (kinds.Directive directive) = refl
 hearing-is roll kinds.Unclosed = refl
 hearing-is roll kinds.BadByte = refl
 
@@ -172,13 +186,17 @@ module _ (another : Settings) (plain : without_accidentals another ≡ another) 
   fits kinds.Tie tied = λ settings. refl
   fits kinds.Blank tied = λ settings. refl
   fits kinds.NoEffect tied = λ settings. refl
+  fits (kinds.Dynamic dynamic) tied = tt
+  fits (kinds.Directive directive) tied = λ settings. refl
   fits kinds.Unclosed tied = λ settings. refl
   fits kinds.BadByte tied = λ settings. refl
 
 -- No accidentals hold where a body begins.
 blank : (settings : Settings) → without_accidentals (settings_at settings []) ≡ settings_at settings []
-unfolding settings_at accidentals_at accidental_at
-blank settings = refl
+unfolding settings_at accidentals_at
+blank settings =
+    ap (λ (accidentals : Accidentals). record (settings_at settings []) { accidentals = accidentals })
+    (ap no_accidentals (reach_kept (reach_of settings.accidentals) []))
 
 -- The same found agrees too.
 moved : (roll next : Roll) (naming other : Naming) (known found : ℕ → Settings) (unnamed nameless : Settings) (by named_by : List ℕ → Settings) (another : Settings)
@@ -312,7 +330,7 @@ named-opening : (header : Header) (key : Key) (another : Settings) (voices : Lis
 named-opening header key another [] = (refl, refl)
 named-opening header key another (voice ∷ voices) = refl
 
-module _ (values : Defaults) (fields : List Field) (key : Key) (before : List Element) where
+module _ (values : Defaults) (fields : List HeaderLine) (key : Key) (before : List Element) where
   distinct-opening : IsDistinct bytes_eq (keys_of (opening_at values fields key).voices)
   distinct-opening =
       subst (IsDistinct bytes_eq) (sym (opening_names (header_at values fields) key ∙ declared_keys fields)) (distinct_names fields)

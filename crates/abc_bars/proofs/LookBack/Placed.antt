@@ -19,7 +19,9 @@ use Rattle.abc_bars.specs.declared.defaults.Defaults.{Defaults}
 use Rattle.abc_bars.specs.declared.field_kind.FieldKind.{FieldKind}
 use Rattle.abc_bars.specs.declared.field_kind.FieldKind.TheVariants as fields
 use Rattle.abc_bars.specs.declared.header.Header.{Header}
+use Rattle.abc_music.specs.declared.accidentals.Accidentals.{Accidentals}
 use Rattle.abc_music.specs.declared.settings.Settings.{Settings}
+use Rattle.abc_music.specs.Accidentals.{no_accidentals}
 use Rattle.abc_music.specs.declared.item.TheConstants.{MOST_VOICES}
 use Rattle.abc_bars.specs.BodyFields.{part_of}
 use Rattle.abc_bars.specs.BodyOpening.{body_from, current_in, opening_another, opening_settings, opening_voice}
@@ -29,7 +31,8 @@ use Rattle.abc_bars.specs.Voices.{voice_at}
 use Rattle.abc_bars.specs.LookBack.Held.{IsPlaced, Roll, current_by, roll_of, place_of_current}
 use Rattle.abc_bars.proofs.LookBack.ByPlace.{Former, Hearing, Here, New, Nobody, Each, First, each_if, field_hearing, first_or, here_if, hearing_of, roll_at, roll_behind, voice_named_by, voice_said, voices_by, placed_at}
 use Rattle.abc_bars.specs.LookBack.Element.{Element}
-use Rattle.abc_bars.specs.LookBack.Voice.{accidental_at, accidentals_at, meter_at, settings_at, shift_at, signature_at, tuplet_at, unit_at}
+use Rattle.abc_bars.specs.LookBack.Voice.{accidentals_at, dynamic_at, meter_at, settings_at, shift_at, signature_at, tuplet_at, unit_at}
+use Rattle.abc_bars.proofs.LookBack.Accidentals.{reach_kept}
 use Rattle.abc_bars.proofs.LookBack.Heard.{below-found}
 use Rattle.abc_bars.proofs.NamePlaces.{find_place}
 
@@ -111,6 +114,8 @@ among roll (kinds.Broken mark) = tt
 among roll kinds.Tie = tt
 among roll kinds.Blank = tt
 among roll kinds.NoEffect = tt
+among roll (kinds.Dynamic dynamic) = tt
+among roll (kinds.Directive directive) = tt
 among roll kinds.Unclosed = tt
 among roll kinds.BadByte = tt
 
@@ -130,8 +135,10 @@ placed-at opening placed (element ∷ before) =
 
 -- What holds for a voice where a body begins is what looking back finds there.
 fresh-settings : (defaults : Defaults) (key : Key) (said : Shift) → settings_at (opening_settings defaults key said) [] ≡ opening_settings defaults key said
-unfolding settings_at meter_at unit_at signature_at shift_at accidentals_at accidental_at tuplet_at
-fresh-settings defaults key said = refl
+unfolding settings_at meter_at unit_at signature_at shift_at accidentals_at tuplet_at dynamic_at
+fresh-settings defaults key said =
+    ap (λ (accidentals : Accidentals). record (opening_settings defaults key said) { accidentals = accidentals })
+    (ap no_accidentals (reach_kept defaults.reach []))
 
 fresh-voices : (header : Header) (key : Key) (another : Settings) (voices : List (List ℕ × Shift))
     → voices_by (λ at. settings_at (unwrap_or (voice_at (map (opening_voice header key) voices) at) another) []) (keys_of (map (opening_voice header key) voices))

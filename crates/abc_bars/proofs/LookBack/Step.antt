@@ -107,6 +107,10 @@ module _ (opening : Body) (fresh : settings_at opening.another [] ≡ opening.an
   by-kind before kinds.Tie tied = silent before (record { kind = kinds.Tie; tied = tied })
   by-kind before kinds.Blank tied = silent before (record { kind = kinds.Blank; tied = tied })
   by-kind before kinds.NoEffect tied = silent before (record { kind = kinds.NoEffect; tied = tied })
+  by-kind before (kinds.Dynamic dynamic) tied =
+      behind-here opening before (record { kind = kinds.Dynamic dynamic; tied = tied }) (placed-at (roll_of opening) placed before)
+      (λ settings. after settings (record { kind = kinds.Dynamic dynamic; tied = tied })) (λ m. settings_behind m.opening m.before (record { kind = kinds.Dynamic dynamic; tied = tied }))
+  by-kind before (kinds.Directive directive) tied = silent before (record { kind = kinds.Directive directive; tied = tied })
   by-kind before kinds.Unclosed tied = silent before (record { kind = kinds.Unclosed; tied = tied })
   by-kind before kinds.BadByte tied = silent before (record { kind = kinds.BadByte; tied = tied })
   by-kind before (kinds.BarRest bars) tied = resting before bars tied

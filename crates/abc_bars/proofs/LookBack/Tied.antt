@@ -1,7 +1,6 @@
 -- Tied notes and the accidentals of chords, looked back for.
-use Rattle.std.proofs.Common.{◌≡◌, ℕ, suc, zero, ◌+◌, nat_lt, ℤ, Bool, true, false, ◌||◌, cond, List, [], ◌∷◌, ◌++◌, length, take, Option, Some, None, unwrap_or, refl, sym, ap, ◌∙◌, arith, append_assoc, length-append, subst, append-nil}
+use Rattle.std.proofs.Common.{◌≡◌, ℕ, suc, zero, ◌+◌, nat_lt, ℤ, Bool, true, false, ◌||◌, cond, List, [], ◌∷◌, ◌++◌, length, take, Option, Some, unwrap_or, refl, sym, ap, ◌∙◌, arith, append_assoc, length-append, subst, append-nil}
 use Rattle.std.proofs.lemmas.Bool.Decides.{nat_tests}
-use Rattle.std.specs.Option.{option_or}
 use Rattle.abc_fields.specs.declared.fault.FaultCode.TheVariants.{BadByte, BigChord, LooseTie}
 use Rattle.abc_fields.specs.Signature.{alteration as signature_alteration}
 use Rattle.abc_scan.specs.declared.chord.Chord.{Chord}
@@ -9,7 +8,6 @@ use Rattle.abc_scan.specs.declared.note.Note.{Note}
 use Rattle.abc_scan.specs.declared.parts.ChordPartKind.{ChordPartKind}
 use Rattle.abc_scan.specs.declared.parts.ChordPartKind.TheVariants as parts
 use Rattle.abc_scan.specs.declared.spanned.Spanned.{Spanned}
-use Rattle.abc_text.specs.declared.letter.Letter.{Letter}
 use Rattle.abc_time.specs.declared.ratio.Ratio.{Ratio}
 use Rattle.abc_music.specs.declared.accidentals.Accidentals.{Accidentals}
 use Rattle.abc_music.specs.declared.chords.Outside.{Outside}
@@ -18,42 +16,28 @@ use Rattle.abc_music.specs.declared.item.TheConstants.{MOST_NOTES}
 use Rattle.abc_music.specs.declared.settings.Settings.{Settings}
 use Rattle.abc_music.specs.declared.sound.Inside.{Inside}
 use Rattle.abc_music.specs.declared.tied.TiedNote.{TiedNote}
-use Rattle.abc_music.specs.Accidentals.{written_on}
+use Rattle.abc_music.specs.Accidentals.{reach_of, written_on}
 use Rattle.abc_music.specs.Alteration.{alteration_of, own_alteration, tied_alteration, with_own}
 use Rattle.abc_music.specs.Chords.{inside_from, inside_of, tie_follows, with_fault, with_dropped}
 use Rattle.abc_music.specs.Column.{column_of}
 use Rattle.abc_music.specs.Sound.{no_notes, with_note}
 use Rattle.abc_bars.specs.LookBack.Element.{Element}
-use Rattle.abc_bars.specs.LookBack.Voice.{accidental_at, accidentals_at, alteration_at, as_tied, counted_notes, newest_written, notes_among, settings_at, signature_at, tied_among, tied_at, written_by}
-use Rattle.abc_bars.proofs.LookBack.Accidentals.{or_or, with_each, written_on-at, written_on-with_own}
-
-unwrap_or-or : (a b : Option ℤ) (d : ℤ) → unwrap_or (option_or a b) d ≡ unwrap_or a (unwrap_or b d)
-unwrap_or-or None b d = refl
-unwrap_or-or (Some x) b d = refl
+use Rattle.abc_bars.specs.LookBack.Voice.{accidentals_at, accidentals_of, alteration_at, as_tied, counted_notes, notes_among, notes_of_bar, settings_at, signature_at, tied_among, tied_at}
+use Rattle.abc_bars.proofs.LookBack.Accidentals.{newest_heard, with_each}
 
 -- The accidentals are those of these notes of a chord, newest first, and of what stands before the chord.
-abbrev pub AreBehind : List Element → Accidentals → List Note → Type 0
-AreBehind before accidentals earlier =
-    (letter : Letter) → written_on accidentals letter ≡ option_or (newest_written letter earlier) (accidental_at letter before)
-
--- One note more, and it is so behind it.
-pub behind-own : (before : List Element) (accidentals : Accidentals) (earlier : List Note) (note : Note)
-    → AreBehind before accidentals earlier → AreBehind before (with_own accidentals note) (note ∷ earlier)
-behind-own before accidentals earlier note h letter =
-    written_on-with_own accidentals note letter
-    ∙ ap (option_or (written_by letter note)) (h letter)
-    ∙ sym (or_or (written_by letter note) (newest_written letter earlier) (accidental_at letter before))
+abbrev pub AreBehind : Settings → List Element → Accidentals → List Note → Type 0
+AreBehind opening before accidentals earlier = accidentals ≡ accidentals_of (reach_of opening.accidentals) (earlier ++ notes_of_bar before)
 
 -- A note is altered as looking back says.
 pub alteration-at : (opening : Settings) (before : List Element) (accidentals : Accidentals) (earlier : List Note) (note : Note)
-    → AreBehind before accidentals earlier
+    → AreBehind opening before accidentals earlier
     → alteration_of (settings_at opening before) accidentals note ≡ alteration_at opening (tied_at opening before) before earlier note
 unfolding settings_at
 alteration-at opening before accidentals earlier note h =
     let rest : ℤ = unwrap_or (tied_alteration (tied_at opening before) note) (signature_alteration (signature_at opening.signature before) note.letter) in
-    ap (unwrap_or (own_alteration note))
-    (ap (λ (w : Option ℤ). unwrap_or w rest) (h note.letter)
-    ∙ unwrap_or-or (newest_written note.letter earlier) (accidental_at note.letter before) rest)
+    ap (λ (w : Option ℤ). unwrap_or (own_alteration note) (unwrap_or w rest))
+    (ap (λ (a : Accidentals). written_on a note) h ∙ newest_heard (reach_of opening.accidentals) (earlier ++ notes_of_bar before) note)
 
 pub either : (b : Bool) (x y : Inside) (P : Inside → Type 0) → P x → P y → P (cond b x y)
 either true x y P p q = p
@@ -82,9 +66,9 @@ module _ (opening : Settings) (before : List Element) (broken : List Ratio) (out
       ≡ inside.tied ++ tied_among opening (tied_at opening before) before outside.tied earlier (take room (notes_among rest)))
 
   step : (kind : ChordPartKind) (from to : ℕ) (rest : List (Spanned ChordPartKind))
-      → ((room : ℕ) (inside : Inside) (earlier : List Note) → length inside.tones + room ≡ MOST_NOTES → AreBehind before inside.accidentals earlier → Leaves rest room inside inside earlier)
+      → ((room : ℕ) (inside : Inside) (earlier : List Note) → length inside.tones + room ≡ MOST_NOTES → AreBehind opening before inside.accidentals earlier → Leaves rest room inside inside earlier)
       → (room : ℕ) (inside : Inside) (earlier : List Note)
-      → length inside.tones + room ≡ MOST_NOTES → AreBehind before inside.accidentals earlier
+      → length inside.tones + room ≡ MOST_NOTES → AreBehind opening before inside.accidentals earlier
       → Leaves (record { kind = kind; from = from; to = to } ∷ rest) room inside inside earlier
   step (parts.Note note) from to rest ih zero inside earlier size h =
       let column : ℕ = column_of (outside.from + from) in
@@ -108,7 +92,7 @@ module _ (opening : Settings) (before : List Element) (broken : List Ratio) (out
       ≡ inside.tied ++ tied_among opening (tied_at opening before) before outside.tied earlier ((note, tie_follows rest) ∷ take room (notes_among rest))) in
       let r : Leaves rest room (record full { after_note = true }) full (note ∷ earlier) =
       ih room (record full { after_note = true }) (note ∷ earlier) (one-more inside.tones _ room size)
-      (behind-own before inside.accidentals earlier note h) in
+      (ap (λ (a : Accidentals). with_own a note) h) in
       subst Q (sym (room-left (length inside.tones) room size)) (
         r.0,
         r.1 ∙ tied-step tied inside.tied _ _ (tied_among opening (tied_at opening before) before outside.tied (note ∷ earlier) (take room (notes_among rest)))
@@ -125,20 +109,22 @@ module _ (opening : Settings) (before : List Element) (broken : List Ratio) (out
       ih room (record (with_fault (column_of (outside.from + from)) BadByte inside) { after_note = false }) earlier size h
 
   leaves : (rest : List (Spanned ChordPartKind)) (room : ℕ) (inside : Inside) (earlier : List Note)
-      → length inside.tones + room ≡ MOST_NOTES → AreBehind before inside.accidentals earlier → Leaves rest room inside inside earlier
+      → length inside.tones + room ≡ MOST_NOTES → AreBehind opening before inside.accidentals earlier → Leaves rest room inside inside earlier
   leaves [] zero inside earlier size h = (refl, sym (append-nil inside.tied))
   leaves [] (suc room) inside earlier size h = (refl, sym (append-nil inside.tied))
   leaves (part ∷ rest) room inside earlier size h = step part.kind part.from part.to rest (leaves rest) room inside earlier size h
 
 -- What stands before a place of a chord, where none of its notes does.
-pub behind-none : (before : List Element) → AreBehind before (accidentals_at before) []
-behind-none before letter = written_on-at letter before
+pub behind-none : (opening : Settings) (before : List Element) → AreBehind opening before (accidentals_at (reach_of opening.accidentals) before) []
+unfolding accidentals_at
+behind-none opening before = refl
 
 -- What the parts of a chord leave.
 pub chord-leaves : (opening : Settings) (before : List Element) (broken : List Ratio) (outside : Outside) (chord : Chord)
-    → ((inside_of (settings_at opening before) broken outside chord.parts).accidentals ≡ with_each (accidentals_at before) (counted_notes chord))
+    → ((inside_of (settings_at opening before) broken outside chord.parts).accidentals
+    ≡ with_each (accidentals_at (reach_of opening.accidentals) before) (counted_notes chord))
     × ((inside_of (settings_at opening before) broken outside chord.parts).tied
     ≡ tied_among opening (tied_at opening before) before outside.tied [] (counted_notes chord))
 unfolding settings_at counted_notes
 chord-leaves opening before broken outside chord =
-    leaves opening before broken outside chord.parts MOST_NOTES (no_notes (settings_at opening before)) [] refl (behind-none before)
+    leaves opening before broken outside chord.parts MOST_NOTES (no_notes (settings_at opening before)) [] refl (behind-none opening before)

@@ -1,10 +1,10 @@
 -- Loose ties are those that have no note or chord directly before them, and tied notes are those of the last time token.
 use Rattle.std.proofs.Common.{◌≡◌, ◌∙◌, ℕ, Bool, true, false, ◌||◌, cond, List, [], ◌∷◌, ◌++◌, map, Option, Some, None, slice_range, refl, sym, ap, append-nil, append_assoc}
-use Rattle.std.specs.Prelude.{All, filter}
+use Rattle.std.specs.Prelude.{All, filter, is_none}
 use Rattle.std.specs.Option.{ok_or}
 use Rattle.std.proofs.lemmas.List.Elements.{All-head, All-tail, filter-append}
 use Rattle.abc_fields.specs.declared.fault.FaultCode.{FaultCode}
-use Rattle.abc_fields.specs.declared.fault.FaultCode.TheVariants.{BadBroken, BadKey, BadLength, BadMeter, BadTempo, BadUnit, BadVoice, KeyRange, LooseTie, TempoRange}
+use Rattle.abc_fields.specs.declared.fault.FaultCode.TheVariants.{BadBroken, BadKey, BadProgram, BadLength, BadMeter, BadTempo, BadUnit, BadVoice, KeyRange, LooseTie, TempoRange}
 use Rattle.abc_fields.specs.declared.key.Key.{Key}
 use Rattle.abc_fields.specs.declared.meter.Meter.{Meter}
 use Rattle.abc_fields.specs.declared.meter.Meter.TheVariants.{Free, Of}
@@ -15,19 +15,22 @@ use Rattle.abc_fields.specs.Meter.{symbol_or_fraction}
 use Rattle.abc_fields.specs.Tempo.{tempo_in, tempo_of}
 use Rattle.abc_fields.specs.Unit.{unit_in}
 use Rattle.abc_fields.specs.Voice.{voice_in, voice_of}
-use Rattle.abc_scan.specs.declared.field.Field.{Field}
+use Rattle.abc_scan.specs.declared.directive.Directive.{Directive}
+use Rattle.abc_scan.specs.declared.directive.Directive.TheVariants as directives
 use Rattle.abc_scan.specs.declared.note.Note.{Note}
 use Rattle.abc_scan.specs.declared.spanned.Spanned.{Spanned}
 use Rattle.abc_scan.specs.declared.token.TokenKind.{TokenKind}
 use Rattle.abc_scan.specs.declared.token.TokenKind.TheVariants as kinds
 use Rattle.abc_time.specs.declared.grains.Grains.{Grains}
 use Rattle.abc_time.specs.declared.ratio.Ratio.{Ratio}
+use Rattle.abc_bars.specs.HeaderLine.{HeaderLine}
 use Rattle.abc_bars.specs.declared.body.Body.{Body}
 use Rattle.abc_bars.specs.declared.cell.Given.{Given}
 use Rattle.abc_bars.specs.declared.defaults.Defaults.{Defaults}
 use Rattle.abc_bars.specs.declared.field_kind.FieldKind.{FieldKind}
 use Rattle.abc_bars.specs.declared.field_kind.FieldKind.TheVariants as fields
 use Rattle.abc_music.specs.declared.item.Item.{Item}
+use Rattle.abc_music.specs.declared.item.Item.TheVariants as items
 use Rattle.abc_music.specs.declared.settings.Settings.{Settings}
 use Rattle.abc_music.specs.declared.tied.TiedNote.{TiedNote}
 use Rattle.abc_music.specs.BarRest.{bar_rest_length, bars_of, or_one_bar}
@@ -38,8 +41,9 @@ use Rattle.abc_music.specs.Tuplet.{opened, tuplet_by}
 use Rattle.abc_music.proofs.LooseTies.{ties_behind_notes}
 use Rattle.abc_bars.specs.Body.{here, made_current, mentioned}
 use Rattle.abc_bars.specs.BodyFields.{accepted, faulty, kind_given, meter_by, key_by, part_by, part_of, tempo_by, unit_by, voice_by, voice_made}
-use Rattle.abc_bars.specs.Cell.{mentioned_by_chord, nothing_given, tie_ahead, with_ending, with_fault, with_fault_if, with_item, with_kind, with_some_fault, with_token}
+use Rattle.abc_bars.specs.Cell.{mentioned_by_chord, nothing_given, tie_ahead, with_directive, with_ending, with_fault, with_fault_if, with_item, with_kind, with_some_fault, with_token}
 use Rattle.abc_music.specs.Column.{column_of}
+use Rattle.abc_music.specs.Program.{program_of}
 use Rattle.abc_bars.specs.FieldKind.{kind_of}
 use Rattle.abc_music.specs.TempoItem.{is_out}
 use Rattle.abc_bars.specs.LookBack.Cells.{looked_back}
@@ -138,6 +142,14 @@ of-broken : (given : Given) (place : ℕ) (b : Bool) → Ties (with_fault_if giv
 of-broken given place true = more given.items.faults _ [] refl ∙ append-nil _
 of-broken given place false = refl
 
+of-program : (given : Given) (place : ℕ) (b : Bool) → Ties (with_fault_if given b place BadProgram).items.faults ≡ Ties given.items.faults
+of-program given place true = more given.items.faults _ [] refl ∙ append-nil _
+of-program given place false = refl
+
+of-directive : (given : Given) (place : ℕ) (directive : Directive) → Ties (with_directive given place directive).items.faults ≡ Ties given.items.faults
+of-directive given place (directives.Program written) = of-program (with_item given (items.Program false (program_of written))) place (is_none (program_of written))
+of-directive given place (directives.Reach reach) = refl
+
 of-tie : (given : Given) (place : ℕ) (b : Bool)
     → Ties (cond b given (with_fault given place LooseTie)).items.faults ≡ Ties given.items.faults ++ cond b [] ((column_of place, LooseTie) ∷ [])
 of-tie given place true = none-more given.items.faults
@@ -165,6 +177,8 @@ of-kind given before place kinds.Tie ahead e =
     of-tie given place given.after_note ∙ ap (λ b. Ties given.items.faults ++ cond b [] ((column_of place, LooseTie) ∷ [])) e
 of-kind given before place kinds.Blank ahead e = none-more given.items.faults
 of-kind given before place kinds.NoEffect ahead e = none-more given.items.faults
+of-kind given before place (kinds.Dynamic dynamic) ahead e = none-more given.items.faults
+of-kind given before place (kinds.Directive directive) ahead e = of-directive given place directive ∙ none-more given.items.faults
 of-kind given before place kinds.Unclosed ahead e = more given.items.faults _ [] refl
 of-kind given before place kinds.BadByte ahead e = more given.items.faults _ [] refl
 
@@ -177,7 +191,7 @@ from-here opening elements before given (token ∷ ahead) e =
     ∙ ap (λ l. l ++ loose_from (Some token.kind) ahead) (of-kind start before token.from token.kind ahead e)
     ∙ append_assoc (Ties given.items.faults) (loose_in before token.from token.kind) (loose_from (Some token.kind) ahead)
 
-pub ties_loose : (values : Defaults) (fields : List Field) (key : Key) (before : List Element) (cell : List (Spanned TokenKind))
+pub ties_loose : (values : Defaults) (fields : List HeaderLine) (key : Key) (before : List Element) (cell : List (Spanned TokenKind))
     → filter is_loose_tie (given_in_body values fields key before cell).faults ≡ loose_ties cell
 ties_loose values fields key before cell =
     let opening : Body = opening_at values fields key in
@@ -199,6 +213,8 @@ passed-over opening tied before (kinds.Broken mark) follows e = refl
 passed-over opening tied before kinds.Tie follows e = refl
 passed-over opening tied before kinds.Blank follows e = refl
 passed-over opening tied before kinds.NoEffect follows e = refl
+passed-over opening tied before (kinds.Dynamic dynamic) follows e = refl
+passed-over opening tied before (kinds.Directive directive) follows e = refl
 passed-over opening tied before kinds.Unclosed follows e = refl
 passed-over opening tied before kinds.BadByte follows e = refl
 
@@ -234,6 +250,8 @@ left-by opening before (kinds.Broken mark) follows e = cc
 left-by opening before kinds.Tie follows e = cc
 left-by opening before kinds.Blank follows e = cc
 left-by opening before kinds.NoEffect follows e = cc
+left-by opening before (kinds.Dynamic dynamic) follows e = cc
+left-by opening before (kinds.Directive directive) follows e = cc
 left-by opening before kinds.Unclosed follows e = cc
 left-by opening before kinds.BadByte follows e = cc
 

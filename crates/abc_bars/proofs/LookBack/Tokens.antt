@@ -1,8 +1,9 @@
 -- What a token of a cell leaves is what an element leaves.
 use Rattle.std.proofs.Common.{◌≡◌, ℕ, zero, suc, ◌+◌, ◌≤◌, nat_lt, Bool, true, false, cond, ◌||◌, List, [], ◌∷◌, ◌++◌, length, Option, Some, None, unwrap_or, slice_range, Result, Ok, Err, refl, sym, ap, ◌∙◌, subst, arith, length-append}
 use Rattle.std.proofs.lemmas.Bool.Decides.{nat_tests}
+use Rattle.std.specs.Prelude.{is_none}
 use Rattle.abc_fields.specs.declared.fault.FaultCode.{FaultCode}
-use Rattle.abc_fields.specs.declared.fault.FaultCode.TheVariants.{BadBroken, BigChord, LooseTie}
+use Rattle.abc_fields.specs.declared.fault.FaultCode.TheVariants.{BadBroken, BadProgram, BigChord, LooseTie}
 use Rattle.abc_fields.specs.declared.key.Key.{Key}
 use Rattle.abc_fields.specs.declared.meter.Meter.{Meter}
 use Rattle.abc_fields.specs.declared.tempo.Tempo.{Tempo}
@@ -13,6 +14,8 @@ use Rattle.abc_fields.specs.Tempo.{tempo_of}
 use Rattle.abc_fields.specs.Unit.{unit_of}
 use Rattle.abc_fields.specs.Voice.{voice_of}
 use Rattle.abc_scan.specs.declared.chord.Chord.{Chord}
+use Rattle.abc_scan.specs.declared.directive.Directive.{Directive}
+use Rattle.abc_scan.specs.declared.directive.Directive.TheVariants as directives
 use Rattle.abc_scan.specs.declared.length.WrittenLength.{WrittenLength}
 use Rattle.abc_scan.specs.declared.note.Note.{Note}
 use Rattle.abc_scan.specs.declared.parts.ChordPartKind.{ChordPartKind}
@@ -29,6 +32,7 @@ use Rattle.abc_music.specs.declared.chords.Outside.{Outside}
 use Rattle.abc_bars.specs.declared.field_kind.FieldKind.{FieldKind}
 use Rattle.abc_bars.specs.declared.field_kind.FieldKind.TheVariants as fields
 use Rattle.abc_music.specs.declared.item.Item.{Item}
+use Rattle.abc_music.specs.declared.item.Item.TheVariants as items
 use Rattle.abc_music.specs.declared.item.TheConstants.{MOST_NOTES}
 use Rattle.abc_music.specs.declared.item.Tone.{Tone}
 use Rattle.abc_music.specs.declared.settings.Settings.{Settings}
@@ -38,9 +42,10 @@ use Rattle.abc_music.specs.BarRest.{bar_rest_of}
 use Rattle.abc_bars.specs.Body.{here, here_in, made_current, mentioned, with_here, with_here_in}
 use Rattle.abc_bars.specs.BodyFields.{accepted, faulty, key_by, kind_given, meter_by, part_by, part_of, tempo_by, unit_by, voice_by, voice_made}
 use Rattle.abc_music.specs.Broken.{factors_of, has_note, is_bad_mark}
-use Rattle.abc_bars.specs.Cell.{mentioned_by_chord, tie_ahead, with_ending, with_fault, with_fault_if, with_item, with_kind, with_some_fault}
+use Rattle.abc_bars.specs.Cell.{mentioned_by_chord, tie_ahead, with_directive, with_ending, with_fault, with_fault_if, with_item, with_kind, with_some_fault}
 use Rattle.abc_music.specs.Chords.{inside_from, tie_follows, with_kind as with_part_kind}
 use Rattle.abc_music.specs.Column.{column_of}
+use Rattle.abc_music.specs.Program.{program_of}
 use Rattle.abc_bars.specs.FieldKind.{kind_of}
 use Rattle.abc_music.specs.Sound.{no_notes, tied_note_in, with_note}
 use Rattle.abc_music.specs.TempoItem.{is_out}
@@ -205,6 +210,11 @@ body-ending : (given : Given) (line : ℕ) (passes : Option ℕ) → (with_endin
 body-ending given line None = refl
 body-ending given line (Some passes) = refl
 
+body-directive : (given : Given) (line : ℕ) (directive : Directive) → (with_directive given line directive).body ≡ given.body
+body-directive given line (directives.Program written) =
+    body-fault-if (with_item given (items.Program false (program_of written))) (is_none (program_of written)) line BadProgram
+body-directive given line (directives.Reach reach) = refl
+
 mentioned-by : (b : Bool) (body : Body) → mentioned_by_chord b body ≡ mentioned_if b body
 mentioned-by true body = refl
 mentioned-by false body = refl
@@ -233,6 +243,8 @@ by-kind given body line (kinds.Broken mark) ahead =
 by-kind given body line kinds.Tie ahead = body-tie given.after_note (record given { body = body }) line LooseTie ∙ same-here body
 by-kind given body line kinds.Blank ahead = same-here body
 by-kind given body line kinds.NoEffect ahead = same-here body
+by-kind given body line (kinds.Dynamic dynamic) ahead = refl
+by-kind given body line (kinds.Directive directive) ahead = body-directive (record given { body = body }) line directive ∙ same-here body
 by-kind given body line kinds.Unclosed ahead = same-here body
 by-kind given body line kinds.BadByte ahead = same-here body
 

@@ -8,21 +8,22 @@ use Rattle.abc_bars.specs.declared.defaults.Defaults.{Defaults}
 use Rattle.abc_bars.specs.declared.field_kind.FieldKind.{FieldKind}
 use Rattle.abc_bars.specs.declared.field_kind.FieldKind.TheVariants as fields
 use Rattle.abc_bars.specs.FieldKind.{kind_of}
-use Rattle.abc_bars.specs.Step.{field_in}
+use Rattle.abc_bars.specs.HeaderLine.{HeaderLine, FieldLine, DirectiveLine}
+use Rattle.abc_bars.specs.Step.{line_in}
 use Rattle.abc_bars.specs.LookBack.Along.{CellTokens, place_after, tune_begins, values_set}
-use Rattle.abc_bars.specs.LookBack.Place.{Place, InFileHeader, InHeader, InBody, behind_field, behind_header, place_behind}
-use Rattle.abc_bars.specs.LookBack.TunePlaces.{IsOfTune, key_among, key_by}
+use Rattle.abc_bars.specs.LookBack.Place.{Place, InFileHeader, InHeader, InBody, behind_field, behind_header, behind_header_line, place_behind}
+use Rattle.abc_bars.specs.LookBack.TunePlaces.{IsOfTune, key_among, key_said}
 
-module _ (values opening : Defaults) (before : List Field) (same : opening ≡ values) (keyless : key_among before ≡ None) where
+module _ (values opening : Defaults) (before : List HeaderLine) (same : opening ≡ values) (keyless : key_among before ≡ None) where
   -- No K: is among the fields behind one that is none.
-  still : (field : Field) (kind : FieldKind) → kind_of field.letter ≡ kind → key_by kind field.value ≡ None → key_among (field ∷ before) ≡ None
+  still : (field : Field) (kind : FieldKind) → kind_of field.letter ≡ kind → key_said kind field.value ≡ None → key_among (FieldLine field ∷ before) ≡ None
   still field kind is none =
-      ap (λ (kind : FieldKind). option_or (key_by kind field.value) (key_among before)) is
+      ap (λ (kind : FieldKind). option_or (key_said kind field.value) (key_among before)) is
       ∙ ap (λ (key : Option Key). option_or key (key_among before)) none ∙ keyless
 
   kept-field : (field : Field) (kind : FieldKind) → kind_of field.letter ≡ kind → IsOfTune values (behind_field opening before field kind)
   kept-field field fields.Key is =
-      (same, sym (ap (λ (kind : FieldKind). unwrap_or (option_or (key_by kind field.value) (key_among before)) empty_signature) is))
+      (same, sym (ap (λ (kind : FieldKind). unwrap_or (option_or (key_said kind field.value) (key_among before)) empty_signature) is))
   kept-field field fields.Reference is = (same, still field fields.Reference is refl)
   kept-field field fields.Title is = (same, still field fields.Title is refl)
   kept-field field fields.Meter is = (same, still field fields.Meter is refl)
@@ -32,13 +33,17 @@ module _ (values opening : Defaults) (before : List Field) (same : opening ≡ v
   kept-field field fields.Voice is = (same, still field fields.Voice is refl)
   kept-field field fields.Other is = (same, still field fields.Other is refl)
 
-  kept-header : (cell : CellTokens) (field : Option Field) → IsOfTune values (behind_header opening before cell field)
-  kept-header cell (Some field) = kept-field field (kind_of field.letter) refl
+  kept-line : (line : HeaderLine) → IsOfTune values (behind_header_line opening before line)
+  kept-line (FieldLine field) = kept-field field (kind_of field.letter) refl
+  kept-line (DirectiveLine directive) = (same, keyless)
+
+  kept-header : (cell : CellTokens) (line : Option HeaderLine) → IsOfTune values (behind_header opening before cell line)
+  kept-header cell (Some line) = kept-line line
   kept-header cell None = (same, sym (ap (λ (key : Option Key). unwrap_or key empty_signature) keyless))
 
 kept-behind : (values : Defaults) (place : Place) (cell : CellTokens) → IsOfTune values place → IsOfTune values (place_behind place cell)
 kept-behind values (InFileHeader before) cell kept = absurd kept
-kept-behind values (InHeader opening before) cell kept = kept-header values opening before kept.0 kept.1 cell (field_in cell)
+kept-behind values (InHeader opening before) cell kept = kept-header values opening before kept.0 kept.1 cell (line_in cell)
 kept-behind values (InBody opening before key elements) cell kept = kept
 
 kept-after : (values : Defaults) (place : Place) (cells : List CellTokens) → IsOfTune values place → IsOfTune values (place_after place cells)

@@ -13,8 +13,9 @@ use Rattle.abc_bars.specs.BodyFields.{part_of}
 use Rattle.abc_bars.specs.FieldKind.{kind_of}
 use Rattle.abc_music.specs.VoiceShift.{with_properties}
 use Rattle.abc_bars.specs.LookBack.After.{after, after_field, after_kind, in_meter, in_part, in_unit, in_voice}
-use Rattle.abc_bars.specs.LookBack.Defaults.{meter_by, unit_by}
+use Rattle.abc_bars.specs.LookBack.Defaults.{meter_said, unit_said}
 use Rattle.abc_scan.specs.declared.chord.Chord.{Chord}
+use Rattle.abc_scan.specs.declared.directive.Reach.{Reach}
 use Rattle.abc_scan.specs.declared.length.WrittenLength.{WrittenLength}
 use Rattle.abc_scan.specs.declared.note.Note.{Note}
 use Rattle.abc_scan.specs.declared.parts.ChordPartKind.{ChordPartKind}
@@ -24,7 +25,9 @@ use Rattle.abc_scan.specs.declared.tuplet.Tuplet.{Tuplet}
 use Rattle.abc_scan.specs.declared.token.TokenKind.{TokenKind}
 use Rattle.abc_scan.specs.declared.token.TokenKind.TheVariants as kinds
 use Rattle.abc_time.specs.declared.ratio.Ratio.{Ratio}
+use Rattle.abc_music.specs.declared.accidentals.Accidentals.{Accidentals}
 use Rattle.abc_music.specs.declared.settings.Settings.{Settings}
+use Rattle.abc_music.specs.Accidentals.{no_accidentals, reach_of}
 use Rattle.abc_music.specs.Alteration.{alteration_of}
 use Rattle.abc_music.specs.Broken.{has_note, is_note_part}
 use Rattle.abc_music.specs.declared.chords.Outside.{Outside}
@@ -34,42 +37,44 @@ use Rattle.abc_music.specs.Tuplet.{counted_down, tuplet_opened}
 use Rattle.abc_music.specs.Chords.{inside_of, tie_follows}
 use Rattle.abc_music.specs.TimeTokens.{chord_by, chord_played, note_played, rest_played}
 use Rattle.abc_bars.specs.LookBack.Element.{Element}
-use Rattle.abc_bars.specs.LookBack.Voice.{accidental_at, accidentals_at, as_tied, counted_notes, ends_accidentals, meter_at, none_where, note_before, notes_among, passing, tied_among, tuplet_from, settings_at, shift_at, shift_in_voice, shift_said, signature_at, signature_said, tied_at, tied_said, tuplet_at, unit_at}
-use Rattle.abc_bars.proofs.LookBack.Accidentals.{at-chord, at-note, with_each}
+use Rattle.abc_bars.specs.LookBack.Voice.{accidentals_at, accidentals_of, as_tied, counted_notes, dynamic_at, ends_accidentals, meter_at, note_before, notes_among, notes_of_bar, passing, put_before, unless_ended, tied_among, tuplet_from, settings_at, shift_at, shift_in_voice, shift_said, signature_at, signature_said, tied_at, tied_said, tuplet_at, unit_at}
+use Rattle.abc_bars.proofs.LookBack.Accidentals.{each_put, reach_kept}
 use Rattle.abc_bars.proofs.LookBack.Tied.{alteration-at, behind-none, chord-leaves}
 use Rattle.abc_bars.proofs.LookBack.Tuplets.{at-mark, tuplet_from-suc}
 
 tied-note : (opening : Settings) (before : List Element) (tied : Bool) (note : Note)
     → tied_said opening (tied_at opening before) before (kinds.Note note) tied
-    ≡ cond tied (as_tied note (alteration_of (settings_at opening before) (accidentals_at before) note) ∷ []) []
+    ≡ cond tied (as_tied note (alteration_of (settings_at opening before) (accidentals_at (reach_of opening.accidentals) before) note) ∷ []) []
 tied-note opening before true note =
-    ap (λ (by : ℤ). as_tied note by ∷ []) (sym (alteration-at opening before (accidentals_at before) [] note (behind-none before)))
+    ap (λ (by : ℤ). as_tied note by ∷ []) (sym (alteration-at opening before (accidentals_at (reach_of opening.accidentals) before) [] note (behind-none opening before)))
 tied-note opening before false note = refl
 
 pub after-note : (opening : Settings) (before : List Element) (broken : List Ratio) (tied : Bool) (from : ℕ) (note : Note)
     → settings_at opening (record { kind = kinds.Note note; tied = tied } ∷ before) ≡ (note_played (settings_at opening before) broken tied from note).settings
-unfolding settings_at meter_at unit_at signature_at shift_at tuplet_at
+unfolding settings_at meter_at unit_at signature_at shift_at tuplet_at accidentals_at dynamic_at
 after-note opening before broken tied from note = λ i. record {
   meter = meter_at opening.meter before;
   unit = unit_at opening.unit before;
   signature = signature_at opening.signature before;
   shift = shift_at opening.shift before;
-  accidentals = at-note note tied before i;
+  accidentals = accidentals_of (reach_of opening.accidentals) (note ∷ notes_of_bar before);
   tuplet = tuplet_from-suc opening.meter 0 before i;
   tied = tied-note opening before tied note i;
+  dynamic = dynamic_at before;
 }
 
 pub after-rest : (opening : Settings) (before : List Element) (broken : List Ratio) (tied : Bool) (from : ℕ) (length : WrittenLength)
     → settings_at opening (record { kind = kinds.Rest length; tied = tied } ∷ before) ≡ (rest_played (settings_at opening before) broken from length).settings
-unfolding settings_at meter_at unit_at signature_at shift_at tuplet_at accidentals_at accidental_at
+unfolding settings_at meter_at unit_at signature_at shift_at tuplet_at accidentals_at dynamic_at
 after-rest opening before broken tied from length = λ i. record {
   meter = meter_at opening.meter before;
   unit = unit_at opening.unit before;
   signature = signature_at opening.signature before;
   shift = shift_at opening.shift before;
-  accidentals = accidentals_at before;
+  accidentals = accidentals_at (reach_of opening.accidentals) before;
   tuplet = tuplet_from-suc opening.meter 0 before i;
   tied = [];
+  dynamic = dynamic_at before;
 }
 
 no-notes-by : (kind : ChordPartKind) (rest : List (Spanned ChordPartKind)) (tied : Bool) → is_note_part kind || has_note rest ≡ false
@@ -92,12 +97,13 @@ chord-by : (opening : Settings) (before : List Element) (broken : List Ratio) (t
     → settings_at opening (record { kind = kinds.Chord chord; tied = tied } ∷ before)
     ≡ (chord_by b (settings_at opening before) from
     (inside_of (settings_at opening before) broken (record { length = chord.length; tied = tied; from = from }) chord.parts)).settings
-unfolding settings_at meter_at unit_at signature_at shift_at tuplet_at
+unfolding settings_at meter_at unit_at signature_at shift_at tuplet_at accidentals_at dynamic_at
 chord-by opening before broken tied from chord true e =
     let outside : Outside = record { length = chord.length; tied = tied; from = from } in
     let inside : Inside = inside_of (settings_at opening before) broken outside chord.parts in
-    let accidentals : accidentals_at (record { kind = kinds.Chord chord; tied = tied } ∷ before) ≡ inside.accidentals =
-    at-chord chord tied before ∙ sym (chord-leaves opening before broken outside chord).0 in
+    let reach : Reach = reach_of opening.accidentals in
+    let accidentals : accidentals_at reach (record { kind = kinds.Chord chord; tied = tied } ∷ before) ≡ inside.accidentals =
+    each_put reach (counted_notes chord) (notes_of_bar before) ∙ sym (chord-leaves opening before broken outside chord).0 in
     let tuplet : tuplet_from opening.meter 0 (record { kind = kinds.Chord chord; tied = tied } ∷ before) ≡ counted_down (tuplet_from opening.meter 0 before) =
     ap (λ (b : Bool). tuplet_from opening.meter (passing b 0) before) e ∙ tuplet_from-suc opening.meter 0 before in
     let ties : tied_said opening (tied_at opening before) before (kinds.Chord chord) tied ≡ inside.tied =
@@ -111,10 +117,12 @@ chord-by opening before broken tied from chord true e =
       accidentals = accidentals i;
       tuplet = tuplet i;
       tied = ties i;
+      dynamic = dynamic_at before;
     }
 chord-by opening before broken tied from chord false e =
-    let accidentals : accidentals_at (record { kind = kinds.Chord chord; tied = tied } ∷ before) ≡ accidentals_at before =
-    at-chord chord tied before ∙ ap (with_each (accidentals_at before)) (counted-none chord e) in
+    let reach : Reach = reach_of opening.accidentals in
+    let accidentals : accidentals_at reach (record { kind = kinds.Chord chord; tied = tied } ∷ before) ≡ accidentals_at reach before =
+    ap (λ (notes : List (Note × Bool)). accidentals_of reach (put_before notes (notes_of_bar before))) (counted-none chord e) in
     let tuplet : tuplet_from opening.meter 0 (record { kind = kinds.Chord chord; tied = tied } ∷ before) ≡ tuplet_from opening.meter 0 before =
     ap (λ (b : Bool). tuplet_from opening.meter (passing b 0) before) e in
     let ties : tied_said opening (tied_at opening before) before (kinds.Chord chord) tied ≡ tied_at opening before =
@@ -127,6 +135,7 @@ chord-by opening before broken tied from chord false e =
       accidentals = accidentals i;
       tuplet = tuplet i;
       tied = ties i;
+      dynamic = dynamic_at before;
     }
 
 pub after-chord : (opening : Settings) (before : List Element) (broken : List Ratio) (tied : Bool) (from : ℕ) (chord : Chord)
@@ -136,40 +145,40 @@ after-chord opening before broken tied from chord = chord-by opening before brok
 pub after-tuplet : (opening : Settings) (before : List Element) (tied : Bool) (mark : Tuplet)
     → settings_at opening (record { kind = kinds.Tuplet mark; tied = tied } ∷ before)
     ≡ record (settings_at opening before) { tuplet = (tuplet_opened (settings_at opening before).meter (settings_at opening before).tuplet mark).0 }
-unfolding settings_at meter_at unit_at signature_at shift_at tuplet_at accidentals_at accidental_at
+unfolding settings_at meter_at unit_at signature_at shift_at tuplet_at accidentals_at dynamic_at
 after-tuplet opening before tied mark = λ i. record {
   meter = meter_at opening.meter before;
   unit = unit_at opening.unit before;
   signature = signature_at opening.signature before;
   shift = shift_at opening.shift before;
-  accidentals = accidentals_at before;
+  accidentals = accidentals_at (reach_of opening.accidentals) before;
   tuplet = at-mark (meter_at opening.meter before) mark (tuplet_at opening.meter before) i;
   tied = tied_at opening before;
+  dynamic = dynamic_at before;
 }
 
 -- What looking back says where a field stands last.
 abbrev field_last : Settings → List Element → FieldKind → List ℕ → Settings
 field_last opening before kind value = record {
-  meter = unwrap_or (meter_by kind value) (meter_at opening.meter before);
-  unit = unwrap_or (unit_by kind value) (unit_at opening.unit before);
+  meter = unwrap_or (meter_said kind value) (meter_at opening.meter before);
+  unit = unwrap_or (unit_said kind value) (unit_at opening.unit before);
   signature = unwrap_or (signature_said kind value) (signature_at opening.signature before);
   shift = record {
     clef = unwrap_or (shift_said kind value).clef (shift_at opening.shift before).clef;
     octave = unwrap_or (shift_said kind value).octave (shift_at opening.shift before).octave;
     transpose = unwrap_or (shift_said kind value).transpose (shift_at opening.shift before).transpose;
   };
-  accidentals = record {
-    c = unwrap_or (none_where (ends_accidentals kind value)) (accidentals_at before).c;
-    d = unwrap_or (none_where (ends_accidentals kind value)) (accidentals_at before).d;
-    e = unwrap_or (none_where (ends_accidentals kind value)) (accidentals_at before).e;
-    f = unwrap_or (none_where (ends_accidentals kind value)) (accidentals_at before).f;
-    g = unwrap_or (none_where (ends_accidentals kind value)) (accidentals_at before).g;
-    a = unwrap_or (none_where (ends_accidentals kind value)) (accidentals_at before).a;
-    b = unwrap_or (none_where (ends_accidentals kind value)) (accidentals_at before).b;
-  };
+  accidentals = accidentals_of (reach_of opening.accidentals) (unless_ended (ends_accidentals kind value) (notes_of_bar before));
   tuplet = tuplet_at opening.meter before;
   tied = tied_at opening before;
+  dynamic = dynamic_at before;
 }
+
+-- Behind what ends the accidentals they reach as far.
+ended : (opening : Settings) (before : List Element)
+    → no_accidentals (reach_of opening.accidentals) ≡ no_accidentals (reach_of (settings_at opening before).accidentals)
+unfolding settings_at accidentals_at
+ended opening before = ap no_accidentals (sym (reach_kept (reach_of opening.accidentals) (notes_of_bar before)))
 
 in-meter : (settings : Settings) (r : Result Meter FaultCode) → record settings { meter = unwrap_or (result_ok r) settings.meter } ≡ in_meter settings r
 in-meter settings (Ok meter) = refl
@@ -184,28 +193,22 @@ in-voice : (settings : Settings) (r : Result Voice FaultCode)
 in-voice settings (Ok voice) = refl
 in-voice settings (Err fault) = refl
 
-in-part : (settings : Settings) (part : Option ℕ)
-    → record settings {
-      accidentals = record {
-        c = unwrap_or (none_where (is_some part)) settings.accidentals.c;
-        d = unwrap_or (none_where (is_some part)) settings.accidentals.d;
-        e = unwrap_or (none_where (is_some part)) settings.accidentals.e;
-        f = unwrap_or (none_where (is_some part)) settings.accidentals.f;
-        g = unwrap_or (none_where (is_some part)) settings.accidentals.g;
-        a = unwrap_or (none_where (is_some part)) settings.accidentals.a;
-        b = unwrap_or (none_where (is_some part)) settings.accidentals.b;
-      };
-    } ≡ in_part settings part
-in-part settings (Some letter) = refl
-in-part settings None = refl
+in-part : (opening : Settings) (before : List Element) (part : Option ℕ)
+    → record (settings_at opening before) { accidentals = accidentals_of (reach_of opening.accidentals) (unless_ended (is_some part) (notes_of_bar before)) }
+    ≡ in_part (settings_at opening before) part
+unfolding settings_at accidentals_at
+in-part opening before (Some letter) =
+    ap (λ (accidentals : Accidentals). record (settings_at opening before) { accidentals = accidentals }) (ended opening before)
+in-part opening before None = refl
 
 at-field : (opening : Settings) (before : List Element) (kind : FieldKind) (value : List ℕ)
     → field_last opening before kind value ≡ after_field (settings_at opening before) kind value
-unfolding settings_at
+unfolding settings_at accidentals_at
 at-field opening before fields.Meter value = in-meter (settings_at opening before) (meter_of value)
 at-field opening before fields.UnitLength value = in-unit (settings_at opening before) (unit_of value)
-at-field opening before fields.Key value = refl
-at-field opening before fields.Parts value = in-part (settings_at opening before) (part_of value)
+at-field opening before fields.Key value =
+    ap (λ (accidentals : Accidentals). record (after_field (settings_at opening before) fields.Key value) { accidentals = accidentals }) (ended opening before)
+at-field opening before fields.Parts value = in-part opening before (part_of value)
 at-field opening before fields.Voice value = in-voice (settings_at opening before) (voice_of value)
 at-field opening before fields.Tempo value = refl
 at-field opening before fields.Reference value = refl
@@ -215,20 +218,23 @@ at-field opening before fields.Other value = refl
 -- What holds behind a token of a kind, which a tie follows or not.
 by-kind : (opening : Settings) (before : List Element) (kind : TokenKind) (tied : Bool)
     → settings_at opening (record { kind = kind; tied = tied } ∷ before) ≡ after_kind (settings_at opening before) kind tied
-unfolding settings_at meter_at unit_at signature_at shift_at tuplet_at accidentals_at accidental_at
+unfolding settings_at meter_at unit_at signature_at shift_at tuplet_at accidentals_at dynamic_at
 by-kind opening before (kinds.Note note) tied = after-note opening before [] tied 0 note
 by-kind opening before (kinds.Rest length) tied = after-rest opening before [] tied 0 length
 by-kind opening before (kinds.Chord chord) tied = after-chord opening before [] tied 0 chord
 by-kind opening before (kinds.Tuplet mark) tied = after-tuplet opening before tied mark
 by-kind opening before (kinds.InlineField field) tied = at-field opening before (kind_of field.letter) field.value
 by-kind opening before (kinds.Field field) tied = at-field opening before (kind_of field.letter) field.value
-by-kind opening before (kinds.Bar bar) tied = refl
+by-kind opening before (kinds.Bar bar) tied =
+    ap (λ (accidentals : Accidentals). record (settings_at opening before) { accidentals = accidentals }) (ended opening before)
 by-kind opening before (kinds.BarRest bars) tied = refl
 by-kind opening before (kinds.Ending passes) tied = refl
 by-kind opening before (kinds.Broken mark) tied = refl
 by-kind opening before kinds.Tie tied = refl
 by-kind opening before kinds.Blank tied = refl
 by-kind opening before kinds.NoEffect tied = refl
+by-kind opening before (kinds.Dynamic dynamic) tied = refl
+by-kind opening before (kinds.Directive directive) tied = refl
 by-kind opening before kinds.Unclosed tied = refl
 by-kind opening before kinds.BadByte tied = refl
 

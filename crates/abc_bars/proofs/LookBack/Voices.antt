@@ -5,7 +5,7 @@ use Rattle.std.specs.Cmp.Lexicographic.{nat_list_eq_equiv}
 use Rattle.std.specs.List.{IsDistinct}
 use Rattle.std.specs.Map.{keys_of}
 use Rattle.abc_fields.specs.declared.key.Key.{Key}
-use Rattle.abc_scan.specs.declared.field.Field.{Field}
+use Rattle.abc_bars.specs.HeaderLine.{HeaderLine}
 use Rattle.abc_bars.specs.declared.body.Body.{Body}
 use Rattle.abc_bars.specs.declared.defaults.Defaults.{Defaults}
 use Rattle.abc_music.specs.declared.settings.Settings.{Settings}
@@ -67,10 +67,10 @@ few-at opening few (element ∷ before) =
     few-behind roll (hearing_of roll element.kind) (among roll element.kind) (few-at opening few before)
 
 -- A body begins with the voices that the fields of its header declare.
-opening-keys : (opening : Defaults) (fields : List Field) (key : Key) → keys_of (opening_at opening fields key).voices ≡ keys_of (header_at opening fields).voices
+opening-keys : (opening : Defaults) (fields : List HeaderLine) (key : Key) → keys_of (opening_at opening fields key).voices ≡ keys_of (header_at opening fields).voices
 opening-keys opening fields key = opening_names (header_at opening fields) key
 
-module _ (opening : Defaults) (fields : List Field) (key : Key) (before : List Element) where
+module _ (opening : Defaults) (fields : List HeaderLine) (key : Key) (before : List Element) where
   pub voices_distinct : IsDistinct bytes_eq (roll_of (placed_at (opening_at opening fields key) before)).names
   voices_distinct =
       subst (λ (roll : Roll). IsDistinct bytes_eq roll.names) (sym (roll-held (opening_at opening fields key) before))

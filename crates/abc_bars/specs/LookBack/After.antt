@@ -69,6 +69,8 @@ after_kind settings (kinds.Broken mark) tied = settings
 after_kind settings kinds.Tie tied = settings
 after_kind settings kinds.Blank tied = settings
 after_kind settings kinds.NoEffect tied = settings
+after_kind settings (kinds.Dynamic dynamic) tied = record settings { dynamic = Some dynamic }
+after_kind settings (kinds.Directive directive) tied = settings
 after_kind settings kinds.Unclosed tied = settings
 after_kind settings kinds.BadByte tied = settings
 

@@ -1,5 +1,6 @@
 -- What holds in a tune's body behind one element more.
-use Rattle.std.specs.Prelude.{Bool, true, false}
+use Rattle.std.specs.Prelude.{Bool, true, false, Option, Some, None}
+use Rattle.abc_scan.specs.declared.field.Field.{Field}
 use Rattle.abc_scan.specs.declared.token.TokenKind.{TokenKind}
 use Rattle.abc_scan.specs.declared.token.TokenKind.TheVariants as kinds
 use Rattle.abc_bars.specs.declared.body.Body.{Body}
@@ -7,7 +8,7 @@ use Rattle.abc_music.specs.Broken.{has_note}
 use Rattle.abc_bars.specs.Body.{here, mentioned, with_here}
 use Rattle.abc_bars.specs.BodyFields.{field_given}
 use Rattle.abc_bars.specs.LookBack.After.{after}
-use Rattle.abc_bars.specs.LookBack.Element.{Element}
+use Rattle.abc_bars.specs.LookBack.Element.{Element, field_of}
 
 -- Whether a token mentions its voice: a note, a chord that is not empty, a rest or a rest of bars. Our own.
 abbrev pub mentions : TokenKind → Bool
@@ -15,7 +16,19 @@ mentions (kinds.Note note) = true
 mentions (kinds.Rest length) = true
 mentions (kinds.BarRest bars) = true
 mentions (kinds.Chord chord) = has_note chord.parts
-mentions _ = false
+mentions (kinds.InlineField field) = false
+mentions (kinds.Bar bar) = false
+mentions (kinds.Ending passes) = false
+mentions (kinds.Tuplet mark) = false
+mentions (kinds.Broken mark) = false
+mentions kinds.Tie = false
+mentions kinds.Blank = false
+mentions kinds.NoEffect = false
+mentions (kinds.Dynamic dynamic) = false
+mentions (kinds.Directive directive) = false
+mentions (kinds.Field field) = false
+mentions kinds.Unclosed = false
+mentions kinds.BadByte = false
 
 -- The current voice is mentioned, where a token mentions it.
 abbrev pub mentioned_if : Bool → Body → Body
@@ -28,12 +41,11 @@ after_sound body element =
     let body = mentioned_if (mentions element.kind) body in
     with_here body (after (here body) element)
 
--- Behind a token, which a tie directly follows or not.
-abbrev pub after_token : Body → Element → TokenKind → Body
-after_token body element (kinds.InlineField field) = (field_given body field.letter field.value 0).body
-after_token body element (kinds.Field field) = (field_given body field.letter field.value 0).body
-after_token body element _ = after_sound body element
+-- Behind a token that is this field or none.
+abbrev pub after_token : Body → Element → Option Field → Body
+after_token body element (Some field) = (field_given body field.letter field.value 0).body
+after_token body element None = after_sound body element
 
 -- Behind one element more. The place of a field changes nothing of what it leaves.
 abbrev pub body_after : Body → Element → Body
-body_after body element = after_token body element element.kind
+body_after body element = after_token body element (field_of element.kind)

@@ -1,13 +1,13 @@
 -- The places that cells lead to, one after another from where a file header or a tune begins, and what the
 -- cells give there; and what the steps of a fold make of the same cells.
 use Rattle.std.specs.Prelude.{◌≡◌, List, [], ◌∷◌, map, Option, Some, None}
-use Rattle.abc_scan.specs.declared.field.Field.{Field}
 use Rattle.abc_scan.specs.declared.spanned.Spanned.{Spanned}
 use Rattle.abc_scan.specs.declared.token.TokenKind.{TokenKind}
 use Rattle.abc_bars.specs.declared.defaults.Defaults.{Defaults}
 use Rattle.abc_bars.specs.declared.entry.Entry.{Entry}
 use Rattle.abc_bars.specs.Defaults.{no_defaults}
-use Rattle.abc_bars.specs.Step.{field_in}
+use Rattle.abc_bars.specs.HeaderLine.{HeaderLine}
+use Rattle.abc_bars.specs.Step.{line_in}
 use Rattle.abc_bars.specs.LookBack.Defaults.{defaults_at}
 use Rattle.abc_bars.specs.LookBack.Place.{Place, InFileHeader, InHeader, given_at, place_behind, view}
 use Rattle.abc_music.specs.Item.{Items}
@@ -16,15 +16,15 @@ use Rattle.abc_music.specs.Item.{Items}
 abbrev pub CellTokens : Type 0
 CellTokens = List (Spanned TokenKind)
 
--- These fields, and the field line that a cell is, if it is one, before them.
-abbrev pub with_field_line : Option Field → List Field → List Field
-with_field_line None before = before
-with_field_line (Some field) before = field ∷ before
+-- These lines, and before them the one that a cell is, if it is one and not music.
+abbrev pub with_line : Option HeaderLine → List HeaderLine → List HeaderLine
+with_line None before = before
+with_line (Some line) before = line ∷ before
 
--- The field lines among cells, newest first, before those that stand before them.
-abbrev pub fields_behind : List CellTokens → List Field → List Field
-fields_behind [] before = before
-fields_behind (cell ∷ cells) before = fields_behind cells (with_field_line (field_in cell) before)
+-- The lines of a header among cells, newest first, before those that stand before them.
+abbrev pub lines_behind : List CellTokens → List HeaderLine → List HeaderLine
+lines_behind [] before = before
+lines_behind (cell ∷ cells) before = lines_behind cells (with_line (line_in cell) before)
 
 -- Where a file header begins: nothing stands before it.
 abbrev pub file_header_begins : Place
@@ -33,7 +33,7 @@ file_header_begins = InFileHeader []
 -- The values that the cells of a file header set, if there is one.
 abbrev pub values_set : Option (List CellTokens) → Defaults
 values_set None = no_defaults
-values_set (Some cells) = defaults_at no_defaults (fields_behind cells [])
+values_set (Some cells) = defaults_at no_defaults (lines_behind cells [])
 
 -- Where a tune begins, by the cells of the file header, if there is one.
 abbrev pub tune_begins : Option (List CellTokens) → Place

@@ -9,8 +9,8 @@ use Rattle.std.specs.Option.{option_and_then}
 use Rattle.abc_fields.specs.declared.fault.FaultCode.{FaultCode}
 use Rattle.abc_fields.specs.declared.voice.Voice.{Voice}
 use Rattle.abc_fields.specs.Voice.{voice_of}
+use Rattle.abc_scan.specs.declared.field.Field.{Field}
 use Rattle.abc_scan.specs.declared.token.TokenKind.{TokenKind}
-use Rattle.abc_scan.specs.declared.token.TokenKind.TheVariants as kinds
 use Rattle.abc_bars.specs.declared.body.Body.{Body}
 use Rattle.abc_bars.specs.declared.field_kind.FieldKind.{FieldKind}
 use Rattle.abc_bars.specs.declared.field_kind.FieldKind.TheVariants as fields
@@ -19,7 +19,7 @@ use Rattle.abc_bars.specs.BodyFields.{part_of}
 use Rattle.abc_bars.specs.FieldKind.{kind_of}
 use Rattle.abc_bars.specs.Voices.{place_of, voice_at}
 use Rattle.abc_bars.specs.LookBack.AfterBody.{mentions}
-use Rattle.abc_bars.specs.LookBack.Element.{Element}
+use Rattle.abc_bars.specs.LookBack.Element.{Element, field_of}
 use Rattle.abc_bars.specs.LookBack.Header.{with_name}
 use Rattle.abc_bars.specs.LookBack.Voice.{settings_at}
 
@@ -47,10 +47,13 @@ owner_of_field fields.Voice value = owner_of_voice value (voice_of value)
 owner_of_field fields.Parts value = owner_of_part (part_of value)
 owner_of_field _ value = Current
 
+-- A token that is no field is the current voice's.
+abbrev pub owner_by : Option Field → Owner
+owner_by None = Current
+owner_by (Some field) = owner_of_field (kind_of field.letter) field.value
+
 abbrev pub owner_of : TokenKind → Owner
-owner_of (kinds.InlineField field) = owner_of_field (kind_of field.letter) field.value
-owner_of (kinds.Field field) = owner_of_field (kind_of field.letter) field.value
-owner_of _ = Current
+owner_of kind = owner_by (field_of kind)
 
 -- The names of the voices that are mentioned before a place, in order, and that of the current one.
 pub record Naming : Type 0 where

@@ -3,13 +3,13 @@
 use Rattle.std.specs.Prelude.{◌≡◌, ℕ, true, false, List, ◌∷◌, ◌++◌, length, None}
 use Rattle.abc_fields.specs.declared.key.Key.{Key}
 use Rattle.abc_scan.specs.declared.chord.Chord.{Chord}
-use Rattle.abc_scan.specs.declared.field.Field.{Field}
 use Rattle.abc_scan.specs.declared.length.WrittenLength.{WrittenLength}
 use Rattle.abc_scan.specs.declared.note.Note.{Note}
 use Rattle.abc_scan.specs.declared.spanned.Spanned.{Spanned}
 use Rattle.abc_scan.specs.declared.token.TokenKind.{TokenKind}
 use Rattle.abc_scan.specs.declared.token.TokenKind.TheVariants as kinds
 use Rattle.abc_time.specs.declared.grains.Grains.{Grains}
+use Rattle.abc_bars.specs.HeaderLine.{HeaderLine}
 use Rattle.abc_bars.specs.declared.defaults.Defaults.{Defaults}
 use Rattle.abc_music.specs.declared.item.Item.{Item}
 use Rattle.abc_music.specs.declared.item.Item.TheVariants as items
@@ -25,7 +25,7 @@ use Rattle.abc_bars.specs.LookBack.Place.{given_in_body}
 use Rattle.abc_bars.specs.LookBack.Voice.{settings_at}
 
 -- What holds for the current voice, by all that stands before it in the body.
-abbrev pub held_for : Defaults → List Field → Key → List Element → Settings
+abbrev pub held_for : Defaults → List HeaderLine → Key → List Element → Settings
 held_for values fields key before = settings_at (standing values fields key before).opening (standing values fields key before).before
 
 -- A token of a cell gives an item of which this holds, between what the tokens round it give.
@@ -55,7 +55,7 @@ SoundsAsChord settings cell place chord item =
 -- marks of broken rhythm that act on it in its cell.
 abbrev pub NotesLastThere : Type 0
 NotesLastThere =
-    (values : Defaults) (fields : List Field) (key : Key) (before : List Element) (front ahead : List (Spanned TokenKind)) (note : Note) (from to : ℕ)
+    (values : Defaults) (fields : List HeaderLine) (key : Key) (before : List Element) (front ahead : List (Spanned TokenKind)) (note : Note) (from to : ℕ)
     → IsPlace (held_for values fields key (behind_tokens front before)) (cell_with front (kinds.Note note) from to ahead) (length front)
     → GivesItem (given_in_body values fields key before (cell_with front (kinds.Note note) from to ahead)).items
     (LastsAsNote (held_for values fields key (behind_tokens front before)) (cell_with front (kinds.Note note) from to ahead) (length front) note.length)
@@ -63,7 +63,7 @@ NotesLastThere =
 -- So does a rest.
 abbrev pub RestsLastThere : Type 0
 RestsLastThere =
-    (values : Defaults) (fields : List Field) (key : Key) (before : List Element) (front ahead : List (Spanned TokenKind)) (written : WrittenLength) (from to : ℕ)
+    (values : Defaults) (fields : List HeaderLine) (key : Key) (before : List Element) (front ahead : List (Spanned TokenKind)) (written : WrittenLength) (from to : ℕ)
     → IsPlace (held_for values fields key (behind_tokens front before)) (cell_with front (kinds.Rest written) from to ahead) (length front)
     → GivesItem (given_in_body values fields key before (cell_with front (kinds.Rest written) from to ahead)).items
     (LastsAsRest (held_for values fields key (behind_tokens front before)) (cell_with front (kinds.Rest written) from to ahead) (length front) written)
@@ -71,7 +71,7 @@ RestsLastThere =
 -- Of a chord its first sixteen notes do, and it lasts as long as its first note.
 abbrev pub ChordsLastThere : Type 0
 ChordsLastThere =
-    (values : Defaults) (fields : List Field) (key : Key) (before : List Element) (front ahead : List (Spanned TokenKind)) (chord : Chord) (from to : ℕ)
+    (values : Defaults) (fields : List HeaderLine) (key : Key) (before : List Element) (front ahead : List (Spanned TokenKind)) (chord : Chord) (from to : ℕ)
     → has_note chord.parts ≡ true
     → IsPlace (held_for values fields key (behind_tokens front before)) (cell_with front (kinds.Chord chord) from to ahead) (length front)
     → GivesItem (given_in_body values fields key before (cell_with front (kinds.Chord chord) from to ahead)).items

@@ -19,22 +19,23 @@ use Rattle.abc_bars.specs.Defaults.{no_defaults}
 use Rattle.abc_bars.specs.FieldKind.{kind_of}
 use Rattle.abc_bars.specs.FileHeader.{file_header_given}
 use Rattle.abc_bars.specs.Header.{header_given}
-use Rattle.abc_bars.specs.Step.{field_in}
+use Rattle.abc_bars.specs.HeaderLine.{HeaderLine, FieldLine, DirectiveLine}
+use Rattle.abc_bars.specs.Step.{line_in}
 use Rattle.abc_bars.specs.LookBack.Held.{held_at}
 use Rattle.abc_bars.specs.LookBack.Cells.{behind_tokens, looked_back}
 use Rattle.abc_bars.specs.LookBack.Defaults.{defaults_at}
 use Rattle.abc_bars.specs.LookBack.Element.{Element}
 use Rattle.abc_bars.specs.LookBack.Header.{file_header_view, header_at, header_view}
 
--- What stands before a place, newest first: the fields of a file header; those of a tune's header, which opens
+-- What stands before a place, newest first: the lines of a file header; those of a tune's header, which opens
 -- with the file header's values; or these, the key that ended the header, and what stands in the body.
 pub data Place : Type 0 where
-  InFileHeader : List Field → Place
-  InHeader : Defaults → List Field → Place
-  InBody : Defaults → List Field → Key → List Element → Place
+  InFileHeader : List HeaderLine → Place
+  InHeader : Defaults → List HeaderLine → Place
+  InBody : Defaults → List HeaderLine → Key → List Element → Place
 
--- What holds where a body begins whose header has these fields.
-abbrev pub opening_at : Defaults → List Field → Key → Body
+-- What holds where a body begins whose header has these lines.
+abbrev pub opening_at : Defaults → List HeaderLine → Key → Body
 opening_at opening before key = body_from (header_at opening before) key
 
 -- The view at a place.
@@ -44,45 +45,57 @@ view (InHeader opening before) = header_view opening before
 view (InBody opening before key elements) = entries.Body (held_at (opening_at opening before key) elements)
 
 -- The place behind a field of a tune's header, of this kind: behind a K: the body begins.
-abbrev pub behind_field : Defaults → List Field → Field → FieldKind → Place
-behind_field opening before field fields.Key = InBody opening (field ∷ before) (key_or_empty (key_of field.value)) []
-behind_field opening before field _ = InHeader opening (field ∷ before)
+abbrev pub behind_field : Defaults → List HeaderLine → Field → FieldKind → Place
+behind_field opening before field fields.Reference = InHeader opening (FieldLine field ∷ before)
+behind_field opening before field fields.Title = InHeader opening (FieldLine field ∷ before)
+behind_field opening before field fields.Meter = InHeader opening (FieldLine field ∷ before)
+behind_field opening before field fields.UnitLength = InHeader opening (FieldLine field ∷ before)
+behind_field opening before field fields.Tempo = InHeader opening (FieldLine field ∷ before)
+behind_field opening before field fields.Parts = InHeader opening (FieldLine field ∷ before)
+behind_field opening before field fields.Voice = InHeader opening (FieldLine field ∷ before)
+behind_field opening before field fields.Key = InBody opening (FieldLine field ∷ before) (key_or_empty (key_of field.value)) []
+behind_field opening before field fields.Other = InHeader opening (FieldLine field ∷ before)
 
--- The place behind a cell of a file header, which is this field or music: the latter has no effect.
-abbrev pub behind_line : List Field → Option Field → Place
-behind_line before (Some field) = InFileHeader (field ∷ before)
-behind_line before None = InFileHeader before
+-- The place behind a line of a tune's header: no directive ends it.
+abbrev pub behind_header_line : Defaults → List HeaderLine → HeaderLine → Place
+behind_header_line opening before (FieldLine field) = behind_field opening before field (kind_of field.letter)
+behind_header_line opening before (DirectiveLine directive) = InHeader opening (DirectiveLine directive ∷ before)
 
--- The place behind a cell of a tune's header, which is this field or music: the latter is of the body.
-abbrev pub behind_header : Defaults → List Field → List (Spanned TokenKind) → Option Field → Place
-behind_header opening before cell (Some field) = behind_field opening before field (kind_of field.letter)
+-- The place behind a cell of a file header, which is this line or music: the latter has no effect.
+abbrev pub behind_file_header : List HeaderLine → Option HeaderLine → Place
+behind_file_header before (Some line) = InFileHeader (line ∷ before)
+behind_file_header before None = InFileHeader before
+
+-- The place behind a cell of a tune's header, which is this line or music: the latter is of the body.
+abbrev pub behind_header : Defaults → List HeaderLine → List (Spanned TokenKind) → Option HeaderLine → Place
+behind_header opening before cell (Some line) = behind_header_line opening before line
 behind_header opening before cell None = InBody opening before empty_signature (behind_tokens cell [])
 
 -- The place behind a cell.
 abbrev pub place_behind : Place → List (Spanned TokenKind) → Place
-place_behind (InFileHeader before) cell = behind_line before (field_in cell)
-place_behind (InHeader opening before) cell = behind_header opening before cell (field_in cell)
+place_behind (InFileHeader before) cell = behind_file_header before (line_in cell)
+place_behind (InHeader opening before) cell = behind_header opening before cell (line_in cell)
 place_behind (InBody opening before key elements) cell = InBody opening before key (behind_tokens cell elements)
 
 -- What a cell of a body gives: each of its tokens by what looking back finds at its own place.
-abbrev pub given_in_body : Defaults → List Field → Key → List Element → List (Spanned TokenKind) → Items
+abbrev pub given_in_body : Defaults → List HeaderLine → Key → List Element → List (Spanned TokenKind) → Items
 given_in_body opening before key elements cell =
     (looked_back (opening_at opening before key) elements (nothing_given (opening_at opening before key)) cell).items
 
--- What a cell of a file header gives, which is this field or music.
-abbrev pub given_in_file_header : List Field → Option Field → Items
-given_in_file_header before (Some field) =
-    record { items = []; faults = (file_header_given (defaults_at no_defaults before) field).faults }
+-- What a cell of a file header gives, which is this line or music.
+abbrev pub given_in_file_header : List HeaderLine → Option HeaderLine → Items
+given_in_file_header before (Some line) =
+    record { items = []; faults = (file_header_given (defaults_at no_defaults before) line).faults }
 given_in_file_header before None = record { items = []; faults = [] }
 
--- What a cell of a tune's header gives, which is this field or music.
-abbrev pub given_in_header : Defaults → List Field → List (Spanned TokenKind) → Option Field → Items
-given_in_header opening before cell (Some field) =
-    record { items = (header_given (header_at opening before) field).items; faults = (header_given (header_at opening before) field).faults }
+-- What a cell of a tune's header gives, which is this line or music.
+abbrev pub given_in_header : Defaults → List HeaderLine → List (Spanned TokenKind) → Option HeaderLine → Items
+given_in_header opening before cell (Some line) =
+    record { items = (header_given (header_at opening before) line).items; faults = (header_given (header_at opening before) line).faults }
 given_in_header opening before cell None = given_in_body opening before empty_signature [] cell
 
 -- What a cell gives at a place.
 abbrev pub given_at : Place → List (Spanned TokenKind) → Items
-given_at (InFileHeader before) cell = given_in_file_header before (field_in cell)
-given_at (InHeader opening before) cell = given_in_header opening before cell (field_in cell)
+given_at (InFileHeader before) cell = given_in_file_header before (line_in cell)
+given_at (InHeader opening before) cell = given_in_header opening before cell (line_in cell)
 given_at (InBody opening before key elements) cell = given_in_body opening before key elements cell

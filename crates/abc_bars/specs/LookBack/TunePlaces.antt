@@ -3,22 +3,29 @@ use Rattle.std.specs.Prelude.{◌≡◌, ℕ, List, [], ◌∷◌, Option, Some,
 use Rattle.std.specs.Option.{option_or}
 use Rattle.abc_fields.specs.declared.key.Key.{Key}
 use Rattle.abc_fields.specs.Key.{empty_signature, key_of, key_or_empty}
-use Rattle.abc_scan.specs.declared.field.Field.{Field}
+use Rattle.abc_bars.specs.HeaderLine.{HeaderLine}
+use Rattle.abc_bars.specs.LookBack.Defaults.{said_by_line}
 use Rattle.abc_bars.specs.declared.defaults.Defaults.{Defaults}
 use Rattle.abc_bars.specs.declared.field_kind.FieldKind.{FieldKind}
 use Rattle.abc_bars.specs.declared.field_kind.FieldKind.TheVariants as fields
-use Rattle.abc_bars.specs.FieldKind.{kind_of}
 use Rattle.abc_bars.specs.LookBack.Place.{Place, InFileHeader, InHeader, InBody}
 
 -- The key that a field of this kind says, if it is a K:.
-abbrev pub key_by : FieldKind → List ℕ → Option Key
-key_by fields.Key value = Some (key_or_empty (key_of value))
-key_by _ value = None
+abbrev pub key_said : FieldKind → List ℕ → Option Key
+key_said fields.Reference value = None
+key_said fields.Title value = None
+key_said fields.Meter value = None
+key_said fields.UnitLength value = None
+key_said fields.Tempo value = None
+key_said fields.Parts value = None
+key_said fields.Voice value = None
+key_said fields.Key value = Some (key_or_empty (key_of value))
+key_said fields.Other value = None
 
--- The key that the last K: among fields says, if there is one.
-abbrev pub key_among : List Field → Option Key
+-- The key that the last K: among lines says, if there is one.
+abbrev pub key_among : List HeaderLine → Option Key
 key_among [] = None
-key_among (field ∷ before) = option_or (key_by (kind_of field.letter) field.value) (key_among before)
+key_among (line ∷ before) = option_or (said_by_line key_said line) (key_among before)
 
 -- A place of a tune that began with these values: it keeps them; no field of its header is a K: while it is in
 -- the header; and the key that it keeps in the body is what the header's K: says, or an empty signature where

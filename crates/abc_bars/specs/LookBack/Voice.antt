@@ -1,7 +1,8 @@
 -- What holds for a voice at a place of a tune, by looking back over the music and the fields of the voice
 -- that stand before the place, newest first. `opening` is what held when the body began.
-use Rattle.std.specs.Prelude.{ℕ, suc, ◌-◌, ◌==◌, nat_lt, ℤ, Bool, true, false, ◌||◌, if◌then◌else◌, List, [], ◌∷◌, take, Option, Some, None, unwrap_or, option_map, is_some}
+use Rattle.std.specs.Prelude.{ℕ, suc, ◌-◌, ◌==◌, nat_lt, ℤ, Bool, true, false, ◌&&◌, ◌||◌, if◌then◌else◌, List, [], ◌∷◌, ◌++◌, take, Option, Some, None, unwrap_or, is_some}
 use Rattle.std.specs.Option.{option_or}
+use Rattle.std.specs.Ordering.{int_eq}
 use Rattle.std.specs.Result.{result_ok}
 use Rattle.abc_fields.specs.declared.meter.Meter.{Meter}
 use Rattle.abc_fields.specs.declared.shift.Shift.{Shift}
@@ -12,15 +13,17 @@ use Rattle.abc_fields.specs.Shift.{no_shift}
 use Rattle.abc_fields.specs.Signature.{alteration as signature_alteration}
 use Rattle.abc_fields.specs.Voice.{voice_of}
 use Rattle.abc_scan.specs.declared.chord.Chord.{Chord}
+use Rattle.abc_scan.specs.declared.field.Field.{Field}
 use Rattle.abc_scan.specs.declared.note.Note.{Note}
 use Rattle.abc_scan.specs.declared.parts.ChordPartKind.{ChordPartKind}
 use Rattle.abc_scan.specs.declared.parts.ChordPartKind.TheVariants as parts
 use Rattle.abc_scan.specs.declared.spanned.Spanned.{Spanned}
 use Rattle.abc_scan.specs.declared.token.TokenKind.{TokenKind}
 use Rattle.abc_scan.specs.declared.token.TokenKind.TheVariants as kinds
-use Rattle.abc_text.specs.declared.letter.Letter.{Letter}
-use Rattle.abc_text.specs.declared.letter.Letter.TheVariants as letters
-use Rattle.abc_text.specs.Letter.{semitones}
+use Rattle.abc_scan.specs.declared.directive.Reach.{Reach}
+use Rattle.abc_scan.specs.declared.directive.Reach.TheVariants.{Not, Octave, Pitch}
+use Rattle.abc_scan.specs.declared.dynamic.Dynamic.{Dynamic}
+use Rattle.abc_text.specs.Letter.{capital}
 use Rattle.abc_time.specs.declared.ratio.Ratio.{Ratio}
 use Rattle.abc_music.specs.declared.accidentals.Accidentals.{Accidentals}
 use Rattle.abc_bars.specs.declared.field_kind.FieldKind.{FieldKind}
@@ -29,33 +32,37 @@ use Rattle.abc_music.specs.declared.item.TheConstants.{MOST_NOTES}
 use Rattle.abc_music.specs.declared.settings.Settings.{Settings}
 use Rattle.abc_music.specs.declared.tied.TiedNote.{TiedNote}
 use Rattle.abc_music.specs.declared.voice_shift.VoiceShift.{VoiceShift}
-use Rattle.abc_music.specs.Alteration.{own_alteration, tied_alteration}
+use Rattle.abc_music.specs.Accidentals.{no_accidentals, reach_of}
+use Rattle.abc_music.specs.Alteration.{own_alteration, tied_alteration, with_own}
 use Rattle.abc_bars.specs.BodyFields.{part_of}
 use Rattle.abc_music.specs.Broken.{has_note, is_time_token}
 use Rattle.abc_music.specs.Chords.{tie_follows}
 use Rattle.abc_bars.specs.FieldKind.{kind_of}
 use Rattle.abc_music.specs.Tuplet.{tuplet_by}
-use Rattle.abc_bars.specs.LookBack.Defaults.{meter_by, unit_by}
-use Rattle.abc_bars.specs.LookBack.Element.{Element}
+use Rattle.abc_bars.specs.LookBack.Defaults.{meter_said, unit_said}
+use Rattle.abc_bars.specs.LookBack.Element.{Element, field_of}
 
 -- What the newest element says that says anything of a matter, else what held when the body began.
 abbrev pub last_said : {A : Type 0} → (TokenKind → Option A) → A → List Element → A
 last_said says opening [] = opening
 last_said says opening (element ∷ before) = unwrap_or (says element.kind) (last_said says opening before)
 
--- What a field says, on a line of its own or inside one, by what it is about and its value.
+-- What a field says by what it is about and its value, if there is one.
+abbrev pub said_in : {A : Type 0} → (FieldKind → List ℕ → Option A) → Option Field → Option A
+said_in says None = None
+said_in says (Some field) = says (kind_of field.letter) field.value
+
+-- What a token says, if it is a field.
 abbrev pub said_by_field : {A : Type 0} → (FieldKind → List ℕ → Option A) → TokenKind → Option A
-said_by_field says (kinds.InlineField field) = says (kind_of field.letter) field.value
-said_by_field says (kinds.Field field) = says (kind_of field.letter) field.value
-said_by_field says _ = None
+said_by_field says kind = said_in says (field_of kind)
 
 -- The meter at a place.
 unfoldable pub meter_at : Meter → List Element → Meter
-meter_at opening before = last_said (said_by_field meter_by) opening before
+meter_at opening before = last_said (said_by_field meter_said) opening before
 
 -- The unit note length at a place.
 unfoldable pub unit_at : Ratio → List Element → Ratio
-unit_at opening before = last_said (said_by_field unit_by) opening before
+unit_at opening before = last_said (said_by_field unit_said) opening before
 
 -- The signature that a K: says: none where it sets properties alone, and an empty one where it is refused.
 -- ABC 2.1 section 3.1.14; what a refused one says is our own.
@@ -102,57 +109,124 @@ notes_among (part ∷ rest) = note_before part.kind (tie_follows rest) (notes_am
 unfoldable pub counted_notes : Chord → List (Note × Bool)
 counted_notes chord = take MOST_NOTES (notes_among chord.parts)
 
--- The accidental that a note is written with, if it is a note of this letter. ABC 2.1 section 4.2.
-abbrev pub written_by : Letter → Note → Option ℤ
-written_by letter note = if semitones letter == semitones note.letter then own_alteration note else None
+-- Whether the accidental of a note reaches another one: with `pitch` those of its letter in every octave, with `octave`
+-- those in its own octave, as they are written, and with `not` none. ABC 2.1 sections 4.2 and 11.3; what these words
+-- mean is our own.
+abbrev pub reaches : Reach → Note → Note → Bool
+reaches Not from to = false
+reaches Octave from to = (capital from.letter == capital to.letter) && int_eq to.octave from.octave
+reaches Pitch from to = capital from.letter == capital to.letter
 
--- The last accidental on a letter among notes in order.
-abbrev pub last_written : Letter → List (Note × Bool) → Option ℤ
-last_written letter [] = None
-last_written letter (note ∷ later) = option_or (last_written letter later) (written_by letter note.0)
+-- The accidental that another note is written with, if it reaches a note.
+abbrev pub written_by : Reach → Note → Note → Option ℤ
+written_by reach note other = if reaches reach other note then own_alteration other else None
+
+-- The last accidental that reaches a note among others, the newest first.
+abbrev pub newest_written : Reach → Note → List Note → Option ℤ
+newest_written reach note [] = None
+newest_written reach note (other ∷ earlier) = option_or (written_by reach note other) (newest_written reach note earlier)
+
+-- Notes in order, put before those that stand before them, newest first.
+abbrev pub put_before : List (Note × Bool) → List Note → List Note
+put_before [] before = before
+put_before (note ∷ later) before = put_before later (note.0 ∷ before)
 
 -- Whether accidentals before a field no longer hold behind it: they end at every K:, and at every part
 -- that is accepted. ABC 2.1 section 4.2; that a part ends them is our own.
 abbrev pub ends_accidentals : FieldKind → List ℕ → Bool
 ends_accidentals fields.Key value = true
 ends_accidentals fields.Parts value = is_some (part_of value)
-ends_accidentals _ value = false
+ends_accidentals fields.Meter value = false
+ends_accidentals fields.UnitLength value = false
+ends_accidentals fields.Tempo value = false
+ends_accidentals fields.Voice value = false
+ends_accidentals fields.Reference value = false
+ends_accidentals fields.Title value = false
+ends_accidentals fields.Other value = false
 
--- What a field says of the accidental on a letter.
-abbrev pub none_where : Bool → Option (Option ℤ)
-none_where true = Some None
-none_where false = None
+-- These notes, or none where accidentals end.
+abbrev pub unless_ended : Bool → List Note → List Note
+unless_ended true notes = []
+unless_ended false notes = notes
 
--- What a token says of the accidental on a letter: the last one written on it, in whatever octave, or that
--- there is none. ABC 2.1 section 4.2.
-abbrev pub accidental_said : Letter → TokenKind → Option (Option ℤ)
-accidental_said letter (kinds.Note note) = option_map Some (written_by letter note)
-accidental_said letter (kinds.Chord chord) = option_map Some (last_written letter (counted_notes chord))
-accidental_said letter (kinds.Bar bar) = Some None
-accidental_said letter (kinds.InlineField field) = none_where (ends_accidentals (kind_of field.letter) field.value)
-accidental_said letter (kinds.Field field) = none_where (ends_accidentals (kind_of field.letter) field.value)
-accidental_said letter _ = None
+-- The notes whose accidentals can be heard behind a token, by those before it, newest first: a bar line ends them, a
+-- chord adds its first sixteen. ABC 2.1 section 4.2.
+abbrev pub notes_behind : List Note → TokenKind → List Note
+notes_behind notes (kinds.Note note) = note ∷ notes
+notes_behind notes (kinds.Rest length) = notes
+notes_behind notes (kinds.BarRest bars) = notes
+notes_behind notes (kinds.Chord chord) = put_before (counted_notes chord) notes
+notes_behind notes (kinds.InlineField field) = unless_ended (ends_accidentals (kind_of field.letter) field.value) notes
+notes_behind notes (kinds.Bar bar) = []
+notes_behind notes (kinds.Ending passes) = notes
+notes_behind notes (kinds.Tuplet mark) = notes
+notes_behind notes (kinds.Broken mark) = notes
+notes_behind notes kinds.Tie = notes
+notes_behind notes kinds.Blank = notes
+notes_behind notes kinds.NoEffect = notes
+notes_behind notes (kinds.Dynamic dynamic) = notes
+notes_behind notes (kinds.Directive directive) = notes
+notes_behind notes (kinds.Field field) = unless_ended (ends_accidentals (kind_of field.letter) field.value) notes
+notes_behind notes kinds.Unclosed = notes
+notes_behind notes kinds.BadByte = notes
 
--- The accidental that holds on a letter at a place.
-unfoldable pub accidental_at : Letter → List Element → Option ℤ
-accidental_at letter before = last_said (accidental_said letter) None before
+-- The notes of a voice since its last bar line, K: or accepted P:, newest first.
+abbrev pub notes_of_bar : List Element → List Note
+notes_of_bar [] = []
+notes_of_bar (element ∷ before) = notes_behind (notes_of_bar before) element.kind
 
--- The accidentals that hold at a place.
-unfoldable pub accidentals_at : List Element → Accidentals
-accidentals_at before = record {
-  c = accidental_at letters.C before;
-  d = accidental_at letters.D before;
-  e = accidental_at letters.E before;
-  f = accidental_at letters.F before;
-  g = accidental_at letters.G before;
-  a = accidental_at letters.A before;
-  b = accidental_at letters.B before;
-}
+-- The accidentals of notes, newest first, that reach so far: of two that reach the same notes the newer one.
+abbrev pub accidentals_of : Reach → List Note → Accidentals
+accidentals_of reach [] = no_accidentals reach
+accidentals_of reach (note ∷ earlier) = with_own (accidentals_of reach earlier) note
+
+-- The accidentals that hold at a place, where they reach so far.
+unfoldable pub accidentals_at : Reach → List Element → Accidentals
+accidentals_at reach before = accidentals_of reach (notes_of_bar before)
+
+-- The dynamic that a token is, if it is one. One inside a chord is none. ABC 2.1 section 4.14; the latter is our own.
+abbrev pub dynamic_said : TokenKind → Option (Option Dynamic)
+dynamic_said (kinds.Note note) = None
+dynamic_said (kinds.Rest length) = None
+dynamic_said (kinds.BarRest bars) = None
+dynamic_said (kinds.Chord chord) = None
+dynamic_said (kinds.InlineField field) = None
+dynamic_said (kinds.Bar bar) = None
+dynamic_said (kinds.Ending passes) = None
+dynamic_said (kinds.Tuplet mark) = None
+dynamic_said (kinds.Broken mark) = None
+dynamic_said kinds.Tie = None
+dynamic_said kinds.Blank = None
+dynamic_said kinds.NoEffect = None
+dynamic_said (kinds.Dynamic dynamic) = Some (Some dynamic)
+dynamic_said (kinds.Directive directive) = None
+dynamic_said (kinds.Field field) = None
+dynamic_said kinds.Unclosed = None
+dynamic_said kinds.BadByte = None
+
+-- The last dynamic before a place, if there is one.
+unfoldable pub dynamic_at : List Element → Option Dynamic
+dynamic_at before = last_said dynamic_said None before
 
 -- The tuplet that a mark begins in a meter, if the token is a mark and is accepted.
 abbrev pub tuplet_said : Meter → TokenKind → Option (ℕ × ℕ × ℕ)
+tuplet_said meter (kinds.Note note) = None
+tuplet_said meter (kinds.Rest length) = None
+tuplet_said meter (kinds.BarRest bars) = None
+tuplet_said meter (kinds.Chord chord) = None
+tuplet_said meter (kinds.InlineField field) = None
+tuplet_said meter (kinds.Bar bar) = None
+tuplet_said meter (kinds.Ending passes) = None
 tuplet_said meter (kinds.Tuplet mark) = tuplet_by meter mark
-tuplet_said meter _ = None
+tuplet_said meter (kinds.Broken mark) = None
+tuplet_said meter kinds.Tie = None
+tuplet_said meter kinds.Blank = None
+tuplet_said meter kinds.NoEffect = None
+tuplet_said meter (kinds.Dynamic dynamic) = None
+tuplet_said meter (kinds.Directive directive) = None
+tuplet_said meter (kinds.Field field) = None
+tuplet_said meter kinds.Unclosed = None
+tuplet_said meter kinds.BadByte = None
 
 -- What is left of a tuplet behind so many notes, chords and rests.
 abbrev pub left_after : ℕ → ℕ × ℕ × ℕ → Option (ℕ × ℕ × ℕ)
@@ -180,21 +254,15 @@ tuplet_from opening passed (element ∷ before) =
 unfoldable pub tuplet_at : Meter → List Element → Option (ℕ × ℕ × ℕ)
 tuplet_at opening before = tuplet_from opening 0 before
 
--- The last accidental on a letter among notes, the newest first.
-abbrev pub newest_written : Letter → List Note → Option ℤ
-newest_written letter [] = None
-newest_written letter (note ∷ earlier) = option_or (written_by letter note) (newest_written letter earlier)
-
 -- By how many semitones a note is altered, where these notes of its chord stand before it, newest first: by
--- its own accidental, else by the last one on its letter, else as the note that is tied to it, else by the
--- signature. ABC 2.1 section 4.2; the tied note's is our own.
+-- its own accidental, else by the last one that reaches it, else as the note that is tied to it, else by the
+-- signature. How far accidentals reach is settled where the body begins. ABC 2.1 section 4.2; the tied note's is our own.
 abbrev pub alteration_at : Settings → List TiedNote → List Element → List Note → Note → ℤ
 alteration_at opening tied before earlier note =
     unwrap_or (own_alteration note)
-    (unwrap_or (newest_written note.letter earlier)
-    (unwrap_or (accidental_at note.letter before)
+    (unwrap_or (newest_written (reach_of opening.accidentals) note (earlier ++ notes_of_bar before))
     (unwrap_or (tied_alteration tied note)
-    (signature_alteration (signature_at opening.signature before) note.letter))))
+    (signature_alteration (signature_at opening.signature before) note.letter)))
 
 -- A note as what a tie goes on from.
 abbrev pub as_tied : Note → ℤ → TiedNote
@@ -214,7 +282,20 @@ tied_said opening tied before (kinds.Note note) false = []
 tied_said opening tied before (kinds.Rest length) follows = []
 tied_said opening tied before (kinds.Chord chord) follows =
     if has_note chord.parts then tied_among opening tied before follows [] (counted_notes chord) else tied
-tied_said opening tied before _ follows = tied
+tied_said opening tied before (kinds.BarRest bars) follows = tied
+tied_said opening tied before (kinds.InlineField field) follows = tied
+tied_said opening tied before (kinds.Bar bar) follows = tied
+tied_said opening tied before (kinds.Ending passes) follows = tied
+tied_said opening tied before (kinds.Tuplet mark) follows = tied
+tied_said opening tied before (kinds.Broken mark) follows = tied
+tied_said opening tied before kinds.Tie follows = tied
+tied_said opening tied before kinds.Blank follows = tied
+tied_said opening tied before kinds.NoEffect follows = tied
+tied_said opening tied before (kinds.Dynamic dynamic) follows = tied
+tied_said opening tied before (kinds.Directive directive) follows = tied
+tied_said opening tied before (kinds.Field field) follows = tied
+tied_said opening tied before kinds.Unclosed follows = tied
+tied_said opening tied before kinds.BadByte follows = tied
 
 -- The tied notes of the last time token at a place, with their alterations, which are looked back for
 -- themselves. ABC 2.1 section 4.11.
@@ -229,7 +310,8 @@ settings_at opening before = record {
   unit = unit_at opening.unit before;
   signature = signature_at opening.signature before;
   shift = shift_at opening.shift before;
-  accidentals = accidentals_at before;
+  accidentals = accidentals_at (reach_of opening.accidentals) before;
   tuplet = tuplet_at opening.meter before;
   tied = tied_at opening before;
+  dynamic = dynamic_at before;
 }

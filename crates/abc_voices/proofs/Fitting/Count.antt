@@ -30,7 +30,7 @@ note_more note linked (Some place) = omega (arith, length-append linked.begun (l
 
 key_more : (at : ℕ) (tone : Tone) (linked : TokenNotes) (key : Option ℕ) → linked_notes (with_key at tone linked key) ≤ linked_notes linked + 1
 key_more at tone linked None = omega arith
-key_more at tone linked (Some key) = note_more (own_note at tone.length.0 key) linked (next_place tone.tied key linked.next)
+key_more at tone linked (Some key) = note_more (own_note at tone key) linked (next_place tone.tied key linked.next)
 
 tones_more : (at : ℕ) (linked : TokenNotes) (tones : List Tone) → linked_notes (with_tones at linked tones) ≤ linked_notes linked + length tones
 tones_more at linked [] = omega arith
@@ -61,6 +61,7 @@ few_tones (items.Key opening key) is = tt
 few_tones (items.Voice opening name) is = tt
 few_tones (items.Title title) is = tt
 few_tones (items.Order order) is = tt
+few_tones (items.Program opening number) is = tt
 
 -- each step gives sixteen notes at most
 pub notes_few : {A : Type 0} (item_of : A → Item) (at : ℕ) (steps : List A) (notes : Notes) → All (λ step. IsItem (item_of step)) steps

@@ -1,8 +1,9 @@
--- The notes of what is played have keys of MIDI, begin when they are played or later, and end no sooner.
+-- The notes of what is played have keys and velocities of MIDI, begin when they are played or later, and end no sooner.
 use Rattle.std.proofs.Common.{◌≡◌, ℕ, ◌+◌, ◌≤◌, true, false, List, [], ◌∷◌, length, Option, Some, None, arith, refl, subst, zero, suc, take, drop}
 use Rattle.std.specs.Prelude.{All, IfSome, slice_index_or, remove}
 use Rattle.std.proofs.lemmas.List.Elements.{All-nil, All-head, All-tail, All-append, All-push, All-take, All-drop, All-weaker}
 use Rattle.abc_music.specs.Item.{IsItem, IsTone}
+use Rattle.abc_music.specs.Velocity.{IsVelocity}
 use Rattle.abc_music.specs.declared.item.Item.{Item}
 use Rattle.abc_music.specs.declared.item.Item.TheVariants as items
 use Rattle.abc_music.specs.declared.item.Tone.{Tone}
@@ -10,17 +11,18 @@ use Rattle.abc_voices.specs.declared.score.Sounding.{Sounding}
 use Rattle.abc_voices.specs.TiedNotes.{TokenNotes, Notes, own_note, lengthened, with_note, next_place, with_key, with_tones, before, notes_from}
 use Rattle.abc_voices.specs.Step.{length_of, tones_of}
 
--- a note that begins then or later, ends no sooner than it begins, and has a key of MIDI
+-- a note that begins then or later, ends no sooner than it begins, and has a key and a velocity of MIDI
 pub record Fits (at : ℕ) (note : Sounding) : Type 0 where
   pub begins : at ≤ note.on.0
   pub forward : note.on.0 ≤ note.off.0
   pub key : note.key ≤ 127
+  pub velocity : IsVelocity note.velocity
 
 earlier : (at k : ℕ) (note : Sounding) → Fits (at + k) note → Fits at note
-earlier at k note fits = record { begins = omega (arith, fits.begins); forward = fits.forward; key = fits.key }
+earlier at k note fits = record { begins = omega (arith, fits.begins); forward = fits.forward; key = fits.key; velocity = fits.velocity }
 
-own_fits : (at grains key : ℕ) → key ≤ 127 → Fits at (own_note at grains key)
-own_fits at grains key within = record { begins = omega arith; forward = omega arith; key = within }
+own_fits : (at : ℕ) (tone : Tone) (key : ℕ) → key ≤ 127 → IsTone tone → Fits at (own_note at tone key)
+own_fits at tone key within is = record { begins = omega arith; forward = omega arith; key = within; velocity = is.velocity }
 
 -- the element of a list where there is one, else a spare one
 at_place : {X : Type 0} (P : X → Type 0) (xs : List X) (place : ℕ) (spare : X) → All P xs → P spare → P (slice_index_or xs place spare)
@@ -31,7 +33,7 @@ at_place P (x ∷ xs) (suc place) spare all own = at_place P xs place spare (All
 lengthened_fits : (at : ℕ) (note : Sounding) (next : List Sounding) (place : ℕ) → note.on.0 ≡ at → Fits at note → All (Fits at) next → Fits at (lengthened note next place)
 lengthened_fits at note next place begins own all =
     let other : Fits at (slice_index_or next place note) = at_place (Fits at) next place note all own in
-    record { begins = own.begins; forward = omega (arith, begins, other.begins, other.forward); key = own.key }
+    record { begins = own.begins; forward = omega (arith, begins, other.begins, other.forward); key = own.key; velocity = own.velocity }
 
 -- what is left of a list where one element is taken out
 All-remove : {X : Type 0} (P : X → Type 0) (xs : List X) (place : ℕ) → All P xs → All P (remove xs place)
@@ -51,16 +53,16 @@ with_note_fits at note linked (Some place) begins own fits =
       next = All-remove (Fits at) linked.next place fits.next;
     }
 
-with_key_fits : (at : ℕ) (tone : Tone) (linked : TokenNotes) (key : Option ℕ) → IfSome key (λ k. k ≤ 127) → AreFitting at linked → AreFitting at (with_key at tone linked key)
-with_key_fits at tone linked None within fits = fits
-with_key_fits at tone linked (Some key) within fits =
-    with_note_fits at (own_note at tone.length.0 key) linked (next_place tone.tied key linked.next) refl (own_fits at tone.length.0 key within) fits
+with_key_fits : (at : ℕ) (tone : Tone) (linked : TokenNotes) (key : Option ℕ) → IfSome key (λ k. k ≤ 127) → IsTone tone → AreFitting at linked → AreFitting at (with_key at tone linked key)
+with_key_fits at tone linked None within is fits = fits
+with_key_fits at tone linked (Some key) within is fits =
+    with_note_fits at (own_note at tone key) linked (next_place tone.tied key linked.next) refl (own_fits at tone key within is) fits
 
 with_tones_fit : (at : ℕ) (linked : TokenNotes) (tones : List Tone) → All IsTone tones → AreFitting at linked → AreFitting at (with_tones at linked tones)
 with_tones_fit at linked [] all fits = fits
 with_tones_fit at linked (tone ∷ tones) all fits =
     with_tones_fit at (with_key at tone linked tone.key) tones (All-tail IsTone tone tones all)
-    (with_key_fits at tone linked tone.key (All-head IsTone tone tones all).key fits)
+    (with_key_fits at tone linked tone.key (All-head IsTone tone tones all).key (All-head IsTone tone tones all) fits)
 
 -- notes of a play
 pub record AllFit (at : ℕ) (notes : Notes) : Type 0 where
@@ -88,6 +90,7 @@ tones_within (items.Key opening key) is = tt
 tones_within (items.Voice opening name) is = tt
 tones_within (items.Title title) is = tt
 tones_within (items.Order order) is = tt
+tones_within (items.Program opening number) is = tt
 
 pub all_earlier : (at k : ℕ) (notes : Notes) → AllFit (at + k) notes → AllFit at notes
 all_earlier at k notes fits = record {

@@ -1,5 +1,5 @@
 -- A step sets a tempo, a meter or a key, and at most one of them: so many changes there are at most.
-use Rattle.std.proofs.Common.{ℕ, ℤ, ◌+◌, ◌≤◌, Bool, List, [], ◌∷◌, length, drop, Some, None, arith, length-append}
+use Rattle.std.proofs.Common.{ℕ, ℤ, ◌+◌, ◌≤◌, Bool, List, [], ◌∷◌, length, drop, Option, Some, None, arith, length-append}
 use Rattle.std.specs.Prelude.{All, sum_by}
 use Rattle.std.specs.List.{cons_option, flat_map}
 use Rattle.std.proofs.lemmas.List.Elements.{All-nil, All-cons, All-head, All-drop, All-weaker}
@@ -17,7 +17,7 @@ use Rattle.abc_voices.specs.Step.{length_of}
 use Rattle.abc_voices.specs.Track.{everyone, tracks, nameless_plays}
 use Rattle.abc_voices.proofs.Fitting.Count.{picked_few}
 use Rattle.abc_voices.proofs.Fitting.Kept.{either}
-use Rattle.abc_voices.proofs.Fitting.Voices.{size_of}
+use Rattle.abc_voices.proofs.Fitting.Voices.{IsHeard, size_of}
 
 one_of_three : (at : ℕ) (item : Item) (tempos : List (Grains × ℕ)) (meters : List (Grains × Meter)) (keys : List (Grains × (ℤ × Bool)))
     → length (cons_option (at_moment at (tempo_of item)) tempos) + length (cons_option (at_moment at (meter_of item)) meters)
@@ -37,6 +37,7 @@ one_of_three at (items.Section letter) tempos meters keys = omega arith
 one_of_three at (items.Voice opening name) tempos meters keys = omega arith
 one_of_three at (items.Title title) tempos meters keys = omega arith
 one_of_three at (items.Order order) tempos meters keys = omega arith
+one_of_three at (items.Program opening number) tempos meters keys = omega arith
 
 module _ {A : Type 0} (item_of : A → Item) where
   -- how many values steps set
@@ -151,4 +152,33 @@ module _ {A : Type 0} (item_of : A → Item) where
         length-append (flat_map (λ voice. set_from item_of tempo_of at (play_in item_of section voice)) voices) (set_in item_of tempo_of voices voices later rest),
         length-append (flat_map (λ voice. set_from item_of meter_of at (play_in item_of section voice)) (first_of those)) (set_in item_of meter_of voices (first_of those) later rest),
         length-append (flat_map (λ voice. set_from item_of key_of at (play_in item_of section voice)) (first_of those)) (set_in item_of key_of voices (first_of those) later rest),
+      )
+
+-- what one voice sets is no more than what is played
+one_of_steps : (at : ℕ) {V : Type 0} (value : Option V) (sets : List (Grains × V)) → length (cons_option (at_moment at value) sets) ≤ length sets + 1
+one_of_steps at None sets = omega arith
+one_of_steps at (Some value) sets = omega arith
+
+module _ {A V : Type 0} (item_of : A → Item) (value_of : Item → Option V) where
+  own_few : (at : ℕ) (steps : List A) → length (set_from item_of value_of at steps) ≤ length steps
+  own_few at [] = omega arith
+  own_few at (step ∷ steps) =
+      let later : ℕ = at + length_of (item_of step) in
+      omega (arith, own_few later steps, one_of_steps at (value_of (item_of step)) (set_from item_of value_of later steps))
+
+  pub voice_sets_few : (voices : List (List ℕ)) (voice : List ℕ) → IsHeard item_of voices voice → (at : ℕ) (sections : List (List ℕ × List A))
+      → length (set_in item_of value_of voices (voice ∷ []) at sections) ≤ sum_by (size_of item_of voices) sections
+  voice_sets_few voices voice heard at [] = omega arith
+  voice_sets_few voices voice heard at (section ∷ rest) =
+      let play : List A = play_in item_of section voice in
+      let later : ℕ = at + longest item_of voices section in
+      omega (
+        arith,
+        own_few at play,
+        picked_few (with_fields_in_endings item_of (part item_of voice section)) (places_of item_of (with_fields_in_endings item_of (part item_of voice section))),
+        heard.plays section,
+        voice_sets_few voices voice heard later rest,
+        sum_by-cons (size_of item_of voices) section rest,
+        length-append (set_from item_of value_of at play) [],
+        length-append (flat_map (λ one. set_from item_of value_of at (play_in item_of section one)) (voice ∷ [])) (set_in item_of value_of voices (voice ∷ []) later rest),
       )

@@ -1,8 +1,8 @@
 -- A score within the limits of time and of places, with few enough voices and a short enough title, fits a file.
-use Rattle.std.proofs.Common.{◌≡◌, ℕ, ℤ, pos, negsuc, int_le, ◌+◌, ◌^◌, ◌≤◌, ◌&&◌, nat_le, nat_lt, Bool, true, false, List, [], ◌∷◌, ◌++◌, length, map, filter_map, Option, Some, None, arith, refl, length-append}
+use Rattle.std.proofs.Common.{◌≡◌, ℕ, ℤ, pos, negsuc, int_le, ◌+◌, ◌^◌, ◌≤◌, ◌&&◌, nat_le, nat_lt, Bool, true, false, List, [], ◌∷◌, ◌++◌, length, map, filter_map, Option, Some, None, arith, refl, sym, ◌∙◌, length-append}
 use Rattle.std.specs.Prelude.{All, IfSome, sum_by, slice_index_or}
 use Rattle.std.specs.List.{flat_map, list_all}
-use Rattle.std.proofs.lemmas.Bool.{le-leb, lt-ltb}
+use Rattle.std.proofs.lemmas.Bool.{eq-eqb, le-leb, lt-ltb}
 use Rattle.std.proofs.lemmas.List.{length-map}
 use Rattle.std.proofs.lemmas.List.Elements.{All-nil, All-cons, All-head, All-tail, All-append, All-map, All-weaker}
 use Rattle.std.proofs.lemmas.List.Sums.{list_all-from_AllPass}
@@ -20,21 +20,22 @@ use Rattle.abc_time.specs.declared.grains.Grains.{Grains}
 use Rattle.abc_time.specs.Grains.{grains_of_the_latest_end}
 use Rattle.abc_time.specs.Tempo.{FitsInTempoEvent}
 use Rattle.abc_music.specs.declared.item.TheConstants.{MOST_VOICES}
-use Rattle.abc_voices.specs.declared.limits.TheConstants.{LONGEST_TITLE, MOST_CHANGES, MOST_NOTES}
+use Rattle.abc_music.specs.declared.program.TheConstants.{HIGHEST_PROGRAM}
+use Rattle.abc_voices.specs.declared.limits.TheConstants.{LONGEST_TITLE, MOST_CHANGES, MOST_NOTES, MOST_PROGRAMS}
 use Rattle.abc_voices.specs.declared.score.Change.{Change}
 use Rattle.abc_voices.specs.declared.score.Sounding.{Sounding}
-use Rattle.abc_voices.specs.Arrange.{played_sections, voice_notes, all_notes, set_in, or_else, usual_tempo, first_of, longest, total, voices_notes, end_of, changes_of, score_of, places_played}
-use Rattle.abc_voices.specs.Change.{tempo_of, meter_of, key_of}
-use Rattle.abc_voices.specs.ScoreChanges.{tempo_change, meter_at, meter_change, key_change, changes_that_stand}
+use Rattle.abc_voices.specs.Arrange.{played_sections, voice_notes, all_notes, set_in, or_else, usual_tempo, first_of, longest, total, voices_notes, end_of, changes_of, programs_in, programs_of, score_of, places_played}
+use Rattle.abc_voices.specs.Change.{tempo_of, meter_of, key_of, program_of, behind}
+use Rattle.abc_voices.specs.ScoreChanges.{tempo_change, meter_at, meter_change, key_change, program_change, changes_that_stand, programs_that_stand}
 use Rattle.abc_voices.specs.TiedNotes.{Notes}
-use Rattle.abc_voices.specs.Limits.{is_note_within, is_voice_within, is_change_within, are_counts_within, is_within_limits}
-use Rattle.abc_voices.specs.Opening.{tempo_past, meter_past, key_past, past_all, title_of}
+use Rattle.abc_voices.specs.Limits.{is_note_within, is_voice_within, is_change_within, is_program_within, are_programs_within, are_counts_within, is_within_limits}
+use Rattle.abc_voices.specs.Opening.{tempo_past, meter_past, key_past, program_past, past_all, title_of}
 use Rattle.abc_voices.specs.Ticks.{last_of_each_tick}
 use Rattle.abc_voices.specs.Track.{everyone, tracks}
 use Rattle.abc_voices.proofs.Fitting.Changes.{IsSetBy, settled_kept, settled_few, sections_set, past_kept}
 use Rattle.abc_voices.proofs.Fitting.Kept.{one_more, played_kept}
 use Rattle.abc_voices.proofs.Fitting.Notes.{Fits, AllFit}
-use Rattle.abc_voices.proofs.Fitting.Three.{tracks_room, sets_few}
+use Rattle.abc_voices.proofs.Fitting.Three.{tracks_room, sets_few, voice_sets_few}
 use Rattle.abc_voices.proofs.Fitting.Voices.{IsHeard, ItemsIn, tracks_heard, voice_fits, voice_few, last_past, last_of_all, EndsBy, each_list, all_heard}
 
 and_true : (a b : Bool) → a ≡ true → b ≡ true → (a && b) ≡ true
@@ -55,9 +56,8 @@ of_map P f (x ∷ xs) all = All-cons (λ y. P (f y)) x xs (All-head P (f x) (map
 -- a note of a voice
 note_within : (end : Grains) (note : Sounding) → Fits 0 note → EndsBy end.0 note → is_note_within end note ≡ true
 note_within end note fits ends =
-    and_true (nat_le note.on.0 note.off.0 && nat_le note.off.0 end.0) (nat_le note.key 127)
-    (and_true (nat_le note.on.0 note.off.0) (nat_le note.off.0 end.0) (le-leb note.on.0 note.off.0 fits.forward) (le-leb note.off.0 end.0 ends))
-    (le-leb note.key 127 fits.key)
+    and_yes (and_yes (and_yes (and_yes (le-leb note.on.0 note.off.0 fits.forward) (le-leb note.off.0 end.0 ends))
+    (le-leb note.key 127 fits.key)) (le-leb 1 note.velocity fits.velocity.least)) (le-leb note.velocity 127 fits.velocity.most)
 
 notes_within : (end : Grains) (notes : List Sounding) → All (Fits 0) notes → All (EndsBy end.0) notes → length notes ≤ MOST_NOTES → is_voice_within end notes ≡ true
 notes_within end notes fits ends few =
@@ -78,6 +78,7 @@ tempo_is (items.Key opening key) is = tt
 tempo_is (items.Voice opening name) is = tt
 tempo_is (items.Title title) is = tt
 tempo_is (items.Order order) is = tt
+tempo_is (items.Program opening number) is = tt
 
 meter_is : (item : Item) → IsItem item → IfSome (meter_of item) IsMeterInRange
 meter_is (items.Meter opening meter) is = is
@@ -92,6 +93,7 @@ meter_is (items.Key opening key) is = tt
 meter_is (items.Voice opening name) is = tt
 meter_is (items.Title title) is = tt
 meter_is (items.Order order) is = tt
+meter_is (items.Program opening number) is = tt
 
 abbrev IsKey : ℤ × Bool → Type 0
 IsKey key = IsSharps key.0
@@ -109,6 +111,25 @@ key_is (items.Meter opening meter) is = tt
 key_is (items.Voice opening name) is = tt
 key_is (items.Title title) is = tt
 key_is (items.Order order) is = tt
+key_is (items.Program opening number) is = tt
+
+abbrev IsProgram : ℕ → Type 0
+IsProgram number = number ≤ HIGHEST_PROGRAM
+
+program_is : (item : Item) → IsItem item → IfSome (program_of item) IsProgram
+program_is (items.Program opening number) is = is
+program_is (items.Tone tones length) is = tt
+program_is (items.Rest length bar) is = tt
+program_is (items.Number number) is = tt
+program_is (items.Bar bar) is = tt
+program_is (items.Ending passes) is = tt
+program_is (items.Section letter) is = tt
+program_is (items.Tempo opening micros out) is = tt
+program_is (items.Meter opening meter) is = tt
+program_is (items.Key opening key) is = tt
+program_is (items.Voice opening name) is = tt
+program_is (items.Title title) is = tt
+program_is (items.Order order) is = tt
 
 tempo_past_is : (tempo : Option ℕ) (item : Item) → IfSome tempo FitsInTempoEvent → IsItem item → IfSome (tempo_past tempo item) FitsInTempoEvent
 tempo_past_is tempo (items.Tempo true micros out) was is = is
@@ -124,6 +145,7 @@ tempo_past_is tempo (items.Key opening key) was is = was
 tempo_past_is tempo (items.Voice opening name) was is = was
 tempo_past_is tempo (items.Title title) was is = was
 tempo_past_is tempo (items.Order order) was is = was
+tempo_past_is tempo (items.Program opening number) was is = was
 
 meter_past_is : (meter : Option Meter) (item : Item) → IfSome meter IsMeterInRange → IsItem item → IfSome (meter_past meter item) IsMeterInRange
 meter_past_is meter (items.Meter true set) was is = is
@@ -139,6 +161,7 @@ meter_past_is meter (items.Key opening key) was is = was
 meter_past_is meter (items.Voice opening name) was is = was
 meter_past_is meter (items.Title title) was is = was
 meter_past_is meter (items.Order order) was is = was
+meter_past_is meter (items.Program opening number) was is = was
 
 key_past_is : (key : Option (ℤ × Bool)) (item : Item) → IfSome key IsKey → IsItem item → IfSome (key_past key item) IsKey
 key_past_is key (items.Key true set) was is = is
@@ -154,6 +177,24 @@ key_past_is key (items.Meter opening meter) was is = was
 key_past_is key (items.Voice opening name) was is = was
 key_past_is key (items.Title title) was is = was
 key_past_is key (items.Order order) was is = was
+key_past_is key (items.Program opening number) was is = was
+
+program_past_is : (program : Option ℕ) (item : Item) → IfSome program IsProgram → IsItem item → IfSome (program_past program item) IsProgram
+program_past_is program (items.Program true (Some number)) was is = is
+program_past_is program (items.Program true None) was is = was
+program_past_is program (items.Program false number) was is = was
+program_past_is program (items.Tone tones length) was is = was
+program_past_is program (items.Rest length bar) was is = was
+program_past_is program (items.Number number) was is = was
+program_past_is program (items.Bar bar) was is = was
+program_past_is program (items.Ending passes) was is = was
+program_past_is program (items.Section letter) was is = was
+program_past_is program (items.Tempo opening micros out) was is = was
+program_past_is program (items.Meter opening meter) was is = was
+program_past_is program (items.Key opening key) was is = was
+program_past_is program (items.Voice opening name) was is = was
+program_past_is program (items.Title title) was is = was
+program_past_is program (items.Order order) was is = was
 
 or_else_is : {V : Type 0} (Q : V → Type 0) (value : V) (other : Option V) → Q value → IfSome other Q → Q (or_else value other)
 or_else_is Q value None is known = is
@@ -215,6 +256,27 @@ conductor_few tempos meters keys =
     three_lists (map tempo_change (last_of_each_tick tempos)) (filter_map meter_change (last_of_each_tick meters)) (map key_change (last_of_each_tick keys)) (length tempos) (length meters) (length keys)
     (as_few tempo_change (last_of_each_tick tempos) (length tempos) (settled_few tempos)) (meters_standing meters)
     (as_few key_change (last_of_each_tick keys) (length keys) (settled_few keys))
+
+-- programs that a file can say
+program_fits : (end : Grains) (set : Grains × ℕ) → IsSetBy end.0 IsProgram set → is_program_within end (program_change set) ≡ true
+program_fits end (at, number) set = and_yes (le-leb at.0 end.0 set.before) (le-leb number 127 set.value)
+
+programs_fit : (end : Grains) (sets : List (Grains × ℕ)) → All (IsSetBy end.0 IsProgram) sets → length sets ≤ MOST_PROGRAMS
+    → are_programs_within end (programs_that_stand sets) ≡ true
+programs_fit end sets all few =
+    and_yes (le-leb (length (programs_that_stand sets)) MOST_PROGRAMS (as_few program_change (last_of_each_tick sets) MOST_PROGRAMS (omega (arith, settled_few sets, few))))
+    (list_all-from_AllPass (is_program_within end) (programs_that_stand sets)
+    (All-map (λ change. is_program_within end change ≡ true) program_change (last_of_each_tick sets)
+    (All-weaker (IsSetBy end.0 IsProgram) (λ set. is_program_within end (program_change set) ≡ true) (program_fits end) (last_of_each_tick sets) (settled_kept (IsSetBy end.0 IsProgram) sets all))))
+
+-- behind the one with which a tune opens
+behind_kept : (end : ℕ) (opening : Option ℕ) (sets : List (Grains × ℕ)) → IfSome opening IsProgram → All (IsSetBy end IsProgram) sets → All (IsSetBy end IsProgram) (behind opening sets)
+behind_kept end None sets is all = all
+behind_kept end (Some number) sets is all = All-cons (IsSetBy end IsProgram) (record { 0 = 0 }, number) sets (record { before = omega arith; value = is }) all
+
+behind_few : (opening : Option ℕ) (sets : List (Grains × ℕ)) → length (behind opening sets) ≤ length sets + 1
+behind_few None sets = omega arith
+behind_few (Some number) sets = omega arith
 
 -- what the law asks of a tune
 pub record IsShort (tune : List Item) : Type 0 where
@@ -324,17 +386,42 @@ module _ (tune : List Item) (short : IsShort tune) where
       (both (IsHeard (λ item. item) voices) (λ voice. Ends (notes_of_voice voice)) (λ voice. is_voice_within end (notes_of_voice voice) ≡ true) voice_within those
       (tracks_heard (λ item. item) tune) voices_end))
 
+  abbrev opening : Option ℕ
+  opening = past_all (λ item. item) program_past None tune
+
+  opening_is : IfSome opening IsProgram
+  opening_is = past_kept (λ item. item) program_past (λ program. IfSome program IsProgram) program_past_is None tune tt short.each
+
+  voice_programs : (voice : List ℕ) → IsHeard (λ item. item) voices voice → are_programs_within end (programs_in (λ item. item) opening voices played voice) ≡ true
+  voice_programs voice heard =
+      let own : List (Grains × ℕ) = set_in (λ item. item) program_of voices (voice ∷ []) 0 played in
+      programs_fit end (behind opening own)
+      (behind_kept end.0 opening own opening_is
+      (sets program_of IsProgram program_is (voice ∷ []) (All-cons (IsHeard (λ item. item) voices) voice [] heard (All-nil (IsHeard (λ item. item) voices)))))
+      (omega (arith, short.places, behind_few opening own, voice_sets_few (λ item. item) program_of voices voice heard 0 played))
+
+  all_programs_fit : list_all (are_programs_within end) (programs_of (λ item. item) tune) ≡ true
+  all_programs_fit =
+      list_all-from_AllPass (are_programs_within end) (programs_of (λ item. item) tune)
+      (All-map (λ programs. are_programs_within end programs ≡ true) (programs_in (λ item. item) opening voices played) those
+      (All-weaker (IsHeard (λ item. item) voices) (λ voice. are_programs_within end (programs_in (λ item. item) opening voices played voice) ≡ true) voice_programs those
+      (tracks_heard (λ item. item) tune)))
+
+  as_many : length (programs_of (λ item. item) tune) ≡ length (voices_notes (λ item. item) tune)
+  as_many = length-map those (programs_in (λ item. item) opening voices played) ∙ sym (length-map those notes_of_voice)
+
   counts_fit : are_counts_within (score_of (λ item. item) tune) ≡ true
   counts_fit =
-      and_yes (and_yes (and_yes (le-leb end.0 grains_of_the_latest_end short.end)
+      and_yes (and_yes (and_yes (and_yes (le-leb end.0 grains_of_the_latest_end short.end)
       (le-leb (length (title_of (λ item. item) tune)) LONGEST_TITLE short.title))
       (le-leb (length (changes_of (λ item. item) tune)) MOST_CHANGES few_changes))
-      (le-leb (length (map notes_of_voice those)) MOST_VOICES (as_few notes_of_voice those MOST_VOICES short.voices))
+      (le-leb (length (map notes_of_voice those)) MOST_VOICES (as_few notes_of_voice those MOST_VOICES short.voices)))
+      (eq-eqb (length (programs_of (λ item. item) tune)) (length (voices_notes (λ item. item) tune)) as_many)
 
   -- its score fits a file
   pub score_fits : is_within_limits (score_of (λ item. item) tune) ≡ true
   unfolding is_within_limits
-  score_fits = and_yes (and_yes counts_fit changes_fit) voices_fit
+  score_fits = and_yes (and_yes (and_yes counts_fit changes_fit) voices_fit) all_programs_fit
 
 pub fits_a_file : (tune : List Item) → All IsItem tune → places_played (λ item. item) tune ≤ MOST_PLACES → end_of (λ item. item) tune ≤ grains_of_the_latest_end
     → length (tracks (λ item. item) tune) ≤ MOST_VOICES → length (title_of (λ item. item) tune) ≤ LONGEST_TITLE → is_within_limits (score_of (λ item. item) tune) ≡ true

@@ -2,7 +2,7 @@
 #![tactic(auto, unfolding(abc_book::specs::Block::blocks_of))]
 
 ghost use Rattle.std.specs.Prelude.{◌≡◌, [], ◌∷◌};
-ghost use Rattle.abc_scan.specs.declared.class.LineClass.TheVariants.{Blank, Comment, Music};
+ghost use Rattle.abc_scan.specs.declared.class.LineClass.TheVariants.{Blank, Comment, Directive, Music};
 ghost use Rattle.abc_book.specs.Block.{blocks_of};
 ghost use Rattle.text_examples.specs.Blocks.{continued, free, header, key, reference, tune};
 
@@ -14,6 +14,8 @@ pub fn file_headers()
     ensures any_letter { blocks_of (continued ∷ []) ≡ header 0 1 ∷ [] }
     ensures no_blank_line { blocks_of (key ∷ Music ∷ reference ∷ key ∷ []) ≡ header 0 2 ∷ tune 2 4 ∷ [] }
     ensures behind_comments { blocks_of (Blank ∷ Comment ∷ key ∷ Comment ∷ Blank ∷ key ∷ []) ≡ header 2 3 ∷ free 5 6 ∷ [] }
+    ensures directive { blocks_of (Directive ∷ Comment ∷ Blank ∷ reference ∷ []) ≡ header 0 1 ∷ tune 3 4 ∷ [] }
+    ensures behind_a_directive { blocks_of (Directive ∷ Blank ∷ key ∷ []) ≡ header 0 1 ∷ free 2 3 ∷ [] }
     ensures music_first { blocks_of (Music ∷ key ∷ []) ≡ free 0 2 ∷ [] }
     ensures tune_first { blocks_of (reference ∷ Blank ∷ key ∷ []) ≡ tune 0 1 ∷ free 2 3 ∷ [] }
 {}
@@ -22,6 +24,7 @@ pub fn file_headers()
 pub fn tunes()
     ensures side_by_side { blocks_of (reference ∷ key ∷ Music ∷ reference ∷ Music ∷ []) ≡ tune 0 3 ∷ tune 3 5 ∷ [] }
     ensures apart { blocks_of (Music ∷ reference ∷ Blank ∷ Blank ∷ reference ∷ []) ≡ free 0 1 ∷ tune 1 2 ∷ tune 4 5 ∷ [] }
+    ensures directives { blocks_of (reference ∷ Directive ∷ Blank ∷ Directive ∷ []) ≡ tune 0 2 ∷ free 3 4 ∷ [] }
     ensures no_letter { blocks_of (reference ∷ reference ∷ []) ≡ tune 0 1 ∷ tune 1 2 ∷ [] }
 {}
 

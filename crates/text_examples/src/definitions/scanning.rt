@@ -1,18 +1,22 @@
 //! Line classes, what is read of a line, and its tokens, by the definitions of `abc_scan`.
-#![tactic(auto, unfolding(abc_scan::specs::Line::tokens_of, abc_scan::specs::Token::reading_at, abc_scan::specs::Start::byte_start, abc_scan::specs::Bar::bar_at, abc_scan::specs::Ending::ending_at, abc_text::specs::Blank::trimmed, abc_text::specs::Blank::trim_start, abc_text::specs::Blank::trim_end, abc_scan::specs::Length::length_at, abc_scan::specs::Length::length_size, abc_scan::specs::Note::accidental_at, abc_text::specs::Letter::letter_of, abc_scan::specs::Note::note_at, abc_scan::specs::Note::rest_at))]
+#![tactic(auto, unfolding(abc_scan::specs::Line::tokens_of, abc_scan::specs::Directive::directive_of, abc_scan::specs::Dynamic::dynamic_of, abc_scan::specs::Delimited::delimited_at, abc_scan::specs::Number::number_at, abc_scan::specs::Chord::part_reading_at, abc_scan::specs::Chord::parts_of, abc_scan::specs::Chord::chord_at, abc_scan::specs::Frame::frame_at, abc_scan::specs::Token::reading_at, abc_scan::specs::Start::byte_start, abc_scan::specs::Start::bracket_start, abc_scan::specs::Bar::bar_at, abc_scan::specs::Ending::ending_at, abc_text::specs::Blank::trimmed, abc_text::specs::Blank::trim_start, abc_text::specs::Blank::trim_end, abc_scan::specs::Length::length_at, abc_scan::specs::Length::length_size, abc_scan::specs::Note::accidental_at, abc_text::specs::Letter::letter_of, abc_scan::specs::Note::note_at, abc_scan::specs::Note::rest_at))]
 
 ghost use Rattle.std.specs.Prelude.{◌≡◌, false, pos, negsuc, [], ◌∷◌, codes, replicate};
-ghost use Rattle.abc_scan.specs.declared.class.LineClass.TheVariants.{Blank, Comment, Field, Music};
+ghost use Rattle.abc_scan.specs.declared.class.LineClass.TheVariants.{Blank, Comment, Directive, Field, Music};
 ghost use Rattle.abc_scan.specs.declared.length.WrittenLength.TheVariants.{Factor, Refused};
 ghost use Rattle.abc_text.specs.declared.accidental.Accidental.TheVariants.{DoubleSharp};
 ghost use Rattle.abc_text.specs.declared.letter.Letter.TheVariants.{C};
+ghost use Rattle.abc_scan.specs.declared.directive.Directive.TheVariants as directives;
+ghost use Rattle.abc_scan.specs.declared.directive.Reach.TheVariants.{Octave};
+ghost use Rattle.abc_scan.specs.declared.dynamic.Dynamic.TheVariants.{Ppp, Mp, Mf, F, Fff};
+ghost use Rattle.abc_scan.specs.declared.parts.ChordPartKind.TheVariants as parts;
 ghost use Rattle.abc_scan.specs.declared.token.TokenKind.TheVariants as kinds;
 ghost use Rattle.abc_scan.specs.Line.{tokens_of};
 ghost use Rattle.abc_scan.specs.Length.{length_at};
 ghost use Rattle.abc_scan.specs.Class.{class_of};
 ghost use Rattle.abc_scan.specs.Note.{octave};
 ghost use Rattle.abc_scan.specs.Text.{content};
-ghost use Rattle.text_examples.specs.Values.{note, plain, token};
+ghost use Rattle.text_examples.specs.Values.{note, part, plain, token};
 
 /// Blank lines and comments. ABC 2.1 section 2.2; that only spaces and tabs are blanks, and that one carriage return is
 /// dropped at the end, is our own.
@@ -23,8 +27,40 @@ pub fn blanks_and_comments()
     ensures two_returns { class_of (codes "\r\r") ≡ Music }
     ensures comment { class_of (codes "% C") ≡ Comment }
     ensures comment_behind_blanks { class_of (codes "\t % C") ≡ Comment }
-    ensures directive { class_of (codes "%%MIDI program 1") ≡ Comment }
+    ensures unknown_directive { class_of (codes "%%landscape 1") ≡ Comment }
     ensures escaped { class_of (codes "\\% C") ≡ Music }
+{}
+
+/// A program: `%%MIDI`, `program` and a number of one to nine digits, with blanks between them, in the first column, and
+/// behind it blanks or a comment alone. It is abc2midi's own directive; the rest is our own.
+pub fn programs()
+    ensures program { class_of (codes "%%MIDI program 1") ≡ Directive }
+    ensures blanks { class_of (codes "%%MIDI \t program  41 \t") ≡ Directive }
+    ensures comment { class_of (codes "%%MIDI program 41 % flute") ≡ Directive }
+    ensures comment_at_once { class_of (codes "%%MIDI program 5%x") ≡ Directive }
+    ensures one_return { class_of (codes "%%MIDI program 5\r") ≡ Directive }
+    ensures nine_digits { class_of (codes "%%MIDI program 000000005") ≡ Directive }
+    ensures ten_digits { class_of (codes "%%MIDI program 0000000005") ≡ Comment }
+    ensures two_numbers { class_of (codes "%%MIDI program 2 41") ≡ Comment }
+    ensures no_number { class_of (codes "%%MIDI program % 41") ≡ Comment }
+    ensures escaped { class_of (codes "%%MIDI program 5\\%x") ≡ Comment }
+    ensures two_returns { class_of (codes "%%MIDI program 5\r\r") ≡ Comment }
+    ensures capital { class_of (codes "%%MIDI Program 5") ≡ Comment }
+    ensures joined { class_of (codes "%%MIDIprogram 5") ≡ Comment }
+    ensures number_joined { class_of (codes "%%MIDI program5") ≡ Comment }
+    ensures behind_a_blank { class_of (codes " %%MIDI program 5") ≡ Comment }
+{}
+
+/// How far accidentals reach. ABC 2.1 section 11.3; that it begins in the first column is our own.
+pub fn reaches()
+    ensures none { class_of (codes "%%propagate-accidentals not") ≡ Directive }
+    ensures octave { class_of (codes "%%propagate-accidentals\toctave % c and C' are one") ≡ Directive }
+    ensures pitch { class_of (codes "%%propagate-accidentals pitch%") ≡ Directive }
+    ensures longer_word { class_of (codes "%%propagate-accidentals pitches") ≡ Comment }
+    ensures other_word { class_of (codes "%%propagate-accidentals on") ≡ Comment }
+    ensures capital { class_of (codes "%%propagate-accidentals Not") ≡ Comment }
+    ensures no_word { class_of (codes "%%propagate-accidentals") ≡ Comment }
+    ensures behind_a_blank { class_of (codes "\t%%propagate-accidentals not") ≡ Comment }
 {}
 
 /// Fields begin at column 1 with a letter or `+` and a colon. ABC 2.1 sections 3 and 3.3.
@@ -119,6 +155,32 @@ pub fn longest_tokens()
     ensures rest { tokens_of (codes "z3/2") ≡ token (kinds.Rest (Factor 3 2)) 0 4 ∷ [] }
     ensures bar_line { tokens_of (codes "C|") ≡ token (note C (pos 0) plain) 0 1
         ∷ token (kinds.Bar (record { closes = 0; opens = 0; double = false })) 1 2 ∷ [] }
+{}
+
+/// A dynamic is a token; another decoration has no effect, and one that nothing closes begins none. In a chord a dynamic
+/// has no effect. ABC 2.1 section 4.14; the last is our own.
+pub fn tokens_of_dynamics()
+    ensures between_notes { tokens_of (codes "C!f!C!foo!C") ≡
+        token (note C (pos 0) plain) 0 1 ∷ token (kinds.Dynamic F) 1 4
+        ∷ token (note C (pos 0) plain) 4 5 ∷ token kinds.NoEffect 5 10 ∷ token (note C (pos 0) plain) 10 11 ∷ [] }
+    ensures loudest { tokens_of (codes "!fff!!ppp!") ≡ token (kinds.Dynamic Fff) 0 5 ∷ token (kinds.Dynamic Ppp) 5 10 ∷ [] }
+    ensures middle { tokens_of (codes "!mp!!mf!") ≡ token (kinds.Dynamic Mp) 0 4 ∷ token (kinds.Dynamic Mf) 4 8 ∷ [] }
+    ensures too_many { tokens_of (codes "!ffff!") ≡ token kinds.NoEffect 0 6 ∷ [] }
+    ensures with_a_blank { tokens_of (codes "!p !") ≡ token kinds.NoEffect 0 4 ∷ [] }
+    ensures open { tokens_of (codes "!p") ≡ token kinds.Unclosed 0 1 ∷ token kinds.NoEffect 1 2 ∷ [] }
+    ensures in_a_chord { tokens_of (codes "[C!f!]") ≡ token (kinds.Chord (record {
+      parts =
+          part (parts.Note (record { accidental = None; letter = C; octave = pos 0; length = plain })) 1 2
+          ∷ part parts.NoEffect 2 5 ∷ [];
+      length = plain;
+    })) 0 6 ∷ [] }
+{}
+
+/// A directive line is one token, with its comment and without its carriage return. Its number is the one written. Our own.
+pub fn tokens_of_directives()
+    ensures program { tokens_of (codes "%%MIDI program 128 % a\r") ≡ token (kinds.Directive (directives.Program 128)) 0 22 ∷ [] }
+    ensures reach { tokens_of (codes "%%propagate-accidentals octave") ≡ token (kinds.Directive (directives.Reach Octave)) 0 30 ∷ [] }
+    ensures none { tokens_of (codes "%%MIDI program 2 41") ≡ [] }
 {}
 
 /// A field line is one token, without its comment; a blank line and a comment have none. Our own.

@@ -6,7 +6,7 @@ use Rattle.abc_voices.specs.declared.score.Score.{Score}
 use Rattle.abc_voices.proofs.Given.{score_given}
 use Rattle.abc_voices.proofs.Layouts.{stages_hold, late_total, late_end, score_is, uneven_is, first_within}
 use Rattle.abc_voices.proofs.Lengths.{are_stages}
-use Rattle.abc_voices.proofs.Steady.{steady_along}
+use Rattle.abc_voices.proofs.Steady.{kept_along, steady_along}
 use Rattle.abc_voices.proofs.layout.laid_along.Goals as goal
 
 pub returns-in_default-clause-too_late : goal.returns-in_default-clause-too_late
@@ -22,6 +22,10 @@ score_along-requires-clause-voices c = omega (arith, first_within c.args.tune.no
 pub score_along-requires-clause-steady : goal.score_along-requires-clause-steady
 score_along-requires-clause-steady c =
     steady_along c.args.tune.now c.args.given.now (stages_in c.args.turns.now) c.requires.given c.requires.stages
+
+pub score_along-requires-clause-kept : goal.score_along-requires-clause-kept
+score_along-requires-clause-kept c =
+    kept_along c.args.tune.now c.args.given.now (stages_in c.args.turns.now) c.requires.given c.requires.stages
 
 pub returns-in-Ok-clause-score : goal.returns-in-Ok-clause-score
 returns-in-Ok-clause-score c =

@@ -1,4 +1,4 @@
-use Rattle.std.proofs.Common.{◌≡◌, List, false, sym, subst, ◌∙◌}
+use Rattle.std.proofs.Common.{◌≡◌, List, false, Some, sym, subst, ◌∙◌}
 use Rattle.std.specs.Prelude.{pos, IfOk}
 use Rattle.abc_fields.specs.declared.meter.Meter.TheVariants as meters
 use Rattle.abc_time.specs.Grains.{grains_of_the_latest_end}
@@ -17,11 +17,11 @@ changes_that_stand-requires-2-clause-tempos c =
 
 pub changes_that_stand-requires-2-clause-meters : goal.changes_that_stand-requires-2-clause-meters
 changes_that_stand-requires-2-clause-meters c =
-    one_set meter_of c.args.first _ grains_of_the_latest_end (stages_in c.args.turns.now) c.deref-2.result.now c.requires.in_time (All-map IsStage (λ turn. turn.stage.now) c.args.turns.now c.requires.stages) (c.deref-2.ensures.value ∙ c.in_ok-meters.ensures)
+    one_set meter_of c.args.first (Some c.unwrap_or-meter.result) grains_of_the_latest_end (stages_in c.args.turns.now) c.deref-2.result.now c.requires.in_time (All-map IsStage (λ turn. turn.stage.now) c.args.turns.now c.requires.stages) (c.deref-2.ensures.value ∙ c.in_ok-meters.ensures)
 
 pub changes_that_stand-requires-2-clause-keys : goal.changes_that_stand-requires-2-clause-keys
 changes_that_stand-requires-2-clause-keys c =
-    one_set key_of c.args.first _ grains_of_the_latest_end (stages_in c.args.turns.now) c.deref-3.result.now c.requires.in_time (All-map IsStage (λ turn. turn.stage.now) c.args.turns.now c.requires.stages) (c.deref-3.ensures.value ∙ c.in_ok-keys.ensures)
+    one_set key_of c.args.first (Some c.unwrap_or-key.result) grains_of_the_latest_end (stages_in c.args.turns.now) c.deref-3.result.now c.requires.in_time (All-map IsStage (λ turn. turn.stage.now) c.args.turns.now c.requires.stages) (c.deref-3.ensures.value ∙ c.in_ok-keys.ensures)
 
 pub returns-then-is_steady : goal.returns-then-is_steady
 returns-then-is_steady c =

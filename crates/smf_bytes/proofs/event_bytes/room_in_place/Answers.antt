@@ -12,4 +12,7 @@ pub returns-clause-note_offs : goal.returns-clause-note_offs
 returns-clause-note_offs c channel key tick = omega arith
 
 pub returns-clause-note_ons : goal.returns-clause-note_ons
-returns-clause-note_ons c channel key tick = omega arith
+returns-clause-note_ons c channel key velocity tick = omega arith
+
+pub returns-clause-programs : goal.returns-clause-programs
+returns-clause-programs c channel number tick = omega arith

@@ -1,0 +1,146 @@
+-- Notes and chords sound with the velocity of the last dynamic before them in their voice.
+use Rattle.std.proofs.Common.{◌≡◌, ◌∙◌, ℕ, ◌+◌, nat_lt, Bool, true, false, ◌||◌, cond, List, [], ◌∷◌, ◌++◌, length, Option, Some, None, unwrap_or, refl, ap, subst}
+use Rattle.std.specs.Prelude.{All}
+use Rattle.std.proofs.lemmas.List.Elements.{All-append, All-cons, All-head, All-nil, All-tail}
+use Rattle.abc_fields.specs.declared.fault.FaultCode.TheVariants.{BigChord, LooseTie}
+use Rattle.abc_scan.specs.declared.dynamic.Dynamic.{Dynamic}
+use Rattle.abc_scan.specs.declared.parts.ChordPartKind.{ChordPartKind}
+use Rattle.abc_scan.specs.declared.parts.ChordPartKind.TheVariants as parts
+use Rattle.abc_scan.specs.declared.spanned.Spanned.{Spanned}
+use Rattle.abc_scan.specs.declared.token.TokenKind.TheVariants as kinds
+use Rattle.abc_time.specs.declared.ratio.Ratio.{Ratio}
+use Rattle.abc_bars.specs.declared.body.Body.{Body}
+use Rattle.abc_music.specs.declared.chords.Outside.{Outside}
+use Rattle.abc_music.specs.declared.item.TheConstants.{MOST_NOTES}
+use Rattle.abc_music.specs.declared.item.Tone.{Tone}
+use Rattle.abc_music.specs.declared.settings.Settings.{Settings}
+use Rattle.abc_music.specs.declared.sound.Inside.{Inside}
+use Rattle.abc_music.specs.Broken.{factors_of, has_note}
+use Rattle.abc_music.specs.Chords.{inside_from, inside_of, tie_follows, with_dropped, with_fault as with_part_fault, with_kind as with_part_kind, with_part}
+use Rattle.abc_music.specs.Column.{column_of}
+use Rattle.abc_music.specs.Sound.{no_notes, tone_in, with_note}
+use Rattle.abc_music.specs.TimeTokens.{first_length}
+use Rattle.abc_music.specs.Velocity.{velocity_of}
+use Rattle.abc_bars.specs.Body.{here, mentioned}
+use Rattle.abc_bars.specs.Cell.{mentioned_by_chord, tie_ahead}
+use Rattle.abc_bars.specs.LookBack.Cells.{behind_tokens}
+use Rattle.abc_bars.specs.LookBack.Element.{Element}
+use Rattle.abc_bars.specs.LookBack.Held.{held_at}
+use Rattle.abc_bars.specs.LookBack.Keys.{Standing, standing}
+use Rattle.abc_bars.specs.LookBack.Place.{opening_at}
+use Rattle.abc_bars.specs.LookBack.Velocities.{ChordsHaveVelocities, IsVelocityAt, NotesHaveVelocities, SoundsWith}
+use Rattle.abc_bars.specs.LookBack.Voice.{dynamic_at, dynamic_said, settings_at}
+use Rattle.abc_bars.proofs.LookBack.Keys.{chord-items, here-is}
+use Rattle.abc_bars.proofs.LookBack.Lengths.{between}
+
+-- No dynamic.
+abbrev Silent : Element → Type 0
+Silent other = dynamic_said other.kind ≡ None
+
+last-is : (nearer further : List Element) (dynamic : Dynamic) (tied : Bool) → All Silent nearer
+    → dynamic_at (nearer ++ record { kind = kinds.Dynamic dynamic; tied = tied } ∷ further) ≡ Some dynamic
+unfolding dynamic_at
+last-is [] further dynamic tied none = refl
+last-is (first ∷ nearer) further dynamic tied none =
+    ap (λ said. unwrap_or said (dynamic_at (nearer ++ record { kind = kinds.Dynamic dynamic; tied = tied } ∷ further))) (All-head Silent first nearer none)
+    ∙ last-is nearer further dynamic tied (All-tail Silent first nearer none)
+
+none-is : (before : List Element) → All Silent before → dynamic_at before ≡ None
+unfolding dynamic_at
+none-is [] none = refl
+none-is (first ∷ before) none =
+    ap (λ said. unwrap_or said (dynamic_at before)) (All-head Silent first before none) ∙ none-is before (All-tail Silent first before none)
+
+-- The velocity that looking back finds.
+found : (before : List Element) → IsVelocityAt before (velocity_of (dynamic_at before))
+found before = record {
+  last = λ dynamic is. ap velocity_of (ap dynamic_at is.split ∙ last-is is.nearer is.further dynamic is.tied is.none);
+  usual = λ none. ap velocity_of (none-is before none);
+}
+
+same-dynamic : (opening : Settings) (before : List Element) → (settings_at opening before).dynamic ≡ dynamic_at before
+unfolding settings_at
+same-dynamic opening before = refl
+
+module _ (settings : Settings) (broken : List Ratio) (outside : Outside) where
+  abbrev Loud : Tone → Type 0
+  Loud tone = tone.velocity ≡ velocity_of settings.dynamic
+
+  loud-if : (b : Bool) (x y : Inside) → All Loud x.tones → All Loud y.tones → All Loud (cond b x y).tones
+  loud-if true x y p q = p
+  loud-if false x y p q = q
+
+  -- One more note has the velocity.
+  loud-kind : (column : ℕ) (kind : ChordPartKind) (tied : Bool) (inside : Inside) → All Loud inside.tones → All Loud (with_part_kind settings broken outside column kind tied inside).tones
+  loud-kind column (parts.Note note) tied inside h =
+      loud-if (nat_lt (length inside.tones) MOST_NOTES) (with_note settings broken (Some outside.length) column note (outside.tied || tied) inside) (with_dropped column inside)
+      (All-append Loud inside.tones (tone_in settings inside.accidentals broken (Some outside.length) note (outside.tied || tied) ∷ []) h
+      (All-cons Loud (tone_in settings inside.accidentals broken (Some outside.length) note (outside.tied || tied)) [] refl (All-nil Loud)))
+      (loud-if inside.big inside (record (with_part_fault column BigChord inside) { big = true }) h h)
+  loud-kind column parts.Tie tied inside h = loud-if inside.after_note inside (with_part_fault column LooseTie inside) h h
+  loud-kind column parts.NoEffect tied inside h = h
+  loud-kind column parts.BadByte tied inside h = h
+
+  loud-from : (rest : List (Spanned ChordPartKind)) (inside : Inside) → All Loud inside.tones → All Loud (inside_from settings broken outside rest inside).tones
+  loud-from [] inside h = h
+  loud-from (part ∷ rest) inside h =
+      loud-from rest (with_part settings broken outside part (tie_follows rest) inside)
+      (loud-kind (column_of (outside.from + part.from)) part.kind (tie_follows rest) inside h)
+
+-- A tone has the velocity of other settings that are the same.
+moved : (settings other : Settings) (tones : List Tone) → settings ≡ other
+    → All (λ tone. tone.velocity ≡ velocity_of settings.dynamic) tones → All (λ tone. tone.velocity ≡ velocity_of other.dynamic) tones
+moved settings other tones same all = subst (λ (s : Settings). All (λ tone. tone.velocity ≡ velocity_of s.dynamic) tones) same all
+
+behind-found : (at : Standing) (tones : List Tone)
+    → All (λ tone. tone.velocity ≡ velocity_of (settings_at at.opening at.before).dynamic) tones → All (λ tone. tone.velocity ≡ velocity_of (dynamic_at at.before)) tones
+behind-found at tones all = subst (λ (d : Option Dynamic). All (λ tone. tone.velocity ≡ velocity_of d) tones) (same-dynamic at.opening at.before) all
+
+pub notes_have_velocities : NotesHaveVelocities
+notes_have_velocities values fields key before front ahead note from to =
+    let opening : Body = opening_at values fields key in
+    let there : List Element = behind_tokens front before in
+    let at : Standing = standing values fields key there in
+    let body : Body = mentioned (held_at opening there) in (
+      velocity_of (dynamic_at at.before),
+      found at.before,
+      between opening before front ahead (record { kind = kinds.Note note; from = from; to = to }) refl (SoundsWith (velocity_of (dynamic_at at.before)))
+          (λ start factors.
+          let tone : Tone = tone_in (here body) (here body).accidentals (factors_of start.behind ahead) None note (tie_ahead ahead) in (
+            _,
+            refl,
+            (
+              tone ∷ [],
+              tone.length,
+              refl,
+              behind-found at (tone ∷ []) (moved (here body) (settings_at at.opening at.before) (tone ∷ []) (here-is values fields key there)
+                  (All-cons (λ (t : Tone). t.velocity ≡ velocity_of (here body).dynamic) tone [] refl (All-nil (λ (t : Tone). t.velocity ≡ velocity_of (here body).dynamic)))),
+            ),
+          )),
+    )
+
+pub chords_have_velocities : ChordsHaveVelocities
+chords_have_velocities values fields key before front ahead chord from to some =
+    let opening : Body = opening_at values fields key in
+    let there : List Element = behind_tokens front before in
+    let at : Standing = standing values fields key there in
+    let held : Body = held_at opening there in
+    let body : Body = mentioned_by_chord (has_note chord.parts) held in
+    let same : here body ≡ settings_at at.opening at.before = ap (λ b. here (mentioned_by_chord b held)) some ∙ here-is values fields key there in (
+      velocity_of (dynamic_at at.before),
+      found at.before,
+      between opening before front ahead (record { kind = kinds.Chord chord; from = from; to = to }) refl (SoundsWith (velocity_of (dynamic_at at.before)))
+          (λ start factors.
+          let outside : Outside = record { length = chord.length; tied = tie_ahead ahead; from = from } in
+          let inside : Inside = inside_of (here body) (factors_of start.behind ahead) outside chord.parts in (
+            _,
+            ap (λ l. start.items.items ++ l) (chord-items (has_note chord.parts) (here body) from inside some),
+            (
+              inside.tones,
+              first_length inside.tones,
+              refl,
+              behind-found at inside.tones (moved (here body) (settings_at at.opening at.before) inside.tones same
+                  (loud-from (here body) (factors_of start.behind ahead) outside chord.parts (no_notes (here body)) (All-nil (λ (t : Tone). t.velocity ≡ velocity_of (here body).dynamic)))),
+            ),
+          )),
+    )

@@ -1,0 +1,65 @@
+-- The velocities of notes and chords at the places of a tune, by the last dynamic that stands before them in their voice.
+-- ABC 2.1 section 4.14; the velocities are our own.
+use Rattle.std.specs.Prelude.{◌≡◌, ℕ, Bool, true, List, ◌∷◌, ◌++◌, All, None}
+use Rattle.abc_fields.specs.declared.key.Key.{Key}
+use Rattle.abc_scan.specs.declared.chord.Chord.{Chord}
+use Rattle.abc_scan.specs.declared.dynamic.Dynamic.{Dynamic}
+use Rattle.abc_scan.specs.declared.note.Note.{Note}
+use Rattle.abc_scan.specs.declared.spanned.Spanned.{Spanned}
+use Rattle.abc_scan.specs.declared.token.TokenKind.{TokenKind}
+use Rattle.abc_scan.specs.declared.token.TokenKind.TheVariants as kinds
+use Rattle.abc_scan.specs.Dynamic.{velocity_of as dynamic_velocity}
+use Rattle.abc_time.specs.declared.grains.Grains.{Grains}
+use Rattle.abc_bars.specs.HeaderLine.{HeaderLine}
+use Rattle.abc_bars.specs.declared.defaults.Defaults.{Defaults}
+use Rattle.abc_music.specs.declared.item.Item.{Item}
+use Rattle.abc_music.specs.declared.item.Item.TheVariants as items
+use Rattle.abc_music.specs.declared.item.Tone.{Tone}
+use Rattle.abc_music.specs.Broken.{has_note}
+use Rattle.abc_bars.specs.LookBack.Cells.{behind_tokens}
+use Rattle.abc_bars.specs.LookBack.Element.{Element}
+use Rattle.abc_bars.specs.LookBack.Keys.{standing}
+use Rattle.abc_bars.specs.LookBack.Lengths.{GivesItem, cell_with}
+use Rattle.abc_bars.specs.LookBack.Place.{given_in_body}
+use Rattle.abc_bars.specs.LookBack.Voice.{dynamic_said}
+
+-- No dynamic among a voice's tokens. One inside a chord is none.
+abbrev pub IsNoDynamic : List Element → Type 0
+IsNoDynamic before = All (λ other. dynamic_said other.kind ≡ None) before
+
+-- The last dynamic among a voice's tokens before a place, newest first.
+pub record IsLastDynamic (before : List Element) (dynamic : Dynamic) : Type 0 where
+  pub nearer : List Element
+  pub tied : Bool
+  pub further : List Element
+  pub split : before ≡ nearer ++ record { kind = kinds.Dynamic dynamic; tied = tied } ∷ further
+  pub none : IsNoDynamic nearer
+
+-- The velocity behind these tokens of a voice: that of its last dynamic, as written, else 80.
+pub record IsVelocityAt (before : List Element) (velocity : ℕ) : Type 0 where
+  pub last : (dynamic : Dynamic) → IsLastDynamic before dynamic → velocity ≡ dynamic_velocity dynamic
+  pub usual : IsNoDynamic before → velocity ≡ 80
+
+-- An item is of tones that all have this velocity.
+abbrev pub SoundsWith : ℕ → Item → Type 0
+SoundsWith velocity item =
+    (tones : List Tone) × (lasting : Grains) × (item ≡ items.Tone tones lasting) × All (λ tone. tone.velocity ≡ velocity) tones
+
+-- A token of a cell sounds with the velocity behind these tokens of its voice.
+abbrev pub SoundsAsSaid : List Element → List Item → Type 0
+SoundsAsSaid before given = (velocity : ℕ) × IsVelocityAt before velocity × GivesItem given (SoundsWith velocity)
+
+-- So does a note at any place of a tune.
+abbrev pub NotesHaveVelocities : Type 0
+NotesHaveVelocities =
+    (values : Defaults) (fields : List HeaderLine) (key : Key) (before : List Element) (front ahead : List (Spanned TokenKind)) (note : Note) (from to : ℕ)
+    → SoundsAsSaid (standing values fields key (behind_tokens front before)).before
+    (given_in_body values fields key before (cell_with front (kinds.Note note) from to ahead)).items
+
+-- So does each note of a chord.
+abbrev pub ChordsHaveVelocities : Type 0
+ChordsHaveVelocities =
+    (values : Defaults) (fields : List HeaderLine) (key : Key) (before : List Element) (front ahead : List (Spanned TokenKind)) (chord : Chord) (from to : ℕ)
+    → has_note chord.parts ≡ true
+    → SoundsAsSaid (standing values fields key (behind_tokens front before)).before
+    (given_in_body values fields key before (cell_with front (kinds.Chord chord) from to ahead)).items

@@ -1,0 +1,11 @@
+//! The law of the velocities of notes and chords at the places of a tune.
+
+ghost use Rattle.abc_bars.specs.LookBack.Velocities.{ChordsHaveVelocities, NotesHaveVelocities};
+
+/// What a cell of music gives, wherever it stands: each of its notes and all notes of its chords sound with the velocity
+/// of the last dynamic that stands before them in their voice, as it is written, and with 80 where none does. A dynamic
+/// of another voice and one inside a chord is not counted.
+pub fn velocities_at_places()
+    ensures notes { NotesHaveVelocities }
+    ensures chords { ChordsHaveVelocities }
+{}

@@ -1,0 +1,112 @@
+-- Directives. ABC 2.1 section 11: it names `%%propagate-accidentals`; `%%MIDI program` is one of abc2midi's own.
+use Rattle.std.specs.Prelude.{◌≡◌, ◌⊎◌, ◌↔◌, ◌≤◌, ℕ, Bool, true, Option, Some, None, List, [], ◌∷◌, ◌++◌, codes, length, take, drop, is_some, if◌then◌else◌, ◌==◌}
+use Rattle.std.specs.Str.{bytes_eq}
+use Rattle.abc_text.specs.Blank.{AreBlanks}
+use Rattle.abc_text.specs.Number.{IsNumber}
+use Rattle.abc_text.specs.Word.{leading_blanks}
+use Rattle.abc_scan.specs.declared.directive.Directive.{Directive}
+use Rattle.abc_scan.specs.declared.directive.Directive.TheVariants as directives
+use Rattle.abc_scan.specs.declared.directive.Reach.{Reach}
+use Rattle.abc_scan.specs.declared.directive.Reach.TheVariants.{Not, Octave, Pitch}
+use Rattle.abc_scan.specs.Byte.{percent}
+use Rattle.abc_scan.specs.Number.{number_at}
+
+-- Blanks between two words: one at least.
+abbrev pub IsGap : List ℕ → Type 0
+IsGap text = (1 ≤ length text) × AreBlanks text
+
+-- What may stand behind a directive: blanks, and then nothing or a comment.
+pub record IsEnd (text : List ℕ) : Type 0 where
+  pub blanks : List ℕ
+  pub comment : List ℕ
+  pub spelling : text ≡ blanks ++ comment
+  pub blanks_are : AreBlanks blanks
+  pub comment_is : (comment ≡ []) ⊎ ((rest : List ℕ) × (comment ≡ percent ∷ rest))
+
+-- The line that sets a MIDI program, by its number as it is written.
+pub record IsProgramLine (text : List ℕ) (number : ℕ) : Type 0 where
+  pub gap : List ℕ
+  pub second_gap : List ℕ
+  pub digits : List ℕ
+  pub end : List ℕ
+  pub spelling : text ≡ codes "%%MIDI" ++ (gap ++ (codes "program" ++ (second_gap ++ (digits ++ end))))
+  pub gap_is : IsGap gap
+  pub second_gap_is : IsGap second_gap
+  pub number_is : IsNumber digits number
+  pub end_is : IsEnd end
+
+-- The word for how far accidentals reach.
+abbrev pub name_of : Reach → List ℕ
+name_of Not = codes "not"
+name_of Octave = codes "octave"
+name_of Pitch = codes "pitch"
+
+-- The line that says how far accidentals reach.
+pub record IsReachLine (text : List ℕ) (reach : Reach) : Type 0 where
+  pub gap : List ℕ
+  pub end : List ℕ
+  pub spelling : text ≡ codes "%%propagate-accidentals" ++ (gap ++ (name_of reach ++ end))
+  pub gap_is : IsGap gap
+  pub end_is : IsEnd end
+
+-- The text spells a directive. That it begins in the first column is our own.
+abbrev pub IsDirective : List ℕ → Directive → Type 0
+IsDirective text (directives.Program number) = IsProgramLine text number
+IsDirective text (directives.Reach reach) = IsReachLine text reach
+
+-- A line that is a directive.
+abbrev pub IsDirectiveLine : List ℕ → Type 0
+IsDirectiveLine text = (directive : Directive) × IsDirective text directive
+
+-- A text begins with a word.
+abbrev pub begins_with : List ℕ → List ℕ → Bool
+begins_with word text = bytes_eq (take (length word) text) word
+
+-- What is read behind the blanks that a text begins with; nothing where there is none.
+abbrev pub behind_gap : (List ℕ → Option Directive) → List ℕ → Option Directive
+behind_gap reading text = if leading_blanks text == 0 then None else reading (drop (leading_blanks text) text)
+
+-- Nothing, or a comment.
+abbrev pub is_comment_or_none : List ℕ → Bool
+is_comment_or_none [] = true
+is_comment_or_none (b ∷ bs) = b == percent
+
+-- A directive, if what stands behind it may stand there.
+abbrev pub ended : Directive → List ℕ → Option Directive
+ended directive end = if is_comment_or_none (drop (leading_blanks end) end) then Some directive else None
+
+-- The program of a number that was read at the front of a text.
+abbrev pub numbered_by : List ℕ → Option (ℕ × ℕ) → Option Directive
+numbered_by text None = None
+numbered_by text (Some number) = ended (directives.Program number.0) (drop number.1 text)
+
+-- The program whose number stands at the front of a text.
+abbrev pub numbered : List ℕ → Option Directive
+numbered text = numbered_by text (number_at text)
+
+-- What is read behind `%%MIDI` and its blanks.
+abbrev pub named : List ℕ → Option Directive
+named text = if begins_with (codes "program") text then behind_gap numbered (drop 7 text) else None
+
+-- What is read behind `%%propagate-accidentals` and its blanks.
+abbrev pub reaching : List ℕ → Option Directive
+reaching text =
+    if begins_with (codes "not") text then ended (directives.Reach Not) (drop 3 text)
+    else (if begins_with (codes "octave") text then ended (directives.Reach Octave) (drop 6 text)
+    else (if begins_with (codes "pitch") text then ended (directives.Reach Pitch) (drop 5 text)
+    else None))
+
+-- The directive that a text spells.
+unfoldable pub directive_of : List ℕ → Option Directive
+directive_of text =
+    if begins_with (codes "%%MIDI") text then behind_gap named (drop 6 text)
+    else (if begins_with (codes "%%propagate-accidentals") text then behind_gap reaching (drop 23 text)
+    else None)
+
+-- Whether a text spells a directive.
+abbrev pub is_directive : List ℕ → Bool
+is_directive text = is_some (directive_of text)
+
+-- A text spells one directive at most, which is the one that is read.
+abbrev pub ReadsDirectives : Type 0
+ReadsDirectives = (text : List ℕ) (directive : Directive) → (directive_of text ≡ Some directive) ↔ IsDirective text directive

@@ -1,0 +1,198 @@
+-- The programs that stand are on each tick the last that is set there.
+use Rattle.std.proofs.Common.{◌≡◌, ℕ, ◌+◌, Bool, true, false, cond, List, [], ◌∷◌, ◌++◌, map, Option, Some, None, refl, sym, ap, ◌∙◌, append-nil, eqb-true}
+use Rattle.std.proofs.lemmas.List.Elements.{filter-append}
+use Rattle.std.specs.Prelude.{◌==◌, ◌||◌, filter, is_some, option_map}
+use Rattle.std.specs.List.{cons_option}
+use Rattle.std.specs.Option.{option_to_list}
+use Rattle.abc_music.specs.declared.item.Item.{Item}
+use Rattle.abc_music.specs.declared.item.Item.TheVariants as items
+use Rattle.abc_time.specs.declared.grains.Grains.{Grains}
+use Rattle.abc_time.specs.Grains.{tick_at}
+use Rattle.abc_voices.specs.declared.score.ProgramChange.{ProgramChange}
+use Rattle.abc_voices.specs.Arrange.{longest, play_in, played_sections, programs_in, set_in}
+use Rattle.abc_voices.specs.Change.{at_moment, behind, program_of, set_from}
+use Rattle.abc_voices.specs.Opening.{past_all, program_past}
+use Rattle.abc_voices.specs.OnTicks.{last_said, opening_program_of, at_moments, moments_in, on_tick, set_on_tick, program_on, HaveProgramsOnTicks}
+use Rattle.abc_voices.specs.ScoreChanges.{program_change}
+use Rattle.abc_voices.specs.Step.{length_of}
+use Rattle.abc_voices.specs.Ticks.{has_tick, last_of_each_tick}
+use Rattle.abc_voices.specs.Track.{everyone, tracks}
+use Rattle.abc_voices.specs.Voices.{or_said}
+
+-- what is said by the first of these that says something
+or_none : {V : Type 0} (value : Option V) → value ≡ or_said value None
+or_none None = refl
+or_none (Some value) = refl
+
+or_all : {V : Type 0} (a b c : Option V) → or_said (or_said a b) c ≡ or_said a (or_said b c)
+or_all None b c = refl
+or_all (Some value) b c = refl
+
+or_map : {V W : Type 0} (f : V → W) (a b : Option V) → option_map f (or_said a b) ≡ or_said (option_map f a) (option_map f b)
+or_map f None b = refl
+or_map f (Some value) b = refl
+
+last_append : {X V : Type 0} (says : X → Option V) (xs ys : List X) → last_said says (xs ++ ys) ≡ or_said (last_said says ys) (last_said says xs)
+last_append says [] ys = or_none (last_said says ys)
+last_append says (x ∷ xs) ys =
+    ap (λ (v : _). or_said v (says x)) (last_append says xs ys) ∙ or_all (last_said says ys) (last_said says xs) (says x)
+
+-- a change, if it is on a tick
+abbrev set_if_on : {V : Type 0} → ℕ → Grains × V → Option (Grains × V)
+set_if_on tick set = cond (tick_at set.0.0 == tick) (Some set) None
+
+-- whether one is
+said_there : {X : Type 0} (last : Option X) (here : Bool) (x : X) (later : Bool) → later ≡ is_some last
+    → (here || later) ≡ is_some (or_said last (cond here (Some x) None))
+said_there None true x later e = refl
+said_there None false x later e = e
+said_there (Some value) true x later e = refl
+said_there (Some value) false x later e = e
+
+has_last : {V : Type 0} (tick : ℕ) (sets : List (Grains × V)) → has_tick tick sets ≡ is_some (last_said (set_if_on tick) sets)
+has_last tick [] = refl
+has_last tick (set ∷ later) =
+    said_there (last_said (set_if_on tick) later) (tick_at set.0.0 == tick) set (has_tick tick later) (has_last tick later)
+
+-- one change more
+abbrev is_on : {V : Type 0} → ℕ → Grains × V → Bool
+is_on tick set = tick_at set.0.0 == tick
+
+one_stands : {V : Type 0} (tick : ℕ) (standing : List (Grains × V)) (set : Grains × V) (last : Option (Grains × V)) (later here : Bool) → is_on tick set ≡ here
+    → filter (is_on tick) standing ≡ option_to_list last → (here ≡ true → later ≡ is_some last)
+    → filter (is_on tick) (cond later standing (standing ++ set ∷ [])) ≡ option_to_list (or_said last (cond here (Some set) None))
+one_stands tick standing set None true true e those same = absurd (same refl)
+  where
+    absurd : {X : Type 0} → true ≡ false → X
+    absurd h = cc
+one_stands tick standing set None true false e those same = those
+one_stands tick standing set None false true e those same =
+    filter-append (is_on tick) standing (set ∷ []) ∙ (λ i. those i ++ cond (e i) (set ∷ []) [])
+one_stands tick standing set None false false e those same =
+    filter-append (is_on tick) standing (set ∷ []) ∙ (λ i. those i ++ cond (e i) (set ∷ []) [])
+one_stands tick standing set (Some value) true true e those same = those
+one_stands tick standing set (Some value) true false e those same = those
+one_stands tick standing set (Some value) false true e those same = absurd (same refl)
+  where
+    absurd : {X : Type 0} → false ≡ true → X
+    absurd h = cc
+one_stands tick standing set (Some value) false false e those same =
+    filter-append (is_on tick) standing (set ∷ []) ∙ (λ i. those i ++ cond (e i) (set ∷ []) [])
+
+-- of changes that stand the last one on a tick is there
+last_stands : {V : Type 0} (tick : ℕ) (sets : List (Grains × V)) → filter (is_on tick) (last_of_each_tick sets) ≡ option_to_list (last_said (set_if_on tick) sets)
+last_stands tick [] = refl
+last_stands tick (set ∷ later) =
+    one_stands tick (last_of_each_tick later) set (last_said (set_if_on tick) later) (has_tick (tick_at set.0.0) later) (is_on tick set) refl (last_stands tick later)
+    (λ here. ap (λ n. has_tick n later) (eqb-true (tick_at set.0.0) tick here) ∙ has_last tick later)
+
+-- the same of programs
+abbrev is_there : ℕ → ProgramChange → Bool
+is_there tick change = tick_at change.at.0 == tick
+
+of_either : {X Y : Type 0} (f : X → Y) (here : Bool) (x : X) (xs : List X) (ys : List Y) → ys ≡ map f xs → cond here (f x ∷ ys) ys ≡ map f (cond here (x ∷ xs) xs)
+of_either f true x xs ys e = ap (λ l. f x ∷ l) e
+of_either f false x xs ys e = e
+
+those_there : (tick : ℕ) (sets : List (Grains × ℕ)) → filter (is_there tick) (map program_change sets) ≡ map program_change (filter (is_on tick) sets)
+those_there tick [] = refl
+those_there tick ((at, number) ∷ sets) =
+    of_either program_change (tick_at at.0 == tick) (at, number) (filter (is_on tick) sets) (filter (is_there tick) (map program_change sets)) (those_there tick sets)
+
+as_list : {X Y : Type 0} (f : X → Y) (value : Option X) → map f (option_to_list value) ≡ option_to_list (option_map f value)
+as_list f None = refl
+as_list f (Some value) = refl
+
+-- the last program of changes on a tick
+abbrev last_change : ℕ → List (Grains × ℕ) → Option ProgramChange
+last_change tick sets = option_map program_change (last_said (set_if_on tick) sets)
+
+neither : {X : Type 0} (here : Bool) → ◌≡◌ {A = Option X} (cond here None None) None
+neither true = refl
+neither false = refl
+
+of_last : (here : Bool) (set : Grains × ℕ) (last : Option (Grains × ℕ))
+    → option_map program_change (or_said last (cond here (Some set) None)) ≡ or_said (option_map program_change last) (cond here (Some (program_change set)) None)
+of_last true set None = refl
+of_last false set None = refl
+of_last true set (Some value) = refl
+of_last false set (Some value) = refl
+
+one_more : (tick at : ℕ) (program : Option ℕ) (sets : List (Grains × ℕ))
+    → last_change tick (cons_option (at_moment at program) sets) ≡ or_said (last_change tick sets) (on_tick tick at program)
+one_more tick at None sets =
+    or_none (last_change tick sets) ∙ ap (or_said (last_change tick sets)) (sym (neither (tick_at at == tick)))
+one_more tick at (Some number) sets =
+    of_last (tick_at at == tick) (record { 0 = at }, number) (last_said (set_if_on tick) sets)
+
+play_said : (tick at : ℕ) (play : List Item)
+    → last_change tick (set_from (λ item. item) program_of at play) ≡ last_said (set_on_tick tick) (at_moments at play)
+play_said tick at [] = refl
+play_said tick at (item ∷ play) =
+    one_more tick at (program_of item) (set_from (λ one. one) program_of (at + length_of item) play)
+    ∙ ap (λ last. or_said last (on_tick tick at (program_of item))) (play_said tick (at + length_of item) play)
+
+sections_said : (tick : ℕ) (voices : List (List ℕ)) (voice : List ℕ) (at : ℕ) (sections : List (List ℕ × List Item))
+    → last_change tick (set_in (λ item. item) program_of voices (voice ∷ []) at sections) ≡ last_said (set_on_tick tick) (moments_in voices voice at sections)
+sections_said tick voices voice at [] = refl
+sections_said tick voices voice at (section ∷ rest) =
+    let play : List Item = play_in (λ item. item) section voice in
+    let next : ℕ = at + longest (λ item. item) voices section in
+    let own : List (Grains × ℕ) = set_from (λ item. item) program_of at play in
+    let others : List (Grains × ℕ) = set_in (λ item. item) program_of voices (voice ∷ []) next rest in
+    ap (λ sets. last_change tick (sets ++ others)) (append-nil own)
+    ∙ ap (option_map program_change) (last_append (set_if_on tick) own others)
+    ∙ or_map program_change (last_said (set_if_on tick) others) (last_said (set_if_on tick) own)
+    ∙ (λ i. or_said (sections_said tick voices voice next rest i) (play_said tick at play i))
+    ∙ sym (last_append (set_on_tick tick) (at_moments at play) (moments_in voices voice next rest))
+
+-- what a tune opens with is the last program of its header
+one_past : (program : Option ℕ) (item : Item) → program_past program item ≡ or_said (opening_program_of item) program
+one_past program (items.Program true (Some number)) = refl
+one_past program (items.Program true None) = refl
+one_past program (items.Program false number) = refl
+one_past program (items.Number number) = refl
+one_past program (items.Tone tones length) = refl
+one_past program (items.Rest length bar) = refl
+one_past program (items.Bar line) = refl
+one_past program (items.Ending numbers) = refl
+one_past program (items.Section letter) = refl
+one_past program (items.Tempo opening micros out) = refl
+one_past program (items.Meter opening meter) = refl
+one_past program (items.Key opening key) = refl
+one_past program (items.Voice opening name) = refl
+one_past program (items.Title text) = refl
+one_past program (items.Order text) = refl
+
+all_past : (program : Option ℕ) (tune : List Item) → past_all (λ item. item) program_past program tune ≡ or_said (last_said opening_program_of tune) program
+all_past program [] = refl
+all_past program (item ∷ tune) =
+    all_past (program_past program item) tune
+    ∙ ap (or_said (last_said opening_program_of tune)) (one_past program item)
+    ∙ sym (or_all (last_said opening_program_of tune) (opening_program_of item) program)
+
+opens : (tune : List Item) → past_all (λ item. item) program_past None tune ≡ last_said opening_program_of tune
+opens tune = all_past None tune ∙ sym (or_none (last_said opening_program_of tune))
+
+-- the program of a voice on a tick
+voice_on : (tune : List Item) (tick : ℕ) (voice : List ℕ)
+    → filter (is_there tick) (programs_in (λ item. item) (past_all (λ item. item) program_past None tune) (everyone (λ item. item) tune) (played_sections (λ item. item) tune) voice)
+    ≡ option_to_list (program_on tune tick voice)
+voice_on tune tick voice =
+    let opening : Option ℕ = past_all (λ item. item) program_past None tune in
+    let sets : List (Grains × ℕ) = set_in (λ item. item) program_of (everyone (λ item. item) tune) (voice ∷ []) 0 (played_sections (λ item. item) tune) in
+    those_there tick (last_of_each_tick (behind opening sets))
+    ∙ ap (map program_change) (last_stands tick (behind opening sets))
+    ∙ as_list program_change (last_said (set_if_on tick) (behind opening sets))
+    ∙ ap option_to_list (one_more tick 0 opening sets
+    ∙ (λ i. or_said (sections_said tick (everyone (λ item. item) tune) voice 0 (played_sections (λ item. item) tune) i) (on_tick tick 0 (opens tune i))))
+
+voices_on : {X Y Z : Type 0} (f : Y → Z) (g : X → Y) (h : X → Z) → ((x : X) → f (g x) ≡ h x) → (xs : List X) → map f (map g xs) ≡ map h xs
+voices_on f g h same [] = refl
+voices_on f g h same (x ∷ xs) = λ i. same x i ∷ voices_on f g h same xs i
+
+pub programs_on_ticks : HaveProgramsOnTicks
+programs_on_ticks tune tick =
+    voices_on (filter (is_there tick))
+    (programs_in (λ item. item) (past_all (λ item. item) program_past None tune) (everyone (λ item. item) tune) (played_sections (λ item. item) tune))
+    (λ voice. option_to_list (program_on tune tick voice)) (voice_on tune tick) (tracks (λ item. item) tune)

@@ -1,0 +1,55 @@
+-- The program of a voice on each tick, by what is played there. Our own.
+use Rattle.std.specs.Prelude.{◌≡◌, ℕ, ◌+◌, ◌==◌, true, if◌then◌else◌, List, [], ◌∷◌, ◌++◌, map, filter, Option, None, option_map}
+use Rattle.std.specs.Option.{option_to_list}
+use Rattle.abc_music.specs.declared.item.Item.{Item}
+use Rattle.abc_music.specs.declared.item.Item.TheVariants as items
+use Rattle.abc_time.specs.Grains.{tick_at}
+use Rattle.abc_voices.specs.declared.score.ProgramChange.{ProgramChange}
+use Rattle.abc_voices.specs.Arrange.{longest, play_in, played_sections, score_of}
+use Rattle.abc_voices.specs.Change.{program_of}
+use Rattle.abc_voices.specs.Step.{length_of}
+use Rattle.abc_voices.specs.Track.{everyone, tracks}
+use Rattle.abc_voices.specs.Voices.{or_said}
+
+-- What the last of some that says something says.
+abbrev pub last_said : {X V : Type 0} → (X → Option V) → List X → Option V
+last_said says [] = None
+last_said says (x ∷ later) = or_said (last_said says later) (says x)
+
+-- The program that a directive of the header sets, if it sets one.
+abbrev pub opening_program_of : Item → Option ℕ
+opening_program_of (items.Program true number) = number
+opening_program_of _ = None
+
+-- What is played from a moment on, each item at its moment.
+abbrev pub at_moments : ℕ → List Item → List (ℕ × Item)
+at_moments at [] = []
+at_moments at (item ∷ play) = (at, item) ∷ at_moments (at + length_of item) play
+
+-- What a voice plays in sections that are played from a moment on, in order of play.
+abbrev pub moments_in : List (List ℕ) → List ℕ → ℕ → List (List ℕ × List Item) → List (ℕ × Item)
+moments_in voices voice at [] = []
+moments_in voices voice at (section ∷ rest) =
+    at_moments at (play_in (λ item. item) section voice) ++ moments_in voices voice (at + longest (λ item. item) voices section) rest
+
+-- A program at a moment, if there is one and the moment is on this tick.
+abbrev pub on_tick : ℕ → ℕ → Option ℕ → Option ProgramChange
+on_tick tick at program =
+    if tick_at at == tick then option_map (λ number. record { at = record { 0 = at }; number = number }) program else None
+
+-- The program that something sets on a tick, if it sets one there.
+abbrev pub set_on_tick : ℕ → ℕ × Item → Option ProgramChange
+set_on_tick tick (at, item) = on_tick tick at (program_of item)
+
+-- The program of a voice on a tick: the last one that something sets which is played there, or else the one with which
+-- the tune opens, where its beginning is on the tick.
+abbrev pub program_on : List Item → ℕ → List ℕ → Option ProgramChange
+program_on tune tick voice =
+    or_said (last_said (set_on_tick tick) (moments_in (everyone (λ item. item) tune) voice 0 (played_sections (λ item. item) tune)))
+    (on_tick tick 0 (last_said opening_program_of tune))
+
+-- On each tick each voice of a tune has that program, and no other one.
+abbrev pub HaveProgramsOnTicks : Type 0
+HaveProgramsOnTicks = (tune : List Item) (tick : ℕ)
+    → map (filter (λ change. tick_at change.at.0 == tick)) (score_of (λ item. item) tune).programs
+    ≡ map (λ voice. option_to_list (program_on tune tick voice)) (tracks (λ item. item) tune)

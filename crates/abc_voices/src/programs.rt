@@ -1,0 +1,78 @@
+//! The programs of voices.
+
+ghost use Rattle.std.specs.Prelude.{◌≡◌, true, ◌-◌, ◌≤◌, All, None, IfOk};
+ghost use Rattle.abc_time.specs.Grains.{grains_of_the_latest_end};
+ghost use Rattle.abc_voices.specs.Fields.{sets_program, keeps_programs};
+ghost use Rattle.abc_voices.specs.Opening.{program_past, past_all};
+ghost use Rattle.abc_voices.specs.Turns.{IsStage, PlaysNone, stages_in, length_along, programs_by, programs_along};
+
+use crate::change::Programs;
+use crate::fields::keeps_programs;
+use crate::opening::opening_program;
+use crate::score::ProgramChange;
+use crate::score_changes::programs_that_stand;
+use crate::setting::one_along;
+use crate::stage::Turn;
+use abc_music::Item;
+use abc_text::Sequence;
+use std::alloc::{AllocError, Global};
+
+/// The programs of a voice in the stages that are played, behind the one with which the tune opens, if it opens with one.
+fn voice_programs(
+    alloc: Global,
+    turns: &[Turn],
+    voice: usize,
+    opening: Option<u8>,
+) -> Result<Sequence<ProgramChange>, AllocError>
+    requires stages { All (λ turn. IsStage turn.stage.now) turns.now }
+    requires in_time { length_along (stages_in turns.now) ≤ grains_of_the_latest_end }
+    ensures { IfOk result (λ programs. programs ≡ programs_by opening (stages_in turns.now) voice) }
+{
+    let sets = one_along::<Programs>(alloc, turns, voice, opening)?;
+    let standing = programs_that_stand(alloc, &sets)?;
+    Ok(Sequence::from(standing))
+}
+
+/// The programs of the voices from the first that is counted on up to so many.
+fn each_programs(
+    alloc: Global,
+    turns: &[Turn],
+    opening: Option<u8>,
+    first: usize,
+    count: usize,
+) -> Result<Sequence<Sequence<ProgramChange>>, AllocError>
+    requires stages { All (λ turn. IsStage turn.stage.now) turns.now }
+    requires in_time { length_along (stages_in turns.now) ≤ grains_of_the_latest_end }
+    requires voices { first ≤ count }
+    ensures { IfOk result (λ voices. voices ≡ programs_along opening (stages_in turns.now) first (count - first)) }
+{
+    let mut voices = Vec::new(alloc);
+    for voice in first..count {
+        let programs = voice_programs(alloc, turns, voice, opening)?;
+        voices.push(programs)?;
+    }
+    Ok(Sequence::from(voices))
+}
+
+/// The programs of the voices from the first that is counted on up to so many, by what the fields of their tune give.
+pub(crate) fn voices_programs(
+    alloc: Global,
+    given: &[&Item],
+    turns: &[Turn],
+    first: usize,
+    count: usize,
+) -> Result<Sequence<Sequence<ProgramChange>>, AllocError>
+    requires stages { All (λ turn. IsStage turn.stage.now) turns.now }
+    requires in_time { length_along (stages_in turns.now) ≤ grains_of_the_latest_end }
+    requires kept { keeps_programs (λ step. step.now) given.now ≡ true → All (PlaysNone sets_program) (stages_in turns.now) }
+    requires voices { first ≤ count }
+    ensures { IfOk result (λ voices. voices
+        ≡ programs_along (past_all (λ step. step.now) program_past None given.now) (stages_in turns.now) first (count - first)) }
+{
+    let opening = opening_program(given);
+    // Most tunes keep the programs with which they open, and then what is played need not be looked through.
+    if keeps_programs(given) {
+        return each_programs(alloc, &[], opening, first, count);
+    }
+    each_programs(alloc, turns, opening, first, count)
+}

@@ -1,0 +1,64 @@
+-- The events of a voice before they are written.
+use Rattle.std.specs.Prelude.{ℕ, ◌+◌, ◌*◌, ◌==◌, if◌then◌else◌, List, [], ◌∷◌, ◌++◌, flat_map, map}
+use Rattle.std.specs.Cmp.{IsTotalOrder, nat_cmp_total, on_total, then_total}
+use Rattle.std.specs.Ordering.{nat_cmp, on, then_cmp}
+use Rattle.std.specs.declared.cmp.Ordering.{Ordering}
+use Rattle.abc_time.specs.Grains.{tick_at}
+use Rattle.abc_voices.specs.declared.score.ProgramChange.{ProgramChange as VoiceProgram}
+use Rattle.abc_voices.specs.declared.score.Sounding.{Sounding}
+use Rattle.smf_bytes.specs.declared.event.Event.{Event}
+use Rattle.smf_bytes.specs.declared.voice_event.VoiceEvent.{VoiceEvent}
+use Rattle.smf_bytes.specs.declared.voice_event.VoiceEventKind.{VoiceEventKind}
+use Rattle.smf_bytes.specs.declared.voice_event.VoiceEventKind.TheVariants.{NoteOff, ProgramChange, NoteOn}
+
+-- What a track holds of an event of each kind on a channel, after its delta time (SMF 1.0).
+abbrev pub bytes_of : VoiceEventKind → ℕ → ℕ → ℕ → List ℕ
+bytes_of NoteOff channel key value = (128 + channel) ∷ key ∷ value ∷ []
+bytes_of ProgramChange channel key value = (192 + channel) ∷ value ∷ []
+bytes_of NoteOn channel key value = (144 + channel) ∷ key ∷ value ∷ []
+
+-- The place of each kind among the events of one tick. Our own.
+abbrev pub class_in : VoiceEventKind → ℕ
+class_in NoteOff = 1
+class_in ProgramChange = 2
+class_in NoteOn = 3
+
+-- Events of a voice compare by tick, then class, then key, then value.
+abbrev pub voice_cmp : VoiceEvent → VoiceEvent → Ordering
+voice_cmp =
+    then_cmp (on (λ e. e.tick) nat_cmp)
+    (then_cmp (on (λ e. class_in e.kind) nat_cmp) (then_cmp (on (λ e. e.key) nat_cmp) (on (λ e. e.value) nat_cmp)))
+
+abbrev pub voice_total : IsTotalOrder voice_cmp
+voice_total =
+    then_total (on_total (λ e. e.tick) nat_cmp_total)
+    (then_total (on_total (λ e. class_in e.kind) nat_cmp_total)
+    (then_total (on_total (λ e. e.key) nat_cmp_total) (on_total (λ e. e.value) nat_cmp_total)))
+
+-- A number that grows as the events do, since keys and values are bytes.
+abbrev pub rank_of : VoiceEvent → ℕ
+rank_of event = ((event.tick * 4 + class_in event.kind) * 256 + event.key) * 256 + event.value
+
+-- The event on a channel.
+abbrev pub event_at : ℕ → VoiceEvent → Event
+event_at channel event =
+    record { tick = event.tick; class = class_in event.kind; key = event.key; bytes = bytes_of event.kind channel event.key event.value }
+
+-- A note begins and ends, with the release velocity 64, unless both fall on one tick: then it is not written. Our own.
+abbrev pub ends_of : Sounding → List VoiceEvent
+ends_of note =
+    if tick_at note.on.0 == tick_at note.off.0 then [] else
+    record { tick = tick_at note.on.0; kind = NoteOn; key = note.key; value = note.velocity }
+    ∷ record { tick = tick_at note.off.0; kind = NoteOff; key = note.key; value = 64 } ∷ []
+
+-- A change of program, at the tick of its moment. Our own.
+abbrev pub change_of : VoiceProgram → VoiceEvent
+change_of change = record { tick = tick_at change.at.0; kind = ProgramChange; key = 0; value = change.number }
+
+-- The notes of a voice as they begin and end.
+abbrev pub all_ends : List Sounding → List VoiceEvent
+all_ends notes = flat_map ends_of notes
+
+-- The events of a voice: its programs, and its notes as they begin and end.
+abbrev pub all_of : List VoiceProgram → List Sounding → List VoiceEvent
+all_of programs notes = map change_of programs ++ all_ends notes
