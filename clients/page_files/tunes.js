@@ -1,23 +1,32 @@
-// The list of the tunes: rows are made for those that are seen.
+// The list of the tunes: rows are made for those that are seen. A row stays one element for as long as it is drawn, so that
+// the press and the release of a click meet the same one.
+
+const BEYOND = 2; // rows drawn above and below those that are seen
+const LIGHT = 1600; // milliseconds
 
 export class Tunes {
   constructor(list) {
     this.list = list;
     this.space = list.querySelector(".space");
     this.rows = [];
+    this.drawn = new Map(); // by place: the element of its row
     this.here = -1; // the tune that is shown
     this.at = -1; // the one that the keyboard stands at
     this.lit = new Map(); // by number: "written" or "removed"
     this.chosen = () => {};
-    this.height = parseFloat(getComputedStyle(list).getPropertyValue("--row-height"));
     list.addEventListener("scroll", () => this.draw());
     list.addEventListener("keydown", (event) => this.key(event));
-    list.addEventListener("focus", () => this.stand(Math.max(0, this.here)));
+    list.addEventListener("focus", () => list.matches(":focus-visible") && this.stand(Math.max(0, this.here)));
     list.addEventListener("click", (event) => {
       const row = event.target.closest("[role=option]");
       if (row) this.chosen(this.rows[row.dataset.at]);
     });
     new ResizeObserver(() => this.draw()).observe(list);
+  }
+
+  /** The height of a row, which goes by the width of the window. */
+  get height() {
+    return parseFloat(getComputedStyle(this.list).getPropertyValue("--row-height"));
   }
 
   /** Other tunes, of which one is shown. */
@@ -29,24 +38,27 @@ export class Tunes {
     else this.draw();
   }
 
-  /** Lights up numbers for a moment. */
+  /** Lights up numbers for a moment. Those that are alight already go out first, which lets them begin anew. */
   light(written, removed) {
+    this.putOut();
     this.lit = new Map([...written.map((number) => [number, "written"]), ...removed.map((number) => [number, "removed"])]);
+    this.timer = setTimeout(() => this.putOut(), LIGHT);
+    this.draw();
+  }
+
+  putOut() {
     clearTimeout(this.timer);
-    this.timer = setTimeout(() => {
-      this.lit.clear();
-      this.draw();
-    }, 1600);
+    this.lit.clear();
     this.draw();
   }
 
   /** Moves the keyboard's place, and keeps it in view. */
   stand(at) {
     this.at = Math.max(0, Math.min(this.rows.length - 1, at));
-    const top = this.at * this.height, { scrollTop, clientHeight } = this.list;
-    this.space.style.height = `${this.rows.length * this.height}px`;
-    if (top < scrollTop) this.list.scrollTop = top;
-    else if (top + this.height > scrollTop + clientHeight) this.list.scrollTop = top + this.height - clientHeight;
+    this.stretch();
+    const { height, list } = this, top = this.at * height;
+    if (top < list.scrollTop) list.scrollTop = top;
+    else if (top + height > list.scrollTop + list.clientHeight) list.scrollTop = top + height - list.clientHeight;
     this.draw();
   }
 
@@ -66,32 +78,58 @@ export class Tunes {
     event.preventDefault();
   }
 
-  draw() {
-    const first = Math.max(0, Math.floor(this.list.scrollTop / this.height) - 2);
-    const last = Math.min(this.rows.length, first + Math.ceil(this.list.clientHeight / this.height) + 5);
+  /** Gives the list the room of all its rows. */
+  stretch() {
     this.space.style.height = `${this.rows.length * this.height}px`;
-    const drawn = [];
-    for (let at = first; at < last; at += 1) drawn.push(this.row(at));
-    this.space.replaceChildren(...drawn);
-    if (first <= this.at && this.at < last) this.list.setAttribute("aria-activedescendant", `tune-${this.at}`);
+  }
+
+  /** The rows to be drawn: from, to. */
+  seen() {
+    const { height, list } = this;
+    const first = Math.floor(list.scrollTop / height), last = Math.ceil((list.scrollTop + list.clientHeight) / height);
+    return [Math.max(0, first - BEYOND), Math.min(this.rows.length, last + BEYOND)];
+  }
+
+  draw() {
+    const [first, last] = this.seen();
+    this.stretch();
+    for (const [at, row] of this.drawn) if (at < first || at >= last) this.takeOut(at, row);
+    let behind = null; // the row behind: so each new one comes in at its place, and none is moved
+    for (let at = last - 1; at >= first; at -= 1) {
+      const row = this.drawn.get(at) ?? this.putIn(at, behind);
+      this.write(row, at);
+      behind = row;
+    }
+    if (this.drawn.has(this.at)) this.list.setAttribute("aria-activedescendant", `tune-${this.at}`);
     else this.list.removeAttribute("aria-activedescendant");
   }
 
-  row(at) {
-    const [, number, title, hasFile] = this.rows[at];
+  takeOut(at, row) {
+    this.drawn.delete(at);
+    row.remove();
+  }
+
+  /** Puts in the row of a place, before another one. */
+  putIn(at, behind) {
     const row = document.createElement("div");
     row.id = `tune-${at}`;
     row.role = "option";
     row.dataset.at = at;
-    row.style.top = `${at * this.height}px`;
+    row.style.setProperty("--at", at);
+    row.ariaPosInSet = String(at + 1);
+    row.append(document.createElement("b"), document.createElement("span"));
+    this.drawn.set(at, row);
+    return this.space.insertBefore(row, behind);
+  }
+
+  /** Writes into a row what its tune is now. */
+  write(row, at) {
+    const [, number, title, hasFile] = this.rows[at];
     row.ariaSelected = String(at === this.here);
     row.ariaSetSize = String(this.rows.length);
-    row.ariaPosInSet = String(at + 1);
     row.className = `${this.lit.get(number) ?? ""} ${at === this.at ? "at" : ""} ${hasFile ? "" : "silent"}`;
-    if (!hasFile) row.title = "This tune has no file: it is too long, or another one has its number.";
-    const name = document.createElement("span");
-    name.textContent = title || "(no title)";
-    row.append(Object.assign(document.createElement("b"), { textContent: number }), name);
-    return row;
+    row.title = hasFile ? title : "This tune has no file: it is too long, or another one has its number.";
+    row.firstChild.textContent = number;
+    row.lastChild.textContent = title || "(no title)";
   }
 }

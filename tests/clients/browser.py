@@ -77,6 +77,20 @@ def type_keys(driver, words: str, *held):
     actions.perform()
 
 
+def press_button(driver, element):
+    """Moves the mouse to an element, and presses its button there."""
+    from selenium.webdriver.common.action_chains import ActionChains
+
+    ActionChains(driver).move_to_element(element).click_and_hold().perform()
+
+
+def release_button(driver):
+    """Lets the button of the mouse go, where the mouse is."""
+    from selenium.webdriver.common.action_chains import ActionChains
+
+    ActionChains(driver).release().perform()
+
+
 def broke(error: Exception) -> bool:
     """Whether it is the browser or its driver that failed, and not what the page did there."""
     from selenium.common.exceptions import JavascriptException, WebDriverException

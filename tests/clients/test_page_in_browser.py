@@ -69,6 +69,12 @@ HAND_MADE = bytes.fromhex(
 )
 CONTROL, HOME, BACKSPACE, ESCAPE = "\ue009", "\ue011", "\ue003", "\ue00c"
 TUNE = "X:1\nT:Scale\nM:3/4\nL:1/4\nQ:1/4=240\nK:C\nCEG|[Q:1/4=480]c2 z|\n"
+TUNES = [line for number in range(1, 101) for line in (f"X:{number}", f"T:Tune {number}", "K:C", "C", "")]
+STANDING = """
+const area = document.querySelector("textarea");
+const from = area.value.lastIndexOf("\\n", area.selectionStart - 1) + 1;
+return document.activeElement === area && area.value.slice(from).split("\\n", 1)[0];
+"""
 LACKING = browser.lacking()
 
 
@@ -269,6 +275,31 @@ class Browser(test_page.Page):
         self.type(3 * BACKSPACE + "G2|")
         self.roll("3 bars, 0:18", "from C4 to G4")
         self.hear(13, 60, 62, 67)
+
+    def test_the_mouse(self):
+        """A click goes to the tune of a row: the first one after loading, a second one, and one in whose midst, far down the
+        list, another window changes a tune and the list is scrolled a little."""
+        self.edit(0, 1, *TUNES)
+        self.load()
+        for at in (2, 0):
+            browser.press_button(self.driver, self.row(at))
+            browser.release_button(self.driver)
+            self.stands_at(f"X:{at + 1}")
+        self.run_script("document.getElementById('list').scrollTop = 60 * document.getElementById('tune-0').offsetHeight")
+        browser.press_button(self.driver, self.row(64))
+        self.edit(64 * 5 + 1, 64 * 5 + 2, "T:Another title")
+        self.wait(lambda: self.row(64).text == "65\nAnother title")
+        self.run_script("document.getElementById('list').scrollTop += 9")
+        browser.release_button(self.driver)
+        self.stands_at("X:65")
+
+    def row(self, at: int):
+        """Waits for the row at a place of the list."""
+        return self.wait(lambda: self.run_script("return document.getElementById(`tune-${arguments[0]}`)", at))
+
+    def stands_at(self, line: str):
+        """Waits till the text has the focus, and the caret stands in this line."""
+        self.wait(lambda: self.run_script(STANDING) == line)
 
     def test_the_server_is_away(self):
         self.type("X:1\nK:C\nC")
