@@ -10,6 +10,7 @@ import socket
 import subprocess
 import sys
 import time
+from contextlib import contextmanager
 
 import live_book
 import shared_book
@@ -251,18 +252,33 @@ class Requests(Page):
         self.assertEqual(self.book()["lines"][3], "A")
         self.finish()
 
-    def test_windows(self):
+    @contextmanager
+    def window(self):
+        """What a window is told, one after another, while it is open."""
         head = f"GET /{self.token}/events/0 HTTP/1.1\r\nHost: 127.0.0.1:{self.port}\r\n\r\n".encode()
         with socket.create_connection(("127.0.0.1", self.port), trial.SECONDS) as connection:
             connection.sendall(head)
             stream = connection.makefile("rb")
-            news = (json.loads(line[6:]) for line in stream if line.startswith(b"data: "))
+            yield (json.loads(line[6:]) for line in stream if line.startswith(b"data: "))
+            stream.close()
+
+    def test_windows(self):
+        with self.window() as news:
             self.assertEqual(next(news)["state"]["windows"], 1)
             made = self.edit(0, 1, "X:7")
             told = [next(news), next(news)]
             self.assertEqual([one["change"] for one in told if "change" in one], [made])
             self.save()
             self.assertEqual(next(news)["state"]["savedVersion"], 1)
+            self.finish()
+
+    def test_a_window_that_left(self):
+        """It is not counted any more when the next one comes."""
+        with self.window() as news:
+            self.assertEqual(next(news)["state"]["windows"], 1)
+        with self.window() as news:
+            while next(news)["state"]["windows"] != 1:
+                pass
             self.finish()
 
     def test_started_again(self):
