@@ -205,12 +205,14 @@ export class Sheet {
     else if (top + 2 * this.height > scrollTop + clientHeight) this.scroller.scrollTop = top + 2 * this.height - clientHeight;
   }
 
-  /** Goes to a place, some lines below the top. */
+  /** Goes to a place, some lines below the top. A fault that begins there is seen, where its line is longer than the view. */
   go(line, column = 0, focus = false) {
     this.paper.style.height = `${this.text.lines.length * this.height + 8}px`;
     this.scroller.scrollTop = Math.max(0, (line - 2) * this.height);
     this.select({ line, column }, { line, column });
     this.scroller.scrollLeft = 0;
+    const marks = [...this.marks.querySelectorAll("mark")];
+    marks.find(({ fault }) => fault[0] === line && fault[1] === column)?.scrollIntoView({ block: "nearest", inline: "nearest" });
     if (focus) this.area.focus({ preventScroll: true });
   }
 

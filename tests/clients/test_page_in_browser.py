@@ -67,13 +67,18 @@ HAND_MADE = bytes.fromhex(
     "4D54726B 00000025 00 C029 00 903C1E 8170 803C40 00 903E7F 8170 803E40 00 C005 00 904050 8170 804040 00 FF2F00"
     "4D54726B 0000000E 00 914369 8170 814340 8360 FF2F00"
 )
-CONTROL, HOME, BACKSPACE, ESCAPE = "\ue009", "\ue011", "\ue003", "\ue00c"
+CONTROL, HOME, BACKSPACE, ESCAPE, F8 = "\ue009", "\ue011", "\ue003", "\ue00c", "\ue038"
 TUNE = "X:1\nT:Scale\nM:3/4\nL:1/4\nQ:1/4=240\nK:C\nCEG|[Q:1/4=480]c2 z|\n"
 TUNES = [line for number in range(1, 101) for line in (f"X:{number}", f"T:Tune {number}", "K:C", "C", "")]
 STANDING = """
 const area = document.querySelector("textarea");
 const from = area.value.lastIndexOf("\\n", area.selectionStart - 1) + 1;
 return document.activeElement === area && area.value.slice(from).split("\\n", 1)[0];
+"""
+SEEN = """
+const mark = document.querySelector("mark").getBoundingClientRect();
+const view = document.querySelector(".scroller").getBoundingClientRect();
+return view.left < mark.left && mark.right < view.right && view.top < mark.top && mark.bottom < view.bottom;
 """
 LACKING = browser.lacking()
 
@@ -300,6 +305,21 @@ class Browser(test_page.Page):
     def stands_at(self, line: str):
         """Waits till the text has the focus, and the caret stands in this line."""
         self.wait(lambda: self.run_script(STANDING) == line)
+
+    def test_the_next_fault(self):
+        """A key goes there, to the side too where its line is longer than the view; another tune begins at the left again."""
+        long = 200 * "C " + "&"
+        self.edit(0, 1, *TUNES, "X:101", "K:C", long)
+        self.load()
+        self.row(2)
+        self.press(F8)
+        self.stands_at(long)
+        self.wait(lambda: self.run_script(SEEN))
+        self.run_script("document.getElementById('list').scrollTop = 0")
+        browser.press_button(self.driver, self.row(2))
+        browser.release_button(self.driver)
+        self.stands_at("X:3")
+        self.assertEqual(self.run_script("return document.querySelector('.scroller').scrollLeft"), 0)
 
     def test_the_server_is_away(self):
         self.type("X:1\nK:C\nC")
