@@ -153,7 +153,9 @@ fn put_line(file: &mut Sequence<u8>, one: &Played) -> Result<(), AllocError>
     ensures { OnOk result (file.new ≡ file.old ++ bytes_of_class (class_of one.now.line) one.now) }
 {
     match class_of(one.line.as_slice()) {
-        LineClass::Blank | LineClass::Comment | LineClass::Field(_) | LineClass::Directive => Ok(()),
+        LineClass::Blank | LineClass::Comment | LineClass::Field(_) | LineClass::Directive => Ok(
+            (),
+        ),
         LineClass::Music => {
             file.push(one.byte)?;
             put_bytes(file, one.line.as_slice())
