@@ -35,7 +35,7 @@ mod voice_name;
 mod voices;
 
 pub use abc_music::{
-    HIGHEST_KEY, Item, Items, LocalFault, MOST_NOTES, MOST_VOICES, Tone, TuneMeter, TuneTempo,
+    HIGHEST_KEY, Item, Items, LocalFault, MOST_CHORD_NOTES, MOST_VOICES, Tone, TuneMeter, TuneTempo,
     UnitLength,
 };
 pub use along_laws::{alike_views, tune_places, views_along, views_decide};

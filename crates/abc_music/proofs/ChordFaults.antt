@@ -15,7 +15,7 @@ use Rattle.abc_scan.specs.declared.token.TokenKind.{TokenKind}
 use Rattle.abc_time.specs.declared.grains.Grains.{Grains}
 use Rattle.abc_time.specs.declared.ratio.Ratio.{Ratio}
 use Rattle.abc_music.specs.declared.chords.Outside.{Outside}
-use Rattle.abc_music.specs.declared.item.TheConstants.{MOST_NOTES}
+use Rattle.abc_music.specs.declared.item.TheConstants.{MOST_CHORD_NOTES}
 use Rattle.abc_music.specs.declared.settings.Settings.{Settings}
 use Rattle.abc_music.specs.declared.sound.Inside.{Inside}
 use Rattle.abc_music.specs.Broken.{has_note, is_note_part}
@@ -67,7 +67,7 @@ module _ (settings : Settings) (broken : List Ratio) (outside : Outside) where
   either false one other parts l h k = k
 
   note_bads : (from to : ℕ) (note : Note) (tied : Bool) (inside : Inside) (parts : List (Spanned ChordPartKind)) (room : Bool)
-      → nat_lt (length inside.tones) MOST_NOTES ≡ room
+      → nat_lt (length inside.tones) MOST_CHORD_NOTES ≡ room
       → Bads (with_chord_note settings broken outside (column_of (outside.from + from)) note tied inside) parts
       ≡ Bads inside (record { kind = kinds.Note note; from = from; to = to } ∷ parts)
   note_bads from to note tied inside parts true e =
@@ -95,7 +95,7 @@ module _ (settings : Settings) (broken : List Ratio) (outside : Outside) where
   kind_bads : (kind : ChordPartKind) (from to : ℕ) (tied : Bool) (inside : Inside) (parts : List (Spanned ChordPartKind))
       → Bads (with_kind settings broken outside (column_of (outside.from + from)) kind tied inside) (notes parts)
       ≡ Bads inside (notes (record { kind = kind; from = from; to = to } ∷ parts))
-  kind_bads (kinds.Note note) from to tied inside parts = note_bads from to note tied inside (notes parts) (nat_lt (length inside.tones) MOST_NOTES) refl
+  kind_bads (kinds.Note note) from to tied inside parts = note_bads from to note tied inside (notes parts) (nat_lt (length inside.tones) MOST_CHORD_NOTES) refl
   kind_bads kinds.Tie from to tied inside parts =
       either inside.after_note _ _ (notes parts) _ refl (more inside.faults ((column_of (outside.from + from), LooseTie) ∷ []) _ refl)
   kind_bads kinds.NoEffect from to tied inside parts = refl
@@ -129,7 +129,7 @@ module _ (settings : Settings) (cell : List (Spanned TokenKind)) (place from : �
   outside_of = record { length = chord.length; tied = tied; from = from }
 
   abbrev Lasting : Note → ℕ → Type 0
-  Lasting note = Lasts settings.unit settings.tuplet cell place note.length (Some chord.length)
+  Lasting note = Lasts settings cell place note.length (Some chord.length)
 
   abbrev found : Note → Option Grains
   found note = length_by settings.unit (texts_of note.length (Some chord.length)) (tuplet_factors settings.tuplet ++ factors_at cell place)

@@ -14,7 +14,7 @@ use Rattle.abc_scan.specs.declared.spanned.Spanned.{Spanned}
 use Rattle.abc_time.specs.declared.ratio.Ratio.{Ratio}
 use Rattle.abc_music.specs.declared.accidentals.Accidentals.{Accidentals}
 use Rattle.abc_music.specs.declared.chords.Outside.{Outside}
-use Rattle.abc_music.specs.declared.item.TheConstants.{MOST_NOTES}
+use Rattle.abc_music.specs.declared.item.TheConstants.{MOST_CHORD_NOTES}
 use Rattle.abc_music.specs.declared.item.Tone.{Tone}
 use Rattle.abc_music.specs.declared.settings.Settings.{Settings}
 use Rattle.abc_music.specs.declared.sound.Inside.{Inside}
@@ -70,7 +70,7 @@ module _ (settings : Settings) (broken : List Ratio) (outside : Outside) where
       ap (λ k. map key_of_tone tones ++ take k xs) none ∙ ap (λ k. map key_of_tone tones ++ take k ys) (sym none)
 
   note_keys : (column : ℕ) (note : Note) (tied : Bool) (inside : Inside) (notes : List Note) (room : Bool)
-      → nat_lt (length inside.tones) MOST_NOTES ≡ room
+      → nat_lt (length inside.tones) MOST_CHORD_NOTES ≡ room
       → Keys (with_chord_note settings broken outside column note tied inside) notes ≡ Keys inside (note ∷ notes)
   note_keys column note tied inside notes true e =
       let few : length inside.tones < 16 = grind (arith, nat_tests) in
@@ -84,7 +84,7 @@ module _ (settings : Settings) (broken : List Ratio) (outside : Outside) where
   kind_keys : (kind : ChordPartKind) (column : ℕ) (tied : Bool) (inside : Inside) (notes : List Note)
       → Keys (with_kind settings broken outside column kind tied inside) notes ≡ Keys inside (note_in kind ++ notes)
   kind_keys (kinds.Note note) column tied inside notes =
-      note_keys column note tied inside notes (nat_lt (length inside.tones) MOST_NOTES) refl
+      note_keys column note tied inside notes (nat_lt (length inside.tones) MOST_CHORD_NOTES) refl
   kind_keys kinds.Tie column tied inside notes = either-keys inside.after_note _ _ notes _ refl refl
   kind_keys kinds.NoEffect column tied inside notes = refl
   kind_keys kinds.BadByte column tied inside notes = refl
@@ -107,7 +107,7 @@ module _ (settings : Settings) (broken : List Ratio) (outside : Outside) where
 
   kind_loud : (kind : ChordPartKind) (column : ℕ) (tied : Bool) (inside : Inside) → IsLoud inside → IsLoud (with_kind settings broken outside column kind tied inside)
   kind_loud (kinds.Note note) column tied inside h =
-      either-loud (nat_lt (length inside.tones) MOST_NOTES) _ _ (All-push (λ tone. tone.velocity ≡ velocity_of settings.dynamic) inside.tones _ h refl) (either-loud inside.big _ _ h h)
+      either-loud (nat_lt (length inside.tones) MOST_CHORD_NOTES) _ _ (All-push (λ tone. tone.velocity ≡ velocity_of settings.dynamic) inside.tones _ h refl) (either-loud inside.big _ _ h h)
   kind_loud kinds.Tie column tied inside h = either-loud inside.after_note _ _ h h
   kind_loud kinds.NoEffect column tied inside h = h
   kind_loud kinds.BadByte column tied inside h = h

@@ -16,7 +16,7 @@ use Rattle.abc_scan.specs.declared.spanned.Spanned.{Spanned}
 use Rattle.abc_time.specs.declared.grains.Grains.{Grains}
 use Rattle.abc_time.specs.declared.ratio.Ratio.{Ratio}
 use Rattle.abc_music.specs.declared.chords.Outside.{Outside}
-use Rattle.abc_music.specs.declared.item.TheConstants.{MOST_NOTES}
+use Rattle.abc_music.specs.declared.item.TheConstants.{MOST_CHORD_NOTES}
 use Rattle.abc_music.specs.declared.item.Tone.{Tone}
 use Rattle.abc_music.specs.declared.settings.Settings.{Settings}
 use Rattle.abc_music.specs.declared.sound.Inside.{Inside}
@@ -102,7 +102,7 @@ module _ (settings : Settings) (broken : List Ratio) (outside : Outside) where
       ap (λ k. map length_of_tone tones ++ take k xs) none ∙ ap (λ k. map length_of_tone tones ++ take k (x ∷ xs)) (sym none)
 
   note_lengths : (column from to : ℕ) (note : Note) (tied : Bool) (inside : Inside) (parts : List (Spanned ChordPartKind)) (room : Bool)
-      → nat_lt (length inside.tones) MOST_NOTES ≡ room
+      → nat_lt (length inside.tones) MOST_CHORD_NOTES ≡ room
       → Lengths (with_chord_note settings broken outside column note tied inside) parts
       ≡ Lengths inside (record { kind = kinds.Note note; from = from; to = to } ∷ parts)
   note_lengths column from to note tied inside parts true e =
@@ -118,7 +118,7 @@ module _ (settings : Settings) (broken : List Ratio) (outside : Outside) where
       → Lengths (with_kind settings broken outside column kind tied inside) (notes parts)
       ≡ Lengths inside (notes (record { kind = kind; from = from; to = to } ∷ parts))
   kind_lengths (kinds.Note note) column from to tied inside parts =
-      note_lengths column from to note tied inside (notes parts) (nat_lt (length inside.tones) MOST_NOTES) refl
+      note_lengths column from to note tied inside (notes parts) (nat_lt (length inside.tones) MOST_CHORD_NOTES) refl
   kind_lengths kinds.Tie column from to tied inside parts = either-lengths inside.after_note _ _ (notes parts) _ refl refl
   kind_lengths kinds.NoEffect column from to tied inside parts = refl
   kind_lengths kinds.BadByte column from to tied inside parts = refl
@@ -148,7 +148,7 @@ module _ (settings : Settings) (broken : List Ratio) (outside : Outside) where
       rw e (rw none (append-nil _ ∙ filter-append is_big inside.faults ((column, BigChord) ∷ [])))
 
   note_bigs : (from to : ℕ) (note : Note) (tied : Bool) (inside : Inside) (parts : List (Spanned ChordPartKind)) (room : Bool)
-      → nat_lt (length inside.tones) MOST_NOTES ≡ room
+      → nat_lt (length inside.tones) MOST_CHORD_NOTES ≡ room
       → Bigs (with_chord_note settings broken outside (column_of (outside.from + from)) note tied inside) parts
       ≡ Bigs inside (record { kind = kinds.Note note; from = from; to = to } ∷ parts)
   note_bigs from to note tied inside parts true e =
@@ -168,7 +168,7 @@ module _ (settings : Settings) (broken : List Ratio) (outside : Outside) where
       → Bigs (with_kind settings broken outside (column_of (outside.from + from)) kind tied inside) (notes parts)
       ≡ Bigs inside (notes (record { kind = kind; from = from; to = to } ∷ parts))
   kind_bigs (kinds.Note note) from to tied inside parts =
-      note_bigs from to note tied inside (notes parts) (nat_lt (length inside.tones) MOST_NOTES) refl
+      note_bigs from to note tied inside (notes parts) (nat_lt (length inside.tones) MOST_CHORD_NOTES) refl
   kind_bigs kinds.Tie from to tied inside parts =
       either-bigs inside.after_note _ _ (notes parts) _ (λ e. refl) (λ e. more_faults inside.faults ((column_of (outside.from + from), LooseTie) ∷ []) _ refl)
   kind_bigs kinds.NoEffect from to tied inside parts = refl
@@ -229,7 +229,7 @@ module _ (settings : Settings) (cell : List (Spanned TokenKind)) (place from : �
   given : (note : Note) → IsPlace settings cell place → IsLengthOf settings cell place chord note (length_of note)
   given note h =
       given_by settings.unit (length_by settings.unit (texts_of note.length (Some chord.length)) (tuplet_factors settings.tuplet ++ factors_at cell place))
-      (Lasts settings.unit settings.tuplet cell place note.length (Some chord.length)) h.unit
+      (Lasts settings cell place note.length (Some chord.length)) h.unit
       (λ g. length_lasts settings cell place note.length (Some chord.length) g h)
 
   tone_at : (k : ℕ) (note : Note) → IsNoteOf chord k note → k < 16 → IsSomeAnd (slice_get inside.tones k) (λ tone. tone.length ≡ length_of note)

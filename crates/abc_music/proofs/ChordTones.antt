@@ -8,7 +8,7 @@ use Rattle.abc_scan.specs.declared.parts.ChordPartKind.TheVariants as kinds
 use Rattle.abc_scan.specs.declared.spanned.Spanned.{Spanned}
 use Rattle.abc_time.specs.declared.ratio.Ratio.{Ratio}
 use Rattle.abc_music.specs.declared.chords.Outside.{Outside}
-use Rattle.abc_music.specs.declared.item.TheConstants.{MOST_NOTES}
+use Rattle.abc_music.specs.declared.item.TheConstants.{MOST_CHORD_NOTES}
 use Rattle.abc_music.specs.declared.item.Tone.{Tone}
 use Rattle.abc_music.specs.declared.settings.Settings.{Settings}
 use Rattle.abc_music.specs.declared.sound.Inside.{Inside}
@@ -32,7 +32,7 @@ with_more tones tone = omega (arith, length-append tones (tone ∷ []))
 
 -- a note of a chord is counted, or others are
 by_room : (settings : Settings) (broken : List Ratio) (outside : Outside) (column : ℕ) (note : Note) (tied : Bool) (inside : Inside)
-    (room : Bool) → nat_lt (length inside.tones) MOST_NOTES ≡ room → HasTone (with_chord_note settings broken outside column note tied inside)
+    (room : Bool) → nat_lt (length inside.tones) MOST_CHORD_NOTES ≡ room → HasTone (with_chord_note settings broken outside column note tied inside)
 by_room settings broken outside column note tied inside true e = rw e (with_more inside.tones _)
 by_room settings broken outside column note tied inside false e =
     let some : 1 ≤ length inside.tones = grind (arith, nat_tests) in
@@ -41,7 +41,7 @@ by_room settings broken outside column note tied inside false e =
 with_chord_note-tone : (settings : Settings) (broken : List Ratio) (outside : Outside) (column : ℕ) (note : Note) (tied : Bool) (inside : Inside)
     → HasTone (with_chord_note settings broken outside column note tied inside)
 with_chord_note-tone settings broken outside column note tied inside =
-    by_room settings broken outside column note tied inside (nat_lt (length inside.tones) MOST_NOTES) refl
+    by_room settings broken outside column note tied inside (nat_lt (length inside.tones) MOST_CHORD_NOTES) refl
 
 -- no part takes a tone away
 with_kind-tone : (settings : Settings) (broken : List Ratio) (outside : Outside) (column : ℕ) (kind : ChordPartKind) (tied : Bool) (inside : Inside)

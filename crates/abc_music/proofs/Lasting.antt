@@ -315,7 +315,7 @@ accepted_by unit (Some length) g = (λ e. let same : length ≡ record { 0 = g }
 pub length_lasts : (settings : Settings) (cell : List (Spanned TokenKind)) (place : ℕ) (own : WrittenLength) (outer : Option WrittenLength) (g : ℕ)
     → IsPlace settings cell place
     → (length_by settings.unit (texts_of own outer) (tuplet_factors settings.tuplet ++ factors_at cell place) ≡ Some (record { 0 = g }))
-    ↔ Lasts settings.unit settings.tuplet cell place own outer g
+    ↔ Lasts settings cell place own outer g
 length_lasts settings cell place own outer g h =
     let before = mark_behind (behind_at cell place) in
     let behind = mark_ahead (drop (place + 1) cell) in
@@ -396,7 +396,7 @@ pub notes_last : NotesLast
 notes_last settings cell place from note tied h =
     let broken = factors_at cell place in
     let found = length_by settings.unit (texts_of note.length None) (tuplet_factors settings.tuplet ++ broken) in
-    let Lasting : ℕ → Type 0 = Lasts settings.unit settings.tuplet cell place note.length None in
+    let Lasting : ℕ → Type 0 = Lasts settings cell place note.length None in
     let is : (g : ℕ) → (found ≡ Some (record { 0 = g })) ↔ Lasting g = λ g. length_lasts settings cell place note.length None g h in
     let tone = tone_in settings settings.accidentals broken None note tied in (
       items.Tone (tone ∷ []) tone.length,
@@ -411,7 +411,7 @@ pub rests_last : RestsLast
 rests_last settings cell place from written h =
     let broken = factors_at cell place in
     let found = length_by settings.unit (texts_of written None) (tuplet_factors settings.tuplet ++ broken) in
-    let Lasting : ℕ → Type 0 = Lasts settings.unit settings.tuplet cell place written None in
+    let Lasting : ℕ → Type 0 = Lasts settings cell place written None in
     let is : (g : ℕ) → (found ≡ Some (record { 0 = g })) ↔ Lasting g = λ g. length_lasts settings cell place written None g h in (
       (length_in settings broken written None).0,
       refl,

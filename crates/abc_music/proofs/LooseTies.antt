@@ -10,7 +10,7 @@ use Rattle.abc_scan.specs.declared.parts.ChordPartKind.TheVariants as kinds
 use Rattle.abc_scan.specs.declared.spanned.Spanned.{Spanned}
 use Rattle.abc_time.specs.declared.ratio.Ratio.{Ratio}
 use Rattle.abc_music.specs.declared.chords.Outside.{Outside}
-use Rattle.abc_music.specs.declared.item.TheConstants.{MOST_NOTES}
+use Rattle.abc_music.specs.declared.item.TheConstants.{MOST_CHORD_NOTES}
 use Rattle.abc_music.specs.declared.settings.Settings.{Settings}
 use Rattle.abc_music.specs.declared.sound.Inside.{Inside}
 use Rattle.abc_music.specs.Broken.{has_note}
@@ -52,7 +52,7 @@ tie_by column inside false = more_ties inside.faults ((column, LooseTie) ∷ [])
 kind_ties : (settings : Settings) (broken : List Ratio) (outside : Outside) (column : ℕ) (kind : ChordPartKind) (tied : Bool) (inside : Inside)
     → Ties (with_kind settings broken outside column kind tied inside) ≡ Ties inside ++ one_tie inside.after_note column kind
 kind_ties settings broken outside column (kinds.Note note) tied inside =
-    either-ties (nat_lt (length inside.tones) MOST_NOTES) _ _ _
+    either-ties (nat_lt (length inside.tones) MOST_CHORD_NOTES) _ _ _
     (more_ties inside.faults (note_faults settings inside.accidentals broken (Some outside.length) column note) [] (none_loose _ _ column))
     (dropped_ties column inside inside.big)
 kind_ties settings broken outside column kinds.Tie tied inside = tie_by column inside inside.after_note

@@ -9,6 +9,7 @@ use Rattle.abc_scan.specs.declared.parts.ChordPartKind.{ChordPartKind}
 use Rattle.abc_scan.specs.declared.parts.ChordPartKind.TheVariants as parts
 use Rattle.abc_scan.specs.declared.spanned.Spanned.{Spanned}
 use Rattle.abc_scan.specs.declared.token.TokenKind.{TokenKind}
+use Rattle.abc_music.specs.declared.item.TheConstants.{MOST_CHORD_NOTES}
 use Rattle.abc_music.specs.declared.settings.Settings.{Settings}
 use Rattle.abc_music.specs.ChordNotes.{notes_of}
 use Rattle.abc_music.specs.Column.{column_of}
@@ -36,5 +37,5 @@ AreFaultsOf Lasting from (part ∷ rest) faults =
 abbrev pub BadLengthsAtNotes : Type 0
 BadLengthsAtNotes =
     (settings : Settings) (cell : List (Spanned TokenKind)) (place from : ℕ) (chord : Chord) (tied : Bool) → IsPlace settings cell place
-    → AreFaultsOf (λ note. Lasts settings.unit settings.tuplet cell place note.length (Some chord.length)) from (take 16 (notes_of chord))
+    → AreFaultsOf (λ note. Lasts settings cell place note.length (Some chord.length)) from (take MOST_CHORD_NOTES (notes_of chord))
     (filter is_bad_length (chord_played settings (factors_at cell place) tied from chord).faults)

@@ -9,6 +9,7 @@ use Rattle.abc_time.specs.declared.grains.Grains.{Grains}
 use Rattle.abc_time.specs.declared.ratio.Ratio.{Ratio}
 use Rattle.abc_music.specs.declared.accidentals.Accidentals.{Accidentals}
 use Rattle.abc_music.specs.declared.item.Item.TheVariants as items
+use Rattle.abc_music.specs.declared.item.TheConstants.{MOST_CHORD_NOTES}
 use Rattle.abc_music.specs.declared.item.Tone.{Tone}
 use Rattle.abc_music.specs.declared.settings.Settings.{Settings}
 use Rattle.abc_music.specs.Broken.{has_note}
@@ -43,7 +44,7 @@ ChordsSoundTheirKeys =
     (settings : Settings) (broken : List Ratio) (from : ℕ) (chord : Chord) (tied : Bool) → has_note chord.parts ≡ true
     → (tones : List Tone) × (lasting : Grains)
     × ((chord_played settings broken tied from chord).items ≡ items.Tone tones lasting ∷ [])
-    × ((before behind : List Note) (note : Note) → notes_in chord.parts ≡ before ++ note ∷ behind → length before < 16
+    × ((before behind : List Note) (note : Note) → notes_in chord.parts ≡ before ++ note ∷ behind → length before < MOST_CHORD_NOTES
     → IsSomeAnd (slice_get tones (length before)) (SoundsKey settings (behind_notes settings.accidentals before) note))
 
 -- Tones are as loud as the last dynamic of their voice says.

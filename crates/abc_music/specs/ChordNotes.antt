@@ -10,6 +10,7 @@ use Rattle.abc_scan.specs.declared.parts.ChordPartKind.TheVariants as parts
 use Rattle.abc_scan.specs.declared.spanned.Spanned.{Spanned}
 use Rattle.abc_scan.specs.declared.token.TokenKind.{TokenKind}
 use Rattle.abc_music.specs.declared.item.Item.TheVariants as items
+use Rattle.abc_music.specs.declared.item.TheConstants.{MOST_CHORD_NOTES}
 use Rattle.abc_music.specs.declared.item.Tone.{Tone}
 use Rattle.abc_music.specs.declared.settings.Settings.{Settings}
 use Rattle.abc_time.specs.declared.grains.Grains.{Grains}
@@ -29,13 +30,13 @@ IsNoteOf chord k note = IsSomeAnd (slice_get (notes_of chord) k) (λ part. part.
 -- A length is that of this note of a chord at a place of a cell.
 abbrev pub IsLengthOf : Settings → List (Spanned TokenKind) → ℕ → Chord → Note → Grains → Type 0
 IsLengthOf settings cell place chord note length =
-    IsGiven (Lasts settings.unit settings.tuplet cell place note.length (Some chord.length)) settings.unit length
+    IsGiven (Lasts settings cell place note.length (Some chord.length)) settings.unit length
 
 -- What sounds of a chord: its first sixteen notes, each for its own length, and it lasts as long as its first note. That it
 -- is sixteen is our own.
 pub record SoundsTogether (settings : Settings) (cell : List (Spanned TokenKind)) (place : ℕ) (chord : Chord) (tones : List Tone) (lasting : Grains) : Type 0 where
-  pub count : length tones ≡ min 16 (length (notes_of chord))
-  pub each : (k : ℕ) (note : Note) → IsNoteOf chord k note → k < 16 → IsSomeAnd (slice_get tones k) (λ tone. IsLengthOf settings cell place chord note tone.length)
+  pub count : length tones ≡ min MOST_CHORD_NOTES (length (notes_of chord))
+  pub each : (k : ℕ) (note : Note) → IsNoteOf chord k note → k < MOST_CHORD_NOTES → IsSomeAnd (slice_get tones k) (λ tone. IsLengthOf settings cell place chord note tone.length)
   pub first : (note : Note) → IsNoteOf chord 0 note → IsLengthOf settings cell place chord note lasting
 
 -- A chord with a note gives the tones that sound, and its length.
@@ -53,7 +54,7 @@ is_big fault = number_of fault.1 == number_of BigChord
 
 -- Where a chord at a place of its line has too many notes: at its seventeenth. Our own.
 abbrev pub big_at : ℕ → Chord → Option (ℕ × FaultCode)
-big_at from chord = option_map (λ part. (column_of (from + part.from), BigChord)) (slice_get (notes_of chord) 16)
+big_at from chord = option_map (λ part. (column_of (from + part.from), BigChord)) (slice_get (notes_of chord) MOST_CHORD_NOTES)
 
 -- BigChord stands at the seventeenth note of a chord, where there is one, and nowhere else.
 abbrev pub BigAtTheSeventeenth : Type 0

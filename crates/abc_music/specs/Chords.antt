@@ -8,7 +8,7 @@ use Rattle.abc_scan.specs.declared.parts.ChordPartKind.TheVariants as kinds
 use Rattle.abc_scan.specs.declared.spanned.Spanned.{Spanned}
 use Rattle.abc_time.specs.declared.ratio.Ratio.{Ratio}
 use Rattle.abc_music.specs.declared.chords.Outside.{Outside}
-use Rattle.abc_music.specs.declared.item.TheConstants.{MOST_NOTES}
+use Rattle.abc_music.specs.declared.item.TheConstants.{MOST_CHORD_NOTES}
 use Rattle.abc_music.specs.declared.item.Tone.{Tone}
 use Rattle.abc_music.specs.declared.settings.Settings.{Settings}
 use Rattle.abc_music.specs.declared.sound.Inside.{Inside}
@@ -40,7 +40,7 @@ tie_follows (part ∷ parts) = is_tie part.kind
 -- What there is after a note, which the tie behind it or behind the chord ties.
 abbrev pub with_chord_note : Settings → List Ratio → Outside → ℕ → Note → Bool → Inside → Inside
 with_chord_note settings broken outside column note tied inside =
-    if nat_lt (length inside.tones) MOST_NOTES
+    if nat_lt (length inside.tones) MOST_CHORD_NOTES
     then with_note settings broken (Some outside.length) column note (outside.tied || tied) inside
     else with_dropped column inside
 
@@ -71,5 +71,5 @@ inside_of settings broken outside parts = inside_from settings broken outside pa
 
 -- No more tones than count.
 pub record AreCounted (tones : List Tone) : Type 0 where
-  pub few : length tones ≤ MOST_NOTES
+  pub few : length tones ≤ MOST_CHORD_NOTES
   pub each : All IsTone tones

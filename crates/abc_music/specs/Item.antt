@@ -10,7 +10,7 @@ use Rattle.abc_time.specs.Grains.{grains_of_the_longest_length}
 use Rattle.abc_time.specs.Tempo.{FitsInTempoEvent}
 use Rattle.abc_music.specs.declared.item.Item.{Item}
 use Rattle.abc_music.specs.declared.item.Item.TheVariants as items
-use Rattle.abc_music.specs.declared.item.TheConstants.{HIGHEST_KEY, MOST_NOTES}
+use Rattle.abc_music.specs.declared.item.TheConstants.{HIGHEST_KEY, MOST_CHORD_NOTES}
 use Rattle.abc_music.specs.declared.item.Tone.{Tone}
 use Rattle.abc_music.specs.declared.program.TheConstants.{HIGHEST_PROGRAM}
 use Rattle.abc_music.specs.Velocity.{IsVelocity}
@@ -45,7 +45,7 @@ pub record IsTone (tone : Tone) : Type 0 where
 -- The tones of a note or a chord: at least one, and no more than count.
 pub record AreTones (tones : List Tone) : Type 0 where
   pub some : 1 ≤ length tones
-  pub few : length tones ≤ MOST_NOTES
+  pub few : length tones ≤ MOST_CHORD_NOTES
   pub each : All IsTone tones
 
 -- A capital letter: `A` is 65 and `Z` is 90.

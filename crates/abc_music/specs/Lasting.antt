@@ -19,6 +19,7 @@ use Rattle.abc_time.specs.declared.ratio.Ratio.{Ratio}
 use Rattle.abc_time.specs.Grains.{grains_of_the_longest_length}
 use Rattle.abc_time.specs.Length.{IsLength}
 use Rattle.abc_time.specs.Ratio.{IsRatio}
+use Rattle.abc_music.specs.declared.broken.TheConstants.{MOST_MARKS}
 use Rattle.abc_music.specs.declared.item.Item.{Item}
 use Rattle.abc_music.specs.declared.item.Item.TheVariants as items
 use Rattle.abc_music.specs.declared.settings.Settings.{Settings}
@@ -85,7 +86,7 @@ IsFactorBehind cell place factor =
 -- What is written so, and so behind its chord, at a place of a cell is g grains long: the unit times what is written,
 -- what is written behind the chord, and what the tuplet and the marks of broken rhythm say that act there, exactly,
 -- and not above 1,024 whole notes. The bound is our own.
-pub record Lasts (unit : Ratio) (tuplet : Option (ℕ × ℕ × ℕ)) (cell : List (Spanned TokenKind)) (place : ℕ) (own : WrittenLength) (outer : Option WrittenLength) (g : ℕ) : Type 0 where
+pub record Lasts (settings : Settings) (cell : List (Spanned TokenKind)) (place : ℕ) (own : WrittenLength) (outer : Option WrittenLength) (g : ℕ) : Type 0 where
   pub own_factor : Ratio
   pub outer_factor : Ratio
   pub tuplet_factor : Ratio
@@ -93,10 +94,10 @@ pub record Lasts (unit : Ratio) (tuplet : Option (ℕ × ℕ × ℕ)) (cell : Li
   pub behind_factor : Ratio
   pub own_is : SaysFactor own own_factor
   pub outer_is : IsOuterFactor outer outer_factor
-  pub tuplet_is : IsTupletFactor tuplet tuplet_factor
+  pub tuplet_is : IsTupletFactor settings.tuplet tuplet_factor
   pub before_is : IsFactorBefore cell place before_factor
   pub behind_is : IsFactorBehind cell place behind_factor
-  pub exact : IsLength unit (own_factor ∷ outer_factor ∷ tuplet_factor ∷ before_factor ∷ behind_factor ∷ []) g
+  pub exact : IsLength settings.unit (own_factor ∷ outer_factor ∷ tuplet_factor ∷ before_factor ∷ behind_factor ∷ []) g
   pub short : g ≤ grains_of_the_longest_length
 
 -- A length as it is given: the one that the rule says, else that of one unit, which is our own.
@@ -112,7 +113,7 @@ HasLengthFault Lasting column faults = Contains faults (column, BadLength) ↔ (
 -- are three together at most; and what holds there is what a voice can hold.
 pub record IsPlace (settings : Settings) (cell : List (Spanned TokenKind)) (place : ℕ) : Type 0 where
   pub time : IsTimeAt cell place
-  pub marks : (mark : BrokenRhythm) (at : ℕ) → IsMarkAt cell at mark → mark.marks ≤ 3
+  pub marks : (mark : BrokenRhythm) (at : ℕ) → IsMarkAt cell at mark → mark.marks ≤ MOST_MARKS
   pub unit : IsUnitPart settings.unit
   pub tuplet : IfSome settings.tuplet (λ t. IsOpen t.0 t.1 t.2)
 
@@ -132,8 +133,8 @@ NotesLast =
     → (item : Item) × (given : Grains)
     × ((note_played settings (factors_at cell place) tied from note).items ≡ item ∷ [])
     × IsOneTone item given
-    × IsGiven (Lasts settings.unit settings.tuplet cell place note.length None) settings.unit given
-    × HasLengthFault (Lasts settings.unit settings.tuplet cell place note.length None) (column_of from) (note_played settings (factors_at cell place) tied from note).faults
+    × IsGiven (Lasts settings cell place note.length None) settings.unit given
+    × HasLengthFault (Lasts settings cell place note.length None) (column_of from) (note_played settings (factors_at cell place) tied from note).faults
 
 -- A rest is as long as the rule says, and has BadLength where it says nothing.
 abbrev pub RestsLast : Type 0
@@ -141,8 +142,8 @@ RestsLast =
     (settings : Settings) (cell : List (Spanned TokenKind)) (place from : ℕ) (written : WrittenLength) → IsPlace settings cell place
     → (given : Grains)
     × ((rest_played settings (factors_at cell place) from written).items ≡ items.Rest given false ∷ [])
-    × IsGiven (Lasts settings.unit settings.tuplet cell place written None) settings.unit given
-    × HasLengthFault (Lasts settings.unit settings.tuplet cell place written None) (column_of from) (rest_played settings (factors_at cell place) from written).faults
+    × IsGiven (Lasts settings cell place written None) settings.unit given
+    × HasLengthFault (Lasts settings cell place written None) (column_of from) (rest_played settings (factors_at cell place) from written).faults
 
 -- What a rest of bars gives in a meter: the item of one bar where no number is written, the item of so many bars, which
 -- take so many times as long, and where that is no length that of one bar and BadLength. What is refused is our own.

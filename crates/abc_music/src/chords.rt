@@ -5,7 +5,7 @@ ghost use Rattle.abc_music.specs.Chords.{inside_of, is_tie, tie_follows, with_ch
 
 use crate::broken::BrokenFactors;
 use crate::column::column_inside;
-use crate::item::MOST_NOTES;
+use crate::item::MOST_CHORD_NOTES;
 use crate::settings::Settings;
 use crate::sound::{Inside, add_note};
 use abc_fields::FaultCode;
@@ -54,7 +54,7 @@ fn add_chord_note(
     ensures value { OnOk result (inside.new ≡ with_chord_note settings.now broken.now outside column note tied inside.old) }
     ensures range { OnOk result (AreCounted inside.new.tones) }
 {
-    if inside.tones.as_slice().len() < MOST_NOTES {
+    if inside.tones.as_slice().len() < MOST_CHORD_NOTES {
         let tied = outside.tied || tied;
         add_note(
             settings,

@@ -15,7 +15,7 @@ use std::marker::Model;
 pub const HIGHEST_KEY: u8 = 127;
 
 /// The most notes of a chord that count.
-pub const MOST_NOTES: usize = 16;
+pub const MOST_CHORD_NOTES: usize = 16;
 
 /// The most voices of a tune. Our own.
 pub const MOST_VOICES: usize = 15;

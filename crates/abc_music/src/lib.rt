@@ -34,7 +34,7 @@ pub use broken::{Behind, BrokenFactors, acting_marks, behind_after, has_note, is
 pub use chord_laws::bad_lengths_of_chords;
 pub use chords::Outside;
 pub use column::{FIRST_COLUMN, column_of};
-pub use item::{HIGHEST_KEY, Item, Items, LocalFault, MOST_NOTES, MOST_VOICES, Tone};
+pub use item::{HIGHEST_KEY, Item, Items, LocalFault, MOST_CHORD_NOTES, MOST_VOICES, Tone};
 pub use laws::{
     keys_of_notes, lengths_of_bar_rests, lengths_of_notes, loose_ties_of_chords, notes_of_chords,
     reach_of_accidentals, velocities_of_notes,

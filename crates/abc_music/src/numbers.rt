@@ -3,7 +3,7 @@
 ghost use Rattle.std.specs.Prelude.{◌≡◌, pos};
 ghost use Rattle.abc_music.specs.declared.broken.TheConstants.{MOST_MARKS};
 ghost use Rattle.abc_music.specs.declared.column.TheConstants.{FIRST_COLUMN};
-ghost use Rattle.abc_music.specs.declared.item.TheConstants.{HIGHEST_KEY, MOST_NOTES, MOST_VOICES};
+ghost use Rattle.abc_music.specs.declared.item.TheConstants.{HIGHEST_KEY, MOST_CHORD_NOTES, MOST_VOICES};
 ghost use Rattle.abc_music.specs.declared.pitch.TheConstants.{MIDDLE_C, OCTAVE};
 ghost use Rattle.abc_music.specs.declared.program.TheConstants.{HIGHEST_PROGRAM};
 ghost use Rattle.abc_music.specs.declared.tuplet.TheConstants.{LARGEST_TUPLET_NUMBER};
@@ -29,7 +29,7 @@ pub fn sound_numbers()
 /// rhythm three marks together. The first column of a line is 1.
 pub fn music_limits()
     ensures voices { MOST_VOICES ≡ 15 }
-    ensures notes { MOST_NOTES ≡ 16 }
+    ensures notes { MOST_CHORD_NOTES ≡ 16 }
     ensures tuplets { LARGEST_TUPLET_NUMBER ≡ 64 }
     ensures marks { MOST_MARKS ≡ 3 }
     ensures columns { FIRST_COLUMN ≡ 1 }

@@ -1,6 +1,6 @@
 //! The limits within which a file can hold a score.
 ghost use Rattle.std.specs.Prelude.{◌≡◌, ◌≤◌, ◌↔◌, ◌-◌, ◌^◌, ◌&&◌, nat_le, length, All, IsTrue};
-ghost use Rattle.abc_music.specs.declared.item.TheConstants.{HIGHEST_KEY, MOST_NOTES as MOST_TONES, MOST_VOICES};
+ghost use Rattle.abc_music.specs.declared.item.TheConstants.{HIGHEST_KEY, MOST_CHORD_NOTES, MOST_VOICES};
 ghost use Rattle.abc_time.specs.Grains.{grains_of_the_latest_end};
 ghost use Rattle.std.specs.List.{list_all};
 ghost use Rattle.abc_voices.specs.Limits.{IsWritable, IsChangeWithin, IsSoundingWithin, IsVoiceWithin, IsProgramWithin, AreProgramsWithin, AreCountsWithin, IsWithinLimits, is_writable, is_change_within, is_note_within, is_voice_within, is_program_within, are_programs_within, are_counts_within, is_within_limits};
@@ -32,7 +32,7 @@ pub fn score_limits()
     ensures voices { MOST_VOICES ≡ 15 }
     ensures notes { MOST_NOTES ≡ 16000000 }
     ensures programs { MOST_PROGRAMS ≡ 1000001 }
-    ensures tones { MOST_TONES ≡ 16 }
+    ensures tones { MOST_CHORD_NOTES ≡ 16 }
     ensures key { HIGHEST_KEY ≡ 127 }
 {}
 

@@ -29,7 +29,7 @@ use Rattle.abc_music.specs.declared.accidentals.Accidentals.{Accidentals}
 use Rattle.abc_music.specs.declared.chords.Outside.{Outside}
 use Rattle.abc_music.specs.declared.item.Item.{Item}
 use Rattle.abc_music.specs.declared.item.Item.TheVariants as items
-use Rattle.abc_music.specs.declared.item.TheConstants.{MOST_NOTES}
+use Rattle.abc_music.specs.declared.item.TheConstants.{MOST_CHORD_NOTES}
 use Rattle.abc_music.specs.declared.settings.Settings.{Settings}
 use Rattle.abc_music.specs.declared.sound.Inside.{Inside}
 use Rattle.abc_music.specs.declared.tied.TiedNote.{TiedNote}
@@ -168,9 +168,9 @@ module _ (opening : Settings) (before : List Element) (broken : List Ratio) (out
       ≡ map heard_of inside.tones ++ keys_from here_at outside.tied earlier (take room (notes_among rest))
 
   step : (kind : ChordPartKind) (from to : ℕ) (rest : List (Spanned ChordPartKind))
-      → ((room : ℕ) (inside : Inside) (earlier : List Note) → length inside.tones + room ≡ MOST_NOTES → AreBehind opening before inside.accidentals earlier → Sounds rest room inside inside earlier)
+      → ((room : ℕ) (inside : Inside) (earlier : List Note) → length inside.tones + room ≡ MOST_CHORD_NOTES → AreBehind opening before inside.accidentals earlier → Sounds rest room inside inside earlier)
       → (room : ℕ) (inside : Inside) (earlier : List Note)
-      → length inside.tones + room ≡ MOST_NOTES → AreBehind opening before inside.accidentals earlier
+      → length inside.tones + room ≡ MOST_CHORD_NOTES → AreBehind opening before inside.accidentals earlier
       → Sounds (record { kind = kind; from = from; to = to } ∷ rest) room inside inside earlier
   step (parts.Note note) from to rest ih zero inside earlier size h =
       let column : ℕ = column_of (outside.from + from) in
@@ -210,7 +210,7 @@ module _ (opening : Settings) (before : List Element) (broken : List Ratio) (out
       ih room (record (with_part_fault (column_of (outside.from + from)) BadByte inside) { after_note = false }) earlier size h
 
   sounds : (rest : List (Spanned ChordPartKind)) (room : ℕ) (inside : Inside) (earlier : List Note)
-      → length inside.tones + room ≡ MOST_NOTES → AreBehind opening before inside.accidentals earlier → Sounds rest room inside inside earlier
+      → length inside.tones + room ≡ MOST_CHORD_NOTES → AreBehind opening before inside.accidentals earlier → Sounds rest room inside inside earlier
   sounds [] zero inside earlier size h = sym (append-nil (map heard_of inside.tones))
   sounds [] (suc room) inside earlier size h = sym (append-nil (map heard_of inside.tones))
   sounds (part ∷ rest) room inside earlier size h = step part.kind part.from part.to rest (sounds rest) room inside earlier size h
@@ -220,7 +220,7 @@ chord-sounds : (at : Standing) (broken : List Ratio) (outside : Outside) (chord 
     → map heard_of (inside_of (settings_at at.opening at.before) broken outside chord.parts).tones ≡ keys_from at outside.tied [] (counted_notes chord)
 unfolding settings_at counted_notes
 chord-sounds at broken outside chord =
-    sounds at.opening at.before broken outside chord.parts MOST_NOTES (no_notes (settings_at at.opening at.before)) [] refl (behind-none at.opening at.before)
+    sounds at.opening at.before broken outside chord.parts MOST_CHORD_NOTES (no_notes (settings_at at.opening at.before)) [] refl (behind-none at.opening at.before)
 
 same-accidentals : (opening : Settings) (before : List Element) → (settings_at opening before).accidentals ≡ accidentals_at (reach_of opening.accidentals) before
 unfolding settings_at

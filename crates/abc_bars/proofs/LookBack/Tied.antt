@@ -12,7 +12,7 @@ use Rattle.abc_time.specs.declared.ratio.Ratio.{Ratio}
 use Rattle.abc_music.specs.declared.accidentals.Accidentals.{Accidentals}
 use Rattle.abc_music.specs.declared.chords.Outside.{Outside}
 use Rattle.abc_music.specs.declared.item.Tone.{Tone}
-use Rattle.abc_music.specs.declared.item.TheConstants.{MOST_NOTES}
+use Rattle.abc_music.specs.declared.item.TheConstants.{MOST_CHORD_NOTES}
 use Rattle.abc_music.specs.declared.settings.Settings.{Settings}
 use Rattle.abc_music.specs.declared.sound.Inside.{Inside}
 use Rattle.abc_music.specs.declared.tied.TiedNote.{TiedNote}
@@ -48,13 +48,13 @@ tied-step : (b : Bool) (xs : List TiedNote) (x y : TiedNote) (rest : List TiedNo
 tied-step true xs x y rest e = append_assoc xs (x ∷ []) rest ∙ ap (λ (z : TiedNote). xs ++ (z ∷ rest)) e
 tied-step false xs x y rest e = refl
 
-pub room-left : (n m : ℕ) → n + suc m ≡ MOST_NOTES → nat_lt n MOST_NOTES ≡ true
+pub room-left : (n m : ℕ) → n + suc m ≡ MOST_CHORD_NOTES → nat_lt n MOST_CHORD_NOTES ≡ true
 room-left n m h = grind (arith, nat_tests)
 
-pub no-room : (n : ℕ) → n + 0 ≡ MOST_NOTES → nat_lt n MOST_NOTES ≡ false
+pub no-room : (n : ℕ) → n + 0 ≡ MOST_CHORD_NOTES → nat_lt n MOST_CHORD_NOTES ≡ false
 no-room n h = grind (arith, nat_tests)
 
-pub one-more : (xs : List Tone) (x : Tone) (room : ℕ) → length xs + suc room ≡ MOST_NOTES → length (xs ++ x ∷ []) + room ≡ MOST_NOTES
+pub one-more : (xs : List Tone) (x : Tone) (room : ℕ) → length xs + suc room ≡ MOST_CHORD_NOTES → length (xs ++ x ∷ []) + room ≡ MOST_CHORD_NOTES
 one-more xs x room h = simp length-append (omega arith)
 
 module _ (opening : Settings) (before : List Element) (broken : List Ratio) (outside : Outside) where
@@ -66,9 +66,9 @@ module _ (opening : Settings) (before : List Element) (broken : List Ratio) (out
       ≡ inside.tied ++ tied_among opening (tied_at opening before) before outside.tied earlier (take room (notes_among rest)))
 
   step : (kind : ChordPartKind) (from to : ℕ) (rest : List (Spanned ChordPartKind))
-      → ((room : ℕ) (inside : Inside) (earlier : List Note) → length inside.tones + room ≡ MOST_NOTES → AreBehind opening before inside.accidentals earlier → Leaves rest room inside inside earlier)
+      → ((room : ℕ) (inside : Inside) (earlier : List Note) → length inside.tones + room ≡ MOST_CHORD_NOTES → AreBehind opening before inside.accidentals earlier → Leaves rest room inside inside earlier)
       → (room : ℕ) (inside : Inside) (earlier : List Note)
-      → length inside.tones + room ≡ MOST_NOTES → AreBehind opening before inside.accidentals earlier
+      → length inside.tones + room ≡ MOST_CHORD_NOTES → AreBehind opening before inside.accidentals earlier
       → Leaves (record { kind = kind; from = from; to = to } ∷ rest) room inside inside earlier
   step (parts.Note note) from to rest ih zero inside earlier size h =
       let column : ℕ = column_of (outside.from + from) in
@@ -109,7 +109,7 @@ module _ (opening : Settings) (before : List Element) (broken : List Ratio) (out
       ih room (record (with_fault (column_of (outside.from + from)) BadByte inside) { after_note = false }) earlier size h
 
   leaves : (rest : List (Spanned ChordPartKind)) (room : ℕ) (inside : Inside) (earlier : List Note)
-      → length inside.tones + room ≡ MOST_NOTES → AreBehind opening before inside.accidentals earlier → Leaves rest room inside inside earlier
+      → length inside.tones + room ≡ MOST_CHORD_NOTES → AreBehind opening before inside.accidentals earlier → Leaves rest room inside inside earlier
   leaves [] zero inside earlier size h = (refl, sym (append-nil inside.tied))
   leaves [] (suc room) inside earlier size h = (refl, sym (append-nil inside.tied))
   leaves (part ∷ rest) room inside earlier size h = step part.kind part.from part.to rest (leaves rest) room inside earlier size h
@@ -127,4 +127,4 @@ pub chord-leaves : (opening : Settings) (before : List Element) (broken : List R
     ≡ tied_among opening (tied_at opening before) before outside.tied [] (counted_notes chord))
 unfolding settings_at counted_notes
 chord-leaves opening before broken outside chord =
-    leaves opening before broken outside chord.parts MOST_NOTES (no_notes (settings_at opening before)) [] refl (behind-none opening before)
+    leaves opening before broken outside chord.parts MOST_CHORD_NOTES (no_notes (settings_at opening before)) [] refl (behind-none opening before)

@@ -33,7 +33,7 @@ use Rattle.abc_bars.specs.declared.field_kind.FieldKind.{FieldKind}
 use Rattle.abc_bars.specs.declared.field_kind.FieldKind.TheVariants as fields
 use Rattle.abc_music.specs.declared.item.Item.{Item}
 use Rattle.abc_music.specs.declared.item.Item.TheVariants as items
-use Rattle.abc_music.specs.declared.item.TheConstants.{MOST_NOTES}
+use Rattle.abc_music.specs.declared.item.TheConstants.{MOST_CHORD_NOTES}
 use Rattle.abc_music.specs.declared.item.Tone.{Tone}
 use Rattle.abc_music.specs.declared.settings.Settings.{Settings}
 use Rattle.abc_music.specs.declared.sound.Inside.{Inside}
@@ -93,8 +93,8 @@ module _ (settings : Settings) (broken other : List Ratio) (outer : WrittenLengt
       let y : Inside = cond i.big i (record i { faults = i.faults ++ (c, BigChord) ∷ []; big = true }) in
       let z : Inside = with_note settings other (Some outer) d note (tied || tie) j in
       let w : Inside = cond j.big j (record j { faults = j.faults ++ (d, BigChord) ∷ []; big = true }) in
-      let P : ℕ → Type 0 = λ n. Agree (cond (nat_lt (length i.tones) MOST_NOTES) x y) (cond (nat_lt n MOST_NOTES) z w) in
-      subst P h.2 (agree-if (nat_lt (length i.tones) MOST_NOTES) x y z w (agree-note note (tied || tie) i j h c d)
+      let P : ℕ → Type 0 = λ n. Agree (cond (nat_lt (length i.tones) MOST_CHORD_NOTES) x y) (cond (nat_lt n MOST_CHORD_NOTES) z w) in
+      subst P h.2 (agree-if (nat_lt (length i.tones) MOST_CHORD_NOTES) x y z w (agree-note note (tied || tie) i j h c d)
       (agree-each i.big j.big i _ j _ h h h h))
   agree-kind parts.Tie c d tie i j h = agree-each i.after_note j.after_note i _ j _ h h h h
   agree-kind parts.NoEffect c d tie i j h = h

@@ -11,7 +11,7 @@ use Rattle.abc_scan.specs.declared.token.TokenKind.TheVariants as kinds
 use Rattle.abc_time.specs.declared.ratio.Ratio.{Ratio}
 use Rattle.abc_bars.specs.declared.body.Body.{Body}
 use Rattle.abc_music.specs.declared.chords.Outside.{Outside}
-use Rattle.abc_music.specs.declared.item.TheConstants.{MOST_NOTES}
+use Rattle.abc_music.specs.declared.item.TheConstants.{MOST_CHORD_NOTES}
 use Rattle.abc_music.specs.declared.item.Tone.{Tone}
 use Rattle.abc_music.specs.declared.settings.Settings.{Settings}
 use Rattle.abc_music.specs.declared.sound.Inside.{Inside}
@@ -73,7 +73,7 @@ module _ (settings : Settings) (broken : List Ratio) (outside : Outside) where
   -- One more note has the velocity.
   loud-kind : (column : ℕ) (kind : ChordPartKind) (tied : Bool) (inside : Inside) → All Loud inside.tones → All Loud (with_part_kind settings broken outside column kind tied inside).tones
   loud-kind column (parts.Note note) tied inside h =
-      loud-if (nat_lt (length inside.tones) MOST_NOTES) (with_note settings broken (Some outside.length) column note (outside.tied || tied) inside) (with_dropped column inside)
+      loud-if (nat_lt (length inside.tones) MOST_CHORD_NOTES) (with_note settings broken (Some outside.length) column note (outside.tied || tied) inside) (with_dropped column inside)
       (All-append Loud inside.tones (tone_in settings inside.accidentals broken (Some outside.length) note (outside.tied || tied) ∷ []) h
       (All-cons Loud (tone_in settings inside.accidentals broken (Some outside.length) note (outside.tied || tied)) [] refl (All-nil Loud)))
       (loud-if inside.big inside (record (with_part_fault column BigChord inside) { big = true }) h h)

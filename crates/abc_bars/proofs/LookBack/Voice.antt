@@ -32,7 +32,7 @@ use Rattle.abc_music.specs.Alteration.{alteration_of}
 use Rattle.abc_music.specs.Broken.{has_note, is_note_part}
 use Rattle.abc_music.specs.declared.chords.Outside.{Outside}
 use Rattle.abc_music.specs.declared.sound.Inside.{Inside}
-use Rattle.abc_music.specs.declared.item.TheConstants.{MOST_NOTES}
+use Rattle.abc_music.specs.declared.item.TheConstants.{MOST_CHORD_NOTES}
 use Rattle.abc_music.specs.Tuplet.{counted_down, tuplet_opened}
 use Rattle.abc_music.specs.Chords.{inside_of, tie_follows}
 use Rattle.abc_music.specs.TimeTokens.{chord_by, chord_played, note_played, rest_played}
@@ -91,7 +91,7 @@ no-notes (part ∷ rest) e = no-notes-by part.kind rest (tie_follows rest) e (no
 
 counted-none : (chord : Chord) → has_note chord.parts ≡ false → counted_notes chord ≡ []
 unfolding counted_notes
-counted-none chord e = ap (take MOST_NOTES) (no-notes chord.parts e)
+counted-none chord e = ap (take MOST_CHORD_NOTES) (no-notes chord.parts e)
 
 chord-by : (opening : Settings) (before : List Element) (broken : List Ratio) (tied : Bool) (from : ℕ) (chord : Chord) (b : Bool) → has_note chord.parts ≡ b
     → settings_at opening (record { kind = kinds.Chord chord; tied = tied } ∷ before)

@@ -39,12 +39,12 @@ cell_with front kind from to ahead = front ++ record { kind = kind; from = from;
 -- An item is a tone as long as a note with this text at a place of a cell.
 abbrev pub LastsAsNote : Settings → List (Spanned TokenKind) → ℕ → WrittenLength → Item → Type 0
 LastsAsNote settings cell place written item =
-    (given : Grains) × IsOneTone item given × IsGiven (Lasts settings.unit settings.tuplet cell place written None) settings.unit given
+    (given : Grains) × IsOneTone item given × IsGiven (Lasts settings cell place written None) settings.unit given
 
 -- An item is a rest as long as a rest with this text at a place of a cell.
 abbrev pub LastsAsRest : Settings → List (Spanned TokenKind) → ℕ → WrittenLength → Item → Type 0
 LastsAsRest settings cell place written item =
-    (given : Grains) × (item ≡ items.Rest given false) × IsGiven (Lasts settings.unit settings.tuplet cell place written None) settings.unit given
+    (given : Grains) × (item ≡ items.Rest given false) × IsGiven (Lasts settings cell place written None) settings.unit given
 
 -- An item is what sounds of a chord at a place of a cell.
 abbrev pub SoundsAsChord : Settings → List (Spanned TokenKind) → ℕ → Chord → Item → Type 0

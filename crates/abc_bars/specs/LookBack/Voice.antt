@@ -28,7 +28,7 @@ use Rattle.abc_time.specs.declared.ratio.Ratio.{Ratio}
 use Rattle.abc_music.specs.declared.accidentals.Accidentals.{Accidentals}
 use Rattle.abc_bars.specs.declared.field_kind.FieldKind.{FieldKind}
 use Rattle.abc_bars.specs.declared.field_kind.FieldKind.TheVariants as fields
-use Rattle.abc_music.specs.declared.item.TheConstants.{MOST_NOTES}
+use Rattle.abc_music.specs.declared.item.TheConstants.{MOST_CHORD_NOTES}
 use Rattle.abc_music.specs.declared.settings.Settings.{Settings}
 use Rattle.abc_music.specs.declared.tied.TiedNote.{TiedNote}
 use Rattle.abc_music.specs.declared.voice_shift.VoiceShift.{VoiceShift}
@@ -107,7 +107,7 @@ notes_among (part ∷ rest) = note_before part.kind (tie_follows rest) (notes_am
 
 -- The notes of a chord that count, each with whether a tie directly follows it: the first sixteen. Our own.
 unfoldable pub counted_notes : Chord → List (Note × Bool)
-counted_notes chord = take MOST_NOTES (notes_among chord.parts)
+counted_notes chord = take MOST_CHORD_NOTES (notes_among chord.parts)
 
 -- Whether the accidental of a note reaches another one: with `pitch` those of its letter in every octave, with `octave`
 -- those in its own octave, as they are written, and with `not` none. ABC 2.1 sections 4.2 and 11.3; what these words
