@@ -20,7 +20,7 @@ use Rattle.abc_music.specs.declared.settings.Settings.{Settings}
 use Rattle.abc_music.specs.declared.sound.Inside.{Inside}
 use Rattle.abc_music.specs.Broken.{has_note, is_note_part}
 use Rattle.abc_music.specs.ChordFaults.{AreFaultsOf, BadLengthsAtNotes, IsFaultOf, is_bad_length}
-use Rattle.abc_music.specs.Chords.{inside_from, inside_of, tie_follows, with_chord_note, with_kind, with_part}
+use Rattle.abc_music.specs.Chords.{around_part, inside_from, inside_of, tie_follows, with_chord_note, with_kind, with_part}
 use Rattle.abc_music.specs.Column.{column_of}
 use Rattle.abc_music.specs.Lasting.{IsPlace, Lasts, factors_at}
 use Rattle.abc_music.specs.Lengths.{length_by, or_unit, texts_of}
@@ -68,7 +68,7 @@ module _ (settings : Settings) (broken : List Ratio) (outside : Outside) where
 
   note_bads : (from to : ℕ) (note : Note) (tied : Bool) (inside : Inside) (parts : List (Spanned ChordPartKind)) (room : Bool)
       → nat_lt (length inside.tones) MOST_CHORD_NOTES ≡ room
-      → Bads (with_chord_note settings broken outside (column_of (outside.from + from)) note tied inside) parts
+      → Bads (with_chord_note settings broken (around_part outside from tied) note inside) parts
       ≡ Bads inside (record { kind = kinds.Note note; from = from; to = to } ∷ parts)
   note_bads from to note tied inside parts true e =
       let few : length inside.tones < 16 = grind (arith, nat_tests) in
@@ -93,7 +93,7 @@ module _ (settings : Settings) (broken : List Ratio) (outside : Outside) where
       rw e (either inside.big _ _ parts _ same (more inside.faults ((column, BigChord) ∷ []) (own_faults (take (16 - length inside.tones) parts)) refl ∙ same))
 
   kind_bads : (kind : ChordPartKind) (from to : ℕ) (tied : Bool) (inside : Inside) (parts : List (Spanned ChordPartKind))
-      → Bads (with_kind settings broken outside (column_of (outside.from + from)) kind tied inside) (notes parts)
+      → Bads (with_kind settings broken (around_part outside from tied) kind inside) (notes parts)
       ≡ Bads inside (notes (record { kind = kind; from = from; to = to } ∷ parts))
   kind_bads (kinds.Note note) from to tied inside parts = note_bads from to note tied inside (notes parts) (nat_lt (length inside.tones) MOST_CHORD_NOTES) refl
   kind_bads kinds.Tie from to tied inside parts =

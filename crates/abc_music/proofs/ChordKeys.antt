@@ -1,6 +1,6 @@
 -- The tones of a chord sound the keys of its notes.
 use Rattle.std.proofs.Common.{◌≡◌, ◌∙◌, ℕ, suc, ◌+◌, ◌-◌, ◌<◌, ◌≤◌, Bool, true, false, List, [], ◌∷◌, ◌++◌, length, map, take, Option, Some, None, refl, sym, ap, append-nil, append_assoc, length-append, arith}
-use Rattle.std.specs.Prelude.{nat_lt, if◌then◌else◌, IsSomeAnd, slice_get, option_map, ◌||◌}
+use Rattle.std.specs.Prelude.{nat_lt, if◌then◌else◌, IsSomeAnd, slice_get, option_map}
 use Rattle.std.proofs.lemmas.Bool.Decides.{nat_tests}
 use Rattle.std.proofs.lemmas.List.{map-append}
 use Rattle.std.proofs.Math.Seq.{take-nil}
@@ -17,11 +17,11 @@ use Rattle.abc_music.specs.declared.chords.Outside.{Outside}
 use Rattle.abc_music.specs.declared.item.TheConstants.{MOST_CHORD_NOTES}
 use Rattle.abc_music.specs.declared.item.Tone.{Tone}
 use Rattle.abc_music.specs.declared.settings.Settings.{Settings}
+use Rattle.abc_music.specs.declared.sound.Around.{Around}
 use Rattle.abc_music.specs.declared.sound.Inside.{Inside}
 use Rattle.abc_music.specs.Alteration.{alteration_of, with_own}
 use Rattle.abc_music.specs.ChordKeys.{note_in, notes_in, AreAsLoud, ChordsAreAsLoud, ChordsSoundTheirKeys, NotesAreAsLoud, SoundsKey}
-use Rattle.abc_music.specs.Chords.{inside_from, inside_of, tie_follows, with_chord_note, with_kind, with_part}
-use Rattle.abc_music.specs.Column.{column_of}
+use Rattle.abc_music.specs.Chords.{around_part, inside_from, inside_of, tie_follows, with_chord_note, with_kind, with_part}
 use Rattle.abc_music.specs.Reaching.{behind_notes}
 use Rattle.abc_music.specs.Sound.{key_in, no_notes, tone_in}
 use Rattle.abc_music.specs.TimeTokens.{chord_by, first_length}
@@ -69,25 +69,25 @@ module _ (settings : Settings) (broken : List Ratio) (outside : Outside) where
       let none : 16 - length tones ≡ 0 = omega arith in
       ap (λ k. map key_of_tone tones ++ take k xs) none ∙ ap (λ k. map key_of_tone tones ++ take k ys) (sym none)
 
-  note_keys : (column : ℕ) (note : Note) (tied : Bool) (inside : Inside) (notes : List Note) (room : Bool)
+  note_keys : (around : Around) (note : Note) (inside : Inside) (notes : List Note) (room : Bool)
       → nat_lt (length inside.tones) MOST_CHORD_NOTES ≡ room
-      → Keys (with_chord_note settings broken outside column note tied inside) notes ≡ Keys inside (note ∷ notes)
-  note_keys column note tied inside notes true e =
+      → Keys (with_chord_note settings broken around note inside) notes ≡ Keys inside (note ∷ notes)
+  note_keys around note inside notes true e =
       let few : length inside.tones < 16 = grind (arith, nat_tests) in
-      rw e (more inside.tones (tone_in settings inside.accidentals broken (Some outside.length) note (outside.tied || tied)) (keys_of settings (with_own inside.accidentals note) notes) few)
-  note_keys column note tied inside notes false e =
+      rw e (more inside.tones (tone_in settings inside.accidentals broken around.outer note around.tied) (keys_of settings (with_own inside.accidentals note) notes) few)
+  note_keys around note inside notes false e =
       let big : 16 ≤ length inside.tones = grind (arith, nat_tests) in
       let same = full inside.tones (keys_of settings inside.accidentals notes) (keys_of settings inside.accidentals (note ∷ notes)) big in
       rw e (either-keys inside.big _ _ notes _ same same)
 
   -- a part by its kind
-  kind_keys : (kind : ChordPartKind) (column : ℕ) (tied : Bool) (inside : Inside) (notes : List Note)
-      → Keys (with_kind settings broken outside column kind tied inside) notes ≡ Keys inside (note_in kind ++ notes)
-  kind_keys (kinds.Note note) column tied inside notes =
-      note_keys column note tied inside notes (nat_lt (length inside.tones) MOST_CHORD_NOTES) refl
-  kind_keys kinds.Tie column tied inside notes = either-keys inside.after_note _ _ notes _ refl refl
-  kind_keys kinds.NoEffect column tied inside notes = refl
-  kind_keys kinds.BadByte column tied inside notes = refl
+  kind_keys : (kind : ChordPartKind) (around : Around) (inside : Inside) (notes : List Note)
+      → Keys (with_kind settings broken around kind inside) notes ≡ Keys inside (note_in kind ++ notes)
+  kind_keys (kinds.Note note) around inside notes =
+      note_keys around note inside notes (nat_lt (length inside.tones) MOST_CHORD_NOTES) refl
+  kind_keys kinds.Tie around inside notes = either-keys inside.after_note _ _ notes _ refl refl
+  kind_keys kinds.NoEffect around inside notes = refl
+  kind_keys kinds.BadByte around inside notes = refl
 
   -- the keys of the tones of some parts
   keys_from : (parts : List (Spanned ChordPartKind)) (inside : Inside)
@@ -95,7 +95,7 @@ module _ (settings : Settings) (broken : List Ratio) (outside : Outside) where
   keys_from [] inside = sym (ap (λ l. map key_of_tone inside.tones ++ l) (take-nil (16 - length inside.tones)) ∙ append-nil _)
   keys_from (part ∷ parts) inside =
       keys_from parts (with_part settings broken outside part (tie_follows parts) inside)
-      ∙ kind_keys part.kind (column_of (outside.from + part.from)) (tie_follows parts) inside (notes_in parts)
+      ∙ kind_keys part.kind (around_part outside part.from (tie_follows parts)) inside (notes_in parts)
 
   -- the velocity of the tones
   abbrev IsLoud : Inside → Type 0
@@ -105,18 +105,18 @@ module _ (settings : Settings) (broken : List Ratio) (outside : Outside) where
   either-loud true one other h k = h
   either-loud false one other h k = k
 
-  kind_loud : (kind : ChordPartKind) (column : ℕ) (tied : Bool) (inside : Inside) → IsLoud inside → IsLoud (with_kind settings broken outside column kind tied inside)
-  kind_loud (kinds.Note note) column tied inside h =
+  kind_loud : (kind : ChordPartKind) (around : Around) (inside : Inside) → IsLoud inside → IsLoud (with_kind settings broken around kind inside)
+  kind_loud (kinds.Note note) around inside h =
       either-loud (nat_lt (length inside.tones) MOST_CHORD_NOTES) _ _ (All-push (λ tone. tone.velocity ≡ velocity_of settings.dynamic) inside.tones _ h refl) (either-loud inside.big _ _ h h)
-  kind_loud kinds.Tie column tied inside h = either-loud inside.after_note _ _ h h
-  kind_loud kinds.NoEffect column tied inside h = h
-  kind_loud kinds.BadByte column tied inside h = h
+  kind_loud kinds.Tie around inside h = either-loud inside.after_note _ _ h h
+  kind_loud kinds.NoEffect around inside h = h
+  kind_loud kinds.BadByte around inside h = h
 
   loud_from : (parts : List (Spanned ChordPartKind)) (inside : Inside) → IsLoud inside → IsLoud (inside_from settings broken outside parts inside)
   loud_from [] inside h = h
   loud_from (part ∷ parts) inside h =
       loud_from parts (with_part settings broken outside part (tie_follows parts) inside)
-      (kind_loud part.kind (column_of (outside.from + part.from)) (tie_follows parts) inside h)
+      (kind_loud part.kind (around_part outside part.from (tie_follows parts)) inside h)
 
 -- a tone with this key
 with_key : (settings : Settings) (accidentals : Accidentals) (note : Note) (o : Option Tone) → option_map key_of_tone o ≡ Some (key_in settings accidentals note)

@@ -21,7 +21,7 @@ use Rattle.abc_music.specs.declared.item.Tone.{Tone}
 use Rattle.abc_music.specs.declared.settings.Settings.{Settings}
 use Rattle.abc_music.specs.declared.sound.Inside.{Inside}
 use Rattle.abc_music.specs.Broken.{has_note, is_note_part}
-use Rattle.abc_music.specs.Chords.{inside_from, inside_of, tie_follows, with_chord_note, with_dropped, with_kind, with_part}
+use Rattle.abc_music.specs.Chords.{around_part, inside_from, inside_of, tie_follows, with_chord_note, with_dropped, with_kind, with_part}
 use Rattle.abc_music.specs.ChordNotes.{is_big, big_at, IsNoteOf, IsLengthOf, SoundsTogether, ChordsSound, BigAtTheSeventeenth}
 use Rattle.abc_scan.specs.declared.token.TokenKind.{TokenKind}
 use Rattle.abc_music.specs.declared.item.Item.TheVariants as items
@@ -101,27 +101,27 @@ module _ (settings : Settings) (broken : List Ratio) (outside : Outside) where
       let none : 16 - length tones ≡ 0 = omega arith in
       ap (λ k. map length_of_tone tones ++ take k xs) none ∙ ap (λ k. map length_of_tone tones ++ take k (x ∷ xs)) (sym none)
 
-  note_lengths : (column from to : ℕ) (note : Note) (tied : Bool) (inside : Inside) (parts : List (Spanned ChordPartKind)) (room : Bool)
+  note_lengths : (from to : ℕ) (note : Note) (tied : Bool) (inside : Inside) (parts : List (Spanned ChordPartKind)) (room : Bool)
       → nat_lt (length inside.tones) MOST_CHORD_NOTES ≡ room
-      → Lengths (with_chord_note settings broken outside column note tied inside) parts
+      → Lengths (with_chord_note settings broken (around_part outside from tied) note inside) parts
       ≡ Lengths inside (record { kind = kinds.Note note; from = from; to = to } ∷ parts)
-  note_lengths column from to note tied inside parts true e =
+  note_lengths from to note tied inside parts true e =
       let few : length inside.tones < 16 = grind (arith, nat_tests) in
       rw e (more inside.tones _ (map (λ part. own_length part.kind) parts) few)
-  note_lengths column from to note tied inside parts false e =
+  note_lengths from to note tied inside parts false e =
       let big : 16 ≤ length inside.tones = grind (arith, nat_tests) in
       let same = full inside.tones (own_length (kinds.Note note)) (map (λ part. own_length part.kind) parts) big in
       rw e (either-lengths inside.big _ _ parts _ same same)
 
   -- a part by its kind
-  kind_lengths : (kind : ChordPartKind) (column from to : ℕ) (tied : Bool) (inside : Inside) (parts : List (Spanned ChordPartKind))
-      → Lengths (with_kind settings broken outside column kind tied inside) (notes parts)
+  kind_lengths : (kind : ChordPartKind) (from to : ℕ) (tied : Bool) (inside : Inside) (parts : List (Spanned ChordPartKind))
+      → Lengths (with_kind settings broken (around_part outside from tied) kind inside) (notes parts)
       ≡ Lengths inside (notes (record { kind = kind; from = from; to = to } ∷ parts))
-  kind_lengths (kinds.Note note) column from to tied inside parts =
-      note_lengths column from to note tied inside (notes parts) (nat_lt (length inside.tones) MOST_CHORD_NOTES) refl
-  kind_lengths kinds.Tie column from to tied inside parts = either-lengths inside.after_note _ _ (notes parts) _ refl refl
-  kind_lengths kinds.NoEffect column from to tied inside parts = refl
-  kind_lengths kinds.BadByte column from to tied inside parts = refl
+  kind_lengths (kinds.Note note) from to tied inside parts =
+      note_lengths from to note tied inside (notes parts) (nat_lt (length inside.tones) MOST_CHORD_NOTES) refl
+  kind_lengths kinds.Tie from to tied inside parts = either-lengths inside.after_note _ _ (notes parts) _ refl refl
+  kind_lengths kinds.NoEffect from to tied inside parts = refl
+  kind_lengths kinds.BadByte from to tied inside parts = refl
 
   -- the lengths of the tones of some parts
   lengths_from : (parts : List (Spanned ChordPartKind)) (inside : Inside)
@@ -129,7 +129,7 @@ module _ (settings : Settings) (broken : List Ratio) (outside : Outside) where
   lengths_from [] inside = sym (ap (λ l. map length_of_tone inside.tones ++ l) (take-nil (16 - length inside.tones)) ∙ append-nil _)
   lengths_from (part ∷ parts) inside =
       lengths_from parts (with_part settings broken outside part (tie_follows parts) inside)
-      ∙ kind_lengths part.kind (column_of (outside.from + part.from)) part.from part.to (tie_follows parts) inside parts
+      ∙ kind_lengths part.kind part.from part.to (tie_follows parts) inside parts
 
   -- BigChord
   more_faults : (faults others : List (ℕ × FaultCode)) (l : List (ℕ × FaultCode)) → filter is_big others ≡ []
@@ -149,7 +149,7 @@ module _ (settings : Settings) (broken : List Ratio) (outside : Outside) where
 
   note_bigs : (from to : ℕ) (note : Note) (tied : Bool) (inside : Inside) (parts : List (Spanned ChordPartKind)) (room : Bool)
       → nat_lt (length inside.tones) MOST_CHORD_NOTES ≡ room
-      → Bigs (with_chord_note settings broken outside (column_of (outside.from + from)) note tied inside) parts
+      → Bigs (with_chord_note settings broken (around_part outside from tied) note inside) parts
       ≡ Bigs inside (record { kind = kinds.Note note; from = from; to = to } ∷ parts)
   note_bigs from to note tied inside parts true e =
       let few : length inside.tones < 16 = grind (arith, nat_tests) in
@@ -165,7 +165,7 @@ module _ (settings : Settings) (broken : List Ratio) (outside : Outside) where
       rw e (dropped_bigs from to note inside parts inside.big refl none)
 
   kind_bigs : (kind : ChordPartKind) (from to : ℕ) (tied : Bool) (inside : Inside) (parts : List (Spanned ChordPartKind))
-      → Bigs (with_kind settings broken outside (column_of (outside.from + from)) kind tied inside) (notes parts)
+      → Bigs (with_kind settings broken (around_part outside from tied) kind inside) (notes parts)
       ≡ Bigs inside (notes (record { kind = kind; from = from; to = to } ∷ parts))
   kind_bigs (kinds.Note note) from to tied inside parts =
       note_bigs from to note tied inside (notes parts) (nat_lt (length inside.tones) MOST_CHORD_NOTES) refl

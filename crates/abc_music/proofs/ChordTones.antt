@@ -11,9 +11,10 @@ use Rattle.abc_music.specs.declared.chords.Outside.{Outside}
 use Rattle.abc_music.specs.declared.item.TheConstants.{MOST_CHORD_NOTES}
 use Rattle.abc_music.specs.declared.item.Tone.{Tone}
 use Rattle.abc_music.specs.declared.settings.Settings.{Settings}
+use Rattle.abc_music.specs.declared.sound.Around.{Around}
 use Rattle.abc_music.specs.declared.sound.Inside.{Inside}
 use Rattle.abc_music.specs.Broken.{has_note, is_note_part}
-use Rattle.abc_music.specs.Chords.{inside_from, inside_of, tie_follows, with_chord_note, with_dropped, with_kind, with_part}
+use Rattle.abc_music.specs.Chords.{around_part, inside_from, inside_of, tie_follows, with_chord_note, with_dropped, with_kind, with_part}
 use Rattle.abc_music.specs.Sound.{no_notes}
 
 -- there is a tone
@@ -31,39 +32,39 @@ with_more : (tones : List Tone) (tone : Tone) → 1 ≤ length (tones ++ tone �
 with_more tones tone = omega (arith, length-append tones (tone ∷ []))
 
 -- a note of a chord is counted, or others are
-by_room : (settings : Settings) (broken : List Ratio) (outside : Outside) (column : ℕ) (note : Note) (tied : Bool) (inside : Inside)
-    (room : Bool) → nat_lt (length inside.tones) MOST_CHORD_NOTES ≡ room → HasTone (with_chord_note settings broken outside column note tied inside)
-by_room settings broken outside column note tied inside true e = rw e (with_more inside.tones _)
-by_room settings broken outside column note tied inside false e =
+by_room : (settings : Settings) (broken : List Ratio) (around : Around) (note : Note) (inside : Inside) (room : Bool)
+    → nat_lt (length inside.tones) MOST_CHORD_NOTES ≡ room → HasTone (with_chord_note settings broken around note inside)
+by_room settings broken around note inside true e = rw e (with_more inside.tones _)
+by_room settings broken around note inside false e =
     let some : 1 ≤ length inside.tones = grind (arith, nat_tests) in
-    rw e (with_dropped-tone column inside some)
+    rw e (with_dropped-tone around.column inside some)
 
-with_chord_note-tone : (settings : Settings) (broken : List Ratio) (outside : Outside) (column : ℕ) (note : Note) (tied : Bool) (inside : Inside)
-    → HasTone (with_chord_note settings broken outside column note tied inside)
-with_chord_note-tone settings broken outside column note tied inside =
-    by_room settings broken outside column note tied inside (nat_lt (length inside.tones) MOST_CHORD_NOTES) refl
+with_chord_note-tone : (settings : Settings) (broken : List Ratio) (around : Around) (note : Note) (inside : Inside)
+    → HasTone (with_chord_note settings broken around note inside)
+with_chord_note-tone settings broken around note inside =
+    by_room settings broken around note inside (nat_lt (length inside.tones) MOST_CHORD_NOTES) refl
 
 -- no part takes a tone away
-with_kind-tone : (settings : Settings) (broken : List Ratio) (outside : Outside) (column : ℕ) (kind : ChordPartKind) (tied : Bool) (inside : Inside)
-    → HasTone inside → HasTone (with_kind settings broken outside column kind tied inside)
-with_kind-tone settings broken outside column (kinds.Note note) tied inside h = with_chord_note-tone settings broken outside column note tied inside
-with_kind-tone settings broken outside column kinds.Tie tied inside h = either-tone inside.after_note _ _ h h
-with_kind-tone settings broken outside column kinds.NoEffect tied inside h = h
-with_kind-tone settings broken outside column kinds.BadByte tied inside h = h
+with_kind-tone : (settings : Settings) (broken : List Ratio) (around : Around) (kind : ChordPartKind) (inside : Inside)
+    → HasTone inside → HasTone (with_kind settings broken around kind inside)
+with_kind-tone settings broken around (kinds.Note note) inside h = with_chord_note-tone settings broken around note inside
+with_kind-tone settings broken around kinds.Tie inside h = either-tone inside.after_note _ _ h h
+with_kind-tone settings broken around kinds.NoEffect inside h = h
+with_kind-tone settings broken around kinds.BadByte inside h = h
 
-note_kind-tone : (settings : Settings) (broken : List Ratio) (outside : Outside) (column : ℕ) (kind : ChordPartKind) (tied : Bool) (inside : Inside)
-    → is_note_part kind ≡ true → HasTone (with_kind settings broken outside column kind tied inside)
-note_kind-tone settings broken outside column (kinds.Note note) tied inside e = with_chord_note-tone settings broken outside column note tied inside
-note_kind-tone settings broken outside column kinds.Tie tied inside e = cc
-note_kind-tone settings broken outside column kinds.NoEffect tied inside e = cc
-note_kind-tone settings broken outside column kinds.BadByte tied inside e = cc
+note_kind-tone : (settings : Settings) (broken : List Ratio) (around : Around) (kind : ChordPartKind) (inside : Inside)
+    → is_note_part kind ≡ true → HasTone (with_kind settings broken around kind inside)
+note_kind-tone settings broken around (kinds.Note note) inside e = with_chord_note-tone settings broken around note inside
+note_kind-tone settings broken around kinds.Tie inside e = cc
+note_kind-tone settings broken around kinds.NoEffect inside e = cc
+note_kind-tone settings broken around kinds.BadByte inside e = cc
 
 inside_from-tone : (settings : Settings) (broken : List Ratio) (outside : Outside) (parts : List (Spanned ChordPartKind)) (inside : Inside)
     → HasTone inside → HasTone (inside_from settings broken outside parts inside)
 inside_from-tone settings broken outside [] inside h = h
 inside_from-tone settings broken outside (part ∷ parts) inside h =
     inside_from-tone settings broken outside parts (with_part settings broken outside part (tie_follows parts) inside)
-    (with_kind-tone settings broken outside _ part.kind (tie_follows parts) inside h)
+    (with_kind-tone settings broken (around_part outside part.from (tie_follows parts)) part.kind inside h)
 
 -- a note somewhere among parts gives a tone, by what the first part is
 by_first : (settings : Settings) (broken : List Ratio) (outside : Outside) (part : Spanned ChordPartKind) (parts : List (Spanned ChordPartKind)) (inside : Inside)
@@ -72,7 +73,7 @@ by_first : (settings : Settings) (broken : List Ratio) (outside : Outside) (part
     → HasTone (inside_from settings broken outside (part ∷ parts) inside)
 by_first settings broken outside part parts inside more true e h =
     inside_from-tone settings broken outside parts (with_part settings broken outside part (tie_follows parts) inside)
-    (note_kind-tone settings broken outside _ part.kind (tie_follows parts) inside e)
+    (note_kind-tone settings broken (around_part outside part.from (tie_follows parts)) part.kind inside e)
 by_first settings broken outside part parts inside more false e h =
     more (with_part settings broken outside part (tie_follows parts) inside) h
 

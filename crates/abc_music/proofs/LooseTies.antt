@@ -12,9 +12,10 @@ use Rattle.abc_time.specs.declared.ratio.Ratio.{Ratio}
 use Rattle.abc_music.specs.declared.chords.Outside.{Outside}
 use Rattle.abc_music.specs.declared.item.TheConstants.{MOST_CHORD_NOTES}
 use Rattle.abc_music.specs.declared.settings.Settings.{Settings}
+use Rattle.abc_music.specs.declared.sound.Around.{Around}
 use Rattle.abc_music.specs.declared.sound.Inside.{Inside}
 use Rattle.abc_music.specs.Broken.{has_note}
-use Rattle.abc_music.specs.Chords.{inside_from, inside_of, is_tie, tie_follows, with_fault, with_kind, with_part}
+use Rattle.abc_music.specs.Chords.{around_part, inside_from, inside_of, is_tie, tie_follows, with_fault, with_kind, with_part}
 use Rattle.abc_music.specs.Column.{column_of}
 use Rattle.abc_music.specs.LooseTies.{is_behind_note, is_loose, is_loose_tie, TiesBehindNotes}
 use Rattle.abc_music.specs.Sound.{fault_if, no_notes, note_faults}
@@ -49,15 +50,15 @@ tie_by : (column : ℕ) (inside : Inside) (after_note : Bool) → Ties (if after
 tie_by column inside true = sym (append-nil _)
 tie_by column inside false = more_ties inside.faults ((column, LooseTie) ∷ []) _ refl
 
-kind_ties : (settings : Settings) (broken : List Ratio) (outside : Outside) (column : ℕ) (kind : ChordPartKind) (tied : Bool) (inside : Inside)
-    → Ties (with_kind settings broken outside column kind tied inside) ≡ Ties inside ++ one_tie inside.after_note column kind
-kind_ties settings broken outside column (kinds.Note note) tied inside =
+kind_ties : (settings : Settings) (broken : List Ratio) (around : Around) (kind : ChordPartKind) (inside : Inside)
+    → Ties (with_kind settings broken around kind inside) ≡ Ties inside ++ one_tie inside.after_note around.column kind
+kind_ties settings broken around (kinds.Note note) inside =
     either-ties (nat_lt (length inside.tones) MOST_CHORD_NOTES) _ _ _
-    (more_ties inside.faults (note_faults settings inside.accidentals broken (Some outside.length) column note) [] (none_loose _ _ column))
-    (dropped_ties column inside inside.big)
-kind_ties settings broken outside column kinds.Tie tied inside = tie_by column inside inside.after_note
-kind_ties settings broken outside column kinds.NoEffect tied inside = sym (append-nil _)
-kind_ties settings broken outside column kinds.BadByte tied inside = more_ties inside.faults ((column, BadByte) ∷ []) [] refl
+    (more_ties inside.faults (note_faults settings inside.accidentals broken around.outer around.column note) [] (none_loose _ _ around.column))
+    (dropped_ties around.column inside inside.big)
+kind_ties settings broken around kinds.Tie inside = tie_by around.column inside inside.after_note
+kind_ties settings broken around kinds.NoEffect inside = sym (append-nil _)
+kind_ties settings broken around kinds.BadByte inside = more_ties inside.faults ((around.column, BadByte) ∷ []) [] refl
 
 -- the ties among parts, with what stands before each
 abbrev loose_in : ℕ → Option ChordPartKind → List (Spanned ChordPartKind) → List (ℕ × FaultCode)
@@ -76,7 +77,7 @@ ties_from settings broken outside [] before inside e = sym (append-nil _)
 ties_from settings broken outside (part ∷ parts) before inside e =
     let column = column_of (outside.from + part.from) in
     ties_from settings broken outside parts (Some part.kind) (with_part settings broken outside part (tie_follows parts) inside) refl
-    ∙ ap (λ l. l ++ loose_in outside.from (Some part.kind) parts) (kind_ties settings broken outside column part.kind (tie_follows parts) inside
+    ∙ ap (λ l. l ++ loose_in outside.from (Some part.kind) parts) (kind_ties settings broken (around_part outside part.from (tie_follows parts)) part.kind inside
     ∙ ap (λ b. Ties inside ++ one_tie b column part.kind) e)
     ∙ append_assoc (Ties inside) (one_tie (is_behind_note before) column part.kind) (loose_in outside.from (Some part.kind) parts)
     ∙ ap (λ l. Ties inside ++ l) (first_loose outside.from before part parts (is_loose (before, part)) refl)

@@ -11,6 +11,7 @@ use Rattle.abc_music.specs.declared.chords.Outside.{Outside}
 use Rattle.abc_music.specs.declared.item.TheConstants.{MOST_CHORD_NOTES}
 use Rattle.abc_music.specs.declared.item.Tone.{Tone}
 use Rattle.abc_music.specs.declared.settings.Settings.{Settings}
+use Rattle.abc_music.specs.declared.sound.Around.{Around}
 use Rattle.abc_music.specs.declared.sound.Inside.{Inside}
 use Rattle.abc_music.specs.Broken.{is_note_part}
 use Rattle.abc_music.specs.Column.{column_of}
@@ -37,26 +38,30 @@ abbrev pub tie_follows : List (Spanned ChordPartKind) → Bool
 tie_follows [] = false
 tie_follows (part ∷ parts) = is_tie part.kind
 
--- What there is after a note, which the tie behind it or behind the chord ties.
-abbrev pub with_chord_note : Settings → List Ratio → Outside → ℕ → Note → Bool → Inside → Inside
-with_chord_note settings broken outside column note tied inside =
+-- What stands around a part of a chord, behind which a tie stands or not: the tie behind the chord ties it, too.
+abbrev pub around_part : Outside → ℕ → Bool → Around
+around_part outside from tied =
+    record { outer = Some outside.length; column = column_of (outside.from + from); tied = outside.tied || tied }
+
+-- What there is after a note.
+abbrev pub with_chord_note : Settings → List Ratio → Around → Note → Inside → Inside
+with_chord_note settings broken around note inside =
     if nat_lt (length inside.tones) MOST_CHORD_NOTES
-    then with_note settings broken (Some outside.length) column note (outside.tied || tied) inside
-    else with_dropped column inside
+    then with_note settings broken around note inside
+    else with_dropped around.column inside
 
 -- What there is after a part of this kind.
-abbrev pub with_kind : Settings → List Ratio → Outside → ℕ → ChordPartKind → Bool → Inside → Inside
-with_kind settings broken outside column (kinds.Note note) tied inside =
-    with_chord_note settings broken outside column note tied inside
-with_kind settings broken outside column kinds.Tie tied inside =
-    if inside.after_note then inside else with_fault column LooseTie inside
-with_kind settings broken outside column kinds.NoEffect tied inside = inside
-with_kind settings broken outside column kinds.BadByte tied inside = with_fault column BadByte inside
+abbrev pub with_kind : Settings → List Ratio → Around → ChordPartKind → Inside → Inside
+with_kind settings broken around (kinds.Note note) inside = with_chord_note settings broken around note inside
+with_kind settings broken around kinds.Tie inside =
+    if inside.after_note then inside else with_fault around.column LooseTie inside
+with_kind settings broken around kinds.NoEffect inside = inside
+with_kind settings broken around kinds.BadByte inside = with_fault around.column BadByte inside
 
 -- The same, with what the part is remembered for the next one.
 abbrev pub with_part : Settings → List Ratio → Outside → Spanned ChordPartKind → Bool → Inside → Inside
 with_part settings broken outside part tied inside = record
-    (with_kind settings broken outside (column_of (outside.from + part.from)) part.kind tied inside)
+    (with_kind settings broken (around_part outside part.from tied) part.kind inside)
     { after_note = is_note_part part.kind }
 
 -- What there is after some parts, in their order.

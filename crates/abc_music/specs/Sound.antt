@@ -9,6 +9,7 @@ use Rattle.abc_time.specs.declared.ratio.Ratio.{Ratio}
 use Rattle.abc_music.specs.declared.accidentals.Accidentals.{Accidentals}
 use Rattle.abc_music.specs.declared.item.Tone.{Tone}
 use Rattle.abc_music.specs.declared.settings.Settings.{Settings}
+use Rattle.abc_music.specs.declared.sound.Around.{Around}
 use Rattle.abc_music.specs.declared.sound.Inside.{Inside}
 use Rattle.abc_music.specs.declared.tied.TiedNote.{TiedNote}
 use Rattle.abc_music.specs.Alteration.{alteration_of, with_own}
@@ -60,13 +61,13 @@ abbrev pub no_notes : Settings → Inside
 no_notes settings =
     record { accidentals = settings.accidentals; tones = []; tied = []; faults = []; after_note = false; big = false }
 
--- What there is after one more note, which is tied or not. An accidental on it holds in any case, our own.
-abbrev pub with_note : Settings → List Ratio → Option WrittenLength → ℕ → Note → Bool → Inside → Inside
-with_note settings broken outer column note tied inside = record {
+-- What there is after one more note, with what stands around it. An accidental on it holds in any case, our own.
+abbrev pub with_note : Settings → List Ratio → Around → Note → Inside → Inside
+with_note settings broken around note inside = record {
   accidentals = with_own inside.accidentals note;
-  tones = inside.tones ++ tone_in settings inside.accidentals broken outer note tied ∷ [];
-  tied = if tied then inside.tied ++ tied_note_in settings inside.accidentals note ∷ [] else inside.tied;
-  faults = inside.faults ++ note_faults settings inside.accidentals broken outer column note;
+  tones = inside.tones ++ tone_in settings inside.accidentals broken around.outer note around.tied ∷ [];
+  tied = if around.tied then inside.tied ++ tied_note_in settings inside.accidentals note ∷ [] else inside.tied;
+  faults = inside.faults ++ note_faults settings inside.accidentals broken around.outer around.column note;
   after_note = inside.after_note;
   big = inside.big;
 }

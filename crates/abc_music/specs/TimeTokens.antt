@@ -11,6 +11,7 @@ use Rattle.abc_music.specs.declared.item.Item.{Item}
 use Rattle.abc_music.specs.declared.item.Item.TheVariants as items
 use Rattle.abc_music.specs.declared.item.Tone.{Tone}
 use Rattle.abc_music.specs.declared.settings.Settings.{Settings}
+use Rattle.abc_music.specs.declared.sound.Around.{Around}
 use Rattle.abc_music.specs.declared.sound.Inside.{Inside}
 use Rattle.abc_music.specs.Item.{Items}
 use Rattle.abc_music.specs.Broken.{has_note}
@@ -43,10 +44,14 @@ sounded settings inside = record {
   faults = inside.faults;
 }
 
+-- What stands around a note alone, at a place of its line.
+abbrev pub around_note : ℕ → Bool → Around
+around_note from tied = record { outer = None; column = column_of from; tied = tied }
+
 -- A note at a place of its line, in broken rhythm with these factors, which is tied or not.
 abbrev pub note_played : Settings → List Ratio → Bool → ℕ → Note → Played
 note_played settings broken tied from note =
-    sounded settings (with_note settings broken None (column_of from) note tied (no_notes settings))
+    sounded settings (with_note settings broken (around_note from tied) note (no_notes settings))
 
 -- A chord that has a note sounds, one that has none takes no time. Our own.
 abbrev pub chord_by : Bool → Settings → ℕ → Inside → Played

@@ -1,13 +1,13 @@
 //! Chords.
 
 ghost use Rattle.std.specs.Prelude.{◌≡◌, IfOk, OnOk};
-ghost use Rattle.abc_music.specs.Chords.{inside_of, is_tie, tie_follows, with_chord_note, with_kind, with_part, AreCounted};
+ghost use Rattle.abc_music.specs.Chords.{around_part, inside_of, is_tie, tie_follows, with_chord_note, with_kind, with_part, AreCounted};
 
 use crate::broken::BrokenFactors;
 use crate::column::column_inside;
 use crate::item::MOST_CHORD_NOTES;
 use crate::settings::Settings;
-use crate::sound::{Inside, add_note};
+use crate::sound::{Around, Inside, add_note};
 use abc_fields::FaultCode;
 use abc_scan::{ChordPart, ChordPartKind, Note, WrittenLength};
 use std::alloc::{AllocError, Global};
@@ -21,6 +21,19 @@ pub struct Outside {
     pub(crate) tied: bool,
     /// The place of the chord.
     pub(crate) from: usize,
+}
+
+impl Outside {
+    /// What stands around a note at a place of the chord, behind which a tie stands or not.
+    fn around(self, from: usize, tied: bool) -> Around
+        ensures { result ≡ around_part self from tied }
+    {
+        Around {
+            outer: Some(self.length),
+            column: column_inside(self.from, from),
+            tied: self.tied || tied,
+        }
+    }
 }
 
 /// Whether a part of a chord is a tie.
@@ -44,32 +57,21 @@ fn tie_follows(parts: &[ChordPart]) -> bool
 fn add_chord_note(
     settings: &Settings,
     broken: &BrokenFactors,
-    outside: Outside,
-    column: u32,
+    around: Around,
     note: Note,
-    tied: bool,
     inside: &mut Inside,
 ) -> Result<(), AllocError>
     requires { AreCounted inside.old.tones }
-    ensures value { OnOk result (inside.new ≡ with_chord_note settings.now broken.now outside column note tied inside.old) }
+    ensures value { OnOk result (inside.new ≡ with_chord_note settings.now broken.now around note inside.old) }
     ensures range { OnOk result (AreCounted inside.new.tones) }
 {
     if inside.tones.as_slice().len() < MOST_CHORD_NOTES {
-        let tied = outside.tied || tied;
-        add_note(
-            settings,
-            broken,
-            Some(outside.length),
-            column,
-            note,
-            tied,
-            inside,
-        )?;
+        add_note(settings, broken, around, note, inside)?;
         return Ok(());
     }
     if !inside.big {
         inside.big = true;
-        inside.faults.push((column, FaultCode::BigChord))?;
+        inside.faults.push((around.column, FaultCode::BigChord))?;
     }
     Ok(())
 }
@@ -78,27 +80,25 @@ fn add_chord_note(
 fn add_kind(
     settings: &Settings,
     broken: &BrokenFactors,
-    outside: Outside,
-    column: u32,
+    around: Around,
     kind: ChordPartKind,
-    tied: bool,
     inside: &mut Inside,
 ) -> Result<(), AllocError>
     requires { AreCounted inside.old.tones }
-    ensures value { OnOk result (inside.new ≡ with_kind settings.now broken.now outside column kind tied inside.old) }
+    ensures value { OnOk result (inside.new ≡ with_kind settings.now broken.now around kind inside.old) }
     ensures range { OnOk result (AreCounted inside.new.tones) }
 {
     match kind {
         ChordPartKind::Note(note) => {
-            add_chord_note(settings, broken, outside, column, note, tied, inside)?;
+            add_chord_note(settings, broken, around, note, inside)?;
         }
         ChordPartKind::Tie => {
             if !inside.after_note {
-                inside.faults.push((column, FaultCode::LooseTie))?;
+                inside.faults.push((around.column, FaultCode::LooseTie))?;
             }
         }
         ChordPartKind::NoEffect => {}
-        ChordPartKind::BadByte => inside.faults.push((column, FaultCode::BadByte))?,
+        ChordPartKind::BadByte => inside.faults.push((around.column, FaultCode::BadByte))?,
     }
     Ok(())
 }
@@ -116,8 +116,8 @@ fn add_part(
     ensures value { OnOk result (inside.new ≡ with_part settings.now broken.now outside part.now tied inside.old) }
     ensures range { OnOk result (AreCounted inside.new.tones) }
 {
-    let column = column_inside(outside.from, part.from);
-    add_kind(settings, broken, outside, column, part.kind, tied, inside)?;
+    let around = outside.around(part.from, tied);
+    add_kind(settings, broken, around, part.kind, inside)?;
     inside.after_note = matches!(part.kind, ChordPartKind::Note(_));
     Ok(())
 }

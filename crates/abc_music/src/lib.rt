@@ -43,7 +43,7 @@ pub use meter::TuneMeter;
 pub use numbers::{key_numbers, music_limits, sound_numbers};
 pub use program::{HIGHEST_PROGRAM, program_of};
 pub use settings::Settings;
-pub use sound::Inside;
+pub use sound::{Around, Inside};
 pub use tempo::TuneTempo;
 pub use tempo_change::{is_out, tempo_item};
 pub use tied::TiedNote;

@@ -19,6 +19,17 @@ use abc_text::{Sequence, ShortSequence};
 use abc_time::Grains;
 use std::alloc::{AllocError, Global};
 
+/// What stands around a note.
+#[derive(Clone, Copy)]
+pub struct Around {
+    /// The length behind its chord, if it is a note of one (ABC 2.1 section 4.17).
+    pub(crate) outer: Option<WrittenLength>,
+    /// The column of its faults.
+    pub(crate) column: u32,
+    /// Whether a tie stands behind it or behind its chord.
+    pub(crate) tied: bool,
+}
+
 /// What the notes and other parts of a chord, or a note alone, have given so far.
 #[derive(Drop)]
 pub struct Inside {
@@ -117,38 +128,35 @@ fn push_tied_if(
     Ok(())
 }
 
-/// Puts one more note to those that sound together (ABC 2.1 sections 4.1 to 4.3), which is tied or not.
-/// Behind a chord stands another length.
+/// Puts one more note to those that sound together (ABC 2.1 sections 4.1 to 4.3).
 pub(crate) fn add_note(
     settings: &Settings,
     broken: &BrokenFactors,
-    outer: Option<WrittenLength>,
-    column: u32,
+    around: Around,
     note: Note,
-    tied: bool,
     inside: &mut Inside,
 ) -> Result<(), AllocError>
     requires { All IsTone inside.old.tones }
-    ensures value { OnOk result (inside.new ≡ with_note settings.now broken.now outer column note tied inside.old) }
+    ensures value { OnOk result (inside.new ≡ with_note settings.now broken.now around note inside.old) }
     ensures range { OnOk result (All IsTone inside.new.tones) }
 {
     let alteration = alteration_of(settings, &inside.accidentals, note);
     let key = key_of(settings.shift, note, alteration);
-    let (length, refused) = length_in(settings, broken, note.length, outer);
+    let (length, refused) = length_in(settings, broken, note.length, around.outer);
     let tied_note = TiedNote {
         letter: note.letter,
         octave: note.octave,
         alteration,
     };
-    push_note_faults(&mut inside.faults, refused, key.is_none(), column)?;
+    push_note_faults(&mut inside.faults, refused, key.is_none(), around.column)?;
     let tone = Tone {
         length,
         key,
         velocity: velocity_of(settings.dynamic),
-        tied,
+        tied: around.tied,
     };
     push_tone(&mut inside.tones, tone)?;
-    push_tied_if(&mut inside.tied, tied, tied_note)?;
+    push_tied_if(&mut inside.tied, around.tied, tied_note)?;
     write_own(&mut inside.accidentals, note)?;
     Ok(())
 }

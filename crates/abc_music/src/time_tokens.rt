@@ -11,7 +11,7 @@ use crate::chords::{Outside, inside_of};
 use crate::column::column_of;
 use crate::item::{Item, Items, LocalFault, Tone};
 use crate::settings::Settings;
-use crate::sound::{Inside, add_note, length_in};
+use crate::sound::{Around, Inside, add_note, length_in};
 use crate::tuplet::counted_down;
 use abc_fields::FaultCode;
 use abc_scan::{Chord, Note, WrittenLength};
@@ -67,15 +67,12 @@ pub fn note_played(
     ensures items { OnOk result (items.new ≡ with_played items.old (note_played settings.old broken.now tied from note)) }
 {
     let mut inside = Inside::new(alloc, settings)?;
-    add_note(
-        settings,
-        broken,
-        None,
-        column_of(from),
-        note,
+    let around = Around {
+        outer: None,
+        column: column_of(from),
         tied,
-        &mut inside,
-    )?;
+    };
+    add_note(settings, broken, around, note, &mut inside)?;
     sound(settings, items, inside)?;
     Ok(())
 }

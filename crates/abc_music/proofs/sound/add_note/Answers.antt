@@ -9,7 +9,7 @@ pub returns-clause-value : goal.returns-clause-value
 returns-clause-value c =
     let fits : SFits w8 c.alteration_of-alteration.result = search rules in
     let octave_fits : SFits w64 c.args.note.octave = search rules in
-    with_note_is c.args.settings.now c.args.broken.now c.args.outer c.args.column c.args.note c.args.tied c.args.inside.now
+    with_note_is c.args.settings.now c.args.broken.now c.args.around c.args.note c.args.inside.now
     c.alteration_of-alteration.result c.key_of-key.result c.length_in-refused.result c.velocity_of.result c.is_none.result
     c.write_own.new.accidentals c.push_tone.new.tones c.push_tied_if.new.notes c.push_note_faults.new.faults
     c.alteration_of-alteration.ensures (simp to_z-of_z at c.key_of-key.ensures.value) c.length_in-refused.ensures.value c.velocity_of.ensures.value (none_by _ _ c.is_none.ensures)
