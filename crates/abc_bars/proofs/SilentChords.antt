@@ -8,19 +8,20 @@ use Rattle.abc_scan.specs.declared.spanned.Spanned.{Spanned}
 use Rattle.abc_time.specs.declared.ratio.Ratio.{Ratio}
 use Rattle.abc_music.specs.declared.chords.Outside.{Outside}
 use Rattle.abc_music.specs.declared.settings.Settings.{Settings}
+use Rattle.abc_music.specs.declared.sound.Around.{Around}
 use Rattle.abc_music.specs.declared.sound.Inside.{Inside}
 use Rattle.abc_music.specs.Broken.{has_note, is_note_part}
-use Rattle.abc_music.specs.Chords.{inside_from, tie_follows, with_kind, with_part}
+use Rattle.abc_music.specs.Chords.{around_part, inside_from, tie_follows, with_kind, with_part}
 use Rattle.abc_music.specs.Sound.{no_notes}
 use Rattle.abc_music.specs.TimeTokens.{chord_by, chord_played}
 
 module _ (settings : Settings) (broken other : List Ratio) (outside : Outside) where
-  kind_same : (column : ℕ) (kind : ChordPartKind) (tied : Bool) (inside : Inside) → is_note_part kind ≡ false
-      → with_kind settings broken outside column kind tied inside ≡ with_kind settings other outside column kind tied inside
-  kind_same column (kinds.Note note) tied inside h = cc
-  kind_same column kinds.Tie tied inside h = refl
-  kind_same column kinds.NoEffect tied inside h = refl
-  kind_same column kinds.BadByte tied inside h = refl
+  kind_same : (around : Around) (kind : ChordPartKind) (inside : Inside) → is_note_part kind ≡ false
+      → with_kind settings broken around kind inside ≡ with_kind settings other around kind inside
+  kind_same around (kinds.Note note) inside h = cc
+  kind_same around kinds.Tie inside h = refl
+  kind_same around kinds.NoEffect inside h = refl
+  kind_same around kinds.BadByte inside h = refl
 
   by_first : (part : Spanned ChordPartKind) (parts : List (Spanned ChordPartKind)) (inside : Inside)
       → ((later : Inside) → has_note parts ≡ false → inside_from settings broken outside parts later ≡ inside_from settings other outside parts later)
@@ -30,7 +31,7 @@ module _ (settings : Settings) (broken other : List Ratio) (outside : Outside) w
   by_first part parts inside more false e h =
       more (with_part settings broken outside part (tie_follows parts) inside) h
       ∙ ap (λ (k : Inside). inside_from settings other outside parts (record k { after_note = is_note_part part.kind }))
-      (kind_same _ part.kind (tie_follows parts) inside e)
+      (kind_same (around_part outside part.from (tie_follows parts)) part.kind inside e)
 
   parts_same : (parts : List (Spanned ChordPartKind)) (inside : Inside) → has_note parts ≡ false
       → inside_from settings broken outside parts inside ≡ inside_from settings other outside parts inside

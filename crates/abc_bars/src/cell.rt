@@ -13,8 +13,8 @@ use crate::body_fields::{FieldItem, field_given};
 use crate::tie_role::{TieRole, tie_role_of};
 use abc_fields::FaultCode;
 use abc_music::{
-    Behind, BrokenFactors, Item, Items, LocalFault, bar_rest_of, behind_after, chord_played,
-    column_of, has_note, is_bad_mark, note_played, program_of, rest_played, tuplet_opened,
+    Behind, BrokenFactors, Item, Items, LocalFault, NotePlace, bar_rest_of, behind_after,
+    chord_played, column_of, has_note, is_bad_mark, note_played, program_of, rest_played, tuplet_opened,
 };
 use abc_scan::{
     BarLine, Chord, Directive, Dynamic, Field, Note, Token, TokenKind, Tuplet, WrittenLength,
@@ -156,10 +156,13 @@ impl Given {
         ensures { OnOk result (self.new ≡ with_note self.old place note ahead.now) }
     {
         let factors = BrokenFactors::of(self.behind, ahead);
-        let tied = tie_ahead(ahead);
+        let place = NotePlace {
+            from: place,
+            tied: tie_ahead(ahead),
+        };
         self.body.mention(alloc)?;
         let here = self.body.here_mut();
-        note_played(alloc, here, &mut self.items, note, &factors, tied, place)?;
+        note_played(alloc, here, &mut self.items, note, &factors, place)?;
         Ok(())
     }
 
@@ -191,12 +194,15 @@ impl Given {
         ensures { OnOk result (self.new ≡ with_chord self.old place chord.now ahead.now) }
     {
         let factors = chord_factors(self.behind, chord, ahead);
-        let tied = tie_ahead(ahead);
+        let place = NotePlace {
+            from: place,
+            tied: tie_ahead(ahead),
+        };
         if has_note(chord.parts.as_slice()) {
             self.body.mention(alloc)?;
         }
         let here = self.body.here_mut();
-        chord_played(alloc, here, &mut self.items, chord, &factors, tied, place)?;
+        chord_played(alloc, here, &mut self.items, chord, &factors, place)?;
         Ok(())
     }
 

@@ -47,7 +47,7 @@ pub use sound::{Around, Inside};
 pub use tempo::TuneTempo;
 pub use tempo_change::{is_out, tempo_item};
 pub use tied::TiedNote;
-pub use time_tokens::{chord_played, note_played, rest_played};
+pub use time_tokens::{NotePlace, chord_played, note_played, rest_played};
 pub use tuplet::{OpenTuplet, tuplet_opened};
 pub use unit::UnitLength;
 pub use velocity::{HIGHEST_VELOCITY, USUAL_VELOCITY, velocities_of_dynamics, velocity_of};

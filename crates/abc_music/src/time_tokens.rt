@@ -19,6 +19,14 @@ use abc_text::{Sequence, ShortSequence};
 use abc_time::Grains;
 use std::alloc::{AllocError, Global};
 
+/// Where a note or chord stands in its line.
+#[derive(Clone, Copy)]
+pub struct NotePlace {
+    pub from: usize,
+    /// Whether a tie stands behind it.
+    pub tied: bool,
+}
+
 /// The length of the first tone.
 fn first_length(tones: &[Tone]) -> Grains
     ensures value { result ≡ first_length tones.now }
@@ -53,24 +61,23 @@ fn sound(settings: &mut Settings, items: &mut Items, inside: Inside) -> Result<(
     Ok(())
 }
 
-/// Gives a note at a place of its line, which is tied or not.
+/// Gives a note.
 pub fn note_played(
     alloc: Global,
     settings: &mut Settings,
     items: &mut Items,
     note: Note,
     broken: &BrokenFactors,
-    tied: bool,
-    from: usize,
+    place: NotePlace,
 ) -> Result<(), AllocError>
-    ensures settings { OnOk result (settings.new ≡ (note_played settings.old broken.now tied from note).settings) }
-    ensures items { OnOk result (items.new ≡ with_played items.old (note_played settings.old broken.now tied from note)) }
+    ensures settings { OnOk result (settings.new ≡ (note_played settings.old broken.now place.tied place.from note).settings) }
+    ensures items { OnOk result (items.new ≡ with_played items.old (note_played settings.old broken.now place.tied place.from note)) }
 {
     let mut inside = Inside::new(alloc, settings)?;
     let around = Around {
         outer: None,
-        column: column_of(from),
-        tied,
+        column: column_of(place.from),
+        tied: place.tied,
     };
     add_note(settings, broken, around, note, &mut inside)?;
     sound(settings, items, inside)?;
@@ -95,30 +102,29 @@ fn take_no_time(items: &mut Items, inside: Inside, from: usize) -> Result<(), Al
     Ok(())
 }
 
-/// Gives a chord at a place of its line, which is tied or not: one that has no note takes no time.
+/// Gives a chord: one that has no note takes no time.
 pub fn chord_played(
     alloc: Global,
     settings: &mut Settings,
     items: &mut Items,
     chord: &Chord,
     broken: &BrokenFactors,
-    tied: bool,
-    from: usize,
+    place: NotePlace,
 ) -> Result<(), AllocError>
-    ensures settings { OnOk result (settings.new ≡ (chord_played settings.old broken.now tied from chord.now).settings) }
-    ensures items { OnOk result (items.new ≡ with_played items.old (chord_played settings.old broken.now tied from chord.now)) }
+    ensures settings { OnOk result (settings.new ≡ (chord_played settings.old broken.now place.tied place.from chord.now).settings) }
+    ensures items { OnOk result (items.new ≡ with_played items.old (chord_played settings.old broken.now place.tied place.from chord.now)) }
 {
     let outside = Outside {
         length: chord.length,
-        tied,
-        from,
+        tied: place.tied,
+        from: place.from,
     };
     let parts = chord.parts.as_slice();
     let inside = inside_of(alloc, settings, broken, outside, parts)?;
     if has_note(parts) {
         sound(settings, items, inside)?;
     } else {
-        take_no_time(items, inside, from)?;
+        take_no_time(items, inside, place.from)?;
     }
     Ok(())
 }

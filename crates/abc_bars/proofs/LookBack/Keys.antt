@@ -36,7 +36,7 @@ use Rattle.abc_music.specs.declared.tied.TiedNote.{TiedNote}
 use Rattle.abc_music.specs.Accidentals.{reach_of, written_on}
 use Rattle.abc_music.specs.Alteration.{alteration_of, with_own}
 use Rattle.abc_music.specs.Broken.{factors_of, has_note, is_time_token}
-use Rattle.abc_music.specs.Chords.{inside_from, inside_of, tie_follows, with_dropped, with_fault as with_part_fault}
+use Rattle.abc_music.specs.Chords.{around_part, inside_from, inside_of, tie_follows, with_dropped, with_fault as with_part_fault}
 use Rattle.abc_music.specs.Column.{column_of}
 use Rattle.abc_music.specs.Program.{program_of}
 use Rattle.abc_music.specs.NoteKeys.{IsAltered, IsSame}
@@ -175,7 +175,7 @@ module _ (opening : Settings) (before : List Element) (broken : List Ratio) (out
   step (parts.Note note) from to rest ih zero inside earlier size h =
       let column : ℕ = column_of (outside.from + from) in
       let settings : Settings = settings_at opening before in
-      let full : Inside = with_sounding settings broken (Some outside.length) column note (outside.tied || tie_follows rest) inside in
+      let full : Inside = with_sounding settings broken (around_part outside from (tie_follows rest)) note inside in
       let P : Inside → Type 0 = λ i. Sounds rest 0 (record i { after_note = true }) inside earlier in
       let Q : Bool → Type 0 = λ b. P (cond b full (with_dropped column inside)) in
       subst Q (sym (no-room (length inside.tones) size))
@@ -186,7 +186,7 @@ module _ (opening : Settings) (before : List Element) (broken : List Ratio) (out
       let column : ℕ = column_of (outside.from + from) in
       let settings : Settings = settings_at opening before in
       let tied : Bool = outside.tied || tie_follows rest in
-      let full : Inside = with_sounding settings broken (Some outside.length) column note tied inside in
+      let full : Inside = with_sounding settings broken (around_part outside from (tie_follows rest)) note inside in
       let later : List (Option ℕ × Bool) = keys_from here_at outside.tied (note ∷ earlier) (take room (notes_among rest)) in
       let Q : Bool → Type 0 = λ b.
       map heard_of (inside_from settings broken outside rest (record (cond b full (with_dropped column inside)) { after_note = true })).tones

@@ -1,5 +1,5 @@
 -- Tied notes and the accidentals of chords, looked back for.
-use Rattle.std.proofs.Common.{◌≡◌, ℕ, suc, zero, ◌+◌, nat_lt, ℤ, Bool, true, false, ◌||◌, cond, List, [], ◌∷◌, ◌++◌, length, take, Option, Some, unwrap_or, refl, sym, ap, ◌∙◌, arith, append_assoc, length-append, subst, append-nil}
+use Rattle.std.proofs.Common.{◌≡◌, ℕ, suc, zero, ◌+◌, nat_lt, ℤ, Bool, true, false, ◌||◌, cond, List, [], ◌∷◌, ◌++◌, length, take, Option, unwrap_or, refl, sym, ap, ◌∙◌, arith, append_assoc, length-append, subst, append-nil}
 use Rattle.std.proofs.lemmas.Bool.Decides.{nat_tests}
 use Rattle.abc_fields.specs.declared.fault.FaultCode.TheVariants.{BadByte, BigChord, LooseTie}
 use Rattle.abc_fields.specs.Signature.{alteration as signature_alteration}
@@ -18,7 +18,7 @@ use Rattle.abc_music.specs.declared.sound.Inside.{Inside}
 use Rattle.abc_music.specs.declared.tied.TiedNote.{TiedNote}
 use Rattle.abc_music.specs.Accidentals.{reach_of, written_on}
 use Rattle.abc_music.specs.Alteration.{alteration_of, own_alteration, tied_alteration, with_own}
-use Rattle.abc_music.specs.Chords.{inside_from, inside_of, tie_follows, with_fault, with_dropped}
+use Rattle.abc_music.specs.Chords.{around_part, inside_from, inside_of, tie_follows, with_fault, with_dropped}
 use Rattle.abc_music.specs.Column.{column_of}
 use Rattle.abc_music.specs.Sound.{no_notes, with_note}
 use Rattle.abc_bars.specs.LookBack.Element.{Element}
@@ -73,7 +73,7 @@ module _ (opening : Settings) (before : List Element) (broken : List Ratio) (out
   step (parts.Note note) from to rest ih zero inside earlier size h =
       let column : ℕ = column_of (outside.from + from) in
       let settings : Settings = settings_at opening before in
-      let full : Inside = with_note settings broken (Some outside.length) column note (outside.tied || tie_follows rest) inside in
+      let full : Inside = with_note settings broken (around_part outside from (tie_follows rest)) note inside in
       let P : Inside → Type 0 = λ i. Leaves rest 0 (record i { after_note = true }) inside earlier in
       let Q : Bool → Type 0 = λ b. P (cond b full (with_dropped column inside)) in
       subst Q (sym (no-room (length inside.tones) size))
@@ -84,7 +84,7 @@ module _ (opening : Settings) (before : List Element) (broken : List Ratio) (out
       let column : ℕ = column_of (outside.from + from) in
       let settings : Settings = settings_at opening before in
       let tied : Bool = outside.tied || tie_follows rest in
-      let full : Inside = with_note settings broken (Some outside.length) column note tied inside in
+      let full : Inside = with_note settings broken (around_part outside from (tie_follows rest)) note inside in
       let Q : Bool → Type 0 = λ b.
       ((inside_from settings broken outside rest (record (cond b full (with_dropped column inside)) { after_note = true })).accidentals
       ≡ with_each (with_own inside.accidentals note) (take room (notes_among rest)))

@@ -43,7 +43,7 @@ use Rattle.abc_bars.specs.Body.{here, here_in, made_current, mentioned, with_her
 use Rattle.abc_bars.specs.BodyFields.{accepted, faulty, key_by, kind_given, meter_by, part_by, part_of, tempo_by, unit_by, voice_by, voice_made}
 use Rattle.abc_music.specs.Broken.{factors_of, has_note, is_bad_mark}
 use Rattle.abc_bars.specs.Cell.{mentioned_by_chord, tie_ahead, with_directive, with_ending, with_fault, with_fault_if, with_item, with_kind, with_some_fault}
-use Rattle.abc_music.specs.Chords.{inside_from, tie_follows, with_kind as with_part_kind}
+use Rattle.abc_music.specs.Chords.{around_part, inside_from, tie_follows, with_kind as with_part_kind}
 use Rattle.abc_music.specs.Column.{column_of}
 use Rattle.abc_music.specs.Program.{program_of}
 use Rattle.abc_bars.specs.FieldKind.{kind_of}
@@ -78,33 +78,33 @@ module _ (settings : Settings) (broken other : List Ratio) (outer : WrittenLengt
   abbrev two : Outside
   two = record { length = outer; tied = tied; from = place }
 
-  agree-note : (note : Note) (tie : Bool) (i j : Inside) → Agree i j → (c d : ℕ)
-      → Agree (with_note settings broken (Some outer) c note tie i) (with_note settings other (Some outer) d note tie j)
-  agree-note note tie i j h c d = (
+  agree-note : (note : Note) (tie : Bool) (i j : Inside) → Agree i j → (at : ℕ)
+      → Agree (with_note settings broken (around_part one at tie) note i) (with_note settings other (around_part two at tie) note j)
+  agree-note note tie i j h at = (
     ap (λ a. with_own a note) h.0,
-    (λ k. cond tie (h.1 k ++ tied_note_in settings (h.0 k) note ∷ []) (h.1 k)),
+    (λ k. cond (tied || tie) (h.1 k ++ tied_note_in settings (h.0 k) note ∷ []) (h.1 k)),
     longer-by i.tones j.tones _ _ h.2,
   )
 
-  agree-kind : (kind : ChordPartKind) (c d : ℕ) (tie : Bool) (i j : Inside) → Agree i j
-      → Agree (with_part_kind settings broken one c kind tie i) (with_part_kind settings other two d kind tie j)
-  agree-kind (parts.Note note) c d tie i j h =
-      let x : Inside = with_note settings broken (Some outer) c note (tied || tie) i in
-      let y : Inside = cond i.big i (record i { faults = i.faults ++ (c, BigChord) ∷ []; big = true }) in
-      let z : Inside = with_note settings other (Some outer) d note (tied || tie) j in
-      let w : Inside = cond j.big j (record j { faults = j.faults ++ (d, BigChord) ∷ []; big = true }) in
+  agree-kind : (kind : ChordPartKind) (at : ℕ) (tie : Bool) (i j : Inside) → Agree i j
+      → Agree (with_part_kind settings broken (around_part one at tie) kind i) (with_part_kind settings other (around_part two at tie) kind j)
+  agree-kind (parts.Note note) at tie i j h =
+      let x : Inside = with_note settings broken (around_part one at tie) note i in
+      let y : Inside = cond i.big i (record i { faults = i.faults ++ (column_of (from + at), BigChord) ∷ []; big = true }) in
+      let z : Inside = with_note settings other (around_part two at tie) note j in
+      let w : Inside = cond j.big j (record j { faults = j.faults ++ (column_of (place + at), BigChord) ∷ []; big = true }) in
       let P : ℕ → Type 0 = λ n. Agree (cond (nat_lt (length i.tones) MOST_CHORD_NOTES) x y) (cond (nat_lt n MOST_CHORD_NOTES) z w) in
-      subst P h.2 (agree-if (nat_lt (length i.tones) MOST_CHORD_NOTES) x y z w (agree-note note (tied || tie) i j h c d)
+      subst P h.2 (agree-if (nat_lt (length i.tones) MOST_CHORD_NOTES) x y z w (agree-note note tie i j h at)
       (agree-each i.big j.big i _ j _ h h h h))
-  agree-kind parts.Tie c d tie i j h = agree-each i.after_note j.after_note i _ j _ h h h h
-  agree-kind parts.NoEffect c d tie i j h = h
-  agree-kind parts.BadByte c d tie i j h = h
+  agree-kind parts.Tie at tie i j h = agree-each i.after_note j.after_note i _ j _ h h h h
+  agree-kind parts.NoEffect at tie i j h = h
+  agree-kind parts.BadByte at tie i j h = h
 
   agree-from : (rest : List (Spanned ChordPartKind)) (i j : Inside) → Agree i j
       → Agree (inside_from settings broken one rest i) (inside_from settings other two rest j)
   agree-from [] i j h = h
   agree-from (part ∷ rest) i j h =
-      agree-from rest _ _ (agree-kind part.kind (column_of (from + part.from)) (column_of (place + part.from)) (tie_follows rest) i j h)
+      agree-from rest _ _ (agree-kind part.kind part.from (tie_follows rest) i j h)
 
   same-chord : (chord : Chord) (b : Bool) → Agree (inside_from settings broken one chord.parts (no_notes settings)) (inside_from settings other two chord.parts (no_notes settings))
       → (chord_by b settings from (inside_from settings broken one chord.parts (no_notes settings))).settings

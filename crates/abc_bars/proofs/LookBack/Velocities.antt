@@ -1,5 +1,5 @@
 -- Notes and chords sound with the velocity of the last dynamic before them in their voice.
-use Rattle.std.proofs.Common.{◌≡◌, ◌∙◌, ℕ, ◌+◌, nat_lt, Bool, true, false, ◌||◌, cond, List, [], ◌∷◌, ◌++◌, length, Option, Some, None, unwrap_or, refl, ap, subst}
+use Rattle.std.proofs.Common.{◌≡◌, ◌∙◌, nat_lt, Bool, true, false, cond, List, [], ◌∷◌, ◌++◌, length, Option, Some, None, unwrap_or, refl, ap, subst}
 use Rattle.std.specs.Prelude.{All}
 use Rattle.std.proofs.lemmas.List.Elements.{All-append, All-cons, All-head, All-nil, All-tail}
 use Rattle.abc_fields.specs.declared.fault.FaultCode.TheVariants.{BigChord, LooseTie}
@@ -14,10 +14,10 @@ use Rattle.abc_music.specs.declared.chords.Outside.{Outside}
 use Rattle.abc_music.specs.declared.item.TheConstants.{MOST_CHORD_NOTES}
 use Rattle.abc_music.specs.declared.item.Tone.{Tone}
 use Rattle.abc_music.specs.declared.settings.Settings.{Settings}
+use Rattle.abc_music.specs.declared.sound.Around.{Around}
 use Rattle.abc_music.specs.declared.sound.Inside.{Inside}
 use Rattle.abc_music.specs.Broken.{factors_of, has_note}
-use Rattle.abc_music.specs.Chords.{inside_from, inside_of, tie_follows, with_dropped, with_fault as with_part_fault, with_kind as with_part_kind, with_part}
-use Rattle.abc_music.specs.Column.{column_of}
+use Rattle.abc_music.specs.Chords.{around_part, inside_from, inside_of, tie_follows, with_dropped, with_fault as with_part_fault, with_kind as with_part_kind, with_part}
 use Rattle.abc_music.specs.Sound.{no_notes, tone_in, with_note}
 use Rattle.abc_music.specs.TimeTokens.{first_length}
 use Rattle.abc_music.specs.Velocity.{velocity_of}
@@ -71,21 +71,21 @@ module _ (settings : Settings) (broken : List Ratio) (outside : Outside) where
   loud-if false x y p q = q
 
   -- One more note has the velocity.
-  loud-kind : (column : ℕ) (kind : ChordPartKind) (tied : Bool) (inside : Inside) → All Loud inside.tones → All Loud (with_part_kind settings broken outside column kind tied inside).tones
-  loud-kind column (parts.Note note) tied inside h =
-      loud-if (nat_lt (length inside.tones) MOST_CHORD_NOTES) (with_note settings broken (Some outside.length) column note (outside.tied || tied) inside) (with_dropped column inside)
-      (All-append Loud inside.tones (tone_in settings inside.accidentals broken (Some outside.length) note (outside.tied || tied) ∷ []) h
-      (All-cons Loud (tone_in settings inside.accidentals broken (Some outside.length) note (outside.tied || tied)) [] refl (All-nil Loud)))
-      (loud-if inside.big inside (record (with_part_fault column BigChord inside) { big = true }) h h)
-  loud-kind column parts.Tie tied inside h = loud-if inside.after_note inside (with_part_fault column LooseTie inside) h h
-  loud-kind column parts.NoEffect tied inside h = h
-  loud-kind column parts.BadByte tied inside h = h
+  loud-kind : (around : Around) (kind : ChordPartKind) (inside : Inside) → All Loud inside.tones → All Loud (with_part_kind settings broken around kind inside).tones
+  loud-kind around (parts.Note note) inside h =
+      loud-if (nat_lt (length inside.tones) MOST_CHORD_NOTES) (with_note settings broken around note inside) (with_dropped around.column inside)
+      (All-append Loud inside.tones (tone_in settings inside.accidentals broken around.outer note around.tied ∷ []) h
+      (All-cons Loud (tone_in settings inside.accidentals broken around.outer note around.tied) [] refl (All-nil Loud)))
+      (loud-if inside.big inside (record (with_part_fault around.column BigChord inside) { big = true }) h h)
+  loud-kind around parts.Tie inside h = loud-if inside.after_note inside (with_part_fault around.column LooseTie inside) h h
+  loud-kind around parts.NoEffect inside h = h
+  loud-kind around parts.BadByte inside h = h
 
   loud-from : (rest : List (Spanned ChordPartKind)) (inside : Inside) → All Loud inside.tones → All Loud (inside_from settings broken outside rest inside).tones
   loud-from [] inside h = h
   loud-from (part ∷ rest) inside h =
       loud-from rest (with_part settings broken outside part (tie_follows rest) inside)
-      (loud-kind (column_of (outside.from + part.from)) part.kind (tie_follows rest) inside h)
+      (loud-kind (around_part outside part.from (tie_follows rest)) part.kind inside h)
 
 -- A tone has the velocity of other settings that are the same.
 moved : (settings other : Settings) (tones : List Tone) → settings ≡ other
