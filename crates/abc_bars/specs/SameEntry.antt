@@ -32,6 +32,7 @@ use Rattle.abc_bars.specs.declared.defaults.Defaults.{Defaults}
 use Rattle.abc_bars.specs.declared.entry.Entry.{Entry}
 use Rattle.abc_bars.specs.declared.entry.Entry.TheVariants as entries
 use Rattle.abc_bars.specs.declared.header.Header.{Header}
+use Rattle.abc_music.specs.Tuplet.{OpenTuplet}
 use Rattle.abc_bars.specs.Equality.{Equality, by_parts, either, lists, numbers, options, pairs, wholes}
 use Rattle.abc_bars.specs.Step.{stepped}
 
@@ -146,8 +147,8 @@ voice_shift_equality = by_parts (threes wholes) (λ s. (s.clef, (s.octave, s.tra
 abbrev shift_equality : Equality Shift
 shift_equality = by_parts (threes (options wholes)) (λ s. (s.clef, (s.octave, s.transpose))) (λ p. record { clef = p.0; octave = p.1.0; transpose = p.1.1 }) (λ _. refl)
 
-abbrev tuplet_equality : Equality (ℕ × ℕ × ℕ)
-tuplet_equality = by_parts (threes numbers) (λ t. (t.0, (t.1, t.2))) (λ p. (p.0, p.1.0, p.1.1)) (λ _. refl)
+abbrev tuplet_equality : Equality OpenTuplet
+tuplet_equality = by_parts (threes numbers) (λ t. (t.p, (t.q, t.left))) (λ p. record { p = p.0; q = p.1.0; left = p.1.1 }) (λ _. refl)
 
 abbrev letter_at : ℕ → Letter
 letter_at byte = unwrap_or (letter_of byte) letters.C

@@ -14,7 +14,8 @@ use crate::tie_role::{TieRole, tie_role_of};
 use abc_fields::FaultCode;
 use abc_music::{
     Behind, BrokenFactors, Item, Items, LocalFault, NotePlace, bar_rest_of, behind_after,
-    chord_played, column_of, has_note, is_bad_mark, note_played, program_of, rest_played, tuplet_opened,
+    chord_played, column_of, has_note, is_bad_mark, note_played, program_of, rest_played,
+    tuplet_opened,
 };
 use abc_scan::{
     BarLine, Chord, Directive, Dynamic, Field, Note, Token, TokenKind, Tuplet, WrittenLength,

@@ -13,7 +13,7 @@ use Rattle.abc_time.specs.Length.{IsLength, length_of, quotient_of}
 use Rattle.abc_time.specs.Product.{product_of}
 use Rattle.abc_time.specs.Ratio.{IsRatio}
 use Rattle.abc_time.proofs.LengthLaws.{length_of-Ok}
-use Rattle.abc_music.specs.Tuplet.{tuplet_factors}
+use Rattle.abc_music.specs.Tuplet.{OpenTuplet, tuplet_factors}
 
 -- the factor that changes nothing
 abbrev pub once : Ratio
@@ -103,7 +103,7 @@ exact_along unit at these those r found same h is ok g =
     (to, from)
 
 -- where nothing is wanted but the factor that changes nothing
-pub unchanged : (own : Ratio) (outer : Option Ratio) (tuplet : Option (ℕ × ℕ × ℕ)) (broken : List Ratio)
+pub unchanged : (own : Ratio) (outer : Option Ratio) (tuplet : Option OpenTuplet) (broken : List Ratio)
     → own ≡ once → outer ≡ None → tuplet ≡ None → broken ≡ []
     → SameProducts [] (own ∷ (option_to_list outer ++ (tuplet_factors tuplet ++ broken)))
 unchanged own outer tuplet broken own_is outer_is tuplet_is broken_is =

@@ -33,7 +33,7 @@ use Rattle.abc_music.specs.Lasting.{once, SaysFactor, IsOuterFactor, IsTupletFac
 use Rattle.abc_music.specs.declared.item.Item.TheVariants as items
 use Rattle.abc_music.specs.Column.{column_of}
 use Rattle.abc_music.specs.Sound.{length_in, tone_in, key_in, fault_if}
-use Rattle.abc_music.specs.Tuplet.{tuplet_ratio, tuplet_factors, IsOpen}
+use Rattle.abc_music.specs.Tuplet.{tuplet_ratio, tuplet_factors, IsOpen, OpenTuplet}
 use Rattle.abc_music.specs.Unit.{IsUnitPart}
 use Rattle.abc_music.proofs.Acting.{before_from, before_to, behind_of, behind_to}
 use Rattle.abc_music.proofs.WholeParts.{unit_exact, bar_exact, bar_short}
@@ -146,19 +146,19 @@ module _ (unit : Ratio) (is_unit : IsRatio unit) (t b a : Option Ratio) (ratios 
       )
 
 -- the factor of a tuplet
-tuplet_to : (t : Option (ℕ × ℕ × ℕ)) (factor : Ratio) → IsTupletFactor t factor → factor ≡ unwrap_or (option_map tuplet_ratio t) once
+tuplet_to : (t : Option OpenTuplet) (factor : Ratio) → IsTupletFactor t factor → factor ≡ unwrap_or (option_map tuplet_ratio t) once
 tuplet_to None factor h = h
 tuplet_to (Some t) factor h = λ i. record { num = h.0 i; den = h.1 i }
 
-tuplet_from : (t : Option (ℕ × ℕ × ℕ)) → IsTupletFactor t (unwrap_or (option_map tuplet_ratio t) once)
+tuplet_from : (t : Option OpenTuplet) → IsTupletFactor t (unwrap_or (option_map tuplet_ratio t) once)
 tuplet_from None = refl
 tuplet_from (Some t) = (refl, refl)
 
-tuplet_list : (t : Option (ℕ × ℕ × ℕ)) → option_to_list (option_map tuplet_ratio t) ≡ tuplet_factors t
+tuplet_list : (t : Option OpenTuplet) → option_to_list (option_map tuplet_ratio t) ≡ tuplet_factors t
 tuplet_list None = refl
 tuplet_list (Some t) = refl
 
-tuplet_range : (t : Option (ℕ × ℕ × ℕ)) → IfSome t (λ t. IsOpen t.0 t.1 t.2) → IfSome (option_map tuplet_ratio t) IsRatio
+tuplet_range : (t : Option OpenTuplet) → IfSome t IsOpen → IfSome (option_map tuplet_ratio t) IsRatio
 tuplet_range None h = tt
 tuplet_range (Some t) h =
     let p = h.p_is in let q = h.q_is in

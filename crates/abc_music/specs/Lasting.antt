@@ -28,7 +28,7 @@ use Rattle.abc_music.specs.BarRest.{AreBars, bar_rest_of}
 use Rattle.abc_music.specs.Broken.{factors_of}
 use Rattle.abc_music.specs.Column.{column_of}
 use Rattle.abc_music.specs.TimeTokens.{note_played, rest_played, first_length}
-use Rattle.abc_music.specs.Tuplet.{IsOpen}
+use Rattle.abc_music.specs.Tuplet.{IsOpen, OpenTuplet}
 use Rattle.abc_music.specs.Unit.{IsUnitPart}
 
 -- The factor that changes nothing.
@@ -47,9 +47,9 @@ IsOuterFactor None factor = factor ≡ once
 IsOuterFactor (Some outer) factor = SaysFactor outer factor
 
 -- A tuplet puts p notes into the time of q. ABC 2.1 section 4.13.
-abbrev pub IsTupletFactor : Option (ℕ × ℕ × ℕ) → Ratio → Type 0
+abbrev pub IsTupletFactor : Option OpenTuplet → Ratio → Type 0
 IsTupletFactor None factor = factor ≡ once
-IsTupletFactor (Some t) factor = (factor.num ≡ t.1) × (factor.den ≡ t.0)
+IsTupletFactor (Some tuplet) factor = (factor.num ≡ tuplet.q) × (factor.den ≡ tuplet.p)
 
 -- What k marks of broken rhythm make of the note that they lengthen: 2 - 1/2^k. ABC 2.1 section 4.4.
 pub record IsLengthened (k : ℕ) (factor : Ratio) : Type 0 where
@@ -115,7 +115,7 @@ pub record IsPlace (settings : Settings) (cell : List (Spanned TokenKind)) (plac
   pub time : IsTimeAt cell place
   pub marks : (mark : BrokenRhythm) (at : ℕ) → IsMarkAt cell at mark → mark.marks ≤ MOST_MARKS
   pub unit : IsUnitPart settings.unit
-  pub tuplet : IfSome settings.tuplet (λ t. IsOpen t.0 t.1 t.2)
+  pub tuplet : IfSome settings.tuplet IsOpen
 
 -- The factors of broken rhythm as they are read at a place of a cell.
 abbrev pub factors_at : List (Spanned TokenKind) → ℕ → List Ratio

@@ -13,11 +13,17 @@ pub record IsTupletNumber (n : ℕ) : Type 0 where
   pub least : 1 ≤ n
   pub most : n ≤ LARGEST_TUPLET_NUMBER
 
--- Notes come p in the time of q, and so many of them are left.
-pub record IsOpen (p q left : ℕ) : Type 0 where
-  pub p_is : IsTupletNumber p
-  pub q_is : IsTupletNumber q
-  pub left_is : IsTupletNumber left
+-- An open tuplet: notes come p in the time of q, and so many notes, chords and rests are left of it.
+pub record OpenTuplet : Type 0 where
+  pub p : ℕ
+  pub q : ℕ
+  pub left : ℕ
+
+-- Each number of an open tuplet is one that a tuplet may have.
+pub record IsOpen (tuplet : OpenTuplet) : Type 0 where
+  pub p_is : IsTupletNumber tuplet.p
+  pub q_is : IsTupletNumber tuplet.q
+  pub left_is : IsTupletNumber tuplet.left
 
 -- Whether a tuplet may have the number.
 abbrev pub is_tuplet_number : ℕ → Bool
@@ -36,35 +42,36 @@ default_q meter p =
     else if (p == 3) || (p == 6) then 2
     else if is_compound meter then 3 else 2
 
--- The numbers p, q and r, where each is one that a tuplet may have.
-abbrev pub tuplet_with : ℕ → ℕ → ℕ → Option (ℕ × ℕ × ℕ)
-tuplet_with p q r = if is_tuplet_number p && is_tuplet_number q && is_tuplet_number r then Some (p, q, r) else None
+-- The tuplet of p notes in the time of q that takes r, where each is a number that a tuplet may have.
+abbrev pub tuplet_with : ℕ → ℕ → ℕ → Option OpenTuplet
+tuplet_with p q r =
+    if is_tuplet_number p && is_tuplet_number q && is_tuplet_number r then Some (record { p = p; q = q; left = r }) else None
 
 -- The tuplet that a mark begins, if its numbers are accepted: without r it takes p notes.
-abbrev pub tuplet_by : Meter → Tuplet → Option (ℕ × ℕ × ℕ)
+abbrev pub tuplet_by : Meter → Tuplet → Option OpenTuplet
 tuplet_by meter mark = tuplet_with mark.p (unwrap_or mark.q (default_q meter mark.p)) (unwrap_or mark.r mark.p)
 
 -- The open tuplet behind a mark that makes this one, and the mark's fault: a refused mark leaves the open
 -- tuplet going, another one takes its place. Our own.
-abbrev pub opened : Option (ℕ × ℕ × ℕ) → Option (ℕ × ℕ × ℕ) → Option (ℕ × ℕ × ℕ) × Option FaultCode
+abbrev pub opened : Option OpenTuplet → Option OpenTuplet → Option OpenTuplet × Option FaultCode
 opened old None = (old, Some BadTuplet)
 opened None (Some new) = (Some new, None)
 opened (Some old) (Some new) = (Some new, Some NestedTuplet)
 
 -- The open tuplet behind a mark, and the mark's fault.
-abbrev pub tuplet_opened : Meter → Option (ℕ × ℕ × ℕ) → Tuplet → Option (ℕ × ℕ × ℕ) × Option FaultCode
+abbrev pub tuplet_opened : Meter → Option OpenTuplet → Tuplet → Option OpenTuplet × Option FaultCode
 tuplet_opened meter open_before mark = opened open_before (tuplet_by meter mark)
 
 -- What is left of the open tuplet behind one more note, chord or rest.
-abbrev pub counted_down : Option (ℕ × ℕ × ℕ) → Option (ℕ × ℕ × ℕ)
+abbrev pub counted_down : Option OpenTuplet → Option OpenTuplet
 counted_down None = None
-counted_down (Some t) = if nat_lt 1 t.2 then Some (t.0, t.1, t.2 - 1) else None
+counted_down (Some tuplet) = if nat_lt 1 tuplet.left then Some (record tuplet { left = tuplet.left - 1 }) else None
 
 -- What a tuplet multiplies a length by.
-abbrev pub tuplet_ratio : ℕ × ℕ × ℕ → Ratio
-tuplet_ratio t = record { num = t.1; den = t.0 }
+abbrev pub tuplet_ratio : OpenTuplet → Ratio
+tuplet_ratio tuplet = record { num = tuplet.q; den = tuplet.p }
 
 -- What the open tuplet multiplies a length by, if there is one.
-abbrev pub tuplet_factors : Option (ℕ × ℕ × ℕ) → List Ratio
+abbrev pub tuplet_factors : Option OpenTuplet → List Ratio
 tuplet_factors None = []
-tuplet_factors (Some t) = tuplet_ratio t ∷ []
+tuplet_factors (Some tuplet) = tuplet_ratio tuplet ∷ []

@@ -14,7 +14,7 @@ use std::marker::Model;
 const LARGEST_TUPLET_NUMBER: u32 = 64;
 
 /// A tuplet of a voice, with how many notes, chords and rests it still takes (ABC 2.1 section 4.13).
-/// Contracts see `(p, q, left)`.
+/// Contracts see the three numbers.
 #[derive(Clone, Copy)]
 pub struct OpenTuplet {
     p: u8,
@@ -23,16 +23,15 @@ pub struct OpenTuplet {
 }
 
 impl Model for OpenTuplet {
-    ghost use Rattle.std.specs.Prelude.{ℕ};
-    ghost use Rattle.abc_music.specs.Tuplet.{IsOpen};
+    ghost use Rattle.abc_music.specs.Tuplet.{IsOpen, OpenTuplet as Seen};
 
-    ghost Value = { ℕ × ℕ × ℕ };
+    ghost Value = { Seen };
 
-    ghost view = { λ t. (t.p, t.q, t.left) };
+    ghost view = { λ t. record { p = t.p; q = t.q; left = t.left } };
 
-    ghost invariant = { λ t. IsOpen t.p t.q t.left };
+    ghost invariant = { λ t. IsOpen (record { p = t.p; q = t.q; left = t.left }) };
 
-    ghost inverse = { λ v. record { p = v.0; q = v.1; left = v.2 } };
+    ghost inverse = { λ seen. record { p = seen.p; q = seen.q; left = seen.left } };
 }
 
 impl OpenTuplet {

@@ -37,7 +37,7 @@ use Rattle.abc_music.specs.BarRest.{bar_rest_length, bars_of, or_one_bar}
 use Rattle.abc_music.specs.Broken.{factors_of, has_note, is_bad_mark, is_time_token}
 use Rattle.abc_music.specs.LooseTies.{is_loose_tie}
 use Rattle.abc_music.specs.Sound.{fault_if}
-use Rattle.abc_music.specs.Tuplet.{opened, tuplet_by}
+use Rattle.abc_music.specs.Tuplet.{OpenTuplet, opened, tuplet_by}
 use Rattle.abc_music.proofs.LooseTies.{ties_behind_notes}
 use Rattle.abc_bars.specs.Body.{here, made_current, mentioned}
 use Rattle.abc_bars.specs.BodyFields.{accepted, faulty, kind_given, meter_by, key_by, part_by, part_of, tempo_by, unit_by, voice_by, voice_made}
@@ -129,7 +129,7 @@ of-bar-rest given place Free bars item = more given.items.faults _ [] refl ∙ a
 of-bar-rest given place (Of num den) None item = refl
 of-bar-rest given place (Of num den) (Some n) item = of-bar-rest-by given place num den (bars_of num den n) item
 
-of-tuplet : (given : Given) (place : ℕ) (old new : Option (ℕ × ℕ × ℕ)) → Ties (with_some_fault given place (opened old new).1).items.faults ≡ Ties given.items.faults
+of-tuplet : (given : Given) (place : ℕ) (old new : Option OpenTuplet) → Ties (with_some_fault given place (opened old new).1).items.faults ≡ Ties given.items.faults
 of-tuplet given place old None = more given.items.faults _ [] refl ∙ append-nil _
 of-tuplet given place None (Some new) = refl
 of-tuplet given place (Some old) (Some new) = more given.items.faults _ [] refl ∙ append-nil _

@@ -4,21 +4,21 @@ use Rattle.std.proofs.lemmas.Bool.Decides.{nat_tests}
 use Rattle.abc_fields.specs.declared.meter.Meter.{Meter}
 use Rattle.abc_scan.specs.declared.tuplet.Tuplet.{Tuplet}
 use Rattle.abc_music.specs.Broken.{is_time_token}
-use Rattle.abc_music.specs.Tuplet.{tuplet_by, tuplet_opened, opened, is_tuplet_number, counted_down, default_q}
+use Rattle.abc_music.specs.Tuplet.{OpenTuplet, tuplet_by, tuplet_opened, opened, is_tuplet_number, counted_down, default_q}
 use Rattle.abc_bars.specs.LookBack.Element.{Element}
 use Rattle.abc_bars.specs.LookBack.Voice.{meter_at, left_after, passing, tuplet_from, tuplet_or, tuplet_said}
 
 -- One more time token leaves one less of a tuplet.
-left-suc : (passed p q r : ℕ) → left_after (suc passed) (p, q, r) ≡ counted_down (left_after passed (p, q, r))
-left-suc passed p q r = grind (arith, nat_tests)
+left-suc : (passed : ℕ) (tuplet : OpenTuplet) → left_after (suc passed) tuplet ≡ counted_down (left_after passed tuplet)
+left-suc passed tuplet = grind (arith, nat_tests)
 
 passing-suc : (b : Bool) (passed : ℕ) → passing b (suc passed) ≡ suc (passing b passed)
 passing-suc true passed = refl
 passing-suc false passed = refl
 
-or-suc : (t : Option (ℕ × ℕ × ℕ)) (passed : ℕ) (later earlier : Option (ℕ × ℕ × ℕ)) → later ≡ counted_down earlier
+or-suc : (t : Option OpenTuplet) (passed : ℕ) (later earlier : Option OpenTuplet) → later ≡ counted_down earlier
     → tuplet_or t (suc passed) later ≡ counted_down (tuplet_or t passed earlier)
-or-suc (Some t) passed later earlier h = left-suc passed t.0 t.1 t.2
+or-suc (Some tuplet) passed later earlier h = left-suc passed tuplet
 or-suc None passed later earlier h = h
 
 -- One more time token behind a place leaves one less of the tuplet that is open there.
@@ -34,22 +34,22 @@ number-least : (n : ℕ) → is_tuplet_number n ≡ true → 1 ≤ n
 number-least n h = grind (arith, nat_tests)
 
 -- All of a tuplet that takes any notes is left at its mark.
-left-zero : (p q r : ℕ) → 1 ≤ r → left_after 0 (p, q, r) ≡ Some (p, q, r)
-left-zero p q r some = grind (arith, nat_tests)
+left-zero : (tuplet : OpenTuplet) → 1 ≤ tuplet.left → left_after 0 tuplet ≡ Some tuplet
+left-zero tuplet some = grind (arith, nat_tests)
 
-opened-new : (old : Option (ℕ × ℕ × ℕ)) (new : ℕ × ℕ × ℕ) → (opened old (Some new)).0 ≡ Some new
+opened-new : (old : Option OpenTuplet) (new : OpenTuplet) → (opened old (Some new)).0 ≡ Some new
 opened-new None new = refl
 opened-new (Some old) new = refl
 
-mark-by : (b c : Bool) (p q r : ℕ) (old : Option (ℕ × ℕ × ℕ)) → is_tuplet_number r ≡ c
-    → tuplet_or (cond (b && c) (Some (p, q, r)) None) 0 old ≡ (opened old (cond (b && c) (Some (p, q, r)) None)).0
-mark-by true true p q r old e = left-zero p q r (number-least r e) ∙ sym (opened-new old (p, q, r))
-mark-by true false p q r old e = refl
-mark-by false c p q r old e = refl
+mark-by : (b c : Bool) (tuplet : OpenTuplet) (old : Option OpenTuplet) → is_tuplet_number tuplet.left ≡ c
+    → tuplet_or (cond (b && c) (Some tuplet) None) 0 old ≡ (opened old (cond (b && c) (Some tuplet) None)).0
+mark-by true true tuplet old e = left-zero tuplet (number-least tuplet.left e) ∙ sym (opened-new old tuplet)
+mark-by true false tuplet old e = refl
+mark-by false c tuplet old e = refl
 
 -- Behind a mark the tuplet is open that the mark leaves.
-pub at-mark : (meter : Meter) (mark : Tuplet) (old : Option (ℕ × ℕ × ℕ)) → tuplet_or (tuplet_by meter mark) 0 old ≡ (tuplet_opened meter old mark).0
+pub at-mark : (meter : Meter) (mark : Tuplet) (old : Option OpenTuplet) → tuplet_or (tuplet_by meter mark) 0 old ≡ (tuplet_opened meter old mark).0
 at-mark meter mark old =
     let q : ℕ = unwrap_or mark.q (default_q meter mark.p) in
     let r : ℕ = unwrap_or mark.r mark.p in
-    mark-by (is_tuplet_number mark.p && is_tuplet_number q) (is_tuplet_number r) mark.p q r old refl
+    mark-by (is_tuplet_number mark.p && is_tuplet_number q) (is_tuplet_number r) (record { p = mark.p; q = q; left = r }) old refl

@@ -38,7 +38,7 @@ use Rattle.abc_bars.specs.BodyFields.{part_of}
 use Rattle.abc_music.specs.Broken.{has_note, is_time_token}
 use Rattle.abc_music.specs.Chords.{tie_follows}
 use Rattle.abc_bars.specs.FieldKind.{kind_of}
-use Rattle.abc_music.specs.Tuplet.{tuplet_by}
+use Rattle.abc_music.specs.Tuplet.{OpenTuplet, tuplet_by}
 use Rattle.abc_bars.specs.LookBack.Defaults.{meter_said, unit_said}
 use Rattle.abc_bars.specs.LookBack.Element.{Element, field_of}
 
@@ -209,7 +209,7 @@ unfoldable pub dynamic_at : List Element → Option Dynamic
 dynamic_at before = last_said dynamic_said None before
 
 -- The tuplet that a mark begins in a meter, if the token is a mark and is accepted.
-abbrev pub tuplet_said : Meter → TokenKind → Option (ℕ × ℕ × ℕ)
+abbrev pub tuplet_said : Meter → TokenKind → Option OpenTuplet
 tuplet_said meter (kinds.Note note) = None
 tuplet_said meter (kinds.Rest length) = None
 tuplet_said meter (kinds.BarRest bars) = None
@@ -229,12 +229,12 @@ tuplet_said meter kinds.Unclosed = None
 tuplet_said meter kinds.BadByte = None
 
 -- What is left of a tuplet behind so many notes, chords and rests.
-abbrev pub left_after : ℕ → ℕ × ℕ × ℕ → Option (ℕ × ℕ × ℕ)
-left_after passed t = if nat_lt passed t.2 then Some (t.0, t.1, t.2 - passed) else None
+abbrev pub left_after : ℕ → OpenTuplet → Option OpenTuplet
+left_after passed tuplet = if nat_lt passed tuplet.left then Some (record tuplet { left = tuplet.left - passed }) else None
 
 -- What is left of the tuplet that a token begins, or else of one before it.
-abbrev pub tuplet_or : Option (ℕ × ℕ × ℕ) → ℕ → Option (ℕ × ℕ × ℕ) → Option (ℕ × ℕ × ℕ)
-tuplet_or (Some t) passed earlier = left_after passed t
+abbrev pub tuplet_or : Option OpenTuplet → ℕ → Option OpenTuplet → Option OpenTuplet
+tuplet_or (Some tuplet) passed earlier = left_after passed tuplet
 tuplet_or None passed earlier = earlier
 
 -- One more where a token is a time token.
@@ -243,7 +243,7 @@ passing true passed = suc passed
 passing false passed = passed
 
 -- What is left of the last tuplet, where so many time tokens stand behind these elements.
-abbrev pub tuplet_from : Meter → ℕ → List Element → Option (ℕ × ℕ × ℕ)
+abbrev pub tuplet_from : Meter → ℕ → List Element → Option OpenTuplet
 tuplet_from opening passed [] = None
 tuplet_from opening passed (element ∷ before) =
     tuplet_or (tuplet_said (meter_at opening before) element.kind) passed
@@ -251,7 +251,7 @@ tuplet_from opening passed (element ∷ before) =
 
 -- The tuplet that is open at a place: the last accepted mark's, where fewer time tokens stand behind the
 -- mark than it takes. ABC 2.1 section 4.13.
-unfoldable pub tuplet_at : Meter → List Element → Option (ℕ × ℕ × ℕ)
+unfoldable pub tuplet_at : Meter → List Element → Option OpenTuplet
 tuplet_at opening before = tuplet_from opening 0 before
 
 -- By how many semitones a note is altered, where these notes of its chord stand before it, newest first: by
