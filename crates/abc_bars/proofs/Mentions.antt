@@ -56,11 +56,12 @@ use Rattle.abc_bars.specs.Voices.{voice_at as header_voice_at}
 use Rattle.abc_bars.proofs.BodyOpenings.{opening_names}
 use Rattle.abc_bars.proofs.NamePlaces.{find_place, no_place, place_behind}
 use Rattle.abc_music.specs.BarRest.{bar_rest_of}
-use Rattle.abc_music.specs.Broken.{factors_of, has_note, is_bad_mark}
+use Rattle.abc_music.specs.Broken.{factors_of, is_bad_mark}
 use Rattle.abc_music.specs.Chords.{inside_of}
 use Rattle.abc_music.specs.Settings.{without_accidentals}
 use Rattle.abc_music.specs.TempoItem.{is_out, tempo_item}
 use Rattle.abc_music.specs.TimeTokens.{chord_by, note_played, rest_played, sounded}
+use Rattle.abc_music.specs.TokenRole.{has_note}
 use Rattle.abc_music.specs.Tuplet.{tuplet_opened}
 use Rattle.abc_music.specs.VoiceShift.{with_properties}
 use Rattle.abc_music.specs.declared.sound.Inside.{Inside}

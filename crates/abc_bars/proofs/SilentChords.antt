@@ -10,10 +10,10 @@ use Rattle.abc_music.specs.declared.chords.Outside.{Outside}
 use Rattle.abc_music.specs.declared.settings.Settings.{Settings}
 use Rattle.abc_music.specs.declared.sound.Around.{Around}
 use Rattle.abc_music.specs.declared.sound.Inside.{Inside}
-use Rattle.abc_music.specs.Broken.{has_note, is_note_part}
 use Rattle.abc_music.specs.Chords.{around_part, inside_from, tie_follows, with_kind, with_part}
 use Rattle.abc_music.specs.Sound.{no_notes}
 use Rattle.abc_music.specs.TimeTokens.{chord_by, chord_played}
+use Rattle.abc_music.specs.TokenRole.{has_note, is_note_part}
 
 module _ (settings : Settings) (broken other : List Ratio) (outside : Outside) where
   kind_same : (around : Around) (kind : ChordPartKind) (inside : Inside) → is_note_part kind ≡ false

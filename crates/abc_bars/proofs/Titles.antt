@@ -18,11 +18,12 @@ use Rattle.abc_fields.specs.Unit.{unit_of}
 use Rattle.abc_fields.specs.Voice.{voice_of}
 use Rattle.abc_fold.specs.Steps.{items_from}
 use Rattle.abc_music.specs.BarRest.{bar_rest_of}
-use Rattle.abc_music.specs.Broken.{factors_of, has_note, is_bad_mark}
+use Rattle.abc_music.specs.Broken.{factors_of, is_bad_mark}
 use Rattle.abc_music.specs.Chords.{inside_of}
 use Rattle.abc_music.specs.Item.{Items}
 use Rattle.abc_music.specs.TempoItem.{is_out, tempo_item}
 use Rattle.abc_music.specs.TimeTokens.{chord_by, note_played, rest_played}
+use Rattle.abc_music.specs.TokenRole.{has_note}
 use Rattle.abc_music.specs.Tuplet.{tuplet_opened}
 use Rattle.abc_music.specs.declared.item.Item.{Item}
 use Rattle.abc_music.specs.declared.item.Item.TheVariants as items

@@ -22,17 +22,17 @@ use Rattle.abc_music.specs.declared.item.Item.TheVariants as items
 use Rattle.abc_music.specs.BarRest.{bar_rest_of}
 use Rattle.abc_bars.specs.Body.{here, with_here, mentioned}
 use Rattle.abc_bars.specs.BodyFields.{FieldGiven, field_given}
-use Rattle.abc_bars.specs.TieRole.{is_tie, is_tieable, tie_role_of}
-use Rattle.abc_music.specs.Broken.{behind_after, factors_of, has_note, is_bad_mark}
+use Rattle.abc_music.specs.Broken.{behind_after, factors_of, is_bad_mark}
 use Rattle.abc_music.specs.Column.{column_of}
 use Rattle.abc_music.specs.Program.{program_of}
 use Rattle.abc_music.specs.Settings.{without_accidentals}
 use Rattle.abc_music.specs.TimeTokens.{Played, note_played, chord_played, rest_played, with_played}
+use Rattle.abc_music.specs.TokenRole.{has_note, is_tie_role, is_tieable, token_role}
 use Rattle.abc_music.specs.Tuplet.{tuplet_opened}
 
 -- Whether a token is a tie.
 abbrev pub is_tie_token : TokenKind → Bool
-is_tie_token kind = is_tie (tie_role_of kind)
+is_tie_token kind = is_tie_role (token_role kind)
 
 -- Whether a tie comes first. ABC 2.1 section 4.11; that nothing may stand between is our own.
 abbrev pub tie_ahead : List (Spanned TokenKind) → Bool
@@ -41,7 +41,7 @@ tie_ahead (token ∷ rest) = is_tie_token token.kind
 
 -- Whether a tie may stand directly behind a token.
 abbrev pub may_be_tied : TokenKind → Bool
-may_be_tied kind = is_tieable (tie_role_of kind)
+may_be_tied kind = is_tieable (token_role kind)
 
 -- Before the first token of a cell.
 abbrev pub nothing_given : Body → Given

@@ -18,7 +18,6 @@ pub mod Reference
 pub mod SameDefaults
 pub mod SameEntry
 pub mod Step
-pub mod TieRole
 pub mod Titles
 pub mod Voices
 pub mod VoicesLent

@@ -10,12 +10,11 @@ ghost use Rattle.abc_music.specs.declared.settings.Settings.{Settings};
 
 use crate::body::Body;
 use crate::body_fields::{FieldItem, field_given};
-use crate::tie_role::{TieRole, tie_role_of};
 use abc_fields::FaultCode;
 use abc_music::{
-    Behind, BrokenFactors, Item, Items, LocalFault, NotePlace, bar_rest_of, behind_after,
-    chord_played, column_of, has_note, is_bad_mark, note_played, program_of, rest_played,
-    tuplet_opened,
+    Behind, BrokenFactors, Item, Items, LocalFault, NotePlace, TokenRole, bar_rest_of,
+    behind_after, chord_played, column_of, has_note, is_bad_mark, note_played, program_of,
+    rest_played, token_role, tuplet_opened,
 };
 use abc_scan::{
     BarLine, Chord, Directive, Dynamic, Field, Note, Token, TokenKind, Tuplet, WrittenLength,
@@ -29,7 +28,7 @@ const MOST_ROOM: usize = 16;
 fn is_tie_token(kind: &TokenKind) -> bool
     ensures { result ≡ is_tie_token kind.now }
 {
-    matches!(tie_role_of(kind), TieRole::Tie)
+    matches!(token_role(kind), TokenRole::Tie)
 }
 
 /// Whether a tie comes first.
@@ -46,7 +45,7 @@ fn tie_ahead(ahead: &[Token]) -> bool
 fn may_be_tied(kind: &TokenKind) -> bool
     ensures { result ≡ may_be_tied kind.now }
 {
-    matches!(tie_role_of(kind), TieRole::Tieable)
+    matches!(token_role(kind), TokenRole::Sound { .. })
 }
 
 /// Factors with which a chord gives what it gives with those of the marks round it. One without notes takes no time: for it

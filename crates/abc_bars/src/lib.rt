@@ -27,7 +27,6 @@ mod opening;
 mod reference;
 mod same;
 mod tie_laws;
-mod tie_role;
 mod tune_program;
 mod velocity_laws;
 mod voice_laws;

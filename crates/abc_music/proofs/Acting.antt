@@ -9,13 +9,14 @@ use Rattle.abc_scan.specs.declared.token.TokenKind.{TokenKind}
 use Rattle.abc_scan.specs.declared.token.TokenKind.TheVariants as kinds
 use Rattle.abc_music.specs.declared.broken.Behind.{Behind}
 use Rattle.abc_music.specs.declared.broken.Behind.TheVariants as behinds
-use Rattle.abc_music.specs.declared.broken.Role.{Role}
-use Rattle.abc_music.specs.declared.broken.Role.TheVariants as roles
-use Rattle.abc_music.specs.Broken.{has_note, role_of, is_time_token, behind_mark, behind_by, behind_after, behind_from, time_or, time_follows, mark_or, mark_ahead, mark_behind, is_behind_time, is_bad_mark, factors_of}
+use Rattle.abc_music.specs.declared.broken.BrokenRole.{BrokenRole}
+use Rattle.abc_music.specs.declared.broken.BrokenRole.TheVariants as roles
+use Rattle.abc_music.specs.Broken.{role_of, is_time_token, behind_mark, behind_by, behind_after, behind_from, time_or, time_follows, mark_or, mark_ahead, mark_behind, is_behind_time, is_bad_mark, factors_of}
 use Rattle.abc_music.specs.Acting.{hinders, IsTimeAt, IsMarkAt, IsFreeAt, AreFreeBetween, Acts, ActsBefore, ActsBehind, AreFactors, behind_at}
+use Rattle.abc_music.specs.TokenRole.{has_note}
 
 -- what a role says of its token
-abbrev Says : TokenKind → Role → Type 0
+abbrev Says : TokenKind → BrokenRole → Type 0
 Says kind roles.Time = is_time_token kind ≡ true
 Says kind (roles.Mark mark) = kind ≡ kinds.Broken mark
 Says kind roles.Hindrance = (is_time_token kind ≡ false) × (hinders kind ≡ true)
@@ -44,7 +45,7 @@ says (kinds.Directive directive) = (refl, refl)
 says kinds.Unclosed = (refl, refl)
 says kinds.BadByte = (refl, refl)
 
-time_by : (kind : TokenKind) (role : Role) → Says kind role → is_time_token kind ≡ true → role ≡ roles.Time
+time_by : (kind : TokenKind) (role : BrokenRole) → Says kind role → is_time_token kind ≡ true → role ≡ roles.Time
 time_by kind roles.Time s e = refl
 time_by kind (roles.Mark mark) s e = let no : is_time_token kind ≡ false = ap is_time_token s in cc
 time_by kind roles.Hindrance s e = let no = s.0 in cc
@@ -53,7 +54,7 @@ time_by kind roles.Silent s e = let no = s.0 in cc
 time_role : (kind : TokenKind) → is_time_token kind ≡ true → role_of kind ≡ roles.Time
 time_role kind e = time_by kind (role_of kind) (says kind) e
 
-free_by : (kind : TokenKind) (role : Role) → Says kind role → is_time_token kind ≡ false → hinders kind ≡ false → role ≡ roles.Silent
+free_by : (kind : TokenKind) (role : BrokenRole) → Says kind role → is_time_token kind ≡ false → hinders kind ≡ false → role ≡ roles.Silent
 free_by kind roles.Time s e f = cc
 free_by kind (roles.Mark mark) s e f = let yes : hinders kind ≡ true = ap hinders s in cc
 free_by kind roles.Hindrance s e f = let yes = s.1 in cc
@@ -98,7 +99,7 @@ first_cons token cell high free zero from to = absurd (omega arith)
 first_cons token cell high free (suc j) from to = free j (omega arith)
 
 -- the first that matters by the role of the first
-time_here : (token : Spanned TokenKind) (cell : List (Spanned TokenKind)) (role : Role) → Says token.kind role
+time_here : (token : Spanned TokenKind) (cell : List (Spanned TokenKind)) (role : BrokenRole) → Says token.kind role
     → (time_follows cell ≡ true → IsFirstTime cell) → time_or role (time_follows cell) ≡ true → IsFirstTime (token ∷ cell)
 time_here token cell roles.Time s rec e = record { place = 0; is = s; free = λ j h. absurd (omega arith) }
 time_here token cell (roles.Mark mark) s rec e = cc
@@ -134,7 +135,7 @@ mark_by token cell mark other true is s e =
     }
 mark_by token cell mark other false is s e = cc
 
-mark_here : (token : Spanned TokenKind) (cell : List (Spanned TokenKind)) (mark : BrokenRhythm) (role : Role) → Says token.kind role
+mark_here : (token : Spanned TokenKind) (cell : List (Spanned TokenKind)) (mark : BrokenRhythm) (role : BrokenRole) → Says token.kind role
     → (mark_ahead cell ≡ Some mark → IsFirstMark cell mark) → mark_or role (time_follows cell) (mark_ahead cell) ≡ Some mark → IsFirstMark (token ∷ cell) mark
 mark_here token cell mark roles.Time s rec e = cc
 mark_here token cell mark (roles.Mark other) s rec e = mark_by token cell mark other (time_follows cell) refl s e
@@ -226,7 +227,7 @@ free_more cell low high here free k from to = ⊎_elim
     (λ other. free k from (omega arith))
     (cases_eq k high)
 
-last_time_here : (cell : List (Spanned TokenKind)) (place : ℕ) (token : Spanned TokenKind) (role : Role) → slice_get cell place ≡ Some token → Says token.kind role
+last_time_here : (cell : List (Spanned TokenKind)) (place : ℕ) (token : Spanned TokenKind) (role : BrokenRole) → slice_get cell place ≡ Some token → Says token.kind role
     → (is_behind_time (behind_at cell place) ≡ true → IsLastTime cell place) → is_behind_time (behind_by (behind_at cell place) role) ≡ true → IsLastTime cell (suc place)
 last_time_here cell place token roles.Time is s rec e = record {
   first = place;
@@ -290,7 +291,7 @@ last_mark_by cell mark other place token behinds.TimeToken inside was is s e =
     }
 last_mark_by cell mark other place token (behinds.Mark earlier) inside was is s e = cc
 
-last_mark_here : (cell : List (Spanned TokenKind)) (mark : BrokenRhythm) (place : ℕ) (token : Spanned TokenKind) (role : Role) → place ≤ length cell
+last_mark_here : (cell : List (Spanned TokenKind)) (mark : BrokenRhythm) (place : ℕ) (token : Spanned TokenKind) (role : BrokenRole) → place ≤ length cell
     → slice_get cell place ≡ Some token → Says token.kind role
     → (mark_behind (behind_at cell place) ≡ Some mark → IsLastMark cell mark place) → mark_behind (behind_by (behind_at cell place) role) ≡ Some mark
     → IsLastMark cell mark (suc place)

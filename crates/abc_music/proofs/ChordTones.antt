@@ -13,9 +13,9 @@ use Rattle.abc_music.specs.declared.item.Tone.{Tone}
 use Rattle.abc_music.specs.declared.settings.Settings.{Settings}
 use Rattle.abc_music.specs.declared.sound.Around.{Around}
 use Rattle.abc_music.specs.declared.sound.Inside.{Inside}
-use Rattle.abc_music.specs.Broken.{has_note, is_note_part}
 use Rattle.abc_music.specs.Chords.{around_part, inside_from, inside_of, tie_follows, with_chord_note, with_dropped, with_kind, with_part}
 use Rattle.abc_music.specs.Sound.{no_notes}
+use Rattle.abc_music.specs.TokenRole.{has_note, is_note_part}
 
 -- there is a tone
 abbrev pub HasTone : Inside → Type 0

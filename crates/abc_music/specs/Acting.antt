@@ -8,14 +8,11 @@ use Rattle.abc_time.specs.declared.ratio.Ratio.{Ratio}
 use Rattle.abc_music.specs.declared.broken.Behind.{Behind}
 use Rattle.abc_music.specs.declared.broken.Behind.TheVariants as behinds
 use Rattle.abc_music.specs.Broken.{is_time_token, behind_from, first_factor, second_factor, factors_of, is_bad_mark}
+use Rattle.abc_music.specs.TokenRole.{hinders_marks, token_role}
 
--- Whether no mark reaches over a token: a field, a bar rest, another mark. Our own.
+-- Whether no mark reaches over a token.
 abbrev pub hinders : TokenKind → Bool
-hinders (kinds.BarRest bars) = true
-hinders (kinds.InlineField field) = true
-hinders (kinds.Broken mark) = true
-hinders (kinds.Field field) = true
-hinders _ = false
+hinders kind = hinders_marks (token_role kind)
 
 -- A time token stands at a place of a cell.
 abbrev pub IsTimeAt : List (Spanned TokenKind) → ℕ → Type 0

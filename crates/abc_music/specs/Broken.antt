@@ -1,47 +1,35 @@
 -- Broken rhythm. ABC 2.1 section 4.4.
 use Rattle.std.specs.Prelude.{ℕ, ◌-◌, ◌*◌, ◌^◌, min, Bool, true, false, not, ◌&&◌, if◌then◌else◌, List, [], ◌∷◌, ◌++◌, Option, Some, None, option_map, option_to_list}
-use Rattle.std.specs.List.{list_any}
 use Rattle.abc_scan.specs.declared.broken.BrokenRhythm.{BrokenRhythm}
 use Rattle.abc_scan.specs.declared.broken.Direction.{Direction}
 use Rattle.abc_scan.specs.declared.broken.Direction.TheVariants.{Right, Left}
-use Rattle.abc_scan.specs.declared.parts.ChordPartKind.{ChordPartKind}
-use Rattle.abc_scan.specs.declared.parts.ChordPartKind.TheVariants as parts
 use Rattle.abc_scan.specs.declared.spanned.Spanned.{Spanned}
 use Rattle.abc_scan.specs.declared.token.TokenKind.{TokenKind}
-use Rattle.abc_scan.specs.declared.token.TokenKind.TheVariants as kinds
 use Rattle.abc_time.specs.declared.ratio.Ratio.{Ratio}
 use Rattle.abc_music.specs.declared.broken.Behind.{Behind}
 use Rattle.abc_music.specs.declared.broken.Behind.TheVariants as behinds
-use Rattle.abc_music.specs.declared.broken.Role.{Role}
-use Rattle.abc_music.specs.declared.broken.Role.TheVariants as roles
+use Rattle.abc_music.specs.declared.broken.BrokenRole.{BrokenRole}
+use Rattle.abc_music.specs.declared.broken.BrokenRole.TheVariants as roles
 use Rattle.abc_music.specs.declared.broken.TheConstants.{MOST_MARKS}
+use Rattle.abc_music.specs.declared.role.TokenRole.{TokenRole}
+use Rattle.abc_music.specs.declared.role.TokenRole.TheVariants as tokens
+use Rattle.abc_music.specs.TokenRole.{takes_time, token_role}
 
--- Whether a part of a chord is a note.
-abbrev pub is_note_part : ChordPartKind → Bool
-is_note_part (parts.Note note) = true
-is_note_part _ = false
+-- What broken rhythm sees of a token. A chord without notes is as if it were not there. Our own.
+abbrev pub broken_role : TokenRole → BrokenRole
+broken_role (tokens.Sound noted) = if noted then roles.Time else roles.Silent
+broken_role tokens.Rest = roles.Time
+broken_role (tokens.Mark mark) = roles.Mark mark
+broken_role tokens.Tie = roles.Silent
+broken_role tokens.Barrier = roles.Hindrance
+broken_role tokens.Other = roles.Silent
 
--- Whether a chord has a note.
-abbrev pub has_note : List (Spanned ChordPartKind) → Bool
-has_note inside = list_any (λ part. is_note_part part.kind) inside
+abbrev pub role_of : TokenKind → BrokenRole
+role_of kind = broken_role (token_role kind)
 
--- What a token is to broken rhythm. A chord without notes is as if it were not there. Our own.
-abbrev pub role_of : TokenKind → Role
-role_of (kinds.Note note) = roles.Time
-role_of (kinds.Rest length) = roles.Time
-role_of (kinds.Chord chord) = if has_note chord.parts then roles.Time else roles.Silent
-role_of (kinds.Broken mark) = roles.Mark mark
-role_of (kinds.BarRest bars) = roles.Hindrance
-role_of (kinds.InlineField field) = roles.Hindrance
-role_of (kinds.Field field) = roles.Hindrance
-role_of _ = roles.Silent
-
--- Whether a token is a time token: a note, a rest, or a chord with a note. Our own.
+-- Whether a token is a time token.
 abbrev pub is_time_token : TokenKind → Bool
-is_time_token (kinds.Note note) = true
-is_time_token (kinds.Rest length) = true
-is_time_token (kinds.Chord chord) = has_note chord.parts
-is_time_token _ = false
+is_time_token kind = takes_time (token_role kind)
 
 -- Behind a time token a mark may act, behind anything else it does not.
 abbrev pub behind_mark : Behind → BrokenRhythm → Behind
@@ -50,7 +38,7 @@ behind_mark behinds.TimeToken mark = behinds.Mark mark
 behind_mark (behinds.Mark other) mark = behinds.Nothing
 
 -- What stands nearest, of what matters, behind one token more of this role.
-abbrev pub behind_by : Behind → Role → Behind
+abbrev pub behind_by : Behind → BrokenRole → Behind
 behind_by behind roles.Time = behinds.TimeToken
 behind_by behind (roles.Mark mark) = behind_mark behind mark
 behind_by behind roles.Hindrance = behinds.Nothing
@@ -66,7 +54,7 @@ behind_from behind [] = behind
 behind_from behind (token ∷ rest) = behind_from (behind_after behind token.kind) rest
 
 -- Whether a token is a time token, or has no role and this holds of those behind it.
-abbrev pub time_or : Role → Bool → Bool
+abbrev pub time_or : BrokenRole → Bool → Bool
 time_or roles.Time later = true
 time_or (roles.Mark mark) later = false
 time_or roles.Hindrance later = false
@@ -78,7 +66,7 @@ time_follows [] = false
 time_follows (token ∷ rest) = time_or (role_of token.kind) (time_follows rest)
 
 -- The mark that a token is, where a time token follows, or if it has no role that of the tokens behind it.
-abbrev pub mark_or : Role → Bool → Option BrokenRhythm → Option BrokenRhythm
+abbrev pub mark_or : BrokenRole → Bool → Option BrokenRhythm → Option BrokenRhythm
 mark_or roles.Time follows later = None
 mark_or (roles.Mark mark) follows later = if follows then Some mark else None
 mark_or roles.Hindrance follows later = None

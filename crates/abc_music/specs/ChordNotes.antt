@@ -14,10 +14,10 @@ use Rattle.abc_music.specs.declared.item.TheConstants.{MOST_CHORD_NOTES}
 use Rattle.abc_music.specs.declared.item.Tone.{Tone}
 use Rattle.abc_music.specs.declared.settings.Settings.{Settings}
 use Rattle.abc_time.specs.declared.grains.Grains.{Grains}
-use Rattle.abc_music.specs.Broken.{has_note, is_note_part}
 use Rattle.abc_music.specs.Column.{column_of}
 use Rattle.abc_music.specs.Lasting.{IsGiven, IsPlace, Lasts, factors_at}
 use Rattle.abc_music.specs.TimeTokens.{chord_played}
+use Rattle.abc_music.specs.TokenRole.{has_note, is_note_part}
 
 -- The notes of a chord in order, each with its place.
 abbrev pub notes_of : Chord → List (Spanned ChordPartKind)

@@ -13,10 +13,10 @@ use Rattle.abc_music.specs.declared.item.Tone.{Tone}
 use Rattle.abc_music.specs.declared.settings.Settings.{Settings}
 use Rattle.abc_music.specs.declared.sound.Around.{Around}
 use Rattle.abc_music.specs.declared.sound.Inside.{Inside}
-use Rattle.abc_music.specs.Broken.{is_note_part}
 use Rattle.abc_music.specs.Column.{column_of}
 use Rattle.abc_music.specs.Item.{IsTone}
 use Rattle.abc_music.specs.Sound.{no_notes, with_note}
+use Rattle.abc_music.specs.TokenRole.{is_note_part}
 
 -- What there is after one more fault.
 abbrev pub with_fault : ℕ → FaultCode → Inside → Inside

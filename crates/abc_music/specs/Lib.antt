@@ -21,6 +21,7 @@ pub mod Sound
 pub mod Tempo
 pub mod TempoItem
 pub mod TimeTokens
+pub mod TokenRole
 pub mod Tuplet
 pub mod Unit
 pub mod Velocity

@@ -8,10 +8,10 @@ use Rattle.abc_scan.specs.declared.parts.ChordPartKind.{ChordPartKind}
 use Rattle.abc_scan.specs.declared.spanned.Spanned.{Spanned}
 use Rattle.abc_time.specs.declared.ratio.Ratio.{Ratio}
 use Rattle.abc_music.specs.declared.settings.Settings.{Settings}
-use Rattle.abc_music.specs.Broken.{is_note_part}
 use Rattle.abc_music.specs.Chords.{is_tie}
 use Rattle.abc_music.specs.Column.{column_of}
 use Rattle.abc_music.specs.TimeTokens.{chord_played}
+use Rattle.abc_music.specs.TokenRole.{is_note_part}
 
 -- Whether what stands directly before a part, if anything does, is a note.
 abbrev pub is_behind_note : Option ChordPartKind → Bool

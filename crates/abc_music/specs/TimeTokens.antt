@@ -14,10 +14,10 @@ use Rattle.abc_music.specs.declared.settings.Settings.{Settings}
 use Rattle.abc_music.specs.declared.sound.Around.{Around}
 use Rattle.abc_music.specs.declared.sound.Inside.{Inside}
 use Rattle.abc_music.specs.Item.{Items}
-use Rattle.abc_music.specs.Broken.{has_note}
 use Rattle.abc_music.specs.Chords.{inside_of}
 use Rattle.abc_music.specs.Column.{column_of}
 use Rattle.abc_music.specs.Sound.{fault_if, length_in, no_notes, with_note}
+use Rattle.abc_music.specs.TokenRole.{has_note}
 use Rattle.abc_music.specs.Tuplet.{counted_down}
 
 -- What holds for the voice behind a token, and what the token gives.

@@ -1,11 +1,12 @@
 //! Broken rhythm: which marks act, and what they multiply the lengths beside them by.
 
 ghost use Rattle.std.specs.Prelude.{◌≡◌, ◌==◌, ◌≤◌, ◌^◌, length, option_map, IfSome};
-ghost use Rattle.abc_music.specs.Broken.{has_note, role_of, is_time_token, behind_after, time_follows, mark_ahead, mark_behind, halved, shorter, longer, first_factor, second_factor, factors_of, is_bad_mark};
+ghost use Rattle.abc_music.specs.Broken.{role_of, behind_after, time_follows, mark_ahead, mark_behind, halved, shorter, longer, first_factor, second_factor, factors_of, is_bad_mark};
 ghost use Rattle.abc_music.specs.Acting.{ActsAsRead, GivesFactorsAsRead};
 ghost use Rattle.abc_time.specs.Ratio.{IsRatio};
 
-use abc_scan::{BrokenRhythm, ChordPart, ChordPartKind, Direction, Token, TokenKind};
+use crate::role::{TokenRole, token_role};
+use abc_scan::{BrokenRhythm, Direction, Token, TokenKind};
 use abc_time::Ratio;
 use std::marker::Model;
 
@@ -23,9 +24,9 @@ pub enum Behind {
     Mark(BrokenRhythm),
 }
 
-/// What a token is to broken rhythm.
+/// What broken rhythm sees of a token.
 #[derive(Clone, Copy)]
-pub(crate) enum Role {
+pub(crate) enum BrokenRole {
     /// A note, a rest, or a chord with a note.
     Time,
     Mark(BrokenRhythm),
@@ -76,36 +77,15 @@ impl BrokenFactors {
     }
 }
 
-/// Whether a chord has a note.
-pub fn has_note(inside: &[ChordPart]) -> bool
-    ensures { result ≡ has_note inside.now }
-{
-    inside
-        .iter()
-        .any(|part| matches!(part.kind, ChordPartKind::Note(_)))
-}
-
-/// What a token is to broken rhythm.
-fn role_of(kind: &TokenKind) -> Role
+/// What broken rhythm sees of a token.
+fn role_of(kind: &TokenKind) -> BrokenRole
     ensures { result ≡ role_of kind.now }
 {
-    match kind {
-        TokenKind::Note(_) | TokenKind::Rest(_) => Role::Time,
-        TokenKind::Chord(chord) if has_note(chord.parts.as_slice()) => Role::Time,
-        TokenKind::Broken(mark) => Role::Mark(*mark),
-        TokenKind::BarRest(_) | TokenKind::InlineField(_) | TokenKind::Field(_) => Role::Hindrance,
-        _ => Role::Silent,
-    }
-}
-
-/// Whether a token is a time token: a note, a rest, or a chord with a note.
-pub(crate) fn is_time_token(kind: &TokenKind) -> bool
-    ensures { result ≡ is_time_token kind.now }
-{
-    match kind {
-        TokenKind::Note(_) | TokenKind::Rest(_) => true,
-        TokenKind::Chord(chord) => has_note(chord.parts.as_slice()),
-        _ => false,
+    match token_role(kind) {
+        TokenRole::Sound { noted: true } | TokenRole::Rest => BrokenRole::Time,
+        TokenRole::Mark(mark) => BrokenRole::Mark(mark),
+        TokenRole::Barrier => BrokenRole::Hindrance,
+        TokenRole::Sound { noted: false } | TokenRole::Tie | TokenRole::Other => BrokenRole::Silent,
     }
 }
 
@@ -114,10 +94,10 @@ pub fn behind_after(behind: Behind, kind: &TokenKind) -> Behind
     ensures { result ≡ behind_after behind kind.now }
 {
     match (role_of(kind), behind) {
-        (Role::Time, _) => Behind::TimeToken,
-        (Role::Mark(mark), Behind::TimeToken) => Behind::Mark(mark),
-        (Role::Mark(_) | Role::Hindrance, _) => Behind::Nothing,
-        (Role::Silent, _) => behind,
+        (BrokenRole::Time, _) => Behind::TimeToken,
+        (BrokenRole::Mark(mark), Behind::TimeToken) => Behind::Mark(mark),
+        (BrokenRole::Mark(_) | BrokenRole::Hindrance, _) => Behind::Nothing,
+        (BrokenRole::Silent, _) => behind,
     }
 }
 
@@ -127,9 +107,9 @@ fn time_follows(tokens: &[Token]) -> bool
 {
     for token in tokens {
         match role_of(&token.kind) {
-            Role::Time => return true,
-            Role::Mark(_) | Role::Hindrance => return false,
-            Role::Silent => {}
+            BrokenRole::Time => return true,
+            BrokenRole::Mark(_) | BrokenRole::Hindrance => return false,
+            BrokenRole::Silent => {}
         }
     }
     false
@@ -141,9 +121,9 @@ fn mark_ahead(tokens: &[Token]) -> Option<BrokenRhythm>
 {
     for (i, token) in tokens.iter().enumerate() {
         match role_of(&token.kind) {
-            Role::Mark(mark) if time_follows(&tokens[i + 1..]) => return Some(mark),
-            Role::Silent => {}
-            Role::Time | Role::Mark(_) | Role::Hindrance => return None,
+            BrokenRole::Mark(mark) if time_follows(&tokens[i + 1..]) => return Some(mark),
+            BrokenRole::Silent => {}
+            BrokenRole::Time | BrokenRole::Mark(_) | BrokenRole::Hindrance => return None,
         }
     }
     None

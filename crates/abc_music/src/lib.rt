@@ -16,6 +16,7 @@ mod meter;
 mod numbers;
 mod pitch;
 mod program;
+mod role;
 mod same;
 mod settings;
 mod sound;
@@ -30,7 +31,7 @@ mod voice_shift;
 
 pub use accidentals::{Accidentals, LetterAccidentals, OctaveAccidentals};
 pub use bar_rest::bar_rest_of;
-pub use broken::{Behind, BrokenFactors, acting_marks, behind_after, has_note, is_bad_mark};
+pub use broken::{Behind, BrokenFactors, acting_marks, behind_after, is_bad_mark};
 pub use chord_laws::bad_lengths_of_chords;
 pub use chords::Outside;
 pub use column::{FIRST_COLUMN, column_of};
@@ -42,6 +43,7 @@ pub use laws::{
 pub use meter::TuneMeter;
 pub use numbers::{key_numbers, music_limits, sound_numbers};
 pub use program::{HIGHEST_PROGRAM, program_of};
+pub use role::{TokenRole, has_note, token_role};
 pub use settings::Settings;
 pub use sound::{Around, Inside};
 pub use tempo::TuneTempo;

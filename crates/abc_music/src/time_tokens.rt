@@ -6,10 +6,11 @@ ghost use Rattle.abc_music.specs.Column.{column_of};
 ghost use Rattle.abc_music.specs.Item.{AreTones, IsTone, IsWithinLongest, and_faults};
 ghost use Rattle.abc_music.specs.TimeTokens.{first_length, sounded, note_played, chord_played, rest_played, with_played};
 
-use crate::broken::{BrokenFactors, has_note};
+use crate::broken::BrokenFactors;
 use crate::chords::{Outside, inside_of};
 use crate::column::column_of;
 use crate::item::{Item, Items, LocalFault, Tone};
+use crate::role::has_note;
 use crate::settings::Settings;
 use crate::sound::{Around, Inside, add_note, length_in};
 use crate::tuplet::counted_down;

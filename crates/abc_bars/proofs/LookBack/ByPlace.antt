@@ -15,7 +15,7 @@ use Rattle.abc_bars.specs.declared.field_kind.FieldKind.{FieldKind}
 use Rattle.abc_bars.specs.declared.field_kind.FieldKind.TheVariants as fields
 use Rattle.abc_music.specs.declared.settings.Settings.{Settings}
 use Rattle.abc_bars.specs.BodyFields.{part_of}
-use Rattle.abc_music.specs.Broken.{has_note}
+use Rattle.abc_music.specs.TokenRole.{has_note}
 use Rattle.abc_bars.specs.FieldKind.{kind_of}
 use Rattle.abc_bars.specs.Voices.{voice_at}
 use Rattle.abc_bars.specs.LookBack.Element.{Element}

@@ -35,7 +35,7 @@ use Rattle.abc_music.specs.declared.sound.Inside.{Inside}
 use Rattle.abc_music.specs.declared.tied.TiedNote.{TiedNote}
 use Rattle.abc_music.specs.Accidentals.{reach_of, written_on}
 use Rattle.abc_music.specs.Alteration.{alteration_of, with_own}
-use Rattle.abc_music.specs.Broken.{factors_of, has_note, is_time_token}
+use Rattle.abc_music.specs.Broken.{factors_of, is_time_token}
 use Rattle.abc_music.specs.Chords.{around_part, inside_from, inside_of, tie_follows, with_dropped, with_fault as with_part_fault}
 use Rattle.abc_music.specs.Column.{column_of}
 use Rattle.abc_music.specs.Program.{program_of}
@@ -43,6 +43,7 @@ use Rattle.abc_music.specs.NoteKeys.{IsAltered, IsSame}
 use Rattle.abc_music.specs.Pitch.{midi_key, pitch_of}
 use Rattle.abc_music.specs.Sound.{no_notes, with_note as with_sounding}
 use Rattle.abc_music.specs.TimeTokens.{chord_by, first_length}
+use Rattle.abc_music.specs.TokenRole.{has_note}
 use Rattle.abc_music.proofs.NoteKeys.{altered_by}
 use Rattle.abc_bars.specs.Body.{here, mentioned}
 use Rattle.abc_bars.specs.BodyFields.{field_given}

@@ -8,9 +8,10 @@ use Rattle.abc_bars.specs.declared.cell.Given.{Given}
 use Rattle.abc_music.specs.declared.broken.Behind.TheVariants.{Nothing}
 use Rattle.abc_music.specs.declared.item.Item.{Item}
 use Rattle.abc_music.specs.declared.settings.Settings.{Settings}
-use Rattle.abc_music.specs.Broken.{behind_from, factors_of, has_note}
+use Rattle.abc_music.specs.Broken.{behind_from, factors_of}
 use Rattle.abc_music.specs.Lasting.{factors_at}
 use Rattle.abc_music.specs.TimeTokens.{chord_played, note_played, rest_played}
+use Rattle.abc_music.specs.TokenRole.{has_note}
 use Rattle.abc_music.proofs.ChordNotes.{chords_sound}
 use Rattle.abc_music.proofs.Lasting.{notes_last, rests_last}
 use Rattle.abc_bars.specs.Body.{here}

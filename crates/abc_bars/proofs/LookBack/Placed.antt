@@ -22,10 +22,10 @@ use Rattle.abc_bars.specs.declared.header.Header.{Header}
 use Rattle.abc_music.specs.declared.accidentals.Accidentals.{Accidentals}
 use Rattle.abc_music.specs.declared.settings.Settings.{Settings}
 use Rattle.abc_music.specs.Accidentals.{no_accidentals}
+use Rattle.abc_music.specs.TokenRole.{has_note}
 use Rattle.abc_music.specs.declared.item.TheConstants.{MOST_VOICES}
 use Rattle.abc_bars.specs.BodyFields.{part_of}
 use Rattle.abc_bars.specs.BodyOpening.{body_from, current_in, opening_another, opening_settings, opening_voice}
-use Rattle.abc_music.specs.Broken.{has_note}
 use Rattle.abc_bars.specs.FieldKind.{kind_of}
 use Rattle.abc_bars.specs.Voices.{voice_at}
 use Rattle.abc_bars.specs.LookBack.Held.{IsPlaced, Roll, current_by, roll_of, place_of_current}

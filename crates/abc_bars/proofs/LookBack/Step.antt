@@ -8,7 +8,7 @@ use Rattle.abc_bars.specs.declared.header.Header.{Header}
 use Rattle.abc_music.specs.declared.settings.Settings.{Settings}
 use Rattle.abc_bars.specs.Body.{here, mentioned, with_here}
 use Rattle.abc_bars.specs.BodyOpening.{body_from}
-use Rattle.abc_music.specs.Broken.{has_note}
+use Rattle.abc_music.specs.TokenRole.{has_note}
 use Rattle.abc_bars.specs.FieldKind.{kind_of}
 use Rattle.abc_bars.specs.LookBack.Held.{IsPlaced, Roll, roll_of}
 use Rattle.abc_bars.proofs.LookBack.ByPlace.{Here, Music, Nobody, first_or, hearing_of, roll_at, settings_in, voices_by, with_heard, placed_at}

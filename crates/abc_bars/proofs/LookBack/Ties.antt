@@ -34,9 +34,10 @@ use Rattle.abc_music.specs.declared.item.Item.TheVariants as items
 use Rattle.abc_music.specs.declared.settings.Settings.{Settings}
 use Rattle.abc_music.specs.declared.tied.TiedNote.{TiedNote}
 use Rattle.abc_music.specs.BarRest.{bar_rest_length, bars_of, or_one_bar}
-use Rattle.abc_music.specs.Broken.{factors_of, has_note, is_bad_mark, is_time_token}
+use Rattle.abc_music.specs.Broken.{factors_of, is_bad_mark, is_time_token}
 use Rattle.abc_music.specs.LooseTies.{is_loose_tie}
 use Rattle.abc_music.specs.Sound.{fault_if}
+use Rattle.abc_music.specs.TokenRole.{has_note}
 use Rattle.abc_music.specs.Tuplet.{OpenTuplet, opened, tuplet_by}
 use Rattle.abc_music.proofs.LooseTies.{ties_behind_notes}
 use Rattle.abc_bars.specs.Body.{here, made_current, mentioned}

@@ -41,7 +41,7 @@ use Rattle.abc_music.specs.Alteration.{with_own}
 use Rattle.abc_music.specs.BarRest.{bar_rest_of}
 use Rattle.abc_bars.specs.Body.{here, here_in, made_current, mentioned, with_here, with_here_in}
 use Rattle.abc_bars.specs.BodyFields.{accepted, faulty, key_by, kind_given, meter_by, part_by, part_of, tempo_by, unit_by, voice_by, voice_made}
-use Rattle.abc_music.specs.Broken.{factors_of, has_note, is_bad_mark}
+use Rattle.abc_music.specs.Broken.{factors_of, is_bad_mark}
 use Rattle.abc_bars.specs.Cell.{mentioned_by_chord, tie_ahead, with_directive, with_ending, with_fault, with_fault_if, with_item, with_kind, with_some_fault}
 use Rattle.abc_music.specs.Chords.{around_part, inside_from, tie_follows, with_kind as with_part_kind}
 use Rattle.abc_music.specs.Column.{column_of}
@@ -50,6 +50,7 @@ use Rattle.abc_bars.specs.FieldKind.{kind_of}
 use Rattle.abc_music.specs.Sound.{no_notes, tied_note_in, with_note}
 use Rattle.abc_music.specs.TempoItem.{is_out}
 use Rattle.abc_music.specs.TimeTokens.{chord_by, chord_played}
+use Rattle.abc_music.specs.TokenRole.{has_note}
 use Rattle.abc_music.specs.Tuplet.{counted_down, tuplet_opened}
 use Rattle.abc_bars.specs.Voices.{voice_at, with_voice_at}
 use Rattle.abc_bars.specs.LookBack.AfterBody.{body_after, mentioned_if}

@@ -16,10 +16,11 @@ use Rattle.abc_music.specs.declared.item.Tone.{Tone}
 use Rattle.abc_music.specs.declared.settings.Settings.{Settings}
 use Rattle.abc_music.specs.declared.sound.Around.{Around}
 use Rattle.abc_music.specs.declared.sound.Inside.{Inside}
-use Rattle.abc_music.specs.Broken.{factors_of, has_note}
+use Rattle.abc_music.specs.Broken.{factors_of}
 use Rattle.abc_music.specs.Chords.{around_part, inside_from, inside_of, tie_follows, with_dropped, with_fault as with_part_fault, with_kind as with_part_kind, with_part}
 use Rattle.abc_music.specs.Sound.{no_notes, tone_in, with_note}
 use Rattle.abc_music.specs.TimeTokens.{first_length}
+use Rattle.abc_music.specs.TokenRole.{has_note}
 use Rattle.abc_music.specs.Velocity.{velocity_of}
 use Rattle.abc_bars.specs.Body.{here, mentioned}
 use Rattle.abc_bars.specs.Cell.{mentioned_by_chord, tie_ahead}

@@ -11,6 +11,7 @@ use Rattle.abc_bars.specs.declared.field_kind.FieldKind.{FieldKind}
 use Rattle.abc_bars.specs.declared.field_kind.FieldKind.TheVariants as fields
 use Rattle.abc_bars.specs.BodyFields.{part_of}
 use Rattle.abc_bars.specs.FieldKind.{kind_of}
+use Rattle.abc_music.specs.TokenRole.{has_note, is_note_part}
 use Rattle.abc_music.specs.VoiceShift.{with_properties}
 use Rattle.abc_bars.specs.LookBack.After.{after, after_field, after_kind, in_meter, in_part, in_unit, in_voice}
 use Rattle.abc_bars.specs.LookBack.Defaults.{meter_said, unit_said}
@@ -29,7 +30,6 @@ use Rattle.abc_music.specs.declared.accidentals.Accidentals.{Accidentals}
 use Rattle.abc_music.specs.declared.settings.Settings.{Settings}
 use Rattle.abc_music.specs.Accidentals.{no_accidentals, reach_of}
 use Rattle.abc_music.specs.Alteration.{alteration_of}
-use Rattle.abc_music.specs.Broken.{has_note, is_note_part}
 use Rattle.abc_music.specs.declared.chords.Outside.{Outside}
 use Rattle.abc_music.specs.declared.sound.Inside.{Inside}
 use Rattle.abc_music.specs.declared.item.TheConstants.{MOST_CHORD_NOTES}

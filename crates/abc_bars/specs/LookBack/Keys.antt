@@ -20,8 +20,8 @@ use Rattle.abc_music.specs.declared.item.Item.TheVariants as items
 use Rattle.abc_music.specs.declared.item.Tone.{Tone}
 use Rattle.abc_music.specs.declared.settings.Settings.{Settings}
 use Rattle.abc_music.specs.Accidentals.{reach_of}
-use Rattle.abc_music.specs.Broken.{has_note}
 use Rattle.abc_music.specs.Pitch.{midi_key, pitch_of}
+use Rattle.abc_music.specs.TokenRole.{has_note}
 use Rattle.abc_bars.specs.Cell.{tie_ahead}
 use Rattle.abc_bars.specs.LookBack.ByName.{naming_at, opening_of, tokens_of}
 use Rattle.abc_bars.specs.LookBack.Cells.{behind_tokens}

@@ -15,7 +15,7 @@ use Rattle.abc_bars.specs.declared.defaults.Defaults.{Defaults}
 use Rattle.abc_music.specs.declared.item.Item.{Item}
 use Rattle.abc_music.specs.declared.item.Item.TheVariants as items
 use Rattle.abc_music.specs.declared.item.Tone.{Tone}
-use Rattle.abc_music.specs.Broken.{has_note}
+use Rattle.abc_music.specs.TokenRole.{has_note}
 use Rattle.abc_bars.specs.LookBack.Cells.{behind_tokens}
 use Rattle.abc_bars.specs.LookBack.Element.{Element}
 use Rattle.abc_bars.specs.LookBack.Keys.{standing}

@@ -35,9 +35,10 @@ use Rattle.abc_music.specs.declared.voice_shift.VoiceShift.{VoiceShift}
 use Rattle.abc_music.specs.Accidentals.{no_accidentals, reach_of}
 use Rattle.abc_music.specs.Alteration.{own_alteration, tied_alteration, with_own}
 use Rattle.abc_bars.specs.BodyFields.{part_of}
-use Rattle.abc_music.specs.Broken.{has_note, is_time_token}
+use Rattle.abc_music.specs.Broken.{is_time_token}
 use Rattle.abc_music.specs.Chords.{tie_follows}
 use Rattle.abc_bars.specs.FieldKind.{kind_of}
+use Rattle.abc_music.specs.TokenRole.{has_note}
 use Rattle.abc_music.specs.Tuplet.{OpenTuplet, tuplet_by}
 use Rattle.abc_bars.specs.LookBack.Defaults.{meter_said, unit_said}
 use Rattle.abc_bars.specs.LookBack.Element.{Element, field_of}

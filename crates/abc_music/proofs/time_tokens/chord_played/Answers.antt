@@ -1,6 +1,6 @@
 use Rattle.std.proofs.Common.{◌≡◌, true}
 use Rattle.abc_music.specs.declared.chords.Outside.{Outside}
-use Rattle.abc_music.specs.Broken.{has_note}
+use Rattle.abc_music.specs.TokenRole.{has_note}
 use Rattle.abc_music.proofs.ChordTones.{chord-tone}
 use Rattle.abc_music.proofs.time_tokens.chord_played.Goals as goal
 
