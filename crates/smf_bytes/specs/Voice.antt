@@ -1,8 +1,5 @@
 -- The events of a voice before they are written.
-use Rattle.std.specs.Prelude.{ℕ, ◌+◌, ◌*◌, ◌==◌, if◌then◌else◌, List, [], ◌∷◌, ◌++◌, flat_map, map}
-use Rattle.std.specs.Cmp.{IsTotalOrder, nat_cmp_total, on_total, then_total}
-use Rattle.std.specs.Ordering.{nat_cmp, on, then_cmp}
-use Rattle.std.specs.declared.cmp.Ordering.{Ordering}
+use Rattle.std.specs.Prelude.{ℕ, ◌+◌, ◌==◌, if◌then◌else◌, List, [], ◌∷◌, ◌++◌, flat_map, map}
 use Rattle.abc_time.specs.Grains.{tick_at}
 use Rattle.abc_voices.specs.declared.score.ProgramChange.{ProgramChange as VoiceProgram}
 use Rattle.abc_voices.specs.declared.score.Sounding.{Sounding}
@@ -22,22 +19,6 @@ abbrev pub class_in : VoiceEventKind → ℕ
 class_in NoteOff = 1
 class_in ProgramChange = 2
 class_in NoteOn = 3
-
--- Events of a voice compare by tick, then class, then key, then value.
-abbrev pub voice_cmp : VoiceEvent → VoiceEvent → Ordering
-voice_cmp =
-    then_cmp (on (λ e. e.tick) nat_cmp)
-    (then_cmp (on (λ e. class_in e.kind) nat_cmp) (then_cmp (on (λ e. e.key) nat_cmp) (on (λ e. e.value) nat_cmp)))
-
-abbrev pub voice_total : IsTotalOrder voice_cmp
-voice_total =
-    then_total (on_total (λ e. e.tick) nat_cmp_total)
-    (then_total (on_total (λ e. class_in e.kind) nat_cmp_total)
-    (then_total (on_total (λ e. e.key) nat_cmp_total) (on_total (λ e. e.value) nat_cmp_total)))
-
--- A number that grows as the events do, since keys and values are bytes.
-abbrev pub rank_of : VoiceEvent → ℕ
-rank_of event = ((event.tick * 4 + class_in event.kind) * 256 + event.key) * 256 + event.value
 
 -- The event on a channel.
 abbrev pub event_at : ℕ → VoiceEvent → Event

@@ -91,7 +91,7 @@ fn put_voice_events(
     for event in &ordered {
         let delta = event.tick - before;
         before = event.tick;
-        put_voice_event(out, delta, channel, *event)?;
+        put_voice_event(out, delta, channel, event)?;
     }
     put_end(out, end - before)
 }
@@ -101,12 +101,12 @@ fn put_voice_event(
     out: &mut Vec<u8>,
     delta: u32,
     channel: u8,
-    event: VoiceEvent,
+    event: &VoiceEvent,
 ) -> Result<(), AllocError>
     requires delta { delta < 2 ^ 28 }
     requires channel { channel < 16 }
     ensures { OnOk result (out.new.items
-        ≡ out.old.items ++ number_text delta ++ bytes_of event.kind channel event.key event.value) }
+        ≡ out.old.items ++ number_text delta ++ bytes_of event.now.kind channel event.now.key event.now.value) }
 {
     match event.kind {
         VoiceEventKind::NoteOff => put_note(out, delta, [0x80 + channel, event.key, event.value]),
@@ -120,6 +120,7 @@ fn put_voice_event(
 
 /// Appends the bytes of a note that begins or ends, so many ticks behind the event before it. A delta time of one
 /// byte or two, as most are, goes in together with them.
+#[inline(always)]
 #[tactic(auto, unfolding(crate::specs::Number::number_text))]
 fn put_note(out: &mut Vec<u8>, delta: u32, bytes: [u8; 3]) -> Result<(), AllocError>
     requires delta { delta < 2 ^ 28 }
