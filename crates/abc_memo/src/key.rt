@@ -1,6 +1,6 @@
 //! What a tune is known by.
 
-ghost use Rattle.std.specs.Prelude.{◌≡◌, [], ◌∷◌, ◌++◌, OnOk};
+ghost use Rattle.std.specs.Prelude.{◌≡◌, [], ◌∷◌, ◌++◌, OnErr, OnOk};
 ghost use Rattle.std.proofs.Common.{ap, sym};
 ghost use Rattle.std.specs.Cmp.Lexicographic.{same_text};
 ghost use Rattle.std.specs.Hash.{second_alike};
@@ -30,13 +30,15 @@ impl<D: Eq> Hash for TuneKey<D> {
     }
 }
 
-/// Puts a line of this class behind the bytes by which a tune is known.
+/// Puts a line of this class behind the bytes by which a tune is known. Where memory is refused these stay alone.
 pub fn put_line(bytes: &mut Vec<u8>, class: LineClass, line: &[u8]) -> Result<(), AllocError>
-    ensures { OnOk result (bytes.new.items ≡ bytes.old.items ++ line_bytes class line.now) }
+    ensures put { OnOk result (bytes.new.items ≡ bytes.old.items ++ line_bytes class line.now) }
+    ensures refused { OnErr result (bytes.new.items ≡ bytes.old.items) }
 {
     match class {
         LineClass::Comment => Ok(()),
         LineClass::Blank | LineClass::Field(_) | LineClass::Directive | LineClass::Music => {
+            bytes.reserve(line.len() + 1)?;
             bytes.extend_from_slice(line)?;
             bytes.push(b'\n')?;
             Ok(())
