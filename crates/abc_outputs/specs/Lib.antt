@@ -1,4 +1,5 @@
 pub mod Built
+pub mod Front
 pub mod Key
 pub mod Output
 pub mod Taken

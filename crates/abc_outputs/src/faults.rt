@@ -3,6 +3,7 @@
 ghost use Rattle.std.specs.Prelude.{◌≡◌, ◌+◌, ◌-◌, ◌≤◌, ◌++◌, length, map, take, drop, OnOk};
 ghost use Rattle.std.specs.List.{sum_by};
 ghost use Rattle.abc_outputs.specs.Output.{placed_from};
+ghost use Rattle.abc_outputs.specs.Front.{StayInFront};
 ghost use Rattle.abc_tunebook.specs.Placed.{placed_at};
 ghost use Rattle.abc_tunebook.specs.Tune.{fault_in, fault_of_tune, faults_along};
 
@@ -18,7 +19,8 @@ fn put_of_cell(
     line: u32,
     found: &[(u32, FaultCode)],
 ) -> Result<(), AllocError>
-    ensures { OnOk result (faults.new.items ≡ faults.old.items ++ map (fault_in line) found.now) }
+    ensures put { OnOk result (faults.new.items ≡ faults.old.items ++ map (fault_in line) found.now) }
+    ensures front { StayInFront faults.old.items faults.new.items }
 {
     for (column, code) in found {
         faults.push(Fault {
@@ -31,6 +33,7 @@ fn put_of_cell(
 }
 
 /// Puts the faults of the cells of a line, those from one place of a chain to another, behind others.
+#[tactic(auto, using(crate::proofs::Fronts::front_both))]
 fn put_of_line<C: Compiler>(
     compiler: &C,
     faults: &mut Vec<Fault>,
@@ -41,7 +44,8 @@ fn put_of_line<C: Compiler>(
 ) -> Result<(), AllocError>
     requires order { from ≤ to }
     requires inside { to ≤ length chain.now.items }
-    ensures { OnOk result (faults.new.items ≡ faults.old.items ++ faults_along (C.rules compiler.now).faults (map (placed_at line) (take (to - from) (drop from chain.now.items)))) }
+    ensures put { OnOk result (faults.new.items ≡ faults.old.items ++ faults_along (C.rules compiler.now).faults (map (placed_at line) (take (to - from) (drop from chain.now.items)))) }
+    ensures front { StayInFront faults.old.items faults.new.items }
 {
     for i in from..to {
         if let Some(items) = chain.items(i) {
@@ -53,6 +57,7 @@ fn put_of_line<C: Compiler>(
 
 /// Puts the faults of the cells of a chain behind others, by how many of its cells each line has: the first of these
 /// lines has this number.
+#[tactic(auto, using(crate::proofs::Fronts::front_both))]
 pub(crate) fn put_of_lines<C: Compiler>(
     compiler: &C,
     faults: &mut Vec<Fault>,
@@ -63,7 +68,8 @@ pub(crate) fn put_of_lines<C: Compiler>(
     requires few { first + length counts.now ≤ u32.MAX }
     requires shape { length chain.now.items ≡ length chain.now.cells }
     requires inside { sum_by (λ count. count) counts.now ≤ length chain.now.cells }
-    ensures { OnOk result (faults.new.items ≡ faults.old.items ++ faults_along (C.rules compiler.now).faults (placed_from first counts.now chain.now.items)) }
+    ensures put { OnOk result (faults.new.items ≡ faults.old.items ++ faults_along (C.rules compiler.now).faults (placed_from first counts.now chain.now.items)) }
+    ensures front { StayInFront faults.old.items faults.new.items }
 {
     let _ = chain.len();
     let mut from = 0;
@@ -81,7 +87,8 @@ pub(crate) fn put_of_tune(
     line: u32,
     codes: &[FaultCode],
 ) -> Result<(), AllocError>
-    ensures { OnOk result (faults.new.items ≡ faults.old.items ++ map (fault_of_tune line) codes.now) }
+    ensures put { OnOk result (faults.new.items ≡ faults.old.items ++ map (fault_of_tune line) codes.now) }
+    ensures front { StayInFront faults.old.items faults.new.items }
 {
     for code in codes {
         faults.push(Fault {

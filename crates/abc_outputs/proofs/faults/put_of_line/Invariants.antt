@@ -1,9 +1,13 @@
 use Rattle.std.proofs.Common.{◌≡◌, ◌-◌, ◌++◌, drop, map, take}
 use Rattle.abc_tunebook.specs.Placed.{placed_at}
 use Rattle.abc_tunebook.specs.Tune.{faults_along}
+use Rattle.abc_outputs.specs.Front.{StayInFront}
 use Rattle.abc_outputs.proofs.faults.put_of_line.Given as goal
 
 -- what is put, and the rest
 abbrev pub invariant-loop-i : goal.invariant-loop-i
-invariant-loop-i g l = l.faults.items ++ faults_along (g.C.Compiler.rules l.compiler).faults (map (placed_at l.line) (take (l.to - l.i) (drop l.i l.chain.items)))
-    ≡ l.initial.faults.items ++ faults_along (g.C.Compiler.rules l.compiler).faults (map (placed_at l.line) (take (l.to - l.from) (drop l.from l.chain.items)))
+invariant-loop-i g l = record {
+  put : l.faults.items ++ faults_along (g.C.Compiler.rules l.compiler).faults (map (placed_at l.line) (take (l.to - l.i) (drop l.i l.chain.items)))
+      ≡ l.initial.faults.items ++ faults_along (g.C.Compiler.rules l.compiler).faults (map (placed_at l.line) (take (l.to - l.from) (drop l.from l.chain.items)));
+  front : StayInFront l.initial.faults.items l.faults.items;
+}
