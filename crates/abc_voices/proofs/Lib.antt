@@ -3,6 +3,7 @@ pub mod Cuts
 pub mod Endings
 pub mod Fitting
 pub mod Given
+pub mod InOne
 pub mod Layouts
 pub mod Lengths
 pub mod Mapped

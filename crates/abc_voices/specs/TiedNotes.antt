@@ -60,6 +60,16 @@ before at None notes = notes
 before at (Some tones) notes =
     before_all (with_tones at (record { begun = []; next = notes.first }) tones) notes.others
 
+-- The notes of a play in three parts: those that begin at its first time token, of those that begin at the next one what
+-- none of them is tied to, and the others.
+pub record NotesInParts : Type 0 where
+  pub linked : TokenNotes
+  pub others : List Sounding
+
+-- The notes of a play, of their parts.
+abbrev pub notes_in : NotesInParts → Notes
+notes_in parts = before_all parts.linked parts.others
+
 -- The notes of what is played from this moment on, in front of a play with these notes.
 abbrev pub notes_from : {A : Type 0} → (A → Item) → ℕ → List A → Notes → Notes
 notes_from item_of at [] notes = notes

@@ -1,14 +1,16 @@
 //! Notes of time tokens, tied ones joined, from the last token to the first.
 
-ghost use Rattle.std.specs.Prelude.{◌≡◌, ◌==◌, ◌≤◌, ◌<◌, length, position, All, IfSome, OnOk};
+ghost use Rattle.std.specs.Prelude.{◌≡◌, ◌==◌, ◌≤◌, ◌<◌, ◌++◌, [], ◌∷◌, length, position, remove, slice_index_or, All, Some, IfSome, OnOk};
 ghost use Rattle.abc_music.specs.Item.{IsTone};
 ghost use Rattle.abc_time.specs.Grains.{grains_of_the_latest_end};
-ghost use Rattle.abc_voices.specs.TiedNotes.{TokenNotes, next_place, with_key, with_tones};
+ghost use Rattle.abc_voices.specs.Arrange.{all_notes};
+ghost use Rattle.abc_voices.specs.TiedNotes.{before, next_place, notes_in, with_key};
 
 use crate::score::Sounding;
 use abc_music::Tone;
 use abc_time::Grains;
-use std::alloc::AllocError;
+use std::alloc::{AllocError, Global};
+use std::marker::Model;
 
 /// The place of the first note of a key.
 fn place_of(notes: &[Sounding], key: u8) -> Option<usize>
@@ -25,49 +27,129 @@ fn next_place(tied: bool, key: u8, next: &[Sounding]) -> Option<usize>
     if tied { place_of(next, key) } else { None }
 }
 
-/// Begins the note of a tone at a moment, where it has a key.
-#[tactic(auto, unfolding(abc_time::specs::Grains::grains_of_a_whole_note, abc_time::specs::Grains::grains_of_the_longest_length, abc_time::specs::Grains::grains_of_the_latest_end))]
-fn begin_note(
-    begun: &mut Vec<Sounding>,
-    next: &mut Vec<Sounding>,
-    at: Grains,
-    tone: &Tone,
-) -> Result<(), AllocError>
-    requires at { at.0 ≤ grains_of_the_latest_end }
-    requires tone { IsTone tone.now }
-    ensures { OnOk result (record { begun = begun.new.items; next = next.new.items }
-        ≡ with_key at.0 tone.now (record { begun = begun.old.items; next = next.old.items }) tone.now.key) }
-{
-    let Some(key) = tone.key else {
-        return Ok(());
-    };
-    let mut note = Sounding {
-        key,
-        on: at,
-        off: Grains(at.0 + tone.length.0),
-        velocity: tone.velocity,
-    };
-    if let Some(place) = next_place(tone.tied, key, next) {
-        note.off = next.remove(place).off;
-    }
-    begun.push(note)?;
-    Ok(())
+/// The notes of a play, in one list: those that begin at its first time token last, and in front of them those of the
+/// next one that none of them is tied to. Contracts see the parts.
+#[derive(Drop)]
+pub(crate) struct NotesInOne {
+    notes: Vec<Sounding>,
+    /// Where those that begin at the next time token begin.
+    next: usize,
+    /// Where those that begin at the first time token begin.
+    begun: usize,
 }
 
-/// Begins the notes of a time token at a moment, in front of those that begin at the next one.
-pub(crate) fn begin_notes(
-    begun: &mut Vec<Sounding>,
-    next: &mut Vec<Sounding>,
-    at: Grains,
-    tones: &[Tone],
-) -> Result<(), AllocError>
-    requires at { at.0 ≤ grains_of_the_latest_end }
-    requires tones { All IsTone tones.now }
-    ensures { OnOk result (record { begun = begun.new.items; next = next.new.items }
-        ≡ with_tones at.0 (record { begun = begun.old.items; next = next.old.items }) tones.now) }
-{
-    for tone in tones {
-        begin_note(begun, next, at, tone)?;
+impl Model for NotesInOne {
+    ghost use Rattle.std.specs.Prelude.{◌≤◌, length, take, drop, slice_range};
+    ghost use Rattle.abc_voices.specs.TiedNotes.{NotesInParts};
+
+    ghost Value = { NotesInParts };
+
+    ghost view = { λ one. record {
+      linked = record { begun = drop one.begun one.notes.items; next = slice_range one.notes.items one.next one.begun };
+      others = take one.next one.notes.items;
+    } };
+
+    ghost invariant = { λ one. (one.next ≤ one.begun) × (one.begun ≤ length one.notes.items) };
+}
+
+impl NotesInOne {
+    /// No notes yet.
+    pub(crate) fn new(alloc: Global) -> NotesInOne
+        ensures { result ≡ record { linked = record { begun = []; next = [] }; others = [] } }
+    {
+        NotesInOne {
+            notes: Vec::new(alloc),
+            next: 0,
+            begun: 0,
+        }
     }
-    Ok(())
+
+    /// Makes room for so many more.
+    pub(crate) fn reserve(&mut self, more: usize) -> Result<(), AllocError>
+        ensures { self.new ≡ self.old }
+    {
+        self.notes.reserve(more)?;
+        Ok(())
+    }
+
+    /// Where the note stands that a tone is joined with, of those that begin at the next time token.
+    fn next_place(&self, tied: bool, key: u8) -> Option<usize>
+        ensures value { result ≡ next_place tied key self.now.linked.next }
+        ensures inside { IfSome result (λ place. place < length self.now.linked.next) }
+    {
+        next_place(tied, key, &self.notes[self.next..self.begun])
+    }
+
+    /// Takes out the note at a place, of those that begin at the next time token.
+    fn take_next(&mut self, place: usize) -> Sounding
+        requires { place < length self.old.linked.next }
+        ensures value { result ≡ slice_index_or self.old.linked.next place result }
+        ensures rest { self.new ≡ record self.old { linked = record self.old.linked { next = remove self.old.linked.next place } } }
+    {
+        self.begun -= 1;
+        self.notes.remove(self.next + place)
+    }
+
+    /// Puts one more that begins at the first time token.
+    fn push(&mut self, note: Sounding) -> Result<(), AllocError>
+        ensures { OnOk result (self.new
+            ≡ record self.old { linked = record self.old.linked { begun = self.old.linked.begun ++ note ∷ [] } }) }
+    {
+        self.notes.push(note)?;
+        Ok(())
+    }
+
+    /// Begins the note of a tone at a moment, where it has a key.
+    #[tactic(auto, unfolding(abc_time::specs::Grains::grains_of_a_whole_note, abc_time::specs::Grains::grains_of_the_longest_length, abc_time::specs::Grains::grains_of_the_latest_end))]
+    fn begin_note(&mut self, at: Grains, tone: &Tone) -> Result<(), AllocError>
+        requires at { at.0 ≤ grains_of_the_latest_end }
+        requires tone { IsTone tone.now }
+        ensures { OnOk result (self.new
+            ≡ record self.old { linked = with_key at.0 tone.now self.old.linked tone.now.key }) }
+    {
+        let Some(key) = tone.key else {
+            return Ok(());
+        };
+        let mut note = Sounding {
+            key,
+            on: at,
+            off: Grains(at.0 + tone.length.0),
+            velocity: tone.velocity,
+        };
+        if let Some(place) = self.next_place(tone.tied, key) {
+            note.off = self.take_next(place).off;
+        }
+        self.push(note)
+    }
+
+    /// Begins a time token in front of the first one.
+    fn begin_token(&mut self)
+        ensures { self.new ≡ record {
+          linked = record { begun = []; next = self.old.linked.begun };
+          others = self.old.others ++ self.old.linked.next;
+        } }
+    {
+        self.next = self.begun;
+        self.begun = self.notes.len();
+    }
+
+    /// Puts a time token before a play.
+    pub(crate) fn put_token(&mut self, at: Grains, tones: &[Tone]) -> Result<(), AllocError>
+        requires at { at.0 ≤ grains_of_the_latest_end }
+        requires tones { All IsTone tones.now }
+        ensures { OnOk result (notes_in self.new ≡ before at.0 (Some tones.now) (notes_in self.old)) }
+    {
+        self.begin_token();
+        for tone in tones {
+            self.begin_note(at, tone)?;
+        }
+        Ok(())
+    }
+
+    /// All of them.
+    pub(crate) fn into_notes(self) -> Vec<Sounding>
+        ensures { result.items ≡ all_notes (notes_in self) }
+    {
+        self.notes
+    }
 }

@@ -4,11 +4,12 @@ ghost use Rattle.std.specs.Prelude.{◌≡◌, ◌+◌, ◌-◌, ◌≤◌, All,
 ghost use Rattle.abc_time.specs.Grains.{grains_of_the_latest_end};
 ghost use Rattle.abc_voices.specs.Turns.{IsPart, IsStage, stages_in, length_along, before_rest, notes_along, voices_along};
 ghost use Rattle.abc_voices.specs.Arrange.{all_notes};
-ghost use Rattle.abc_voices.specs.TiedNotes.{notes_from};
+ghost use Rattle.abc_voices.specs.TiedNotes.{notes_from, notes_in};
 
 use crate::notes::put_notes;
 use crate::score::Sounding;
 use crate::stage::{Part, Stage, Turn};
+use crate::tied_notes::NotesInOne;
 use abc_text::Sequence;
 use abc_time::Grains;
 use std::alloc::{AllocError, Global};
@@ -16,39 +17,34 @@ use std::alloc::{AllocError, Global};
 /// Puts a part that is played from a moment on before the notes of what comes behind it.
 #[tactic(auto, unfolding(abc_time::specs::Grains::grains_of_a_whole_note, abc_time::specs::Grains::grains_of_the_latest_end))]
 fn put_part(
-    alloc: Global,
-    first: &mut Vec<Sounding>,
-    others: &mut Vec<Sounding>,
+    notes: &mut NotesInOne,
     at: Grains,
     longest: Grains,
     part: &Part,
 ) -> Result<(), AllocError>
     requires part { IsPart longest part.now }
     requires end { at.0 + longest.0 ≤ grains_of_the_latest_end }
-    ensures { OnOk result (record { first = first.new.items; others = others.new.items }
-        ≡ notes_from (λ step. step.now) at.0 part.now.steps (record { first = first.old.items; others = others.old.items })) }
+    ensures { OnOk result (notes_in notes.new
+        ≡ notes_from (λ step. step.now) at.0 part.now.steps (notes_in notes.old)) }
 {
     let end = Grains(at.0 + part.length.0);
-    put_notes(alloc, first, others, end, part.steps.as_slice())
+    put_notes(notes, end, part.steps.as_slice())
 }
 
 /// Puts what a voice plays of a stage before the notes of what comes behind it.
 fn put_stage(
-    alloc: Global,
-    first: &mut Vec<Sounding>,
-    others: &mut Vec<Sounding>,
+    notes: &mut NotesInOne,
     at: Grains,
     stage: &Stage,
     voice: usize,
 ) -> Result<(), AllocError>
     requires stage { IsStage stage.now }
     requires end { at.0 + stage.now.longest.0 ≤ grains_of_the_latest_end }
-    ensures { OnOk result (record { first = first.new.items; others = others.new.items }
-        ≡ before_rest voice at.0 stage.now (record { first = first.old.items; others = others.old.items })) }
+    ensures { OnOk result (notes_in notes.new ≡ before_rest voice at.0 stage.now (notes_in notes.old)) }
 {
     let parts = stage.parts.as_slice();
     match parts.get(voice) {
-        Some(part) => put_part(alloc, first, others, at, stage.longest, part),
+        Some(part) => put_part(notes, at, stage.longest, part),
         None => Ok(()),
     }
 }
@@ -65,18 +61,16 @@ fn voice_notes(
     requires in_time { end.0 ≤ grains_of_the_latest_end }
     ensures { IfOk result (λ notes. notes ≡ all_notes (notes_along voice 0 (stages_in turns.now))) }
 {
-    let mut first = Vec::new(alloc);
-    let mut others = Vec::new(alloc);
+    let mut notes = NotesInOne::new(alloc);
     let mut at = end;
     let mut left = turns.len();
     while left > 0 {
         left -= 1;
         let stage = turns[left].stage;
         at.0 -= stage.longest.0;
-        put_stage(alloc, &mut first, &mut others, at, stage, voice)?;
+        put_stage(&mut notes, at, stage, voice)?;
     }
-    others.extend_from_slice(&first)?;
-    Ok(Sequence::from(others))
+    Ok(Sequence::from(notes.into_notes()))
 }
 
 /// The notes of the voices from the first that is counted on up to so many.

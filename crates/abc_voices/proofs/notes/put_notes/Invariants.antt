@@ -1,5 +1,5 @@
-use Rattle.std.proofs.Common.{◌≡◌, ◌+◌, ◌-◌, ◌≤◌, [], length, take, drop}
-use Rattle.abc_voices.specs.TiedNotes.{notes_from}
+use Rattle.std.proofs.Common.{◌≡◌, ◌+◌, ◌-◌, ◌≤◌, length, take, drop}
+use Rattle.abc_voices.specs.TiedNotes.{notes_from, notes_in}
 use Rattle.abc_voices.specs.Play.{duration}
 use Rattle.abc_voices.proofs.notes.put_notes.Given as goal
 
@@ -8,8 +8,7 @@ abbrev pub invariant-loop-left : goal.invariant-loop-left
 invariant-loop-left l = record {
   inside : l.left ≤ length l.steps;
   moment : l.at.0 ≡ (l.fn.end.0 - duration (λ step. step.now) l.steps) + duration (λ step. step.now) (take l.left l.steps);
-  emptied : l.emptied.items ≡ [];
-  notes : record { first = l.first.items; others = l.others.items } ≡ notes_from (λ step. step.now) l.at.0 (drop l.left l.steps) (record { first = l.initial.first.items; others = l.initial.others.items });
+  notes : notes_in l.notes ≡ notes_from (λ step. step.now) l.at.0 (drop l.left l.steps) (notes_in l.initial.notes);
 }
 
 abbrev pub decreases-loop-left : goal.decreases-loop-left
