@@ -1,4 +1,5 @@
 pub mod Chains
+pub mod Conductor
 pub mod Cuts
 pub mod Endings
 pub mod Fitting

@@ -20,7 +20,7 @@ use Rattle.abc_voices.specs.Track.{everyone, tracks}
 use Rattle.abc_voices.specs.Voices.{or_said}
 
 -- what is said by the first of these that says something
-or_none : {V : Type 0} (value : Option V) → value ≡ or_said value None
+pub or_none : {V : Type 0} (value : Option V) → value ≡ or_said value None
 or_none None = refl
 or_none (Some value) = refl
 
@@ -32,13 +32,13 @@ or_map : {V W : Type 0} (f : V → W) (a b : Option V) → option_map f (or_said
 or_map f None b = refl
 or_map f (Some value) b = refl
 
-last_append : {X V : Type 0} (says : X → Option V) (xs ys : List X) → last_said says (xs ++ ys) ≡ or_said (last_said says ys) (last_said says xs)
+pub last_append : {X V : Type 0} (says : X → Option V) (xs ys : List X) → last_said says (xs ++ ys) ≡ or_said (last_said says ys) (last_said says xs)
 last_append says [] ys = or_none (last_said says ys)
 last_append says (x ∷ xs) ys =
     ap (λ (v : _). or_said v (says x)) (last_append says xs ys) ∙ or_all (last_said says ys) (last_said says xs) (says x)
 
 -- a change, if it is on a tick
-abbrev set_if_on : {V : Type 0} → ℕ → Grains × V → Option (Grains × V)
+abbrev pub set_if_on : {V : Type 0} → ℕ → Grains × V → Option (Grains × V)
 set_if_on tick set = cond (tick_at set.0.0 == tick) (Some set) None
 
 -- whether one is
@@ -55,7 +55,7 @@ has_last tick (set ∷ later) =
     said_there (last_said (set_if_on tick) later) (tick_at set.0.0 == tick) set (has_tick tick later) (has_last tick later)
 
 -- one change more
-abbrev is_on : {V : Type 0} → ℕ → Grains × V → Bool
+abbrev pub is_on : {V : Type 0} → ℕ → Grains × V → Bool
 is_on tick set = tick_at set.0.0 == tick
 
 one_stands : {V : Type 0} (tick : ℕ) (standing : List (Grains × V)) (set : Grains × V) (last : Option (Grains × V)) (later here : Bool) → is_on tick set ≡ here
@@ -80,7 +80,7 @@ one_stands tick standing set (Some value) false false e those same =
     filter-append (is_on tick) standing (set ∷ []) ∙ (λ i. those i ++ cond (e i) (set ∷ []) [])
 
 -- of changes that stand the last one on a tick is there
-last_stands : {V : Type 0} (tick : ℕ) (sets : List (Grains × V)) → filter (is_on tick) (last_of_each_tick sets) ≡ option_to_list (last_said (set_if_on tick) sets)
+pub last_stands : {V : Type 0} (tick : ℕ) (sets : List (Grains × V)) → filter (is_on tick) (last_of_each_tick sets) ≡ option_to_list (last_said (set_if_on tick) sets)
 last_stands tick [] = refl
 last_stands tick (set ∷ later) =
     one_stands tick (last_of_each_tick later) set (last_said (set_if_on tick) later) (has_tick (tick_at set.0.0) later) (is_on tick set) refl (last_stands tick later)
@@ -99,7 +99,7 @@ those_there tick [] = refl
 those_there tick ((at, number) ∷ sets) =
     of_either program_change (tick_at at.0 == tick) (at, number) (filter (is_on tick) sets) (filter (is_there tick) (map program_change sets)) (those_there tick sets)
 
-as_list : {X Y : Type 0} (f : X → Y) (value : Option X) → map f (option_to_list value) ≡ option_to_list (option_map f value)
+pub as_list : {X Y : Type 0} (f : X → Y) (value : Option X) → map f (option_to_list value) ≡ option_to_list (option_map f value)
 as_list f None = refl
 as_list f (Some value) = refl
 
@@ -107,7 +107,7 @@ as_list f (Some value) = refl
 abbrev last_change : ℕ → List (Grains × ℕ) → Option ProgramChange
 last_change tick sets = option_map program_change (last_said (set_if_on tick) sets)
 
-neither : {X : Type 0} (here : Bool) → ◌≡◌ {A = Option X} (cond here None None) None
+pub neither : {X : Type 0} (here : Bool) → ◌≡◌ {A = Option X} (cond here None None) None
 neither true = refl
 neither false = refl
 

@@ -1,6 +1,7 @@
 pub mod Arrange
 pub mod Chains
 pub mod Change
+pub mod Conductor
 pub mod EndingFields
 pub mod Endings
 pub mod Fields

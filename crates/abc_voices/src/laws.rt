@@ -1,6 +1,7 @@
 //! Laws of the layout: what a tune is laid out by is what ABC says.
 
 ghost use Rattle.abc_voices.specs.Chains.{HearsChains, HearsNoOthers};
+ghost use Rattle.abc_voices.specs.Conductor.{IsConductedOnTicks};
 ghost use Rattle.abc_voices.specs.Endings.{MovesByStrains};
 ghost use Rattle.abc_voices.specs.OnTicks.{HaveProgramsOnTicks};
 ghost use Rattle.abc_voices.specs.Ties.{PlaysChains, VoicesPlayChains};
@@ -35,4 +36,12 @@ pub fn fields_before_endings()
 #[tactic(auto, using(crate::proofs::OnTicks::programs_on_ticks))]
 pub fn programs_on_ticks()
     ensures { HaveProgramsOnTicks }
+{}
+
+/// On each tick the conductor's track of a tune has the tempo, the meter and the key that are set there last, and no
+/// others; where none is set on the tick with which the tune begins, those with which it opens. All voices set the tempo,
+/// the first one with a track the meter and the key. The last section that sets one decides, in order of play, of its
+/// voices the last that does, in the order of the voices, and of what that plays the last. Our own.
+pub fn conductor_on_ticks()
+    ensures { IsConductedOnTicks }
 {}

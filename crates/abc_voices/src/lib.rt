@@ -31,7 +31,10 @@ mod voice;
 
 pub use abc_music::MOST_VOICES;
 pub use arranged::{Arranged, BuildFault};
-pub use laws::{fields_before_endings, programs_on_ticks, ties_in_play, voices_by_looking_back};
+pub use laws::{
+    conductor_on_ticks, fields_before_endings, programs_on_ticks, ties_in_play,
+    voices_by_looking_back,
+};
 pub use layout::arrange;
 pub use limits::{
     LONGEST_TITLE, MOST_CHANGES, MOST_NOTES, MOST_PROGRAMS, is_within_limits, score_limits,

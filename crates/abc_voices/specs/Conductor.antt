@@ -1,0 +1,120 @@
+-- The tempo, the meter and the key on each tick, by what is played there. Our own.
+use Rattle.std.specs.Prelude.{◌≡◌, ℕ, ℤ, pos, ◌+◌, ◌==◌, Bool, true, false, ◌&&◌, if◌then◌else◌, List, [], ◌∷◌, take, filter, Option, Some, None, option_map, option_and_then, unwrap_or}
+use Rattle.std.specs.Option.{option_to_list}
+use Rattle.abc_music.specs.declared.item.Item.{Item}
+use Rattle.abc_music.specs.declared.item.Item.TheVariants as items
+use Rattle.abc_fields.specs.declared.meter.Meter.{Meter}
+use Rattle.abc_fields.specs.declared.meter.Meter.TheVariants as meters
+use Rattle.abc_time.specs.declared.grains.Grains.{Grains}
+use Rattle.abc_time.specs.Grains.{tick_at}
+use Rattle.abc_voices.specs.declared.score.Change.{Change}
+use Rattle.abc_voices.specs.declared.score.ChangeKind.{ChangeKind}
+use Rattle.abc_voices.specs.declared.score.ChangeKind.TheVariants as kinds
+use Rattle.abc_voices.specs.Arrange.{longest, play_in, played_sections, score_of, usual_tempo}
+use Rattle.abc_voices.specs.Change.{at_moment, tempo_of, meter_of, key_of}
+use Rattle.abc_voices.specs.OnTicks.{at_moments, last_said}
+use Rattle.abc_voices.specs.ScoreChanges.{tempo_change, meter_change, key_change}
+use Rattle.abc_voices.specs.Track.{everyone, tracks}
+use Rattle.abc_voices.specs.Voices.{or_said}
+
+-- What a field of the header says of the tempo, the meter and the key with which a tune opens, if it is one: a value, or
+-- that there is none.
+abbrev pub opening_tempo_of : Item → Option (Option ℕ)
+opening_tempo_of (items.Tempo true micros out) = Some micros
+opening_tempo_of _ = None
+
+abbrev pub opening_meter_of : Item → Option (Option Meter)
+opening_meter_of (items.Meter true meter) = Some meter
+opening_meter_of _ = None
+
+abbrev pub opening_key_of : Item → Option (Option (ℤ × Bool))
+opening_key_of (items.Key true key) = Some key
+opening_key_of _ = None
+
+-- With which value a tune opens: what the last field of its header says, or a usual value where that, or none, says
+-- one.
+abbrev pub opening_by : {V : Type 0} → (Item → Option (Option V)) → V → List Item → V
+opening_by says usual tune = unwrap_or (unwrap_or (last_said says tune) None) usual
+
+-- A value at a moment, if there is one and the moment is on this tick.
+abbrev pub set_on : {V : Type 0} → ℕ → ℕ → Option V → Option (Grains × V)
+set_on tick at value = if tick_at at == tick then at_moment at value else None
+
+-- The last value that something sets on a tick which is played one after another from a moment on.
+abbrev pub last_played : {V : Type 0} → (Item → Option V) → ℕ → ℕ → List Item → Option (Grains × V)
+last_played value_of tick at play = last_said (λ one. set_on tick one.0 (value_of one.1)) (at_moments at play)
+
+-- Sections that are played one after another from a moment on, each at its moment.
+abbrev pub sections_at : List (List ℕ) → ℕ → List (List ℕ × List Item) → List (ℕ × (List ℕ × List Item))
+sections_at voices at [] = []
+sections_at voices at (section ∷ rest) = (at, section) ∷ sections_at voices (at + longest (λ item. item) voices section) rest
+
+-- What some voices set last on a tick in a section that is played from a moment on: of the voices that set something
+-- there the last one decides, in the order of the voices, whichever of them sets it later.
+abbrev pub last_beside : {V : Type 0} → (Item → Option V) → List (List ℕ) → ℕ → ℕ × (List ℕ × List Item) → Option (Grains × V)
+last_beside value_of those tick (at, section) =
+    last_said (λ voice. last_played value_of tick at (play_in (λ item. item) section voice)) those
+
+-- What some voices set last on a tick in a tune: of the sections in which they set something there the last one decides,
+-- in order of play.
+abbrev pub last_set : {V : Type 0} → (Item → Option V) → List (List ℕ) → List Item → ℕ → Option (Grains × V)
+last_set value_of those tune tick =
+    last_said (last_beside value_of those tick) (sections_at (everyone (λ item. item) tune) 0 (played_sections (λ item. item) tune))
+
+-- What holds on a tick: what is set there last, or else that with which the tune opens, where its beginning is on the tick.
+abbrev pub set_or_opening : {V : Type 0} → (Item → Option V) → List (List ℕ) → V → List Item → ℕ → Option (Grains × V)
+set_or_opening value_of those opening tune tick = or_said (last_set value_of those tune tick) (set_on tick 0 (Some opening))
+
+-- The first voice that has a track, if one has.
+abbrev pub leader : List Item → List (List ℕ)
+leader tune = take 1 (tracks (λ item. item) tune)
+
+-- The tempo on a tick: all voices set it. Where the header says none, it is 120 quarter notes a minute.
+abbrev pub tempo_on : List Item → ℕ → Option Change
+tempo_on tune tick =
+    option_map tempo_change (set_or_opening tempo_of (everyone (λ item. item) tune) (opening_by opening_tempo_of usual_tempo tune) tune tick)
+
+-- The meter on a tick: the first voice with a track sets it. Where it is free meter, it is none. Where the header says
+-- none, it is free.
+abbrev pub meter_on : List Item → ℕ → Option Change
+meter_on tune tick =
+    option_and_then meter_change (set_or_opening meter_of (leader tune) (opening_by opening_meter_of meters.Free tune) tune tick)
+
+-- The key on a tick: the first voice with a track sets it. Where the header says none, it is that of C major.
+abbrev pub key_on : List Item → ℕ → Option Change
+key_on tune tick =
+    option_map key_change (set_or_opening key_of (leader tune) (opening_by opening_key_of (pos 0, false) tune) tune tick)
+
+-- The three kinds of changes.
+abbrev pub is_tempo : ChangeKind → Bool
+is_tempo (kinds.Tempo micros) = true
+is_tempo (kinds.Meter num den) = false
+is_tempo (kinds.Key sharps minor) = false
+
+abbrev pub is_meter : ChangeKind → Bool
+is_meter (kinds.Tempo micros) = false
+is_meter (kinds.Meter num den) = true
+is_meter (kinds.Key sharps minor) = false
+
+abbrev pub is_key : ChangeKind → Bool
+is_key (kinds.Tempo micros) = false
+is_key (kinds.Meter num den) = false
+is_key (kinds.Key sharps minor) = true
+
+-- Whether a change is of a kind, on a tick.
+abbrev pub is_there : (ChangeKind → Bool) → ℕ → Change → Bool
+is_there is_kind tick change = is_kind change.what && (tick_at change.at.0 == tick)
+
+-- The changes of a kind that the score of a tune has on a tick.
+abbrev pub changes_on : (ChangeKind → Bool) → List Item → ℕ → List Change
+changes_on is_kind tune tick = filter (is_there is_kind tick) (score_of (λ item. item) tune).conductor
+
+-- On a tick the score of a tune has that tempo, that meter and that key, and no others.
+pub record IsConducted (tune : List Item) (tick : ℕ) : Type 0 where
+  pub tempo : changes_on is_tempo tune tick ≡ option_to_list (tempo_on tune tick)
+  pub meter : changes_on is_meter tune tick ≡ option_to_list (meter_on tune tick)
+  pub key : changes_on is_key tune tick ≡ option_to_list (key_on tune tick)
+
+-- So on each tick.
+abbrev pub IsConductedOnTicks : Type 0
+IsConductedOnTicks = (tune : List Item) (tick : ℕ) → IsConducted tune tick
