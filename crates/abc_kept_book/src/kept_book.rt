@@ -1,6 +1,6 @@
 //! The files, titles and faults of a text, and a change of them that has been prepared.
 
-ghost use Rattle.std.specs.Prelude.{◌≡◌, ◌+◌, ◌-◌, ◌<◌, ◌≤◌, ◌++◌, [], All, IfOk, drop, length, option_copied, take, unwrap_or};
+ghost use Rattle.std.specs.Prelude.{◌≡◌, ◌+◌, ◌-◌, ◌<◌, ◌≤◌, ◌++◌, [], All, IfOk, IsOk, drop, length, option_copied, take, unwrap_or};
 ghost use Rattle.std.specs.List.Sorted.{IsStrictlyIncreasing};
 ghost use Rattle.std.specs.Map.{keys_of};
 ghost use Rattle.abc_kept_book.specs.Change.{IsChange, new_in, old_in};
@@ -81,8 +81,9 @@ struct Differences {
 }
 
 impl KeptBook {
-    /// The book of no tunes.
+    /// The book of no tunes. It takes no memory yet.
     pub fn new(alloc: Global) -> Result<KeptBook, AllocError>
+        ensures succeeds { IsOk result }
         ensures outputs { IfOk result (λ book. book.outputs.items ≡ []) }
         ensures faults { IfOk result (λ book. book.faults ≡ []) }
     {
