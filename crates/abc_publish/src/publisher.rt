@@ -1,6 +1,6 @@
 //! A directory of MIDI files that is brought up to date.
 
-ghost use Rattle.std.specs.Prelude.{◌≡◌, ◌↔◌, ℕ, ◌==◌, ◌≤◌, ◌<◌, ◌^◌, ⊤, true, false, None, Some, IfSome, All, is_some, option_copied, IfOk, IsTrue, MatchOption, OnErr, OnOk};
+ghost use Rattle.std.specs.Prelude.{◌≡◌, ◌↔◌, ℕ, ◌==◌, ◌≤◌, ◌<◌, ◌^◌, ⊤, true, false, None, Some, IfSome, All, is_some, option_copied, IfOk, IsOk, IsTrue, MatchOption, OnErr, OnOk};
 ghost use Rattle.std.specs.List.Sorted.{IsStrictlyIncreasing};
 ghost use Rattle.std.specs.Map.{keys_of};
 ghost use Rattle.abc_live.specs.Session.{book_in};
@@ -33,9 +33,10 @@ impl Model for Publisher {
 }
 
 impl Publisher {
-    /// No file is in the directory, none is unknown, and no job is under way.
+    /// No file is in the directory, none is unknown, and no job is under way. It takes no memory yet.
     pub fn new(alloc: Global) -> Result<Publisher, AllocError>
-        ensures { IfOk result (λ p. maps_of p ≡ publishing (λ _. None) (λ _. None)) }
+        ensures succeeds { IsOk result }
+        ensures empty { IfOk result (λ p. maps_of p ≡ publishing (λ _. None) (λ _. None)) }
     {
         Ok(Publisher {
             alloc,
