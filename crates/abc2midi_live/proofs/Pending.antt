@@ -12,7 +12,7 @@ use Rattle.abc_publish.specs.declared.slot.Stored.TheVariants.{Unknown}
 use Rattle.abc_tunebook.specs.Files.{Files, file_at}
 use Rattle.abc2midi_live.specs.Answer.{end_line, failed_line, stored_line}
 use Rattle.abc2midi_live.specs.Book.{files_of}
-use Rattle.abc2midi_live.specs.Building.{answer_line, answer_of, entry_behind, numbers_from, pending_from, pending_numbers, storing, Builds, IsIdle, Stores}
+use Rattle.abc2midi_live.specs.Building.{answer_line, answer_of, entry_behind, numbers_from, pending_from, pending_numbers, stage, storing, storing_at, Builds, Stage, IsIdle, Stores}
 use Rattle.abc2midi_live.specs.Storing.{StoreAnswer, Done, Fault, StoreSeen, Follows, file_name}
 use Rattle.abc2midi_live.specs.Streams.{Puts, TakesOut, KeepsOthers, faults}
 use Rattle.abc2midi_live.specs.declared.streams.StoreFault.{StoreFault}
@@ -114,7 +114,7 @@ unfolding pending_from
 none_pending p files from small idle none = none_kept (is_pending p.directory files) from (2 ^ 32 - from) (λ n above below. sym (wanted_idle p files n idle) ∙ none n above (omega arith))
 
 -- none is pending, and the build ends
-pub stores_none : (text : Text) (p : Publishing) (files : Files) (from : ℕ) → files ≡ files_of text → from < 2 ^ 32 → IsIdle p → HasNone p files from → Stores text p.directory (Some from) [] [] p.directory None
+pub stores_none : (text : Text) (p : Publishing) (files : Files) (from : ℕ) → files ≡ files_of text → from < 2 ^ 32 → IsIdle p → HasNone p files from → Stores text (stage p.directory (Some from)) [] [] (stage p.directory None)
 unfolding storing pending_from
 stores_none text p files from e small idle none = λ later.
     ap (λ ns. storing text p.directory ns later) (none_pending p (files_of text) from small idle (subst (λ fs. HasNone p fs from) e none))
@@ -122,7 +122,7 @@ stores_none text p files from e small idle none = λ later.
 -- the file of the least number is stored, and the build goes on behind it
 pub stores_done : (text : Text) (p : Publishing) (files : Files) (from m : ℕ) (bytes : Option (List ℕ)) (next : Option ℕ) → files ≡ files_of text → m < 2 ^ 32 → IsIdle p → IsNext p files from m
     → bytes ≡ file_at files m → IsBehind m next
-    → Stores text p.directory (Some from) (Done ∷ []) (stored_line m bytes) (with_entry p.directory m (stored_as bytes)) next
+    → Stores text (stage p.directory (Some from)) (Done ∷ []) (stored_line m bytes) (stage (with_entry p.directory m (stored_as bytes)) next)
 unfolding storing
 stores_done text p files from m bytes next e small idle is file behind = λ later.
     let d = p.directory in
@@ -135,7 +135,7 @@ some_next m = ⊎_elim (λ fits. (Some (m + 1), (fits, refl))) (λ not. (None, n
 
 -- the store failed, and the build ends
 pub stores_fault : (text : Text) (p : Publishing) (files : Files) (from m : ℕ) → files ≡ files_of text → m < 2 ^ 32 → IsIdle p → IsNext p files from m
-    → Stores text p.directory (Some from) (Fault ∷ []) (failed_line m) (with_entry p.directory m (Some Unknown)) None
+    → Stores text (stage p.directory (Some from)) (Fault ∷ []) (failed_line m) (stage (with_entry p.directory m (Some Unknown)) None)
 unfolding storing pending_from
 stores_fault text p files from m e small idle is = λ later.
     let d = p.directory in
@@ -151,18 +151,18 @@ line_before_none None = refl
 line_before_none (Some r) = refl
 
 -- nothing is stored yet
-pub stores_first : (text : Text) (d : Directory) (from : Option ℕ) → Stores text d from [] [] d from
-stores_first text d from = λ later. line_before_none (storing text d (pending_from d (files_of text) from) later)
+pub stores_first : (text : Text) (d : Directory) (from : Option ℕ) → Stores text (stage d from) [] [] (stage d from)
+stores_first text d from = λ later. line_before_none (storing_at text (stage d from) later)
 
 -- what is stored behind what was stored
-pub stores_both : (text : Text) (d e f : Directory) (at from next : Option ℕ) (a b : List StoreAnswer) (x y : List ℕ) → Stores text d at a x e from → Stores text e from b y f next
-    → Stores text d at (a ++ b) (x ++ y) f next
+pub stores_both : (text : Text) (d e f : Directory) (at from next : Option ℕ) (a b : List StoreAnswer) (x y : List ℕ) → Stores text (stage d at) a x (stage e from) → Stores text (stage e from) b y (stage f next)
+    → Stores text (stage d at) (a ++ b) (x ++ y) (stage f next)
 stores_both text d e f at from next a b x y first second = λ later.
     ap (storing text d (pending_from d (files_of text) at)) (append_assoc a b later) ∙ first (b ++ later) ∙ ap (line_before x) (second later)
-    ∙ line_before_both x y (storing text f (pending_from f (files_of text) next) later)
+    ∙ line_before_both x y (storing_at text (stage f next) later)
 
 -- no number is left
-pub builds_all : (text : Text) (d e : Directory) (now : List StoreAnswer) (told : List ℕ) → Stores text d (Some 0) now told e None → Builds text d now (told ++ end_line) e
+pub builds_all : (text : Text) (d e : Directory) (now : List StoreAnswer) (told : List ℕ) → Stores text (stage d (Some 0)) now told (stage e None) → Builds text d now (told ++ end_line) e
 unfolding pending_from pending_numbers storing
 builds_all text d e now told stores = λ later. stores later
 
@@ -266,21 +266,30 @@ at_none o A B e h = subst (λ o. MatchOption o A B) e h
 pub at_some : {T : Type 0} (o : Option T) (x : T) (A : Type 0) (B : T → Type 0) → o ≡ Some x → MatchOption o A B → B x
 at_some o x A B e h = subst (λ o. MatchOption o A B) e h
 
+-- What is seen of a build: what it has told, and the store.
+pub record BuildSeen : Type 0 where
+  pub text : List ℕ
+  pub store : StoreSeen
+
+abbrev pub build_seen : List ℕ → StoreSeen → BuildSeen
+build_seen text store = record { text = text; store = store }
+
 -- what one file more leads to
-abbrev pub Advances : Text → Publishing → Publishing → ℕ → List ℕ → List ℕ → StoreSeen → StoreSeen → Option ℕ → Type 0
-Advances text p r from old new s t next =
-    (now : List StoreAnswer) × (told : List ℕ) × (new ≡ old ++ told) × Stores text p.directory (Some from) now told r.directory next × Follows s t now p.directory r.directory
+abbrev pub Advances : Text → Stage → Stage → BuildSeen → BuildSeen → Type 0
+Advances text before after old new =
+    (now : List StoreAnswer) × (told : List ℕ) × (new.text ≡ old.text ++ told) × Stores text before now told after
+    × Follows old.store new.store now before.directory after.directory
 
 pub next_none : (text : Text) (p q : Slots) (s : StoreSeen) (from : ℕ) (old : List ℕ) → from < 2 ^ 32 → IsIdle (maps_of p) → HasNone (maps_of p) (files_of text) from → q ≡ p
-    → Advances text (maps_of p) (maps_of q) from old old s s None
+    → Advances text (stage (maps_of p).directory (Some from)) (stage (maps_of q).directory None) (build_seen old s) (build_seen old s)
 next_none text p q s from old small idle none e =
-    subst (λ (q : Slots). Advances text (maps_of p) (maps_of q) from old old s s None) (sym e)
+    subst (λ (q : Slots). Advances text (stage (maps_of p).directory (Some from)) (stage (maps_of q).directory None) (build_seen old s) (build_seen old s)) (sym e)
     ([], [], sym (append-nil old), stores_none text (maps_of p) (files_of text) from refl small idle none, follows_none s (maps_of p).directory)
 
 pub next_done : (text : Text) (p q r : Slots) (s t : StoreSeen) (from m : ℕ) (bytes : Option (List ℕ)) (next : Option ℕ) (old new : List ℕ) (done : Bool) → done ≡ true → m < 2 ^ 32
     → IsIdle (maps_of p) → IsNext (maps_of p) (files_of text) from m → bytes ≡ file_at (files_of text) m → IsBehind m next → maps_of q ≡ begun (maps_of p) m bytes
     → maps_of r ≡ ended (maps_of q) m (entry_behind (answer_of done) bytes) → new ≡ old ++ answer_line (answer_of done) m bytes → Follows s t (answer_of done ∷ []) (maps_of q).directory (maps_of r).directory
-    → Advances text (maps_of p) (maps_of r) from old new s t next
+    → Advances text (stage (maps_of p).directory (Some from)) (stage (maps_of r).directory next) (build_seen old s) (build_seen new t)
 next_done text p q r s t from m bytes next old new done is small idle least file behind taken over told follows =
     let before : (maps_of q).directory ≡ (maps_of p).directory = ap (λ (x : Publishing). x.directory) taken in
     let over : maps_of r ≡ ended (maps_of q) m (stored_as bytes) = subst (λ b. maps_of r ≡ ended (maps_of q) m (entry_behind (answer_of b) bytes)) is over in
@@ -288,7 +297,7 @@ next_done text p q r s t from m bytes next old new done is small idle least file
       Done ∷ [],
       stored_line m bytes,
       subst (λ b. new ≡ old ++ answer_line (answer_of b) m bytes) is told,
-      subst (λ (d : Directory). Stores text (maps_of p).directory (Some from) (Done ∷ []) (stored_line m bytes) d next) (sym after)
+      subst (λ (d : Directory). Stores text (stage (maps_of p).directory (Some from)) (Done ∷ []) (stored_line m bytes) (stage d next)) (sym after)
           (stores_done text (maps_of p) (files_of text) from m bytes next refl small idle least file behind),
       subst (λ (d : Directory). Follows s t (Done ∷ []) d (maps_of r).directory) before (subst (λ b. Follows s t (answer_of b ∷ []) (maps_of q).directory (maps_of r).directory) is follows),
     )
@@ -296,7 +305,7 @@ next_done text p q r s t from m bytes next old new done is small idle least file
 pub next_fault : (text : Text) (p q r : Slots) (s t : StoreSeen) (from m : ℕ) (bytes : Option (List ℕ)) (old new : List ℕ) (done : Bool) → done ≡ false → m < 2 ^ 32
     → IsIdle (maps_of p) → IsNext (maps_of p) (files_of text) from m → maps_of q ≡ begun (maps_of p) m bytes
     → maps_of r ≡ ended (maps_of q) m (entry_behind (answer_of done) bytes) → new ≡ old ++ answer_line (answer_of done) m bytes → Follows s t (answer_of done ∷ []) (maps_of q).directory (maps_of r).directory
-    → Advances text (maps_of p) (maps_of r) from old new s t None
+    → Advances text (stage (maps_of p).directory (Some from)) (stage (maps_of r).directory None) (build_seen old s) (build_seen new t)
 next_fault text p q r s t from m bytes old new done is small idle least taken over told follows =
     let before : (maps_of q).directory ≡ (maps_of p).directory = ap (λ (x : Publishing). x.directory) taken in
     let over : maps_of r ≡ ended (maps_of q) m (Some Unknown) = subst (λ b. maps_of r ≡ ended (maps_of q) m (entry_behind (answer_of b) bytes)) is over in
@@ -304,32 +313,33 @@ next_fault text p q r s t from m bytes old new done is small idle least taken ov
       Fault ∷ [],
       failed_line m,
       subst (λ b. new ≡ old ++ answer_line (answer_of b) m bytes) is told,
-      subst (λ (d : Directory). Stores text (maps_of p).directory (Some from) (Fault ∷ []) (failed_line m) d None) (sym after)
+      subst (λ (d : Directory). Stores text (stage (maps_of p).directory (Some from)) (Fault ∷ []) (failed_line m) (stage d None)) (sym after)
           (stores_fault text (maps_of p) (files_of text) from m refl small idle least),
       subst (λ (d : Directory). Follows s t (Fault ∷ []) d (maps_of r).directory) before (subst (λ b. Follows s t (answer_of b ∷ []) (maps_of q).directory (maps_of r).directory) is follows),
     )
 
 -- what a build has stored so far
-abbrev pub StoresSoFar : Text → Directory → Directory → List ℕ → StoreSeen → StoreSeen → Option ℕ → Type 0
-StoresSoFar text before after told old new next =
-    (now : List StoreAnswer) × Stores text before (Some 0) now told after next × Follows old new now before after
+abbrev pub StoresSoFar : Text → Directory → StoreSeen → Stage → BuildSeen → Type 0
+StoresSoFar text first start at seen =
+    (now : List StoreAnswer) × Stores text (stage first (Some 0)) now seen.text at × Follows start seen.store now first at.directory
 
-pub so_far_none : (text : Text) (d : Directory) (s : StoreSeen) → StoresSoFar text d d [] s s (Some 0)
+pub so_far_none : (text : Text) (d : Directory) (s : StoreSeen) → StoresSoFar text d s (stage d (Some 0)) (build_seen [] s)
 so_far_none text d s = ([], stores_first text d (Some 0), follows_none s d)
 
 pub so_far_more : (text : Text) (first : Directory) (p r : Publishing) (old new : List ℕ) (start s t : StoreSeen) (at : Option ℕ) (from : ℕ) (next : Option ℕ) → at ≡ Some from
-    → StoresSoFar text first p.directory old start s at → Advances text p r from old new s t next → StoresSoFar text first r.directory new start t next
+    → StoresSoFar text first start (stage p.directory at) (build_seen old s) → Advances text (stage p.directory (Some from)) (stage r.directory next) (build_seen old s) (build_seen new t)
+    → StoresSoFar text first start (stage r.directory next) (build_seen new t)
 so_far_more text first p r old new start s t at from next is h step =
-    let stores : Stores text first (Some 0) h.0 old p.directory (Some from) = subst (λ o. Stores text first (Some 0) h.0 old p.directory o) is h.1 in (
+    let stores : Stores text (stage first (Some 0)) h.0 old (stage p.directory (Some from)) = subst (λ o. Stores text (stage first (Some 0)) h.0 old (stage p.directory o)) is h.1 in (
       h.0 ++ step.0,
-      subst (λ (x : List ℕ). Stores text first (Some 0) (h.0 ++ step.0) x r.directory next) (sym step.2) (stores_both text first p.directory r.directory (Some 0) (Some from) next h.0 step.0 old step.1 stores step.3),
+      subst (λ (x : List ℕ). Stores text (stage first (Some 0)) (h.0 ++ step.0) x (stage r.directory next)) (sym step.2) (stores_both text first p.directory r.directory (Some 0) (Some from) next h.0 step.0 old step.1 stores step.3),
       follows_both start s t h.0 step.0 first p.directory r.directory h.2 step.4,
     )
 
 pub so_far_all : (text : Text) (first after : Directory) (told answer : List ℕ) (start s : StoreSeen) (at : Option ℕ) → at ≡ None → answer ≡ told ++ end_line
-    → StoresSoFar text first after told start s at → (now : List StoreAnswer) × Builds text first now answer after × Follows start s now first after
+    → StoresSoFar text first start (stage after at) (build_seen told s) → (now : List StoreAnswer) × Builds text first now answer after × Follows start s now first after
 so_far_all text first after told answer start s at is e h = (
   h.0,
-  subst (λ (x : List ℕ). Builds text first h.0 x after) (sym e) (builds_all text first after h.0 told (subst (λ o. Stores text first (Some 0) h.0 told after o) is h.1)),
+  subst (λ (x : List ℕ). Builds text first h.0 x after) (sym e) (builds_all text first after h.0 told (subst (λ o. Stores text (stage first (Some 0)) h.0 told (stage after o)) is h.1)),
   h.2,
 )

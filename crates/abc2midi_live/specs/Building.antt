@@ -53,13 +53,23 @@ entry_behind Fault bytes = Some Unknown
 abbrev pub IsIdle : Publishing → Type 0
 IsIdle p = (n : ℕ) → p.jobs n ≡ None
 
--- Whatever the store answers behind these answers: what is told of the numbers pending from one on is the text, and
--- then what is told of those pending from another one on.
-abbrev pub Stores : Text → Directory → Option ℕ → List StoreAnswer → List ℕ → Directory → Option ℕ → Type 0
-Stores text before from now told after next =
-    (later : List StoreAnswer)
-    → storing text before (pending_from before (files_of text) from) (now ++ later)
-    ≡ line_before told (storing text after (pending_from after (files_of text) next) later)
+-- A stage of a build: what is known of the directory, and the number to go on from, where there is one.
+pub record Stage : Type 0 where
+  pub directory : Directory
+  pub from : Option ℕ
+
+abbrev pub stage : Directory → Option ℕ → Stage
+stage directory from = record { directory = directory; from = from }
+
+-- what is told of the numbers that are pending at a stage, for what the store answers
+abbrev pub storing_at : Text → Stage → List StoreAnswer → Option Answered
+storing_at text at answers = storing text at.directory (pending_from at.directory (files_of text) at.from) answers
+
+-- Whatever the store answers behind these answers: what is told of the numbers pending at one stage is the text, and
+-- then what is told of those pending at another.
+abbrev pub Stores : Text → Stage → List StoreAnswer → List ℕ → Stage → Type 0
+Stores text before now told after =
+    (later : List StoreAnswer) → storing_at text before (now ++ later) ≡ line_before told (storing_at text after later)
 
 -- Whatever the store answers behind these answers: bringing the directory up to date tells this text, and leads to
 -- this directory.

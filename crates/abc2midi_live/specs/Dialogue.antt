@@ -16,6 +16,9 @@ pub record Begun : Type 0 where
   pub command : Command
   pub lines : Text
 
+abbrev pub begun_with : Command → Text → Begun
+begun_with command lines = record { command = command; lines = lines }
+
 -- what is told to the lines that come, behind what holds and what has begun
 unfoldable pub awaited : Holding → Option Begun → Future (List ℕ)
 awaited h None ended lines stored = answers ended h (requests 0 lines) stored
@@ -57,9 +60,8 @@ request_with (Some begun) line = request_of begun.command (begun.lines ++ line �
 
 -- What is to be told to a command with the first of its lines and those that come is the reply, and then what is
 -- to be told to the lines behind it.
-abbrev pub Proceeds : Holding → Command → Text → Holding → Option Begun → List StoreAnswer → Reply → Type 0
-Proceeds old command lines new begun now reply =
-    Says (telling (awaited old (Some (record { command = command; lines = lines }))) (awaited new begun) new.directory) now reply
+abbrev pub Proceeds : Holding → Begun → Holding → Option Begun → List StoreAnswer → Reply → Type 0
+Proceeds old first new begun now reply = Says (telling (awaited old (Some first)) (awaited new begun) new.directory) now reply
 
 -- What is told to a tune book is this text, and then what is told to the lines that come behind it.
 abbrev pub Opens : Option (List ℕ) → List ℕ → Holding → Option Begun → Type 0

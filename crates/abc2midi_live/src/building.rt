@@ -3,7 +3,7 @@
 ghost use Rattle.std.specs.Prelude.{◌≡◌, string_bytes, ℕ, ◌<◌, ◌^◌, ◌++◌, ◌∷◌, [], List, None, Some, IfOk, IfSome, OnErr, is_ok, option_copied};
 ghost use Rattle.abc_publish.specs.Publisher.{ended, maps_of, with_entry, Directory};
 ghost use Rattle.abc_publish.specs.declared.slot.Stored.TheVariants.{Unknown};
-ghost use Rattle.abc2midi_live.specs.Building.{answer_line, answer_of, entry_behind, Builds, IsIdle, Stores};
+ghost use Rattle.abc2midi_live.specs.Building.{answer_line, answer_of, entry_behind, stage, Builds, IsIdle, Stores};
 ghost use Rattle.abc2midi_live.specs.Storing.{file_name, store_seen, Follows, IsAsked, StoreAnswer};
 
 use crate::answer::{put_failed, put_stored};
@@ -101,7 +101,7 @@ fn store_next<S: Store>(
 ) -> Result<Option<u32>, AllocError>
     requires { IsIdle (maps_of publisher.old) }
     ensures stored { IfOk result (λ next. (now : List StoreAnswer) × (told : List ℕ) × (text.new.items ≡ text.old.items ++ told)
-        × Stores session.now.text (maps_of publisher.old).directory (Some from) now told (maps_of publisher.new).directory next
+        × Stores session.now.text (stage (maps_of publisher.old).directory (Some from)) now told (stage (maps_of publisher.new).directory next)
         × Follows (store_seen (S.failures store.old) (S.calls store.old) (S.contents store.old)) (store_seen (S.failures store.new) (S.calls store.new) (S.contents store.new))
         now (maps_of publisher.old).directory (maps_of publisher.new).directory) }
     ensures asked { OnErr result (IsAsked (store_seen (S.failures store.old) (S.calls store.old) (S.contents store.old)) (store_seen (S.failures store.new) (S.calls store.new) (S.contents store.new)) (maps_of publisher.old).directory) }

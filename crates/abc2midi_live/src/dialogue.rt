@@ -11,7 +11,7 @@ ghost use Rattle.abc2midi_live.specs.Building.{IsIdle};
 ghost use Rattle.abc2midi_live.specs.Storing.{store_seen, Follows, IsAsked, StoreAnswer};
 ghost use Rattle.abc2midi_live.specs.Told.{holding};
 ghost use Rattle.abc2midi_live.specs.Transcript.{book_lines, edit_answer, no_directory, request_of};
-ghost use Rattle.abc2midi_live.specs.Dialogue.{Responds, Proceeds, is_taken};
+ghost use Rattle.abc2midi_live.specs.Dialogue.{Responds, Proceeds, begun_with, is_taken};
 
 use crate::answer::{fault_list, hex_line, refusal, report_line, title_list};
 use crate::book_lines::book_lines;
@@ -149,7 +149,7 @@ impl Dialogue {
         requires few { length lines.items ≤ line_count command }
         ensures asked { OnErr result (IsAsked (store_seen (S.failures store.old) (S.calls store.old) (S.contents store.old)) (store_seen (S.failures store.new) (S.calls store.new) (S.contents store.new)) (maps_of self.old.publisher).directory) }
         ensures reply { let before = (maps_of self.old.publisher).directory in let after = (maps_of self.new.publisher).directory in IfOk result (λ reply. (stored : List StoreAnswer)
-            × Proceeds (holding self.old.session.text before) command (text_of lines) (holding self.new.session.text after) (begun_of self.new.gathering) stored reply
+            × Proceeds (holding self.old.session.text before) (begun_with command (text_of lines)) (holding self.new.session.text after) (begun_of self.new.gathering) stored reply
             × Follows (store_seen (S.failures store.old) (S.calls store.old) (S.contents store.old)) (store_seen (S.failures store.new) (S.calls store.new) (S.contents store.new)) stored before after) }
         ensures uncounted { OnOk result (is_taken self.old.session.text (request_of command (text_of lines)) ≡ false → work.new ≡ work.old) }
     {

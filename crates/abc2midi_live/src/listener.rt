@@ -65,11 +65,12 @@ fn say<W: Sink>(writer: &mut W, text: &[u8]) -> Result<(), RunFault>
     }
 }
 
-/// A machine, and what has come of its next line.
+/// A machine, what has come of its next line, and where lines are allocated.
 #[derive(Drop)]
 pub struct Listener<M> {
     machine: M,
     begun: Vec<u8>,
+    alloc: Global,
     ghost whole: { IsClean begun.items },
     ghost kept: { length begun.items ≤ most_kept },
 }
@@ -84,6 +85,7 @@ impl<M: Machine> Listener<M> {
         Listener {
             machine,
             begun: Vec::new(alloc),
+            alloc,
         }
     }
 
@@ -99,18 +101,17 @@ impl<M: Machine> Listener<M> {
     }
 
     // Takes the line that has come.
-    fn take_begun(&mut self, alloc: Global) -> Vec<u8>
+    fn take_begun(&mut self) -> Vec<u8>
         ensures line { result.items ≡ self.old.begun.items }
         ensures begun { self.new.begun.items ≡ [] }
         ensures machine { self.new.machine ≡ self.old.machine }
     {
-        mem::replace(&mut self.begun, Vec::new(alloc))
+        mem::replace(&mut self.begun, Vec::new(self.alloc))
     }
 
     // Serves the line that the piece ends.
     fn end_line<W: Sink, S: Store>(
         &mut self,
-        alloc: Global,
         writer: &mut W,
         piece: &[u8],
         store: &mut S,
@@ -127,7 +128,7 @@ impl<M: Machine> Listener<M> {
         ensures fails { W.failures writer.new ≡ raised (W.failures writer.old) (write_faults result) }
     {
         self.keep(piece)?;
-        let line = self.take_begun(alloc);
+        let line = self.take_begun();
         serve(&mut self.machine, writer, line, store, work)
     }
 
@@ -135,7 +136,6 @@ impl<M: Machine> Listener<M> {
     /// goes on.
     pub fn feed<W: Sink, S: Store>(
         &mut self,
-        alloc: Global,
         writer: &mut W,
         piece: &[u8],
         store: &mut S,
@@ -155,7 +155,7 @@ impl<M: Machine> Listener<M> {
         'lines: loop {
             match cut(rest, b'\n') {
                 (line, Some(behind)) => {
-                    if !self.end_line(alloc, writer, line, store, work)? {
+                    if !self.end_line(writer, line, store, work)? {
                         return Ok(false);
                     }
                     rest = behind;
@@ -171,7 +171,6 @@ impl<M: Machine> Listener<M> {
     /// Serves what has come of a last line, and writes what the machine answers where no more lines come.
     pub fn finish<W: Sink, S: Store>(
         &mut self,
-        alloc: Global,
         writer: &mut W,
         store: &mut S,
         work: &mut Work,
@@ -186,7 +185,7 @@ impl<M: Machine> Listener<M> {
         if self.begun.is_empty() {
             return say(writer, self.machine.last_words());
         }
-        let line = self.take_begun(alloc);
+        let line = self.take_begun();
         if serve(&mut self.machine, writer, line, store, work)? {
             say(writer, self.machine.last_words())
         } else {

@@ -17,6 +17,9 @@ use std::alloc::Global;
 /// How many reads are made at most.
 pub const MOST_READS: u32 = 4_294_967_295;
 
+/// How many bytes are read at a time.
+const PIECE: usize = 8_192;
+
 /// A run makes as many reads as 32 bits can count.
 pub fn run_limits()
     ensures { MOST_READS ≡ 2 ^ 32 - 1 }
@@ -25,7 +28,6 @@ pub fn run_limits()
 // One read, and what it leads to. Whether the run goes on.
 #[tactic(auto, using(crate::proofs::Counts::raised_none))]
 fn turn<M: Machine, R: Source, W: Sink, S: Store>(
-    alloc: Global,
     listener: &mut Listener<M>,
     buffer: &mut [u8],
     reader: &mut R,
@@ -52,25 +54,22 @@ fn turn<M: Machine, R: Source, W: Sink, S: Store>(
         Err(_) => return Err(RunFault::Read),
     };
     if count > 0 {
-        return listener.feed(alloc, writer, &buffer[..count], store, work);
+        return listener.feed(writer, &buffer[..count], store, work);
     }
-    listener.finish(alloc, writer, store, work)?;
+    listener.finish(writer, store, work)?;
     Ok(false)
 }
 
-/// Reads to the end of the input, or until the machine ends, and writes what the machine answers. The buffer is
-/// what each read fills.
+/// Reads to the end of the input, or until the machine ends, and writes what the machine answers.
 #[tactic(auto, using(crate::proofs::Counts::raised_none))]
 pub fn listen<M: Machine + Drop, R: Source, W: Sink, S: Store>(
     alloc: Global,
     machine: M,
-    buffer: &mut [u8],
     reader: &mut R,
     writer: &mut W,
     store: &mut S,
     work: &mut Work,
 ) -> Result<(), RunFault>
-    requires { 0 < length buffer.old }
     ensures answers { MatchResult result
         (λ _. Ended (M.directory machine) (λ ended input. M.future machine ended (input_lines ended input))
         (ends (R.remaining reader.old) (W.contents writer.old) (store_seen (S.failures store.old) (S.calls store.old) (S.contents store.old)))
@@ -84,8 +83,9 @@ pub fn listen<M: Machine + Drop, R: Source, W: Sink, S: Store>(
     ensures writes { W.failures writer.new ≡ raised (W.failures writer.old) (write_faults result) }
 {
     let mut listener = Listener::new(alloc, machine);
+    let mut buffer = [0; PIECE];
     'reads: for _ in 0..MOST_READS {
-        if !turn(alloc, &mut listener, buffer, reader, writer, store, work)? {
+        if !turn(&mut listener, &mut buffer, reader, writer, store, work)? {
             return Ok(());
         }
     }

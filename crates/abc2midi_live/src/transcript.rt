@@ -18,9 +18,6 @@ use crate::streams::{Sink, Source, Store};
 use abc_fold::Work;
 use std::alloc::Global;
 
-/// How many bytes are read at a time.
-const PIECE: usize = 8_192;
-
 /// The dialogue on the text of a tune book, if there is one, whose answer is written.
 #[tactic(auto, using(crate::proofs::Counts::raised_none))]
 fn opened<W: Sink>(
@@ -81,6 +78,5 @@ pub fn run<R: Source, W: Sink, S: Store>(
     ensures writes { W.failures writer.new ≡ raised (W.failures writer.old) (write_faults result) }
 {
     let dialogue = opened(alloc, book, writer, work)?;
-    let mut buffer = [0; PIECE];
-    listen(alloc, dialogue, &mut buffer, reader, writer, store, work)
+    listen(alloc, dialogue, reader, writer, store, work)
 }

@@ -4,10 +4,10 @@ ghost use Rattle.abc_scan.specs.declared.note.Note.{Note};
 ghost use Rattle.std.specs.Prelude.{List};
 ghost use Rattle.abc_bars.specs.LookBack.Keys.{ChordsHaveKeys, IsAlteredAt, NotesHaveKeys, Standing};
 
-/// What alters a note at a place of its voice: its own accidental; else the last one on its letter among the notes of
-/// its chord before it; else the last one on its letter since the voice's last bar line, K: or accepted P:; else what
+/// What alters a note at a place of its voice: its own accidental; else the last one that reaches it among the notes of
+/// its chord before it; else the last one that reaches it since the voice's last bar line, K: or accepted P:; else what
 /// altered the last tied note of its letter and octave in the voice's preceding note, chord or rest, at its own place;
-/// else the signature.
+/// else the signature. How far an accidental reaches is said by the header.
 pub fn alterations_of_notes()
     ensures { (at : Standing) (earlier : List Note) (note : Note) → IsAlteredAt at earlier note }
 {}

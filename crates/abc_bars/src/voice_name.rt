@@ -7,16 +7,17 @@ ghost use Rattle.std.specs.Cmp.Rules.{hashing};
 ghost use Rattle.std.specs.Hash as fed;
 ghost use Rattle.std.proofs.Common.{rules};
 
+use abc_fold::Shared;
 use abc_text::Sequence;
 use std::alloc::{AllocError, Global};
 use std::hash::{Hash, Hasher};
 use std::marker::Model;
 
 /// The name of a voice, as a field V: writes it (ABC 2.1 section 7.1); that of the voice without one
-/// is empty. Contracts see its bytes.
+/// is empty. Contracts see its bytes. Copies share them, since each kept state of a tune has every name.
 #[derive(Drop)]
 pub struct VoiceName {
-    bytes: Sequence<u8>,
+    bytes: Shared<Sequence<u8>>,
 }
 
 impl Model for VoiceName {
@@ -36,6 +37,7 @@ impl VoiceName {
         ensures { IfOk result (λ name. name ≡ bytes.now) }
     {
         let bytes = Sequence::from_slice(alloc, bytes)?;
+        let bytes = Shared::new(alloc, bytes)?;
         Ok(VoiceName { bytes })
     }
 
@@ -43,7 +45,7 @@ impl VoiceName {
     pub(crate) fn same(&self, other: &VoiceName) -> bool
         ensures { IsTrue result ↔ (self.now ≡ other.now) }
     {
-        self.bytes == other.bytes
+        self.bytes.get() == other.bytes.get()
     }
 }
 
@@ -51,7 +53,7 @@ impl Clone for VoiceName {
     ghost is_clone = { λ name copy. copy ≡ name };
 
     fn clone(&self) -> Result<VoiceName, AllocError> {
-        let bytes = self.bytes.clone()?;
+        let bytes = self.bytes.share()?;
         Ok(VoiceName { bytes })
     }
 }
@@ -62,7 +64,7 @@ impl PartialEq for VoiceName {
     ghost laws = { on_per (λ name. name) (partial_equiv_from_equiv nat_list_eq_equiv) };
 
     fn eq(&self, other: &VoiceName) -> bool {
-        self.bytes == other.bytes
+        self.bytes.get() == other.bytes.get()
     }
 }
 
@@ -76,6 +78,6 @@ impl Hash for VoiceName {
     ghost respects_eq = { Prim.search (hashing, rules) };
 
     fn hash<H: Hasher>(&self, state: &mut H) {
-        self.bytes.as_slice().hash(state);
+        self.bytes.get().as_slice().hash(state);
     }
 }

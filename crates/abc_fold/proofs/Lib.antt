@@ -1,4 +1,5 @@
 pub mod Alike
 pub mod Folding
+pub mod Front
 pub mod Kept
 pub mod Raised

@@ -1,8 +1,9 @@
 use Rattle.std.proofs.Common.{ℕ, List, Some, sym, subst, arith}
 use Rattle.abc_publish.specs.Publisher.{maps_of}
 use Rattle.abc2midi_live.specs.Answer.{end_line}
+use Rattle.abc2midi_live.specs.Building.{stage}
 use Rattle.abc2midi_live.specs.Storing.{store_seen, IsAsked}
-use Rattle.abc2midi_live.proofs.Pending.{StoresSoFar, so_far_none, so_far_more, so_far_all, left_fewer, left_small}
+use Rattle.abc2midi_live.proofs.Pending.{build_seen, StoresSoFar, so_far_none, so_far_more, so_far_all, left_fewer, left_small}
 use Rattle.abc2midi_live.proofs.Storing.{asked_more, on_err}
 use Rattle.abc2midi_live.proofs.building.build.Goals as goal
 
@@ -11,7 +12,7 @@ loop-next-init g c =
     let directory = (maps_of c.args.publisher.now).directory in
     let seen = store_seen (g.S.Store.failures c.args.store.now) (g.S.Store.calls c.args.store.now) (g.S.Store.contents c.args.store.now) in
     record {
-      stored = subst (λ (t : List ℕ). StoresSoFar c.args.session.now.text directory directory t seen seen (Some 0)) (sym c.new-text.ensures.items) (so_far_none c.args.session.now.text directory seen);
+      stored = subst (λ (t : List ℕ). StoresSoFar c.args.session.now.text directory seen (stage directory (Some 0)) (build_seen t seen)) (sym c.new-text.ensures.items) (so_far_none c.args.session.now.text directory seen);
       idle = c.requires;
       small = omega arith;
     }

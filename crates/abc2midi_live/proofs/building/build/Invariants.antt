@@ -1,9 +1,9 @@
 use Rattle.std.proofs.Common.{◌<◌, ◌^◌}
 use Rattle.std.specs.Prelude.{IfSome}
 use Rattle.abc_publish.specs.Publisher.{maps_of}
-use Rattle.abc2midi_live.specs.Building.{IsIdle}
+use Rattle.abc2midi_live.specs.Building.{stage, IsIdle}
 use Rattle.abc2midi_live.specs.Storing.{store_seen}
-use Rattle.abc2midi_live.proofs.Pending.{StoresSoFar, left_from}
+use Rattle.abc2midi_live.proofs.Pending.{build_seen, StoresSoFar, left_from}
 use Rattle.abc2midi_live.proofs.building.build.Given as goal
 
 -- what has been stored so far
@@ -13,8 +13,8 @@ invariant-loop-next g l =
     let calls = g.S.Store.calls in
     let contents = g.S.Store.contents in
     record {
-      stored : StoresSoFar l.session.text (maps_of l.fn.publisher).directory (maps_of l.publisher).directory l.text.items
-          (store_seen (failures l.fn.store) (calls l.fn.store) (contents l.fn.store)) (store_seen (failures l.store) (calls l.store) (contents l.store)) l.next;
+      stored : StoresSoFar l.session.text (maps_of l.fn.publisher).directory (store_seen (failures l.fn.store) (calls l.fn.store) (contents l.fn.store))
+          (stage (maps_of l.publisher).directory l.next) (build_seen l.text.items (store_seen (failures l.store) (calls l.store) (contents l.store)));
       idle : IsIdle (maps_of l.publisher);
       small : IfSome l.next (λ n. n < 2 ^ 32);
     }
