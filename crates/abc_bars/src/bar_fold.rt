@@ -32,7 +32,7 @@ fn field_line(kind: &TokenKind) -> Option<&Field>
     ensures { option_copied result ≡ field_line kind.now }
 {
     match kind {
-        TokenKind::Field(field) => Some(field),
+        TokenKind::Field(field) => Some(field.get()),
         _ => None,
     }
 }

@@ -311,9 +311,9 @@ impl Given {
             TokenKind::Note(note) => self.note(alloc, place, *note, ahead),
             TokenKind::Rest(written) => self.rest(alloc, place, *written, ahead),
             TokenKind::BarRest(bars) => self.bar_rest(alloc, place, *bars),
-            TokenKind::Chord(chord) => self.chord(alloc, place, chord, ahead),
+            TokenKind::Chord(chord) => self.chord(alloc, place, chord.get(), ahead),
             TokenKind::InlineField(field) | TokenKind::Field(field) => {
-                self.field(alloc, place, field)
+                self.field(alloc, place, field.get())
             }
             TokenKind::Bar(bar) => self.bar(*bar),
             TokenKind::Ending(passes) => self.ending(place, *passes),
@@ -337,7 +337,7 @@ impl Given {
     fn token(&mut self, alloc: Global, token: &Token, ahead: &[Token]) -> Result<(), AllocError>
         ensures { OnOk result (self.new ≡ with_token self.old token.now ahead.now) }
     {
-        self.kind(alloc, token.from, &token.kind, ahead)?;
+        self.kind(alloc, token.from as usize, &token.kind, ahead)?;
         self.behind = behind_after(self.behind, &token.kind);
         self.after_note = may_be_tied(&token.kind);
         Ok(())

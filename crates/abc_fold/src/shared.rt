@@ -18,6 +18,14 @@ impl<T: Drop> Model for Shared<T> {
     ghost view = { λ shared. shared.value.value };
 }
 
+impl<T: Drop> Clone for Shared<T> {
+    ghost is_clone = { λ shared copy. copy ≡ shared };
+
+    fn clone(&self) -> Result<Shared<T>, AllocError> {
+        self.share()
+    }
+}
+
 impl<T: Drop> Shared<T> {
     /// The value, with one owner.
     pub fn new(alloc: Global, value: T) -> Result<Shared<T>, AllocError>

@@ -36,7 +36,7 @@ const NO_LETTERS: LetterAccidentals = LetterAccidentals {
 /// rise: whatever the order is in which the same accidentals were written, it is the same list.
 #[derive(Drop)]
 pub struct OctaveAccidentals {
-    octaves: BTreeMap<i64, LetterAccidentals>,
+    octaves: BTreeMap<i32, LetterAccidentals>,
 }
 
 impl Model for OctaveAccidentals {
@@ -103,7 +103,7 @@ impl OctaveAccidentals {
 
     /// The accidentals in an octave.
     #[tactic(auto, unfolding(crate::specs::Accidentals::letters_in))]
-    fn letters_in(&self, octave: i64) -> LetterAccidentals
+    fn letters_in(&self, octave: i32) -> LetterAccidentals
         ensures { result ≡ letters_in self.now octave }
     {
         self.octaves.get(&octave).copied().unwrap_or(NO_LETTERS)
@@ -111,7 +111,7 @@ impl OctaveAccidentals {
 
     /// Puts one more accidental on a letter in an octave.
     #[tactic(auto, unfolding(crate::specs::Accidentals::with_octave))]
-    fn set(&mut self, octave: i64, letter: Letter, by: i8) -> Result<(), AllocError>
+    fn set(&mut self, octave: i32, letter: Letter, by: i8) -> Result<(), AllocError>
         ensures { OnOk result (self.new ≡ with_octave self.old octave letter by) }
     {
         let mut letters = self.letters_in(octave);

@@ -116,7 +116,7 @@ fn add_part(
     ensures value { OnOk result (inside.new ≡ with_part settings.now broken.now outside part.now tied inside.old) }
     ensures range { OnOk result (AreCounted inside.new.tones) }
 {
-    let around = outside.around(part.from, tied);
+    let around = outside.around(part.from as usize, tied);
     add_kind(settings, broken, around, part.kind, inside)?;
     inside.after_note = matches!(part.kind, ChordPartKind::Note(_));
     Ok(())

@@ -36,7 +36,7 @@ pub fn token_role(kind: &TokenKind) -> TokenRole
     match kind {
         TokenKind::Note(_) => TokenRole::Sound { noted: true },
         TokenKind::Chord(chord) => TokenRole::Sound {
-            noted: has_note(chord.parts.as_slice()),
+            noted: has_note(chord.get().parts.as_slice()),
         },
         TokenKind::Rest(_) => TokenRole::Rest,
         TokenKind::Broken(mark) => TokenRole::Mark(*mark),

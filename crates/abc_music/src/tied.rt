@@ -6,7 +6,7 @@ use abc_scan::Letter;
 #[derive(Clone, Copy)]
 pub struct TiedNote {
     /// Octaves above that of the capital letters.
-    pub octave: i64,
+    pub octave: i32,
     pub letter: Letter,
     /// By how many semitones it was altered.
     pub alteration: i8,

@@ -7,7 +7,7 @@ use Rattle.abc_scan.specs.declared.parts.ChordPartKind.{ChordPartKind}
 use Rattle.abc_scan.specs.declared.parts.ChordPartKind.TheVariants as kinds
 use Rattle.abc_scan.specs.declared.start.Start.{Start}
 use Rattle.abc_scan.specs.declared.start.Start.TheVariants as starts
-use Rattle.abc_scan.specs.Chord.{SpellsPart, part_kinds, inside_of, IsChord, part_by, part_reading_at, parts_of, chord_of, chord_at}
+use Rattle.abc_scan.specs.Chord.{SpellsPart, part_kinds, part_grammar, inside_of, IsChord, part_by, part_reading_at, parts_of, chord_of, chord_at}
 use Rattle.abc_scan.specs.Cutting.{IsCuttingFrom}
 use Rattle.abc_scan.specs.Delimited.{IsDelimited, delimited_at}
 use Rattle.abc_scan.specs.Frame.{IsFrame, frame_at}
@@ -131,7 +131,7 @@ chord_here text frame size sound =
         frame = frame;
         framed = sound.1;
         length_is = refl;
-        parts_are = subst (λ l. IsCuttingFrom part_kinds SpellsPart false 1 l (parts_of (inside_of frame text))) (sym inside) (cuts_from part_kinds SpellsPart part_reading_at reads_parts (length (inside_of frame text)) false 1 (inside_of frame text) (omega arith));
+        parts_are = subst (λ l. IsCuttingFrom part_grammar false 1 l (parts_of (inside_of frame text))) (sym inside) (cuts_from part_kinds SpellsPart part_reading_at reads_parts (length (inside_of frame text)) false 1 (inside_of frame text) (omega arith));
       },
     )
 

@@ -22,7 +22,7 @@ use Rattle.abc_scan.specs.Text.{before_comment, without_comment}
 use Rattle.abc_scan.specs.Chord.{SpellsPart, part_kinds, inside_of, IsChord}
 use Rattle.abc_scan.specs.Cutting.{alone_at, IsCuttingFrom, IsSpan, JoinFromTo}
 use Rattle.abc_scan.specs.Line.{cutting_of, directive_token, tokens_in, tokens_of, covered_in, covered_of, HasPartLength, HasLength}
-use Rattle.abc_scan.specs.Token.{Spells, opens, alone_of, is_bar, line_kinds, reading_at, next_token}
+use Rattle.abc_scan.specs.Token.{Spells, opens, alone_of, is_bar, line_kinds, line_grammar, reading_at, next_token}
 use Rattle.abc_text.specs.Digit.{is_digit, decimal}
 use Rattle.abc_text.specs.Ending.{without_return}
 use Rattle.abc_text.proofs.Decimals.{decimal-lt}
@@ -108,7 +108,7 @@ pub record Laid (at : ℕ) (tokens : List (Spanned TokenKind)) (end len : ℕ) :
   pub joined : JoinFromTo at tokens end
   pub lengths : All (λ t. HasLength t.kind) tokens
 
-laid_cut : (after_bar : Bool) (at : ℕ) (text : List ℕ) (tokens : List (Spanned TokenKind)) (len : ℕ) → IsCuttingFrom line_kinds Spells after_bar at text tokens → at + length text ≤ len → All (IsSpan len) tokens × JoinFromTo at tokens (at + length text)
+laid_cut : (after_bar : Bool) (at : ℕ) (text : List ℕ) (tokens : List (Spanned TokenKind)) (len : ℕ) → IsCuttingFrom line_grammar after_bar at text tokens → at + length text ≤ len → All (IsSpan len) tokens × JoinFromTo at tokens (at + length text)
 laid_cut after_bar at text [] len is fits = (All-nil (IsSpan len), let none = ap length is in omega (arith, none))
 laid_cut after_bar at text (t ∷ ts) len (front, rest, cut, first, from, to, more) fits =
     let only : (next_token after_bar text).1 ≡ length front = ap (λ (x : TokenKind × ℕ). x.1) (next_only line_kinds Spells reading_at reads_tokens after_bar text front rest t.kind cut first) in

@@ -8,7 +8,7 @@ use Rattle.abc_scan.specs.declared.frame.Frame.{Frame}
 use Rattle.abc_scan.specs.declared.spanned.Spanned.{Spanned}
 use Rattle.abc_scan.specs.declared.start.Start.{Start}
 use Rattle.abc_scan.specs.declared.start.Start.TheVariants as starts
-use Rattle.abc_scan.specs.Cutting.{Kinds, IsCuttingFrom, as_kind, of_kind, cutting_from}
+use Rattle.abc_scan.specs.Cutting.{Kinds, Grammar, Reader, IsCuttingFrom, as_kind, of_kind, cutting_from}
 use Rattle.abc_scan.specs.Delimited.{delimited_at}
 use Rattle.abc_scan.specs.Frame.{IsFrame, frame_at}
 use Rattle.abc_scan.specs.NoEffect.{HasNoEffect, extra_space_at}
@@ -27,6 +27,10 @@ SpellsPart after_bar text kinds.BadByte = ⊥
 abbrev pub part_kinds : Kinds ChordPartKind
 part_kinds = record { alone = λ b. kinds.BadByte; is_bar = λ k. false }
 
+-- What spells a part of a chord.
+abbrev pub part_grammar : Grammar ChordPartKind
+part_grammar = record { kinds = part_kinds; spells = SpellsPart }
+
 -- The bytes between the brackets of a chord.
 abbrev pub inside_of : Frame → List ℕ → List ℕ
 inside_of frame text = take frame.inside (drop 1 text)
@@ -36,7 +40,7 @@ pub record IsChord (text : List ℕ) (chord : Chord) : Type 0 where
   pub frame : Frame
   pub framed : IsFrame text frame
   pub length_is : chord.length ≡ frame.length
-  pub parts_are : IsCuttingFrom part_kinds SpellsPart false 1 (inside_of frame text) chord.parts
+  pub parts_are : IsCuttingFrom part_grammar false 1 (inside_of frame text) chord.parts
 
 -- The longest part at the front of a text that begins in this way, and how many bytes it takes.
 abbrev pub part_by : Start → List ℕ → Option (ChordPartKind × ℕ)
@@ -60,9 +64,13 @@ part_by starts.Nothing text = None
 unfoldable pub part_reading_at : Bool → List ℕ → Option (ChordPartKind × ℕ)
 part_reading_at after_bar text = part_by (start_of text) text
 
+-- What is read of the inside of a chord.
+abbrev pub part_reader : Reader ChordPartKind
+part_reader = record { kinds = part_kinds; reading = part_reading_at }
+
 -- The inside of a chord cut from left to right; its first byte is the second of the chord.
 unfoldable pub parts_of : List ℕ → List (Spanned ChordPartKind)
-parts_of text = cutting_from part_kinds part_reading_at false 1 0 text
+parts_of text = cutting_from part_reader false 1 0 text
 
 -- The chord of a frame.
 abbrev pub chord_of : Frame → List ℕ → Chord

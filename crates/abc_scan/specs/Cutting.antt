@@ -9,6 +9,16 @@ pub record Kinds (K : Type 0) : Type 0 where
   pub alone : ℕ → K
   pub is_bar : K → Bool
 
+-- What spells a part, which may depend on whether a bar line stands directly before it.
+pub record Grammar (K : Type 0) : Type 1 where
+  pub kinds : Kinds K
+  pub spells : Bool → List ℕ → K → Type 0
+
+-- What is read at the front of a text as a part, and how many bytes it takes.
+pub record Reader (K : Type 0) : Type 0 where
+  pub kinds : Kinds K
+  pub reading : Bool → List ℕ → Option (K × ℕ)
+
 -- The byte at the front of a text, as one that begins no part.
 abbrev pub alone_at : {K : Type 0} → Kinds K → List ℕ → K
 alone_at kinds [] = kinds.alone 0
@@ -28,13 +38,12 @@ abbrev pub IsNext : {K : Type 0} → Kinds K → (List ℕ → K → Type 0) →
 IsNext kinds spells text front kind =
     IsLongest spells text front kind ⊎ (SpellsNone spells text × (length front ≡ 1) × (kind ≡ alone_at kinds text))
 
--- The parts are the text cut up, which begins at this place. What spells a part may depend on whether a
--- bar line stands directly before it.
-abbrev pub IsCuttingFrom : {K : Type 0} → Kinds K → (Bool → List ℕ → K → Type 0) → Bool → ℕ → List ℕ → List (Spanned K) → Type 0
-IsCuttingFrom kinds spells after_bar at text [] = text ≡ []
-IsCuttingFrom kinds spells after_bar at text (t ∷ ts) =
-    (front : List ℕ) × (rest : List ℕ) × (text ≡ front ++ rest) × IsNext kinds (spells after_bar) text front t.kind
-    × (t.from ≡ at) × (t.to ≡ at + length front) × IsCuttingFrom kinds spells (kinds.is_bar t.kind) t.to rest ts
+-- The parts are the text cut up, which begins at this place.
+abbrev pub IsCuttingFrom : {K : Type 0} → Grammar K → Bool → ℕ → List ℕ → List (Spanned K) → Type 0
+IsCuttingFrom grammar after_bar at text [] = text ≡ []
+IsCuttingFrom grammar after_bar at text (t ∷ ts) =
+    (front : List ℕ) × (rest : List ℕ) × (text ≡ front ++ rest) × IsNext grammar.kinds (grammar.spells after_bar) text front t.kind
+    × (t.from ≡ at) × (t.to ≡ at + length front) × IsCuttingFrom grammar (grammar.kinds.is_bar t.kind) t.to rest ts
 
 -- A value that was read, as a part of this kind.
 abbrev pub as_kind : {V K : Type 0} → (V → K) → Option (V × ℕ) → Option (K × ℕ)
@@ -45,20 +54,20 @@ abbrev pub of_kind : {K : Type 0} → K → Option ℕ → Option (K × ℕ)
 of_kind kind found = option_map (λ size. (kind, size)) found
 
 -- What comes first in a text, and how many bytes it takes: what is read there, else one byte.
-abbrev pub next : {K : Type 0} → Kinds K → (Bool → List ℕ → Option (K × ℕ)) → Bool → List ℕ → K × ℕ
-next kinds reading after_bar text = unwrap_or (reading after_bar text) (alone_at kinds text, 1)
+abbrev pub next : {K : Type 0} → Reader K → Bool → List ℕ → K × ℕ
+next reader after_bar text = unwrap_or (reader.reading after_bar text) (alone_at reader.kinds text, 1)
 
 -- The part at the front of a text that begins at this place.
 abbrev pub part_at : {K : Type 0} → ℕ → K × ℕ → Spanned K
 part_at at first = record { kind = first.0; from = at; to = at + first.1 }
 
 -- The parts of a text that begins at this place, and whose first `inside` bytes belong to the part before it.
-abbrev pub cutting_from : {K : Type 0} → Kinds K → (Bool → List ℕ → Option (K × ℕ)) → Bool → ℕ → ℕ → List ℕ → List (Spanned K)
-cutting_from kinds reading after_bar at inside [] = []
-cutting_from kinds reading after_bar at zero (b ∷ bs) =
-    part_at at (next kinds reading after_bar (b ∷ bs))
-    ∷ cutting_from kinds reading (kinds.is_bar (next kinds reading after_bar (b ∷ bs)).0) (at + 1) ((next kinds reading after_bar (b ∷ bs)).1 - 1) bs
-cutting_from kinds reading after_bar at (suc inside) (b ∷ bs) = cutting_from kinds reading after_bar (at + 1) inside bs
+abbrev pub cutting_from : {K : Type 0} → Reader K → Bool → ℕ → ℕ → List ℕ → List (Spanned K)
+cutting_from reader after_bar at inside [] = []
+cutting_from reader after_bar at zero (b ∷ bs) =
+    part_at at (next reader after_bar (b ∷ bs))
+    ∷ cutting_from reader (reader.kinds.is_bar (next reader after_bar (b ∷ bs)).0) (at + 1) ((next reader after_bar (b ∷ bs)).1 - 1) bs
+cutting_from reader after_bar at (suc inside) (b ∷ bs) = cutting_from reader after_bar (at + 1) inside bs
 
 -- A part has at least one byte, and they lie in a text of this length.
 abbrev pub IsSpan : {K : Type 0} → ℕ → Spanned K → Type 0

@@ -15,15 +15,15 @@ use Rattle.abc_scan.specs.Field.{field_of}
 use Rattle.abc_scan.specs.Length.{HasFactor}
 use Rattle.abc_scan.specs.Class.{class_of}
 use Rattle.abc_scan.specs.Text.{without_comment}
-use Rattle.abc_scan.specs.Token.{Spells, line_kinds, reading_at}
+use Rattle.abc_scan.specs.Token.{line_grammar, line_reader}
 
 -- The tokens are the whole text of a line cut up.
 abbrev pub IsCutting : List ℕ → List (Spanned TokenKind) → Type 0
-IsCutting text tokens = IsCuttingFrom line_kinds Spells false 0 text tokens
+IsCutting text tokens = IsCuttingFrom line_grammar false 0 text tokens
 
 -- A text cut from left to right.
 abbrev pub cutting_of : List ℕ → List (Spanned TokenKind)
-cutting_of text = cutting_from line_kinds reading_at false 0 0 text
+cutting_of text = cutting_from line_reader false 0 0 text
 
 -- One token, which is the whole text.
 abbrev pub field_token : List ℕ → List (Spanned TokenKind)

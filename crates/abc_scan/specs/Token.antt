@@ -11,7 +11,7 @@ use Rattle.abc_scan.specs.BarRest.{IsBarRest, bar_rest_at}
 use Rattle.abc_scan.specs.Broken.{IsBroken, broken_at}
 use Rattle.abc_scan.specs.Byte.{quote, exclamation, opening_bracket, opening_brace}
 use Rattle.abc_scan.specs.Chord.{IsChord, chord_at}
-use Rattle.abc_scan.specs.Cutting.{Kinds, as_kind, of_kind, next}
+use Rattle.abc_scan.specs.Cutting.{Kinds, Grammar, Reader, as_kind, of_kind, next}
 use Rattle.abc_scan.specs.Delimited.{delimited_at}
 use Rattle.abc_scan.specs.Dynamic.{IsDynamic, dynamic_of}
 use Rattle.abc_scan.specs.Ending.{IsEnding, ending_at}
@@ -75,6 +75,10 @@ is_bar kinds.BadByte = false
 abbrev pub line_kinds : Kinds TokenKind
 line_kinds = record { alone = alone_of; is_bar = is_bar }
 
+-- What spells a token of a line.
+abbrev pub line_grammar : Grammar TokenKind
+line_grammar = record { kinds = line_kinds; spells = Spells }
+
 -- The first of two readings that there is.
 abbrev pub or_else : Option (TokenKind × ℕ) → Option (TokenKind × ℕ) → Option (TokenKind × ℕ)
 or_else (Some token) other = Some token
@@ -131,6 +135,10 @@ reading_by starts.Nothing after_bar text = mark_by starts.Nothing after_bar text
 unfoldable pub reading_at : Bool → List ℕ → Option (TokenKind × ℕ)
 reading_at after_bar text = reading_by (start_of text) after_bar text
 
+-- What is read of a line.
+abbrev pub line_reader : Reader TokenKind
+line_reader = record { kinds = line_kinds; reading = reading_at }
+
 -- What comes first in a text, and how many bytes it takes: a token, else one byte that begins none.
 abbrev pub next_token : Bool → List ℕ → TokenKind × ℕ
-next_token after_bar text = next line_kinds reading_at after_bar text
+next_token after_bar text = next line_reader after_bar text

@@ -1,6 +1,6 @@
 //! Bar lines.
 
-ghost use Rattle.std.specs.Prelude.{◌≡◌, ◌≤◌, ◌<◌, length, IfSome};
+ghost use Rattle.std.specs.Prelude.{◌≡◌, ◌≤◌, ◌<◌, ◌^◌, length, IfSome};
 ghost use Rattle.abc_scan.specs.Bar.{goes_on, middle_from, middle_size, is_double, colons_alone, bar_at};
 
 use crate::run::run_of;
@@ -9,9 +9,9 @@ use crate::run::run_of;
 #[derive(Clone, Copy)]
 pub struct BarLine {
     /// The colons before its strokes. Of `k` colons alone, `k - 1` close and as many open.
-    pub closes: usize,
+    pub closes: u32,
     /// The colons after its strokes.
-    pub opens: usize,
+    pub opens: u32,
     /// Whether its strokes and brackets are more than a single `|`, or none.
     pub double: bool,
 }
@@ -52,14 +52,16 @@ fn is_double(middle: &[u8]) -> bool
 
 /// The bar line of so many colons alone: a single one is none.
 fn colons_alone(count: usize) -> Option<(BarLine, usize)>
+    requires { count < 2 ^ 31 }
     ensures { result ≡ colons_alone count }
 {
     if count < 2 {
         return None;
     }
+    let repeats = (count - 1) as u32;
     let bar = BarLine {
-        closes: count - 1,
-        opens: count - 1,
+        closes: repeats,
+        opens: repeats,
         double: true,
     };
     Some((bar, count))
@@ -68,6 +70,7 @@ fn colons_alone(count: usize) -> Option<(BarLine, usize)>
 /// The bar line at the front of a text, and how many bytes it takes.
 #[tactic(auto, unfolding(crate::specs::Bar::bar_at))]
 pub(crate) fn bar_at(text: &[u8]) -> Option<(BarLine, usize)>
+    requires { length text.now < 2 ^ 31 }
     ensures value { result ≡ bar_at text.now }
     ensures some { IfSome result (λ r. 0 < r.1) }
     ensures inside { IfSome result (λ r. r.1 ≤ length text.now) }
@@ -80,8 +83,8 @@ pub(crate) fn bar_at(text: &[u8]) -> Option<(BarLine, usize)>
     }
     let opens = run_of(b':', &behind[middle..]);
     let bar = BarLine {
-        closes,
-        opens,
+        closes: closes as u32,
+        opens: opens as u32,
         double: is_double(&behind[..middle]),
     };
     Some((bar, closes + middle + opens))

@@ -1,8 +1,8 @@
 //! Chords.
 
-ghost use Rattle.std.specs.Prelude.{◌≡◌, ◌≤◌, ◌<◌, drop, length, IfOk, IfSome, false};
+ghost use Rattle.std.specs.Prelude.{◌≡◌, ◌≤◌, ◌<◌, ◌+◌, ◌^◌, drop, length, IfOk, IfSome, false};
 ghost use Rattle.std.specs.Option.{option_map};
-ghost use Rattle.abc_scan.specs.Chord.{part_reading_at, part_kinds, parts_of, chord_at};
+ghost use Rattle.abc_scan.specs.Chord.{part_reading_at, part_reader, parts_of, chord_at};
 ghost use Rattle.abc_scan.specs.Closing.{IsMissing};
 ghost use Rattle.abc_scan.specs.Cutting.{next};
 
@@ -30,7 +30,8 @@ pub struct Chord {
 /// The part at the front of a text, and how many bytes it takes.
 #[tactic(auto, unfolding(crate::specs::Chord::part_reading_at))]
 fn part_reading_at(text: &[u8], missing: &mut Missing) -> Option<(ChordPartKind, usize)>
-    requires { IsMissing missing.old (drop 1 text.now) }
+    requires known { IsMissing missing.old (drop 1 text.now) }
+    requires short { length text.now < 2 ^ 31 }
     ensures value { result ≡ part_reading_at false text.now }
     ensures some { IfSome result (λ r. 0 < r.1) }
     ensures inside { IfSome result (λ r. r.1 ≤ length text.now) }
@@ -59,7 +60,8 @@ fn part_reading_at(text: &[u8], missing: &mut Missing) -> Option<(ChordPartKind,
 fn next_part(text: &[u8], missing: &mut Missing) -> (ChordPartKind, usize)
     requires some { 0 < length text.now }
     requires known { IsMissing missing.old (drop 1 text.now) }
-    ensures value { result ≡ next part_kinds part_reading_at false text.now }
+    requires short { length text.now < 2 ^ 31 }
+    ensures value { result ≡ next part_reader false text.now }
     ensures some { 0 < result.1 }
     ensures inside { result.1 ≤ length text.now }
     ensures kept { IsMissing missing.new (drop 1 text.now) }
@@ -69,26 +71,29 @@ fn next_part(text: &[u8], missing: &mut Missing) -> (ChordPartKind, usize)
 
 /// The parts that the inside of a chord is cut into.
 fn parts_of(alloc: Global, text: &[u8]) -> Result<Sequence<ChordPart>, AllocError>
+    requires { length text.now + 1 < 2 ^ 31 }
     ensures { IfOk result (λ parts. parts ≡ parts_of text.now) }
 {
-    let mut parts = Sequence::new(alloc);
+    let mut parts = Vec::new(alloc);
     let mut missing = Missing::none();
     let mut at = 0;
     while at < text.len() {
         let (kind, size) = next_part(&text[at..], &mut missing);
         parts.push(Spanned {
             kind,
-            from: 1 + at,
-            to: 1 + at + size,
+            from: (1 + at) as u32,
+            to: (1 + at + size) as u32,
         })?;
         at += size;
     }
-    Ok(parts)
+    parts.shrink_to_fit();
+    Ok(Sequence::from(parts))
 }
 
 /// The chord at the front of a text, and how many bytes it takes.
 #[tactic(auto, unfolding(crate::specs::Chord::chord_at))]
 pub(crate) fn chord_at(alloc: Global, text: &[u8]) -> Result<Option<(Chord, usize)>, AllocError>
+    requires { length text.now < 2 ^ 31 }
     ensures value { IfOk result (λ chord. chord ≡ chord_at text.now) }
     ensures some { IfOk result (λ chord. IfSome chord (λ r. 0 < r.1)) }
     ensures inside { IfOk result (λ chord. IfSome chord (λ r. r.1 ≤ length text.now)) }

@@ -1,6 +1,6 @@
 //! The tokens of a line.
 
-ghost use Rattle.std.specs.Prelude.{◌≡◌, ◌+◌, IfOk, IsOk, All, length, false};
+ghost use Rattle.std.specs.Prelude.{◌≡◌, ◌+◌, ◌<◌, ◌^◌, IfOk, IsOk, All, length, false};
 ghost use Rattle.abc_fold.specs.Work.{raised};
 ghost use Rattle.abc_scan.specs.Cutting.{IsSpan, JoinFromTo};
 ghost use Rattle.abc_scan.specs.Class.{class_of};
@@ -14,12 +14,28 @@ use crate::field::field_of;
 use crate::spanned::Spanned;
 use crate::text::without_comment;
 use crate::token::{Token, TokenKind, is_bar, next_token};
-use abc_fold::Work;
+use abc_fold::{Shared, Work};
 use abc_text::without_return;
 use std::alloc::{AllocError, Global};
 
+/// The longest text that is cut: the places in it, and the octaves of its notes, are small numbers.
+const LONGEST_LINE: usize = (1 << 31) - 1;
+
+/// A text, if it is not too long to be cut.
+fn short(text: &[u8]) -> Result<&[u8], AllocError>
+    ensures same { IfOk result (λ short. short.now ≡ text.now) }
+    ensures short { IfOk result (λ short. length short.now < 2 ^ 31) }
+{
+    if text.len() > LONGEST_LINE {
+        Err(AllocError)
+    } else {
+        Ok(text)
+    }
+}
+
 /// A text cut from left to right.
 fn cut(alloc: Global, text: &[u8]) -> Result<Vec<Token>, AllocError>
+    requires { length text.now < 2 ^ 31 }
     ensures { IfOk result (λ tokens. tokens.items ≡ cutting_of text.now) }
 {
     let mut tokens = Vec::with_capacity(alloc, text.len())?;
@@ -31,8 +47,8 @@ fn cut(alloc: Global, text: &[u8]) -> Result<Vec<Token>, AllocError>
         after_bar = is_bar(&kind);
         tokens.push(Spanned {
             kind,
-            from: at,
-            to: at + size,
+            from: at as u32,
+            to: (at + size) as u32,
         })?;
         at += size;
     }
@@ -41,19 +57,22 @@ fn cut(alloc: Global, text: &[u8]) -> Result<Vec<Token>, AllocError>
 
 /// One token for the whole text of a field.
 fn field_token(alloc: Global, text: &[u8]) -> Result<Vec<Token>, AllocError>
+    requires { length text.now < 2 ^ 31 }
     ensures { IfOk result (λ tokens. tokens.items ≡ field_token text.now) }
 {
+    let field = Shared::new(alloc, field_of(alloc, text)?)?;
     let mut tokens = Vec::with_capacity(alloc, 1)?;
     tokens.push(Spanned {
-        kind: TokenKind::Field(field_of(alloc, text)?),
+        kind: TokenKind::Field(field),
         from: 0,
-        to: text.len(),
+        to: text.len() as u32,
     })?;
     Ok(tokens)
 }
 
 /// One token for the whole text of a directive, with its comment.
 fn directive_token(alloc: Global, text: &[u8]) -> Result<Vec<Token>, AllocError>
+    requires { length text.now < 2 ^ 31 }
     ensures { IfOk result (λ tokens. tokens.items ≡ directive_token (directive_of text.now) (length text.now)) }
 {
     let Some(directive) = directive_of(text) else {
@@ -63,7 +82,7 @@ fn directive_token(alloc: Global, text: &[u8]) -> Result<Vec<Token>, AllocError>
     tokens.push(Spanned {
         kind: TokenKind::Directive(directive),
         from: 0,
-        to: text.len(),
+        to: text.len() as u32,
     })?;
     Ok(tokens)
 }
@@ -75,14 +94,15 @@ fn tokens_in(alloc: Global, class: LineClass, text: &[u8]) -> Result<Vec<Token>,
 {
     match class {
         LineClass::Blank | LineClass::Comment => Ok(Vec::new(alloc)),
-        LineClass::Field(_) => field_token(alloc, without_comment(text)),
-        LineClass::Directive => directive_token(alloc, text),
-        LineClass::Music => cut(alloc, without_comment(text)),
+        LineClass::Field(_) => field_token(alloc, short(without_comment(text))?),
+        LineClass::Directive => directive_token(alloc, short(text)?),
+        LineClass::Music => cut(alloc, short(without_comment(text))?),
     }
 }
 
 /// The tokens of a line, without its carriage return and, but for a directive, its comment. Counts one line scanned, also
-/// where there is no memory for the tokens; a blank line and a comment need none.
+/// where there is no memory for the tokens; a blank line and a comment need none. A line of 2^31 bytes or more that has
+/// tokens is answered as one for which there is no memory.
 #[tactic(auto, unfolding(crate::specs::Line::tokens_of, crate::specs::Line::covered_of))]
 pub fn scan(alloc: Global, line: &[u8], work: &mut Work) -> Result<Vec<Token>, AllocError>
     ensures tokens { IfOk result (λ tokens. tokens.items ≡ tokens_of line.now) }

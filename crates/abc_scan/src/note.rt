@@ -16,7 +16,7 @@ pub struct Note {
     pub letter: Letter,
     /// Octaves above that of the capital letters: one for a small letter and for each `'`, less one
     /// for each `,`.
-    pub octave: i64,
+    pub octave: i32,
     pub length: WrittenLength,
 }
 
@@ -64,18 +64,19 @@ fn occurrences(marks: &[u8], mark: u8) -> usize
 }
 
 /// The octave of a letter with these marks behind it.
-fn octave(letter: u8, marks: &[u8]) -> i64
-    requires { length marks.now + 1 < 2 ^ 63 }
+fn octave(letter: u8, marks: &[u8]) -> i32
+    requires { length marks.now + 1 < 2 ^ 31 }
     ensures { result ≡ octave letter marks.now }
 {
     let raised = letter_octave(letter) + occurrences(marks, b'\'');
     let lowered = occurrences(marks, b',');
-    raised as i64 - lowered as i64
+    raised as i32 - lowered as i32
 }
 
 /// The note at the front of a text, and how many bytes it takes.
 #[tactic(auto, unfolding(crate::specs::Note::note_at))]
 pub(crate) fn note_at(text: &[u8]) -> Option<(Note, usize)>
+    requires { length text.now < 2 ^ 31 }
     ensures value { result ≡ note_at text.now }
     ensures some { IfSome result (λ r. 0 < r.1) }
     ensures inside { IfSome result (λ r. r.1 ≤ length text.now) }

@@ -6,7 +6,7 @@
 pub struct Spanned<K> {
     pub kind: K,
     /// The place of its first byte, counted from 0.
-    pub from: usize,
+    pub from: u32,
     /// The place behind its last byte.
-    pub to: usize,
+    pub to: u32,
 }

@@ -1,6 +1,6 @@
 //! What a music line is made of.
 
-ghost use Rattle.std.specs.Prelude.{◌≡◌, ◌≤◌, ◌<◌, drop, length, false, IfOk, IfSome};
+ghost use Rattle.std.specs.Prelude.{◌≡◌, ◌≤◌, ◌<◌, ◌^◌, drop, length, false, IfOk, IfSome};
 ghost use Rattle.abc_scan.specs.Closing.{IsMissing};
 ghost use Rattle.abc_scan.specs.Dynamic.{dynamic_of};
 ghost use Rattle.abc_scan.specs.Token.{is_bar, mark_by, reading_by, alone_of, loud_or_silent, next_token};
@@ -22,6 +22,7 @@ use crate::note::{Note, note_at, rest_at};
 use crate::spanned::Spanned;
 use crate::start::{Start, start_of};
 use crate::tuplet::{Tuplet, tuplet_at};
+use abc_fold::Shared;
 use std::alloc::{AllocError, Global};
 
 /// A part of a line, with its value read.
@@ -35,9 +36,9 @@ pub enum TokenKind {
     Rest(WrittenLength),
     /// A rest of whole bars, with their number where it is written.
     BarRest(Option<u32>),
-    Chord(Chord),
+    Chord(Shared<Chord>),
     /// A field in a music line, as `[K:G]`.
-    InlineField(Field),
+    InlineField(Shared<Field>),
     Bar(BarLine),
     /// The passes that an ending is for: bit i - 1 is set for pass i. None where a number is refused.
     Ending(Option<u32>),
@@ -50,7 +51,7 @@ pub enum TokenKind {
     /// Quoted text, another decoration, a grace group, an extra space or a byte without effect.
     NoEffect,
     /// A whole field line, without its comment.
-    Field(Field),
+    Field(Shared<Field>),
     /// A whole directive line, with its comment.
     Directive(Directive),
     /// A byte that opens what nothing closes.
@@ -92,11 +93,13 @@ fn bracket_at(
     after_bar: bool,
     text: &[u8],
 ) -> Result<Option<(TokenKind, usize)>, AllocError>
+    requires { length text.now < 2 ^ 31 }
     ensures value { IfOk result (λ token. token ≡ reading_by Start.Bracket after_bar text.now) }
     ensures some { IfOk result (λ token. IfSome token (λ r. 0 < r.1)) }
     ensures inside { IfOk result (λ token. IfSome token (λ r. r.1 ≤ length text.now)) }
 {
     if let Some((chord, size)) = chord_at(alloc, text)? {
+        let chord = Shared::new(alloc, chord)?;
         return Ok(Some((TokenKind::Chord(chord), size)));
     }
     Ok(ending_mark_at(after_bar, text))
@@ -115,7 +118,10 @@ fn field_at(
     ensures kept { IsMissing missing.new (drop 1 text.now) }
 {
     match inline_field_at(alloc, text, missing)? {
-        Some((field, size)) => Ok(Some((TokenKind::InlineField(field), size))),
+        Some((field, size)) => {
+            let field = Shared::new(alloc, field)?;
+            Ok(Some((TokenKind::InlineField(field), size)))
+        }
         None => Ok(None),
     }
 }
@@ -158,7 +164,8 @@ fn parenthesis_at(text: &[u8]) -> Option<(TokenKind, usize)>
 /// The token at the front of a text that begins in this way, and how many bytes it takes, if it can
 /// be told without memory and without a search for its end.
 fn mark_at(start: Start, after_bar: bool, text: &[u8]) -> Option<(TokenKind, usize)>
-    requires { 0 < length text.now }
+    requires some { 0 < length text.now }
+    requires short { length text.now < 2 ^ 31 }
     ensures value { result ≡ mark_by start after_bar text.now }
     ensures some { IfSome result (λ r. 0 < r.1) }
     ensures inside { IfSome result (λ r. r.1 ≤ length text.now) }
@@ -207,6 +214,7 @@ pub(crate) fn next_token(
 ) -> Result<(TokenKind, usize), AllocError>
     requires some { 0 < length text.now }
     requires known { IsMissing missing.old (drop 1 text.now) }
+    requires short { length text.now < 2 ^ 31 }
     ensures value { IfOk result (λ r. r ≡ next_token after_bar text.now) }
     ensures some { IfOk result (λ r. 0 < r.1) }
     ensures inside { IfOk result (λ r. r.1 ≤ length text.now) }

@@ -24,8 +24,8 @@ pub(crate) fn mark_of(item: &Item) -> Mark
 {
     match item {
         Item::Bar(bar) => Mark::Bar {
-            closes: bar.closes,
-            opens: bar.opens,
+            closes: bar.closes as usize,
+            opens: bar.opens as usize,
             double: bar.double,
         },
         Item::Ending(numbers) => Mark::Ending(*numbers),

@@ -1,6 +1,6 @@
 use Rattle.std.proofs.Common.{◌≡◌, ◌+◌, ◌-◌, ◌++◌, ap, sym, subst, take, drop, length, false, ◌∙◌, arith, length-drop}
 use Rattle.std.proofs.lemmas.List.{take_all}
-use Rattle.abc_scan.specs.Chord.{part_kinds, part_reading_at, parts_of}
+use Rattle.abc_scan.specs.Chord.{part_reader, parts_of}
 use Rattle.abc_scan.specs.Closing.{IsMissing}
 use Rattle.abc_scan.specs.Cutting.{next, cutting_from}
 use Rattle.abc_scan.proofs.Closings.{missing-drop, missing-behind}
@@ -16,7 +16,7 @@ loop-at-preserved c =
     record {
       inside = omega (arith, c.next_part-kind.ensures.inside, ap length rest, length-drop at text);
       known = missing-behind c.next_part-kind.new.missing text at c.next_part-kind.result.1 c.next_part-kind.ensures.some (subst (λ l. IsMissing c.next_part-kind.new.missing (drop 1 l)) rest c.next_part-kind.ensures.kept);
-      cut = cut_more part_kinds part_reading_at false text c.loop-at.parts _ _ (1 + at) (1 + (at + c.next_part-kind.result.1)) at c.next_part-kind.result sum c.loop-at-test.true c.next_part-kind.ensures.some (c.next_part-kind.ensures.value ∙ ap (next part_kinds part_reading_at false) rest) c.in_ok-push.ensures.ok c.loop-at.invariant.cut;
+      cut = cut_more part_reader false text c.loop-at.parts.items _ _ (1 + at) (1 + (at + c.next_part-kind.result.1)) at c.next_part-kind.result sum c.loop-at-test.true c.next_part-kind.ensures.some (c.next_part-kind.ensures.value ∙ ap (next part_reader false) rest) c.in_ok-push.ensures.items c.loop-at.invariant.cut;
     }
 
 pub loop-at-init : goal.loop-at-init
@@ -24,7 +24,7 @@ unfolding parts_of
 loop-at-init c = record {
   inside = omega arith;
   known = c.none-missing.ensures c.args.text.now;
-  cut = ap (λ l. l ++ cutting_from part_kinds part_reading_at false 1 0 c.args.text.now) c.new-parts.ensures;
+  cut = ap (λ l. l ++ cutting_from part_reader false 1 0 c.args.text.now) c.new-parts.ensures.items;
 }
 
 pub next_part-kind-requires-clause-known : goal.next_part-kind-requires-clause-known

@@ -1,5 +1,5 @@
 use Rattle.std.proofs.Common.{◌≡◌, ◌++◌, ◌≤◌, ◌+◌, ◌-◌, drop, length, false}
-use Rattle.abc_scan.specs.Chord.{part_kinds, part_reading_at, parts_of}
+use Rattle.abc_scan.specs.Chord.{part_reader, parts_of}
 use Rattle.abc_scan.specs.Closing.{IsMissing}
 use Rattle.abc_scan.specs.Cutting.{cutting_from}
 use Rattle.abc_scan.proofs.chord.parts_of.Given as goal
@@ -9,7 +9,7 @@ abbrev pub invariant-loop-at : goal.invariant-loop-at
 invariant-loop-at l = record {
   inside : l.at ≤ length l.text;
   known : IsMissing l.missing (drop l.at l.text);
-  cut : l.parts ++ cutting_from part_kinds part_reading_at false (1 + l.at) 0 (drop l.at l.text) ≡ parts_of l.text;
+  cut : l.parts.items ++ cutting_from part_reader false (1 + l.at) 0 (drop l.at l.text) ≡ parts_of l.text;
 }
 
 abbrev pub decreases-loop-at : goal.decreases-loop-at

@@ -2,7 +2,7 @@ use Rattle.std.proofs.Common.{◌≡◌, ◌++◌, ◌≤◌, ◌-◌, drop, len
 use Rattle.abc_scan.specs.Closing.{IsMissing}
 use Rattle.abc_scan.specs.Cutting.{cutting_from}
 use Rattle.abc_scan.specs.Line.{cutting_of}
-use Rattle.abc_scan.specs.Token.{line_kinds, reading_at}
+use Rattle.abc_scan.specs.Token.{line_reader}
 use Rattle.abc_scan.proofs.line.cut.Given as goal
 
 -- the tokens so far, and those of the rest
@@ -10,7 +10,7 @@ abbrev pub invariant-loop-at : goal.invariant-loop-at
 invariant-loop-at l = record {
   inside : l.at ≤ length l.text;
   known : IsMissing l.missing (drop l.at l.text);
-  cut : l.tokens.items ++ cutting_from line_kinds reading_at l.after_bar l.at 0 (drop l.at l.text) ≡ cutting_of l.text;
+  cut : l.tokens.items ++ cutting_from line_reader l.after_bar l.at 0 (drop l.at l.text) ≡ cutting_of l.text;
 }
 
 abbrev pub decreases-loop-at : goal.decreases-loop-at
