@@ -1,6 +1,6 @@
 //! The accidentals that hold in a bar.
 
-ghost use Rattle.std.specs.Prelude.{◌≡◌, ◌↔◌, [], IsTrue, OnOk};
+ghost use Rattle.std.specs.Prelude.{◌≡◌, ◌↔◌, [], IsTrue, OnErr, OnOk};
 ghost use Rattle.abc_music.specs.Accidentals.{letters_in, no_accidentals, on_letter, reach_of, with_accidental, with_letter, with_octave, written_on};
 
 use abc_scan::{Letter, Note, Reach};
@@ -112,7 +112,8 @@ impl OctaveAccidentals {
     /// Puts one more accidental on a letter in an octave.
     #[tactic(auto, unfolding(crate::specs::Accidentals::with_octave))]
     fn set(&mut self, octave: i32, letter: Letter, by: i8) -> Result<(), AllocError>
-        ensures { OnOk result (self.new ≡ with_octave self.old octave letter by) }
+        ensures ok { OnOk result (self.new ≡ with_octave self.old octave letter by) }
+        ensures refused { OnErr result (self.new ≡ self.old) }
     {
         let mut letters = self.letters_in(octave);
         letters.set(letter, by);
@@ -174,7 +175,8 @@ impl Accidentals {
 
     /// Puts the accidental of one more note behind the others.
     pub fn set(&mut self, note: Note, by: i8) -> Result<(), AllocError>
-        ensures { OnOk result (self.new ≡ with_accidental self.old note by) }
+        ensures ok { OnOk result (self.new ≡ with_accidental self.old note by) }
+        ensures refused { OnErr result (self.new ≡ self.old) }
     {
         match self {
             Accidentals::Own => {}

@@ -1,6 +1,6 @@
 //! What cells give to the score.
 
-ghost use Rattle.std.specs.Prelude.{◌≡◌, All, [], ◌∷◌, ◌++◌, IfOk, OnOk};
+ghost use Rattle.std.specs.Prelude.{◌≡◌, All, [], ◌∷◌, ◌++◌, IfOk, OnErr, OnOk};
 ghost use Rattle.abc_music.specs.Item.{IsItem, nothing, and_item, and_faults};
 
 use crate::velocity::USUAL_VELOCITY;
@@ -104,8 +104,8 @@ pub type LocalFault = (u32, FaultCode);
 /// What a cell gives: its items, and its faults, each in the order in which it was put here.
 #[derive(Drop)]
 pub struct Items {
-    items: Sequence<Item>,
-    faults: Sequence<LocalFault>,
+    items: Vec<Item>,
+    faults: Vec<LocalFault>,
 }
 
 impl Model for Items {
@@ -114,11 +114,9 @@ impl Model for Items {
 
     ghost Value = { Seen };
 
-    ghost view = { λ given. record { items = given.items; faults = given.faults } };
+    ghost view = { λ given. record { items = given.items.items; faults = given.faults.items } };
 
-    ghost inverse = { λ seen. record { items = seen.items; faults = seen.faults } };
-
-    ghost invariant = { λ given. All IsItem given.items };
+    ghost invariant = { λ given. All IsItem given.items.items };
 }
 
 impl Items {
@@ -126,8 +124,10 @@ impl Items {
     pub fn with_room(alloc: Global, items: usize) -> Result<Items, AllocError>
         ensures { IfOk result (λ made. made ≡ nothing) }
     {
-        let items = Vec::with_capacity(alloc, items)?;
-        Ok(Items::of(Sequence::from(items), Sequence::new(alloc)))
+        Ok(Items {
+            items: Vec::with_capacity(alloc, items)?,
+            faults: Vec::new(alloc),
+        })
     }
 
     /// These items and these faults.
@@ -136,7 +136,10 @@ impl Items {
         ensures items { result.items ≡ items }
         ensures faults { result.faults ≡ faults }
     {
-        Items { items, faults }
+        Items {
+            items: items.into_vec(),
+            faults: faults.into_vec(),
+        }
     }
 
     /// The items in order.
@@ -157,7 +160,8 @@ impl Items {
     /// Puts one more item behind the others.
     pub fn push_item(&mut self, item: Item) -> Result<(), AllocError>
         requires { IsItem item }
-        ensures { OnOk result (self.new ≡ and_item self.old item) }
+        ensures ok { OnOk result (self.new ≡ and_item self.old item) }
+        ensures refused { OnErr result (self.new ≡ self.old) }
     {
         self.items.push(item)?;
         Ok(())
@@ -165,7 +169,8 @@ impl Items {
 
     /// Puts one more fault behind the others.
     pub fn push_fault(&mut self, fault: LocalFault) -> Result<(), AllocError>
-        ensures { OnOk result (self.new ≡ and_faults self.old (fault ∷ [])) }
+        ensures ok { OnOk result (self.new ≡ and_faults self.old (fault ∷ [])) }
+        ensures refused { OnErr result (self.new ≡ self.old) }
     {
         self.faults.push(fault)?;
         Ok(())
@@ -173,19 +178,27 @@ impl Items {
 
     /// Puts faults behind the others.
     pub fn push_faults(&mut self, more: &[LocalFault]) -> Result<(), AllocError>
-        ensures { OnOk result (self.new ≡ and_faults self.old more.now) }
+        ensures ok { OnOk result (self.new ≡ and_faults self.old more.now) }
+        ensures refused { OnErr result (self.new ≡ self.old) }
     {
-        push_faults(&mut self.faults, more)?;
+        self.faults.extend_from_slice(more)?;
         Ok(())
     }
-}
 
-/// Puts faults behind others.
-fn push_faults(faults: &mut Sequence<LocalFault>, more: &[LocalFault]) -> Result<(), AllocError>
-    ensures { OnOk result (faults.new ≡ faults.old ++ more.now) }
-{
-    for fault in more {
-        faults.push(*fault)?;
+    /// Puts one more item and its faults behind the others. There is room for the item before a fault is put, so that
+    /// none is put without it.
+    pub(crate) fn push_with_faults(
+        &mut self,
+        item: Item,
+        faults: &[LocalFault],
+    ) -> Result<(), AllocError>
+        requires { IsItem item }
+        ensures ok { OnOk result (self.new ≡ and_item (and_faults self.old faults.now) item) }
+        ensures refused { OnErr result (self.new ≡ self.old) }
+    {
+        self.items.reserve(1)?;
+        self.faults.extend_from_slice(faults)?;
+        self.items.push(item)?;
+        Ok(())
     }
-    Ok(())
 }

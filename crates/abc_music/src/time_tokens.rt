@@ -1,9 +1,11 @@
 //! Notes, chords and rests: what each gives and what it leaves for its voice.
 
-ghost use Rattle.std.specs.Prelude.{◌≡◌, ◌∷◌, All, OnOk};
-ghost use Rattle.abc_fields.specs.declared.fault.FaultCode.TheVariants.{EmptyChord};
+ghost use Rattle.std.specs.Prelude.{◌≡◌, ◌∷◌, false, All, IfOk, OnErr, OnOk};
+ghost use Rattle.abc_fields.specs.declared.fault.FaultCode.TheVariants.{BadLength, EmptyChord};
 ghost use Rattle.abc_music.specs.Column.{column_of};
-ghost use Rattle.abc_music.specs.Item.{AreTones, IsTone, IsWithinLongest, and_faults};
+ghost use Rattle.abc_music.specs.Item.{AreTones, IsTone, IsWithinLongest, and_faults, and_item};
+ghost use Rattle.abc_music.specs.Sound.{fault_if};
+ghost use Rattle.abc_music.specs.declared.item.Item.TheVariants as items;
 ghost use Rattle.abc_music.specs.TimeTokens.{first_length, sounded, note_played, chord_played, rest_played, with_played};
 
 use crate::broken::BrokenFactors;
@@ -16,7 +18,7 @@ use crate::sound::{Around, Inside, add_note, length_in};
 use crate::tuplet::counted_down;
 use abc_fields::FaultCode;
 use abc_scan::{Chord, Note, WrittenLength};
-use abc_text::{Sequence, ShortSequence};
+use abc_text::ShortSequence;
 use abc_time::Grains;
 use std::alloc::{AllocError, Global};
 
@@ -44,6 +46,7 @@ fn sound(settings: &mut Settings, items: &mut Items, inside: Inside) -> Result<(
     requires { AreTones inside.tones }
     ensures settings { OnOk result (settings.new ≡ (sounded settings.old inside).settings) }
     ensures items { OnOk result (items.new ≡ with_played items.old (sounded settings.old inside)) }
+    ensures refused { OnErr result ((settings.new ≡ settings.old) × (items.new ≡ items.old)) }
 {
     let Inside {
         accidentals,
@@ -54,11 +57,10 @@ fn sound(settings: &mut Settings, items: &mut Items, inside: Inside) -> Result<(
         big: _,
     } = inside;
     let length = first_length(tones.as_slice());
+    items.push_with_faults(Item::Tone { tones, length }, faults.as_slice())?;
     settings.accidentals = accidentals;
     settings.tuplet = counted_down(settings.tuplet);
     settings.tied = tied;
-    items.push_faults(faults.as_slice())?;
-    items.push_item(Item::Tone { tones, length })?;
     Ok(())
 }
 
@@ -73,6 +75,7 @@ pub fn note_played(
 ) -> Result<(), AllocError>
     ensures settings { OnOk result (settings.new ≡ (note_played settings.old broken.now place.tied place.from note).settings) }
     ensures items { OnOk result (items.new ≡ with_played items.old (note_played settings.old broken.now place.tied place.from note)) }
+    ensures refused { OnErr result ((settings.new ≡ settings.old) × (items.new ≡ items.old)) }
 {
     let mut inside = Inside::new(alloc, settings)?;
     let around = Around {
@@ -85,20 +88,22 @@ pub fn note_played(
     Ok(())
 }
 
-/// The faults of a chord, of which nothing else is given.
-fn only_faults(inside: Inside) -> Sequence<LocalFault>
-    ensures { result ≡ inside.faults }
+/// The faults of a chord without a note, in which its own comes first.
+fn silent_faults(inside: Inside, from: usize) -> Result<Vec<LocalFault>, AllocError>
+    ensures { IfOk result (λ faults. faults.items ≡ (column_of from, EmptyChord) ∷ inside.faults) }
 {
     let Inside { faults, .. } = inside;
-    faults
+    let mut faults = faults.into_vec();
+    faults.insert(0, (column_of(from), FaultCode::EmptyChord))?;
+    Ok(faults)
 }
 
 /// Gives the faults of a chord without a note, which takes no time.
 fn take_no_time(items: &mut Items, inside: Inside, from: usize) -> Result<(), AllocError>
-    ensures { OnOk result (items.new ≡ and_faults items.old ((column_of from, EmptyChord) ∷ inside.faults)) }
+    ensures ok { OnOk result (items.new ≡ and_faults items.old ((column_of from, EmptyChord) ∷ inside.faults)) }
+    ensures refused { OnErr result (items.new ≡ items.old) }
 {
-    let faults = only_faults(inside);
-    items.push_fault((column_of(from), FaultCode::EmptyChord))?;
+    let faults = silent_faults(inside, from)?;
     items.push_faults(faults.as_slice())?;
     Ok(())
 }
@@ -114,6 +119,7 @@ pub fn chord_played(
 ) -> Result<(), AllocError>
     ensures settings { OnOk result (settings.new ≡ (chord_played settings.old broken.now place.tied place.from chord.now).settings) }
     ensures items { OnOk result (items.new ≡ with_played items.old (chord_played settings.old broken.now place.tied place.from chord.now)) }
+    ensures refused { OnErr result ((settings.new ≡ settings.old) × (items.new ≡ items.old)) }
 {
     let outside = Outside {
         length: chord.length,
@@ -130,6 +136,25 @@ pub fn chord_played(
     Ok(())
 }
 
+/// Puts a rest, and its fault where its length is refused.
+fn push_rest(
+    items: &mut Items,
+    length: Grains,
+    refused: bool,
+    column: u32,
+) -> Result<(), AllocError>
+    requires { IsWithinLongest length }
+    ensures ok { OnOk result (items.new ≡ and_item (and_faults items.old (fault_if refused column BadLength)) (items.Rest length false)) }
+    ensures refused { OnErr result (items.new ≡ items.old) }
+{
+    let rest = Item::Rest { length, bar: false };
+    if refused {
+        items.push_with_faults(rest, &[(column, FaultCode::BadLength)])
+    } else {
+        items.push_item(rest)
+    }
+}
+
 /// Gives a rest at a place of its line (ABC 2.1 section 4.5).
 pub fn rest_played(
     alloc: Global,
@@ -141,12 +166,10 @@ pub fn rest_played(
 ) -> Result<(), AllocError>
     ensures settings { OnOk result (settings.new ≡ (rest_played settings.old broken.now from written).settings) }
     ensures items { OnOk result (items.new ≡ with_played items.old (rest_played settings.old broken.now from written)) }
+    ensures refused { OnErr result ((settings.new ≡ settings.old) × (items.new ≡ items.old)) }
 {
     let (length, refused) = length_in(settings, broken, written, None);
-    if refused {
-        items.push_fault((column_of(from), FaultCode::BadLength))?;
-    }
-    items.push_item(Item::Rest { length, bar: false })?;
+    push_rest(items, length, refused, column_of(from))?;
     settings.tuplet = counted_down(settings.tuplet);
     settings.tied = ShortSequence::new(alloc);
     Ok(())
