@@ -30,33 +30,32 @@ past_end xs k h =
     ]
 
 -- a place beyond the sections plays nothing
-pub put_nothing : (voices : List (List ℕ)) (sections : List Section) (place room : ℕ) (table : List (Option Stage))
+pub put_nothing : (voices : List (List ℕ)) (sections : List Section) (place : ℕ) (table : List (Option Stage))
     → length table ≡ length sections → AreStages voices sections table → slice_get sections place ≡ None
-    → IsPut voices sections place room table table room
-put_nothing voices sections place room table long are none =
+    → IsPut voices sections place table table
+put_nothing voices sections place table long are none =
     let past : length sections ≤ place = past_end sections place none in
     let free : get_or table place None ≡ None = get_or_past table place None (omega arith) in
     let wanted : stage_for voices sections place ≡ None = ap (option_map (λ section. stage_of voices (content section))) none in
-    let size : size_for voices sections place ≡ 0 = ap (number_of (λ section. sum_by (size_in (λ step. step.now) (content section)) voices)) none in
     record {
       are = are;
       here = free ∙ sym wanted;
       there = λ other h. h;
-      fits = omega arith;
     }
 
+pub nothing_size : (voices : List (List ℕ)) (sections : List Section) (place : ℕ) → slice_get sections place ≡ None → size_for voices sections place ≡ 0
+nothing_size voices sections place none = ap (number_of (λ section. sum_by (size_in (λ step. step.now) (content section)) voices)) none
+
 -- a stage that stands in the table is passed again
-pub put_again : (voices : List (List ℕ)) (sections : List Section) (place room left : ℕ) (table : List (Option Stage)) (stage : Stage)
-    → AreStages voices sections table → stage_at table place ≡ Some stage → left + stage_size stage ≡ room
-    → IsPut voices sections place room table table left
-put_again voices sections place room left table stage are at fits =
+pub put_again : (voices : List (List ℕ)) (sections : List Section) (place : ℕ) (table : List (Option Stage)) (stage : Stage)
+    → AreStages voices sections table → stage_at table place ≡ Some stage
+    → IsPut voices sections place table table
+put_again voices sections place table stage are at =
     let is = are.each place stage at in
-    let size : stage_size stage ≡ size_for voices sections place = is.size in
     record {
       are = are;
       here = at ∙ sym is.value;
       there = λ other h. h;
-      fits = omega arith;
     }
 
 section_stage : (voices : List (List ℕ)) (sections : List Section) (place : ℕ) (section : Section)
@@ -87,17 +86,16 @@ set_at table place other stage P within here there =
     ]
 
 -- a stage is put where none stands
-pub put_first : (voices : List (List ℕ)) (sections : List Section) (place room left : ℕ) (before after : List (Option Stage)) (section : Section)
-    → AreStages voices sections before → slice_get sections place ≡ Some section → place < length before → room ≤ MOST_PLACES
-    → IsNew voices section place room before after left
-    → IsPut voices sections place room before after left
-put_first voices sections place room left before after section are found within most new =
+pub put_first : (voices : List (List ℕ)) (sections : List Section) (place : ℕ) (before after : List (Option Stage)) (section : Section)
+    → AreStages voices sections before → slice_get sections place ≡ Some section → place < length before
+    → IsNew voices section place before after
+    → IsPut voices sections place before after
+put_first voices sections place before after section are found within new =
     let stage : Stage = stage_of voices (content section) in
     let value : stage_for voices sections place ≡ Some stage = section_stage voices sections place section found in
     let size : size_for voices sections place ≡ sum_by (size_in (λ step. step.now) (content section)) voices = section_size voices sections place section found in
     let own : stage_size stage ≡ sum_by (size_in (λ step. step.now) (content section)) voices = new.size in
-    let fits : left + sum_by (size_in (λ step. step.now) (content section)) voices ≡ room = new.fits in
-    let is : IsStageAt voices sections place stage = record { value = value; size = own ∙ sym size; few = omega arith } in
+    let is : IsStageAt voices sections place stage = record { value = value; size = own ∙ sym size; few = new.few } in
     let IsRight : ℕ → Option Stage → Type 0 = λ k one. (other : Stage) → one ≡ Some other → IsStageAt voices sections k other in
     let IsFor : ℕ → Option Stage → Type 0 = λ k one. one ≡ stage_for voices sections k in
     let there : (other : ℕ) → stage_at before other ≡ stage_for voices sections other → stage_at after other ≡ stage_for voices sections other =
@@ -110,7 +108,6 @@ put_first voices sections place room left before after section are found within 
       are = record { each = each };
       here = subst (λ (t : List (Option Stage)). get_or t place None ≡ stage_for voices sections place) (sym new.put) (get_or-set_same before place (Some stage) None within ∙ sym value);
       there = there;
-      fits = omega arith;
     }
 
 nothing_at : (sections : List Section) (k : ℕ) (stage : Stage) → get_or (map {B = Option Stage} (λ section. None) sections) k None ≡ Some stage → ⊥
@@ -136,9 +133,9 @@ put_none voices sections places = record {
 -- one more stage is put
 pub put_more : (voices : List (List ℕ)) (sections : List Section) (places : List ℕ) (i room left : ℕ) (before after : List (Option Stage))
     → i < length places → length after ≡ length before → ArePut voices sections (take i places) room before
-    → IsPut voices sections (get_or places i 0) room before after left
+    → IsPut voices sections (get_or places i 0) before after → left + size_for voices sections (get_or places i 0) ≡ room
     → ArePut voices sections (take (i + 1) places) left after
-put_more voices sections places i room left before after within long are put =
+put_more voices sections places i room left before after within long are put fits =
     let Before : ℕ → Type 0 = λ place. stage_at before place ≡ stage_for voices sections place in
     let After : ℕ → Type 0 = λ place. stage_at after place ≡ stage_for voices sections place in
     let sum : sum_by (size_for voices sections) (take (i + 1) places) ≡ sum_by (size_for voices sections) (take i places) + size_for voices sections (get_or places i 0) = sum_by_more (size_for voices sections) places i 0 within in
@@ -146,7 +143,7 @@ put_more voices sections places i room left before after within long are put =
       long = long ∙ are.long;
       are = put.are;
       here = All-more After places i 0 within (All-weaker Before After put.there (take i places) are.here) put.here;
-      fits = omega (arith, put.fits, are.fits);
+      fits = omega (arith, fits, are.fits);
     }
 
 one_stage : (voices : List (List ℕ)) (one : Option Section) (rest : List (List ℕ × List (Bor Item)))

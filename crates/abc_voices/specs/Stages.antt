@@ -49,19 +49,17 @@ pub record IsStageAt (voices : List (List ℕ)) (sections : List Section) (place
 pub record AreStages (voices : List (List ℕ)) (sections : List Section) (table : List (Option Stage)) : Type 0 where
   pub each : (place : ℕ) (stage : Stage) → stage_at table place ≡ Some stage → IsStageAt voices sections place stage
 
--- The stage of a section is put at a place, and behind its places this much room is left.
-pub record IsNew (voices : List (List ℕ)) (section : Section) (place room : ℕ) (before after : List (Option Stage)) (left : ℕ) : Type 0 where
+-- The stage of a section is put at a place, and is small enough.
+pub record IsNew (voices : List (List ℕ)) (section : Section) (place : ℕ) (before after : List (Option Stage)) : Type 0 where
   pub put : after ≡ slice_set before place (Some (stage_of voices (content section)))
   pub size : stage_size (stage_of voices (content section)) ≡ sum_by (size_in (λ step. step.now) (content section)) voices
-  pub fits : left + sum_by (size_in (λ step. step.now) (content section)) voices ≡ room
+  pub few : stage_size (stage_of voices (content section)) ≤ MOST_PLACES
 
--- The stage of the section at a place stands in the table, those that stood there still do, and behind the play of
--- the section this much room is left.
-pub record IsPut (voices : List (List ℕ)) (sections : List Section) (place room : ℕ) (before after : List (Option Stage)) (left : ℕ) : Type 0 where
+-- The stage of the section at a place stands in the table, and those that stood there still do.
+pub record IsPut (voices : List (List ℕ)) (sections : List Section) (place : ℕ) (before after : List (Option Stage)) : Type 0 where
   pub are : AreStages voices sections after
   pub here : stage_at after place ≡ stage_for voices sections place
   pub there : (other : ℕ) → stage_at before other ≡ stage_for voices sections other → stage_at after other ≡ stage_for voices sections other
-  pub fits : left + size_for voices sections place ≡ room
 
 -- The stages of the sections at some places stand in the table, and behind their play this much room is left.
 pub record ArePut (voices : List (List ℕ)) (sections : List Section) (places : List ℕ) (room : ℕ) (table : List (Option Stage)) : Type 0 where

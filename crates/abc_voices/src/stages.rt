@@ -59,7 +59,8 @@ fn put_new<'t>(
 ) -> Result<u64, StageFault>
     requires place { place < length table.old }
     requires room { room ≤ MOST_PLACES }
-    ensures put { IfOk result (λ left. IsNew (map (λ voice. voice.now) voices.now) section.now place room table.old table.new left) }
+    ensures put { IfOk result (λ _. IsNew (map (λ voice. voice.now) voices.now) section.now place table.old table.new) }
+    ensures fits { IfOk result (λ left. left + sum_by (size_in (λ step. step.now) (content section.now)) (map (λ voice. voice.now) voices.now) ≡ room) }
     ensures too_many { result ≡ Err StageFault.TooMany
         → room < sum_by (size_in (λ step. step.now) (content section.now)) (map (λ voice. voice.now) voices.now) }
     ensures too_late { result ≡ Err StageFault.TooLate
@@ -84,7 +85,8 @@ fn put_stage<'t>(
     requires long { length table.old ≡ length sections.now }
     requires room { room ≤ MOST_PLACES }
     requires table { AreStages (map (λ voice. voice.now) voices.now) sections.now table.old }
-    ensures put { IfOk result (λ left. IsPut (map (λ voice. voice.now) voices.now) sections.now place room table.old table.new left) }
+    ensures put { IfOk result (λ _. IsPut (map (λ voice. voice.now) voices.now) sections.now place table.old table.new) }
+    ensures fits { IfOk result (λ left. left + size_for (map (λ voice. voice.now) voices.now) sections.now place ≡ room) }
     ensures too_many { result ≡ Err StageFault.TooMany
         → room < size_for (map (λ voice. voice.now) voices.now) sections.now place }
     ensures too_late { result ≡ Err StageFault.TooLate

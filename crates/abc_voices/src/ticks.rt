@@ -16,6 +16,10 @@ pub(crate) fn last_of_each_tick<T: Copy>(
     requires { All (λ change. change.0.0 ≤ grains_of_the_latest_end) changes.now }
     ensures { IfOk result (λ standing. standing.items ≡ last_of_each_tick changes.now) }
 {
+    // Most tunes set each of them once at most, and then none is looked for.
+    if changes.len() <= 1 {
+        return Vec::from_slice(alloc, changes);
+    }
     let mut ticks = HashSet::new(alloc);
     let mut standing = Vec::new(alloc);
     let mut left = changes.len();

@@ -1,18 +1,28 @@
-use Rattle.std.proofs.Common.{◌≡◌, ◌∙◌, ℕ, List, sym, ap, map, arith}
+use Rattle.std.proofs.Common.{◌≡◌, ◌∙◌, ◌+◌, ℕ, List, sym, ap, subst, map, arith}
 use Rattle.std.proofs.lemmas.Result.{IfOk-weaker}
-use Rattle.std.specs.Prelude.{Some, option_copied, slice_get}
+use Rattle.std.specs.Prelude.{IfOk, Some, option_copied, slice_get}
 use Rattle.abc_voices.specs.Stages.{IsNew, IsPut}
-use Rattle.abc_voices.proofs.Placed.{put_nothing, put_first, section_size, section_longest, within_table}
+use Rattle.abc_voices.proofs.Placed.{put_nothing, nothing_size, put_first, section_size, section_longest, within_table}
 use Rattle.abc_voices.proofs.stages.put_stage.Goals as goal
 
 pub returns-in_default-clause-put : goal.returns-in_default-clause-put
 returns-in_default-clause-put c =
-    put_nothing _ _ _ _ _ c.requires.long c.requires.table (sym c.section_at.ensures ∙ ap option_copied c.in_default.is)
+    put_nothing _ _ _ _ c.requires.long c.requires.table (sym c.section_at.ensures ∙ ap option_copied c.in_default.is)
+
+pub returns-in_default-clause-fits : goal.returns-in_default-clause-fits
+returns-in_default-clause-fits c =
+    let none = nothing_size (map (λ voice. voice.now) c.args.voices.now) c.args.sections.now c.args.place (sym c.section_at.ensures ∙ ap option_copied c.in_default.is) in
+    omega arith
 
 pub room_behind-requires : goal.room_behind-requires
 room_behind-requires c =
     let is = c.requires.table.each c.args.place c.in-Some-stage_at.stage.now (sym c.stage_at.ensures ∙ ap option_copied c.in-Some-stage_at.is) in
     omega (arith, is.few)
+
+pub returns-in-Some-stage_at-clause-fits : goal.returns-in-Some-stage_at-clause-fits
+returns-in-Some-stage_at-clause-fits c =
+    let is = c.requires.table.each c.args.place c.in-Some-stage_at.stage.now (sym c.stage_at.ensures ∙ ap option_copied c.in-Some-stage_at.is) in
+    subst (λ (n : ℕ). IfOk c.room_behind.result (λ left. left + n ≡ c.args.room)) is.size c.room_behind.ensures.room
 
 pub returns-in-Some-stage_at-clause-too_many : goal.returns-in-Some-stage_at-clause-too_many
 returns-in-Some-stage_at-clause-too_many c = λ e.
@@ -24,10 +34,17 @@ returns-clause-put c =
     let voices : List (List ℕ) = map (λ voice. voice.now) c.args.voices.now in
     let found : slice_get c.args.sections.now c.args.place ≡ Some c.in-Some.section.now = sym c.section_at.ensures ∙ ap option_copied c.in-Some.is in
     IfOk-weaker c.put_new.result
-    (λ left. IsNew voices c.in-Some.section.now c.args.place c.args.room c.args.table.now c.put_new.new.table left)
-    (λ left. IsPut voices c.args.sections.now c.args.place c.args.room c.args.table.now c.put_new.new.table left)
-    (λ left new. put_first voices c.args.sections.now c.args.place c.args.room left c.args.table.now c.put_new.new.table c.in-Some.section.now c.requires.table found (within_table _ _ _ _ c.requires.long found) c.requires.room new)
+    (λ left. IsNew voices c.in-Some.section.now c.args.place c.args.table.now c.put_new.new.table)
+    (λ left. IsPut voices c.args.sections.now c.args.place c.args.table.now c.put_new.new.table)
+    (λ left new. put_first voices c.args.sections.now c.args.place c.args.table.now c.put_new.new.table c.in-Some.section.now c.requires.table found (within_table _ _ _ _ c.requires.long found) new)
     c.put_new.ensures.put
+
+pub returns-clause-fits : goal.returns-clause-fits
+returns-clause-fits c =
+    let voices : List (List ℕ) = map (λ voice. voice.now) c.args.voices.now in
+    let found : slice_get c.args.sections.now c.args.place ≡ Some c.in-Some.section.now = sym c.section_at.ensures ∙ ap option_copied c.in-Some.is in
+    let size = section_size voices c.args.sections.now c.args.place c.in-Some.section.now found in
+    subst (λ (n : ℕ). IfOk c.put_new.result (λ left. left + n ≡ c.args.room)) (sym size) c.put_new.ensures.fits
 
 pub returns-clause-too_many : goal.returns-clause-too_many
 returns-clause-too_many c = λ e.
