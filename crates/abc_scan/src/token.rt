@@ -60,6 +60,9 @@ pub enum TokenKind {
     BadByte,
 }
 
+/// A text has a token for nearly each of its letters: each takes 32 bytes.
+const _: () = prove!(size_of::<Token>() == 32);
+
 /// Whether a token is a bar line.
 pub(crate) fn is_bar(kind: &TokenKind) -> bool
     ensures { result ≡ is_bar kind.now }

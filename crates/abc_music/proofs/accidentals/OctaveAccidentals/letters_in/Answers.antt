@@ -1,4 +1,5 @@
-use Rattle.std.proofs.Common.{◌∙◌, ap, unwrap_or, Option, int_cmp, ℤ, List, w64}
+use Rattle.std.proofs.Common.{◌∙◌, ap, unwrap_or, Option, int_cmp, ℤ, List}
+use mir.Syntax.{w32}
 use Rattle.std.proofs.lemmas.Int.{to_z-of_z}
 use Rattle.std.specs.BTreeMap.{get_by}
 use Rattle.abc_music.specs.declared.accidentals.LetterAccidentals.{LetterAccidentals}
@@ -8,7 +9,7 @@ use Rattle.abc_music.proofs.accidentals.OctaveAccidentals.letters_in.Goals as go
 pub returns : goal.returns
 unfolding letters_in
 returns c =
-    let key = to_z-of_z w64 c.args.octave c.ranges.octave in
+    let key = to_z-of_z w32 c.args.octave c.ranges.octave in
     let found = c.copied.ensures ∙ c.get.ensures.value ∙ ap (λ (z : ℤ). get_by (int_cmp z) c.self.inside.octaves) key in
     c.unwrap_or.ensures ∙ ap (λ (o : Option LetterAccidentals). unwrap_or o no_letters) found
     ∙ ap (λ (octaves : List (ℤ × LetterAccidentals)). letters_in octaves c.args.octave) c.self.view_is
