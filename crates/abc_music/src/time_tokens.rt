@@ -5,7 +5,7 @@ ghost use Rattle.abc_fields.specs.declared.fault.FaultCode.TheVariants.{BadLengt
 ghost use Rattle.abc_music.specs.Column.{column_of};
 ghost use Rattle.abc_music.specs.Item.{AreTones, IsTone, IsWithinLongest, and_faults, and_item};
 ghost use Rattle.abc_music.specs.Sound.{fault_if};
-ghost use Rattle.abc_music.specs.declared.item.Item.TheVariants as items;
+ghost use Rattle.abc_music.specs.declared.item.Item.TheVariants.{Rest};
 ghost use Rattle.abc_music.specs.TimeTokens.{first_length, sounded, note_played, chord_played, rest_played, with_played};
 
 use crate::broken::BrokenFactors;
@@ -144,7 +144,7 @@ fn push_rest(
     column: u32,
 ) -> Result<(), AllocError>
     requires { IsWithinLongest length }
-    ensures ok { OnOk result (items.new ≡ and_item (and_faults items.old (fault_if refused column BadLength)) (items.Rest length false)) }
+    ensures ok { OnOk result (items.new ≡ and_item (and_faults items.old (fault_if refused column BadLength)) (Rest length false)) }
     ensures refused { OnErr result (items.new ≡ items.old) }
 {
     let rest = Item::Rest { length, bar: false };
