@@ -16,10 +16,9 @@ use crate::body::Body;
 use crate::field_kind::{FieldKind, kind_of};
 use abc_fields::{EMPTY_SIGNATURE, FaultCode, Key, read_key, read_voice};
 use abc_music::{
-    Item, LocalFault, TuneMeter, TuneTempo, UnitLength, column_of, is_out, tempo_item,
+    Item, ItemText, LocalFault, TuneMeter, TuneTempo, UnitLength, column_of, is_out, tempo_item,
 };
 use abc_scan::Field;
-use abc_text::Sequence;
 use std::alloc::{AllocError, Global};
 
 /// The item and the fault that a field of the body gives, where it gives them.
@@ -225,7 +224,7 @@ fn voice_given(
     if !body.make_current(alloc, name, voice.shift)? {
         return Ok(FieldItem::refused(place, FaultCode::TooManyVoices));
     }
-    let name = Sequence::from_slice(alloc, name)?;
+    let name = ItemText::new(alloc, name)?;
     Ok(FieldItem::accepted(Item::Voice {
         opening: false,
         name,

@@ -10,6 +10,7 @@ ghost use Rattle.abc_music.specs.declared.settings.Settings.{Settings};
 
 use crate::body::Body;
 use crate::body_fields::{FieldItem, field_given};
+use crate::room::room_for;
 use abc_fields::FaultCode;
 use abc_music::{
     Behind, BrokenFactors, Item, Items, LocalFault, NotePlace, TokenRole, bar_rest_of,
@@ -20,9 +21,6 @@ use abc_scan::{
     BarLine, Chord, Directive, Dynamic, Field, Note, Token, TokenKind, Tuplet, WrittenLength,
 };
 use std::alloc::{AllocError, Global};
-
-/// For how many items of a cell there is room at first, at most: a usual bar gives no more.
-const MOST_ROOM: usize = 16;
 
 /// Whether a token is a tie.
 fn is_tie_token(kind: &TokenKind) -> bool
@@ -74,11 +72,11 @@ pub(crate) struct Given {
 }
 
 impl Given {
-    /// Before the first token of a cell of so many.
-    fn nothing(alloc: Global, body: Body, tokens: usize) -> Result<Given, AllocError>
+    /// Before the first token of a cell, with room for so many items.
+    fn nothing(alloc: Global, body: Body, room: usize) -> Result<Given, AllocError>
         ensures { IfOk result (λ given. given ≡ nothing_given body) }
     {
-        let items = Items::with_room(alloc, tokens.min(MOST_ROOM))?;
+        let items = Items::with_room(alloc, room)?;
         Ok(Given {
             body,
             items,
@@ -358,7 +356,7 @@ impl Given {
 pub(crate) fn cell_given(alloc: Global, body: Body, cell: &[Token]) -> Result<Given, AllocError>
     ensures { IfOk result (λ given. given ≡ cell_given body cell.now) }
 {
-    let mut given = Given::nothing(alloc, body, cell.len())?;
+    let mut given = Given::nothing(alloc, body, room_for(cell))?;
     given.tokens(alloc, cell)?;
     Ok(given)
 }

@@ -20,7 +20,7 @@ use crate::tune_program::TuneProgram;
 use crate::voice_name::VoiceName;
 use crate::voices::Voices;
 use abc_fields::{EMPTY_SIGNATURE, FaultCode, Key, Shift, Voice, read_key, read_parts, read_voice};
-use abc_music::{Item, LocalFault, MOST_VOICES, program_of};
+use abc_music::{Item, ItemText, LocalFault, MOST_VOICES, program_of};
 use abc_scan::{Directive, Field};
 use abc_text::Sequence;
 use std::alloc::{AllocError, Global};
@@ -136,7 +136,7 @@ fn title_given(alloc: Global, header: Header, value: &[u8]) -> Result<OwnGiven, 
     ensures value { IfOk result (λ own. own ≡ unchanged header (Some (items.Title value.now)) None) }
     ensures range { IfOk result (λ own. IfSome own.item IsItem) }
 {
-    let title = Sequence::from_slice(alloc, value)?;
+    let title = ItemText::new(alloc, value)?;
     Ok(OwnGiven::unchanged(header, Some(Item::Title(title)), None))
 }
 
@@ -158,7 +158,7 @@ fn order_given(alloc: Global, header: Header, value: &[u8]) -> Result<OwnGiven, 
 {
     match read_parts(value) {
         Ok(()) => {
-            let order = Sequence::from_slice(alloc, value)?;
+            let order = ItemText::new(alloc, value)?;
             Ok(OwnGiven::unchanged(header, Some(Item::Order(order)), None))
         }
         Err(fault) => Ok(OwnGiven::unchanged(header, None, Some(fault))),
@@ -180,7 +180,7 @@ fn declare_named(
     if fault.is_some() {
         return Ok((None, fault));
     }
-    let name = Sequence::from_slice(alloc, name)?;
+    let name = ItemText::new(alloc, name)?;
     let item = Item::Voice {
         opening: true,
         name,
@@ -263,7 +263,8 @@ fn items_with(
     ensures value { IfOk result (λ items. items ≡ items_with item defaults.now) }
     ensures range { IfOk result (λ items. All IsItem items) }
 {
-    let mut items = Sequence::new(alloc);
+    let room = usize::from(item.is_some()) + 2;
+    let mut items = Sequence::from(Vec::with_capacity(alloc, room)?);
     if let Some(own) = item {
         items.push(own)?;
     }

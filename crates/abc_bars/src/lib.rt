@@ -25,6 +25,7 @@ mod length_laws;
 mod name_laws;
 mod opening;
 mod reference;
+mod room;
 mod same;
 mod tie_laws;
 mod tune_program;
@@ -34,8 +35,8 @@ mod voice_name;
 mod voices;
 
 pub use abc_music::{
-    HIGHEST_KEY, Item, Items, LocalFault, MOST_CHORD_NOTES, MOST_VOICES, Tone, TuneMeter,
-    TuneTempo, UnitLength,
+    HIGHEST_KEY, Item, ItemText, Items, LentTones, LocalFault, MOST_CHORD_NOTES, MOST_VOICES, Tone,
+    Tones, TuneMeter, TuneTempo, UnitLength,
 };
 pub use along_laws::{alike_views, tune_places, views_along, views_decide};
 pub use bar_fold::BarFold;

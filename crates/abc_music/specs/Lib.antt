@@ -9,8 +9,10 @@ pub mod ChordNotes
 pub mod Chords
 pub mod Column
 pub mod Item
+pub mod KeptTones
 pub mod Lasting
 pub mod Lengths
+pub mod LentTones
 pub mod LooseTies
 pub mod NoteKeys
 pub mod Pitch

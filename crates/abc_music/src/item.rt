@@ -3,10 +3,12 @@
 ghost use Rattle.std.specs.Prelude.{◌≡◌, All, [], ◌∷◌, ◌++◌, IfOk, OnErr, OnOk};
 ghost use Rattle.abc_music.specs.Item.{IsItem, nothing, and_item, and_faults};
 
+use crate::item_text::ItemText;
+use crate::tones::Tones;
 use crate::velocity::USUAL_VELOCITY;
 use abc_fields::{FaultCode, Meter};
 use abc_scan::BarLine;
-use abc_text::{Sequence, ShortSequence};
+use abc_text::Sequence;
 use abc_time::Grains;
 use std::alloc::{AllocError, Global};
 use std::marker::Model;
@@ -52,7 +54,7 @@ pub enum Item {
     Number(u32),
     /// A note or chord, with the length that it takes.
     Tone {
-        tones: ShortSequence<Tone>,
+        tones: Tones,
         length: Grains,
     },
     /// A rest; `bar` where it rests for whole bars.
@@ -85,7 +87,7 @@ pub enum Item {
     /// The name of a voice: a header's V: declares it, another one makes it the current one.
     Voice {
         opening: bool,
-        name: Sequence<u8>,
+        name: ItemText,
     },
     /// A program of MIDI, 0 to 127; None where the directive is refused. In a header the last one that is not
     /// refused counts, and a file header's stands before those of the tune's header.
@@ -93,10 +95,13 @@ pub enum Item {
         opening: bool,
         number: Option<u8>,
     },
-    Title(Sequence<u8>),
+    Title(ItemText),
     /// The order of the parts.
-    Order(Sequence<u8>),
+    Order(ItemText),
 }
+
+/// A book keeps the items of all of its cells.
+const _: () = prove!(size_of::<Item>() == 32);
 
 /// A fault of a cell: its column, counted from 1, and its code.
 pub type LocalFault = (u32, FaultCode);
@@ -142,7 +147,7 @@ impl Items {
         }
     }
 
-    /// The items in order.
+    /// The items in the order in which they were put here.
     pub fn items(&self) -> &[Item]
         ensures value { result.now ≡ self.now.items }
         ensures range { All IsItem result.now }
@@ -150,7 +155,7 @@ impl Items {
         self.items.as_slice()
     }
 
-    /// The faults in order, each column counted from 1.
+    /// The faults in the order in which they were put here, each column counted from 1.
     pub fn faults(&self) -> &[LocalFault]
         ensures { result.now ≡ self.now.faults }
     {

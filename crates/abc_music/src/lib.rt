@@ -10,6 +10,7 @@ mod chords;
 mod column;
 mod copies;
 mod item;
+mod item_text;
 mod laws;
 mod lengths;
 mod meter;
@@ -24,6 +25,7 @@ mod tempo;
 mod tempo_change;
 mod tied;
 mod time_tokens;
+mod tones;
 mod tuplet;
 mod unit;
 mod velocity;
@@ -36,6 +38,7 @@ pub use chord_laws::bad_lengths_of_chords;
 pub use chords::Outside;
 pub use column::{FIRST_COLUMN, column_of};
 pub use item::{HIGHEST_KEY, Item, Items, LocalFault, MOST_CHORD_NOTES, MOST_VOICES, Tone};
+pub use item_text::ItemText;
 pub use laws::{
     keys_of_notes, lengths_of_bar_rests, lengths_of_notes, loose_ties_of_chords, notes_of_chords,
     reach_of_accidentals, velocities_of_notes,
@@ -50,6 +53,7 @@ pub use tempo::TuneTempo;
 pub use tempo_change::{is_out, tempo_item};
 pub use tied::TiedNote;
 pub use time_tokens::{NotePlace, chord_played, note_played, rest_played};
+pub use tones::{LentTones, Tones};
 pub use tuplet::{OpenTuplet, tuplet_opened};
 pub use unit::UnitLength;
 pub use velocity::{HIGHEST_VELOCITY, USUAL_VELOCITY, velocities_of_dynamics, velocity_of};

@@ -5,7 +5,7 @@ ghost use Rattle.abc_fields.specs.declared.fault.FaultCode.TheVariants.{BadLengt
 ghost use Rattle.abc_music.specs.Column.{column_of};
 ghost use Rattle.abc_music.specs.Item.{AreTones, IsTone, IsWithinLongest, and_faults, and_item};
 ghost use Rattle.abc_music.specs.Sound.{fault_if};
-ghost use Rattle.abc_music.specs.declared.item.Item.TheVariants as items;
+ghost use Rattle.abc_music.specs.declared.item.Item.TheVariants.{Rest};
 ghost use Rattle.abc_music.specs.TimeTokens.{first_length, sounded, note_played, chord_played, rest_played, with_played};
 
 use crate::broken::BrokenFactors;
@@ -15,6 +15,7 @@ use crate::item::{Item, Items, LocalFault, Tone};
 use crate::role::has_note;
 use crate::settings::Settings;
 use crate::sound::{Around, Inside, add_note, length_in};
+use crate::tones::Tones;
 use crate::tuplet::counted_down;
 use abc_fields::FaultCode;
 use abc_scan::{Chord, Note, WrittenLength};
@@ -42,7 +43,12 @@ fn first_length(tones: &[Tone]) -> Grains
 }
 
 /// Gives notes that sound together (ABC 2.1 sections 4.1 and 4.17).
-fn sound(settings: &mut Settings, items: &mut Items, inside: Inside) -> Result<(), AllocError>
+fn sound(
+    alloc: Global,
+    settings: &mut Settings,
+    items: &mut Items,
+    inside: Inside,
+) -> Result<(), AllocError>
     requires { AreTones inside.tones }
     ensures settings { OnOk result (settings.new ≡ (sounded settings.old inside).settings) }
     ensures items { OnOk result (items.new ≡ with_played items.old (sounded settings.old inside)) }
@@ -57,6 +63,7 @@ fn sound(settings: &mut Settings, items: &mut Items, inside: Inside) -> Result<(
         big: _,
     } = inside;
     let length = first_length(tones.as_slice());
+    let tones = Tones::of(alloc, tones)?;
     items.push_with_faults(Item::Tone { tones, length }, faults.as_slice())?;
     settings.accidentals = accidentals;
     settings.tuplet = counted_down(settings.tuplet);
@@ -84,7 +91,7 @@ pub fn note_played(
         tied: place.tied,
     };
     add_note(settings, broken, around, note, &mut inside)?;
-    sound(settings, items, inside)?;
+    sound(alloc, settings, items, inside)?;
     Ok(())
 }
 
@@ -129,7 +136,7 @@ pub fn chord_played(
     let parts = chord.parts.as_slice();
     let inside = inside_of(alloc, settings, broken, outside, parts)?;
     if has_note(parts) {
-        sound(settings, items, inside)?;
+        sound(alloc, settings, items, inside)?;
     } else {
         take_no_time(items, inside, place.from)?;
     }
@@ -144,7 +151,7 @@ fn push_rest(
     column: u32,
 ) -> Result<(), AllocError>
     requires { IsWithinLongest length }
-    ensures ok { OnOk result (items.new ≡ and_item (and_faults items.old (fault_if refused column BadLength)) (items.Rest length false)) }
+    ensures ok { OnOk result (items.new ≡ and_item (and_faults items.old (fault_if refused column BadLength)) (Rest length false)) }
     ensures refused { OnErr result (items.new ≡ items.old) }
 {
     let rest = Item::Rest { length, bar: false };

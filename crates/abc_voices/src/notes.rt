@@ -1,7 +1,7 @@
 //! The notes of what a voice plays.
 
-ghost use Rattle.std.specs.Prelude.{◌≡◌, ◌-◌, ◌≤◌, All, OnOk};
-ghost use Rattle.abc_music.specs.Item.{IsItem};
+ghost use Rattle.std.specs.Prelude.{◌≡◌, ◌-◌, ◌≤◌, All, Some, OnOk};
+ghost use Rattle.abc_music.specs.Item.{IsItem, IsTone};
 ghost use Rattle.abc_time.specs.Grains.{grains_of_the_latest_end};
 ghost use Rattle.abc_voices.specs.TiedNotes.{before, notes_from, notes_in};
 ghost use Rattle.abc_voices.specs.Play.{duration};
@@ -9,9 +9,21 @@ ghost use Rattle.abc_voices.specs.Step.{tones_of};
 
 use crate::step::length_of;
 use crate::tied_notes::NotesInOne;
-use abc_music::Item;
+use abc_music::{Item, LentTones, Tones};
 use abc_time::Grains;
 use std::alloc::AllocError;
+
+/// Puts the tones of a time token before the notes of what comes behind it.
+fn put_tones(notes: &mut NotesInOne, at: Grains, tones: &Tones) -> Result<(), AllocError>
+    requires at { at.0 ≤ grains_of_the_latest_end }
+    requires tones { All IsTone tones.now }
+    ensures { OnOk result (notes_in notes.new ≡ before at.0 (Some tones.now) (notes_in notes.old)) }
+{
+    match tones.lent() {
+        LentTones::One(tone) => notes.put_token(at, &[tone]),
+        LentTones::List(tones) => notes.put_token(at, tones),
+    }
+}
 
 /// Puts an item before the notes of what comes behind it.
 fn put_item(notes: &mut NotesInOne, at: Grains, item: &Item) -> Result<(), AllocError>
@@ -20,7 +32,7 @@ fn put_item(notes: &mut NotesInOne, at: Grains, item: &Item) -> Result<(), Alloc
     ensures { OnOk result (notes_in notes.new ≡ before at.0 (tones_of item.now) (notes_in notes.old)) }
 {
     match item {
-        Item::Tone { tones, .. } => notes.put_token(at, tones.as_slice()),
+        Item::Tone { tones, .. } => put_tones(notes, at, tones),
         Item::Rest { bar: false, .. } => notes.put_token(at, &[]),
         _ => Ok(()),
     }
