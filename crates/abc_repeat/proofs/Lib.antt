@@ -1,3 +1,5 @@
+pub mod Behind
+pub mod Bounds
 pub mod Copies
 pub mod Cuts
 pub mod Existence

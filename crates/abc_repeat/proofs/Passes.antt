@@ -43,7 +43,7 @@ late_ending pass at (ending ∷ endings) h =
     ∙ late_ending pass (at + 1 + length ending.run) endings h
 
 -- how much an ending plays does not depend on where it begins
-length-first_ending : (pass at other : ℕ) (endings : List Ending) → length (first_ending pass at endings) ≡ length (first_ending pass other endings)
+pub length-first_ending : (pass at other : ℕ) (endings : List Ending) → length (first_ending pass at endings) ≡ length (first_ending pass other endings)
 length-first_ending pass at other [] = refl
 length-first_ending pass at other (ending ∷ endings) =
     elim (names ending.numbers pass) as (λ b. length (cond b (places_from (at + 1) ending.run) (first_ending pass (at + 1 + length ending.run) endings)) ≡ length (cond b (places_from (other + 1) ending.run) (first_ending pass (other + 1 + length ending.run) endings))) [

@@ -7,7 +7,7 @@ ghost use Rattle.abc_repeat.specs.Strain.{strain_of};
 use crate::fault::RepeatFault;
 use crate::mark::Mark;
 use crate::pass::{most_passes, run_start};
-use crate::size::play_size;
+use crate::size::room_for;
 use crate::strain::{first_strain, opens_behind, up_to_ending};
 use abc_text::LAST_PASS;
 use std::alloc::{AllocError, Global};
@@ -62,7 +62,8 @@ fn rounds(common: &[usize], passes: u64) -> u64
     }
 }
 
-/// Puts the play of a strain that begins at `from`. Passes that play nothing take no time.
+/// Puts the play of a strain that begins at `from`. Passes that play nothing take no time, and none looks for its
+/// ending among what stands in front of the first.
 fn put_strain(
     alloc: Global,
     play: &mut Vec<usize>,
@@ -73,12 +74,14 @@ fn put_strain(
     requires short { length (strain_play from (strain_of text.now)) < 2 ^ 64 }
     ensures { OnOk result (play.new.items ≡ play.old.items ++ strain_play from (strain_of text.now)) }
 {
-    let mut common = Vec::new(alloc);
-    put_places(&mut common, up_to_ending(text), from)?;
+    let front = up_to_ending(text);
+    let size = front.len();
+    let mut common = Vec::with_capacity(alloc, size)?;
+    put_places(&mut common, front, from)?;
     let passes = most_passes(text);
     for earlier in 0..rounds(&common, passes) {
         play.extend_from_slice(&common)?;
-        put_ending(play, text, from, earlier + 1)?;
+        put_ending(play, &text[size..], from + size, earlier + 1)?;
     }
     Ok(())
 }
@@ -103,13 +106,15 @@ fn put_play(alloc: Global, play: &mut Vec<usize>, marks: &[Mark]) -> Result<(), 
 /// Fields that are played with an ending are to stand behind its sign.
 ///
 /// Takes time for the marks and for the places that are played, and for nothing else.
+#[inline(never)]
 pub fn expand_within(alloc: Global, marks: &[Mark], room: u64) -> Result<Vec<usize>, RepeatFault>
     ensures value { IfOk result (λ places. places.items ≡ play_of marks.now) }
     ensures played { IfOk result (λ places. All (IsPlayed marks.now) places.items) }
     ensures too_long { (result ≡ Err RepeatFault.TooLong) ↔ (min room MOST_PLACES < length (play_of marks.now)) }
 {
-    let size = play_size(marks);
-    if size > room.min(MOST_PLACES) {
+    let most = room.min(MOST_PLACES);
+    let size = room_for(marks, most);
+    if size > most {
         return Err(RepeatFault::TooLong);
     }
     let mut play = Vec::with_capacity(alloc, size as usize)?;

@@ -1,7 +1,8 @@
 //! How many places a play has, counted without memory.
 
-ghost use Rattle.std.specs.Prelude.{◌≡◌, ◌-◌, ◌^◌, length, min};
+ghost use Rattle.std.specs.Prelude.{◌≡◌, ◌<◌, ◌≤◌, ◌-◌, ◌^◌, length, min};
 ghost use Rattle.abc_text.specs.declared.passes.TheConstants.{LAST_PASS};
+ghost use Rattle.abc_repeat.specs.declared.play.TheConstants.{MOST_PLACES};
 ghost use Rattle.abc_repeat.specs.Play.{endings_size, strain_play, play_of};
 ghost use Rattle.abc_repeat.specs.Strain.{strain_of};
 
@@ -27,10 +28,10 @@ fn strain_size(text: &[Mark]) -> u64
     ensures { result ≡ min (length (strain_play 0 (strain_of text.now))) (2 ^ 64 - 1) }
 {
     let passes = most_passes(text);
-    let common = count_played(up_to_ending(text));
-    passes
-        .saturating_mul(common)
-        .saturating_add(endings_size(text, passes))
+    let front = up_to_ending(text);
+    let common = count_played(front);
+    let endings = endings_size(&text[front.len()..], passes);
+    passes.saturating_mul(common).saturating_add(endings)
 }
 
 /// How many places the play of a section has, and 2^64 - 1 for more.
@@ -47,4 +48,20 @@ pub(crate) fn play_size(marks: &[Mark]) -> u64
         opened = opens_behind(text);
     }
     size
+}
+
+/// Room enough for the play of a section: a number that it does not pass, or how many places it has where only that
+/// tells whether they are more than `most`. Few marks that are passed a few times need not be counted out.
+pub(crate) fn room_for(marks: &[Mark], most: u64) -> u64
+    requires { most ≤ MOST_PLACES }
+    ensures enough { result ≤ most → length (play_of marks.now) ≤ result }
+    ensures too_long { most < result → most < length (play_of marks.now) }
+{
+    let passes = most_passes(marks);
+    let bound = passes.saturating_mul(marks.len() as u64);
+    if bound <= most {
+        bound
+    } else {
+        play_size(marks)
+    }
 }
