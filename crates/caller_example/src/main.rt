@@ -2,7 +2,7 @@
 #![tactic(auto)]
 
 use abc_fold::Work;
-use abc_live::{Edit, EditError, Session};
+use abc_live::{Edit, EditError, Report, Session};
 use std::alloc::{AllocError, Global};
 use std::process::ExitCode;
 use std::rt::Runtime;
@@ -17,20 +17,29 @@ fn main(rt: HostRuntime) -> ExitCode {
     }
 }
 
-/// Puts a tune into an empty text, changes its last note, and writes how long each file is that this changed.
+/// Edits a text, and writes how long each file is that the last edit changed.
 fn edit_a_tune<R: Runtime + AllocGlobal>(rt: &R) -> Result<(), EditError> {
     let mut session = Session::new(rt.alloc())?;
     let mut work = Work::mint(rt);
-    let lines = lines_of(rt.alloc(), &[b"X:1", b"K:C", b"CDEF|"])?;
-    session.apply(&Edit::Insert { at: 1, lines }, &mut work)?;
-    let (from, to) = (3, 3);
-    let lines = lines_of(rt.alloc(), &[b"CDEG|"])?;
-    let report = session.apply(&Edit::Replace { from, to, lines }, &mut work)?;
+    let report = change_a_note(rt.alloc(), &mut session, &mut work)?;
     for number in &report.written {
         let length = session.output(*number).unwrap_or(&[]).len();
         let _ = println!(rt; "{number}.mid: {length} bytes");
     }
     Ok(())
+}
+
+/// Puts a tune into an empty text, and changes its last note.
+fn change_a_note(
+    alloc: Global,
+    session: &mut Session,
+    work: &mut Work,
+) -> Result<Report, EditError> {
+    let lines = lines_of(alloc, &[b"X:1", b"K:C", b"CDEF|"])?;
+    session.apply(&Edit::Insert { at: 1, lines }, work)?;
+    let (from, to) = (3, 3);
+    let lines = lines_of(alloc, &[b"CDEG|"])?;
+    session.apply(&Edit::Replace { from, to, lines }, work)
 }
 
 /// Each text as a line.

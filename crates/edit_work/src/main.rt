@@ -55,8 +55,13 @@ impl Begun {
 
 /// Tells the work of each edit of the input, up to `quit`.
 fn converse<R: Runtime + AllocGlobal>(rt: &R) -> io::Result<()> {
+    let mut session = Session::new(rt.alloc())?;
+    listen(rt, &mut session)
+}
+
+/// The same for a session that is there.
+fn listen<R: Runtime + AllocGlobal>(rt: &R, session: &mut Session) -> io::Result<()> {
     let alloc = rt.alloc();
-    let mut session = Session::new(alloc)?;
     let mut begun = None;
     for line in BufReader::new(alloc, rt.reader())?.split(alloc, b'\n') {
         let next = with_line(alloc, begun.take(), line?)?;
@@ -64,7 +69,7 @@ fn converse<R: Runtime + AllocGlobal>(rt: &R) -> io::Result<()> {
             return Ok(());
         }
         if next.is_whole() {
-            carry_out(rt, &mut session, next)?;
+            carry_out(rt, session, next)?;
         } else {
             begun = Some(next);
         }

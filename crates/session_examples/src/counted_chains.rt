@@ -1,9 +1,9 @@
 //! A chain of a fold is made, and what it keeps is taken up.
 
-use crate::chains::{Counted, Counting};
 use abc_fold::{Chain, Piece, Work};
 use std::alloc::{AllocError, Global};
 use std::rt::HostRuntime;
+use text_examples::chains::{Counted, Counting};
 
 /// The items of a chain.
 fn given(alloc: Global, chain: &Chain<Counting>) -> Result<Vec<u8>, AllocError> {

@@ -1,7 +1,7 @@
 use Rattle.std.proofs.Common.{All}
 use Rattle.abc_bars.specs.SameEntry.{bars}
 use Rattle.abc_fold.specs.Piece.{IsKept}
-use Rattle.text_examples.proofs.bar_chains.tune.Given as goal
+use Rattle.session_examples.proofs.bar_chains.tune.Given as goal
 
 -- nothing is kept yet
 abbrev pub invariant-loop : goal.invariant-loop

@@ -5,7 +5,7 @@ use Rattle.abc_fold.specs.Chain.{Folds}
 use Rattle.abc_fold.specs.Piece.{IsKept}
 use Rattle.text_examples.specs.declared.chains.Counted.{Counted}
 use Rattle.text_examples.specs.Counting.{counting, counting_resumable}
-use Rattle.text_examples.proofs.tests.kept_cells_are_taken_up.Goals as goal
+use Rattle.session_examples.proofs.counted_chains.kept_cells_are_taken_up.Goals as goal
 
 pub prepare-requires-2 : goal.prepare-requires-2
 prepare-requires-2 g c =
