@@ -38,7 +38,9 @@ fn put_item(notes: &mut NotesInOne, at: Grains, item: &Item) -> Result<(), Alloc
     }
 }
 
-/// Puts what is played up to a moment before the notes of what comes behind it.
+/// Puts what is played up to a moment before the notes of what comes behind it. Most of what a tune costs is this
+/// loop: by itself it keeps more in registers.
+#[inline(never)]
 pub(crate) fn put_notes(
     notes: &mut NotesInOne,
     end: Grains,

@@ -45,10 +45,10 @@ pub struct ProgramChange {
 /// A note that sounds from one moment to another.
 #[derive(Clone, Copy, Debug, PartialEq, Eq)]
 pub struct Sounding {
-    /// 0 to 127, 60 the middle C.
-    pub key: u8,
     pub on: Grains,
     pub off: Grains,
+    /// 0 to 127, 60 the middle C.
+    pub key: u8,
     /// How loud it sounds, 1 to 127: as its first tone does.
     pub velocity: u8,
 }

@@ -8,18 +8,14 @@ use abc_time::{Grains, tick_of};
 use std::alloc::{AllocError, Global};
 use std::collections::HashSet;
 
-/// Of changes of one sort in order of play the last one of each tick, the last of all first.
-pub(crate) fn last_of_each_tick<T: Copy>(
+/// Of many changes of one sort in order of play the last one of each tick, the last of all first.
+fn last_of_many<T: Copy>(
     alloc: Global,
     changes: &[(Grains, T)],
 ) -> Result<Vec<(Grains, T)>, AllocError>
     requires { All (λ change. change.0.0 ≤ grains_of_the_latest_end) changes.now }
     ensures { IfOk result (λ standing. standing.items ≡ last_of_each_tick changes.now) }
 {
-    // Most tunes set each of them once at most, and then none is looked for.
-    if changes.len() <= 1 {
-        return Vec::from_slice(alloc, changes);
-    }
     let mut ticks = HashSet::new(alloc);
     let mut standing = Vec::new(alloc);
     let mut left = changes.len();
@@ -31,4 +27,20 @@ pub(crate) fn last_of_each_tick<T: Copy>(
         }
     }
     Ok(standing)
+}
+
+/// Of changes of one sort in order of play the last one of each tick, the last of all first. Most tunes set each of
+/// them once at most, and then no ticks are noted.
+pub(crate) fn last_of_each_tick<T: Copy>(
+    alloc: Global,
+    changes: &[(Grains, T)],
+) -> Result<Vec<(Grains, T)>, AllocError>
+    requires { All (λ change. change.0.0 ≤ grains_of_the_latest_end) changes.now }
+    ensures { IfOk result (λ standing. standing.items ≡ last_of_each_tick changes.now) }
+{
+    if changes.len() <= 1 {
+        Vec::from_slice(alloc, changes)
+    } else {
+        last_of_many(alloc, changes)
+    }
 }

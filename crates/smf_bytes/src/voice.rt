@@ -100,13 +100,13 @@ fn push_note(events: &mut Vec<VoiceEvent>, end: Grains, note: &Sounding) -> Resu
     Ok(())
 }
 
-/// Puts the on and the off of a note to other events. Unless the on comes last of them, each is moved back to its
-/// place.
+/// Puts the on and the off of a note to other events. Unless the last of these is at its tick or before it, each is
+/// moved back to its place.
 fn put(events: &mut Vec<VoiceEvent>, on: VoiceEvent, off: VoiceEvent) -> Result<(), AllocError>
     ensures { OnOk result (IsPermutation (events.old.items ++ on ∷ off ∷ []) events.new.items) }
 {
     let place = events.len();
-    let is_last = events.last().is_none_or(|last| *last <= on);
+    let is_last = events.last().is_none_or(|last| last.tick <= on.tick);
     events.push(on)?;
     events.push(off)?;
     if !is_last {

@@ -2,7 +2,7 @@ use Rattle.std.proofs.Common.{◌≡◌, ℕ, ◌≤◌, length, drop}
 use Rattle.std.specs.Prelude.{nat_eq}
 use Rattle.std.specs.HashSet.{contains}
 use Rattle.abc_voices.specs.Ticks.{has_tick, last_of_each_tick}
-use Rattle.abc_voices.proofs.ticks.last_of_each_tick.Given as goal
+use Rattle.abc_voices.proofs.ticks.last_of_many.Given as goal
 
 -- what stands from here on, and on which ticks
 abbrev pub invariant-loop-left : goal.invariant-loop-left

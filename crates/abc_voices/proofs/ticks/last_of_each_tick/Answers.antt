@@ -1,0 +1,16 @@
+use Rattle.std.proofs.Common.{◌≡◌, ◌≤◌, List, [], ◌∷◌, length, refl, subst, arith}
+use Rattle.std.specs.Prelude.{IfOk}
+use Rattle.abc_time.specs.declared.grains.Grains.{Grains}
+use Rattle.abc_voices.specs.Ticks.{last_of_each_tick}
+use Rattle.abc_voices.proofs.ticks.last_of_each_tick.Goals as goal
+
+-- of one change that one stands
+one_stands : {A : Type 0} (changes : List (Grains × A)) → length changes ≤ 1 → changes ≡ last_of_each_tick changes
+one_stands [] h = refl
+one_stands (change ∷ []) h = refl
+one_stands (change ∷ next ∷ changes) h = absurd (omega arith)
+
+pub returns-then-changes-le1 : goal.returns-then-changes-le1
+returns-then-changes-le1 g c =
+    subst (λ l. IfOk c.from_slice.result (λ standing. standing.items ≡ l))
+    (one_stands c.args.changes.now c.if-changes-le1.true) c.from_slice.ensures.items
