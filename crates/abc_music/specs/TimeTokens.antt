@@ -31,8 +31,8 @@ abbrev pub first_length : List Tone → Grains
 first_length [] = record { 0 = 0 }
 first_length (tone ∷ tones) = tone.length
 
--- Notes that sound together: they last as long as the first of them, which is our own, and are one token of
--- an open tuplet.
+-- Notes that sound together: they last as long as the first of them (ABC 2.1 section 4.17), and are one token of an
+-- open tuplet.
 abbrev pub sounded : Settings → Inside → Played
 sounded settings inside = record {
   settings = record settings {

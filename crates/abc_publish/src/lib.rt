@@ -1,5 +1,5 @@
-//! Jobs that bring a directory of MIDI files up to date with a session: one number at a time, any number of them under
-//! way, ended in any order.
+//! Jobs that bring a directory of MIDI files up to date with a session: each for one number, any number of them under
+//! way at once, ended in any order.
 #![tactic(auto)]
 
 mod job;

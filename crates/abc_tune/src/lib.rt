@@ -1,4 +1,4 @@
-//! One tune, from what its cells give to the bytes of its MIDI file, and what a session asks of a compiler.
+//! One tune, from what its cells give to the bytes of its MIDI file, and ABC as a compiler that a session asks.
 #![tactic(auto)]
 
 mod abc;

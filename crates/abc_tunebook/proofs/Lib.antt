@@ -2,6 +2,5 @@ pub mod Difference
 pub mod Members
 pub mod Moves
 pub mod Order
-pub mod Owned
 pub mod Owners
 pub mod Within

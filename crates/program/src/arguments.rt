@@ -10,7 +10,8 @@ Commands, one on a line of standard input:
   replace L M K  puts the K lines that follow in the place of the lines L to M
   delete L M     takes the lines L to M out
   build          writes the MIDI files of new and changed tunes into DIR, removes those of tunes that
-                 have none any more, and lists them: 'written N.mid', 'removed N.mid', and 'end'
+                 have none any more, and lists them: 'written N.mid', 'removed N.mid', or
+                 'failed N.mid' where the folder refuses it, and 'end'
   faults         lists the faults of the text: line, column and name of each, and 'end'
   titles         lists the tunes: number and title of each, and 'end'
   hex N          shows the MIDI file of tune N in hexadecimal, or 'none'

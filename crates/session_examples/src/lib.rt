@@ -1,8 +1,8 @@
 //! The tests: each calls public functions with ample memory, whose results no clause promises. They stand in one crate,
 //! since each crate with tests reads and compiles all that these call. `gap_lists` has lists with a gap, `counted_chains`
-//! and `bar_chains` chains of a fold, `sessions` a session, and one over a compiler of its own, `publishing` and `orders`
-//! a publisher on a session that is edited, `runs` streams and stores that fail, `readers` a reader that fails once,
-//! `memos` a memo of tunes in the toy language. What commands can show stands in `tests/transcripts`. Expected values are
+//! and `bar_chains` chains of a fold, `plays` a play that is written out, `sessions` a session, and one over a compiler of
+//! its own, `publishing` and `orders` a publisher on a session that is edited, `runs` streams and stores that fail,
+//! `readers` a reader that fails once, `memos` a memo of tunes in the toy language. What commands can show stands in `tests/transcripts`. Expected values are
 //! worked by hand from the rules in `docs/program.md`.
 #![tactic(auto)]
 
@@ -20,6 +20,8 @@ mod gap_lists;
 mod memos;
 #[cfg(test)]
 mod orders;
+#[cfg(test)]
+mod plays;
 #[cfg(test)]
 mod publishing;
 #[cfg(test)]

@@ -1,5 +1,6 @@
 //! The session by its public calls.
 
+use crate::taken::FILE_OF_C;
 use crate::texts::{empty_session, insertion, lines_of};
 use abc_fold::Work;
 use abc_live::{Edit, EditError, LiveSession, Session};
@@ -43,6 +44,33 @@ fn edits_are_reported(rt: HostRuntime) {
     edit(&rt, alloc, &mut session, &mut Work::mint(&rt));
     let reason = format!(in alloc; "{}", EditError::BadRange).expect(&rt, "there is memory");
     assert!(rt; reason.as_str() == "the range is not in the text");
+}
+
+/// Whether a session shows no tune.
+fn shows_nothing(session: &Session) -> bool {
+    session.numbers().is_empty() && session.titles().is_empty()
+}
+
+// An edit that is prepared changes nothing that is to be seen, and one that is given up leaves nothing behind. Put in
+// place, it is reported as it was prepared.
+#[test]
+fn an_edit_is_prepared_given_up_and_prepared_again(rt: HostRuntime) {
+    let alloc = rt.alloc();
+    let mut session = empty_session(&rt, alloc);
+    let mut work = Work::mint(&rt);
+    let tune = insertion(&rt, alloc, &[b"X:1", b"T:A", b"K:C", b"C"]);
+    let patch = session
+        .prepare(&tune, &mut work)
+        .expect(&rt, "there is memory");
+    assert!(rt; shows_nothing(&session));
+    patch.drop_patch();
+    assert!(rt; shows_nothing(&session));
+    let patch = session
+        .prepare(&tune, &mut work)
+        .expect(&rt, "there is memory");
+    let report = session.commit(patch);
+    assert!(rt; report.written.as_slice() == &[1][..] && report.removed.as_slice().is_empty());
+    assert!(rt; session.output(1) == Some(FILE_OF_C));
 }
 
 // A session over a compiler of its own: of two tunes of one number the first is too long, so the second gives the

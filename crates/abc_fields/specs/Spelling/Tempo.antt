@@ -102,7 +102,7 @@ pub record IsBeforeText (text : List ℕ) (m : Tempo) : Type 0 where
   pub quoted_is : IsQuoted quoted
 
 -- What a tempo field says: nothing where it is empty or a text alone, else a tempo, before or behind
--- which a text may stand. That an empty field or a text alone is accepted is our own.
+-- which a text may stand. That an empty field is accepted is our own.
 pub data IsTempo (text : List ℕ) (m : Tempo) : Type 0 where
   empty : text ≡ [] → m ≡ Unset → IsTempo text m
   text_alone : IsQuoted text → m ≡ Unset → IsTempo text m
