@@ -19,7 +19,7 @@ fn is_item_field(field: &Field) -> bool {
 /// Whether a token that is no sound and no rest of its voice alone gives an item, unless it is refused.
 fn is_item_token(kind: &TokenKind) -> bool {
     match kind {
-        TokenKind::Field(field) | TokenKind::InlineField(field) => is_item_field(field),
+        TokenKind::Field(field) | TokenKind::InlineField(field) => is_item_field(field.get()),
         TokenKind::Directive(directive) => matches!(directive, Directive::Program(_)),
         TokenKind::BarRest(_) | TokenKind::Bar(_) | TokenKind::Ending(Some(_)) => true,
         _ => false,
