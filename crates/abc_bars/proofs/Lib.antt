@@ -7,6 +7,7 @@ pub mod HeaderViews
 pub mod LookBack
 pub mod Mentions
 pub mod NamePlaces
+pub mod NamedLists
 pub mod SilentChords
 pub mod Titles
 pub mod VoicesLemmas

@@ -1,18 +1,7 @@
 -- Voices by their names.
 use Rattle.std.specs.List.{AllZip}
-use Rattle.std.proofs.Common.{[], ◌∷◌, ◌≡◌, ℕ, zero, suc, ◌+◌, add-one, length, map, false, List, Option, None, Some, is_some, bytes_eq, refl, sym, ap, ◌∙◌}
-use Rattle.std.specs.Map.{lookup}
-use Rattle.indexmap.proofs.MapLemmas.{some_index}
-use Rattle.abc_bars.specs.Voices.{place_of, voice_at, with_voice_at}
-
--- Of what is not there nothing is known.
-none_by : {S : Type 0} (known : Option S) → is_some known ≡ false → known ≡ None
-none_by None absent = refl
-none_by (Some known) absent = cc
-
--- A name without a place finds nothing.
-pub lookup-none : {S : Type 0} (name : List ℕ) (voices : List (List ℕ × S)) → place_of name voices ≡ None → lookup (bytes_eq name) voices ≡ None
-lookup-none name voices none = none_by _ (sym (some_index (bytes_eq name) voices) ∙ ap is_some none)
+use Rattle.std.proofs.Common.{[], ◌∷◌, ◌≡◌, ℕ, zero, suc, ◌+◌, add-one, length, map, List, Some, refl, sym, ap, ◌∙◌}
+use Rattle.abc_bars.specs.Voices.{voice_at, with_voice_at}
 
 -- Copies of voices, each of which is its source, are the voices.
 pub copies_same : {S : Type 0} (voices copies : List (List ℕ × S)) → AllZip (λ p q. (q.0 ≡ p.0) × (q.1 ≡ p.1)) voices copies → copies ≡ voices

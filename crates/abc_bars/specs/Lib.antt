@@ -13,6 +13,7 @@ pub mod Header
 pub mod HeaderLine
 pub mod LookBack
 pub mod Mentioned
+pub mod Names
 pub mod Opening
 pub mod Reference
 pub mod SameDefaults

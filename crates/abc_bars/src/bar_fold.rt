@@ -72,7 +72,8 @@ fn body_stepped(alloc: Global, body: Body, cell: &[Token]) -> Stepped
     ensures { IfOk result (λ made. made ≡ body_stepped body cell.now) }
 {
     let Given { body, items, .. } = cell_given(alloc, body, cell)?;
-    Ok((Entry::Body(body), items))
+    let entry = Entry::in_body(alloc, body)?;
+    Ok((entry, items))
 }
 
 /// A field of a header, of which a K: ends it.
@@ -87,7 +88,8 @@ fn field_stepped(alloc: Global, header: Header, field: &Field) -> Stepped
     let entry = match kind_of(field.letter) {
         FieldKind::Key => {
             let key = key_set_by(field.value.as_slice());
-            Entry::Body(body_from(alloc, &header, &key)?)
+            let body = body_from(alloc, &header, &key)?;
+            Entry::in_body(alloc, body)?
         }
         FieldKind::Reference
         | FieldKind::Title
@@ -96,7 +98,7 @@ fn field_stepped(alloc: Global, header: Header, field: &Field) -> Stepped
         | FieldKind::Tempo
         | FieldKind::Parts
         | FieldKind::Voice
-        | FieldKind::Other => Entry::Header(header),
+        | FieldKind::Other => Entry::in_header(alloc, header)?,
     };
     Ok((entry, Items::of(items, faults)))
 }
@@ -110,7 +112,8 @@ fn directive_stepped(alloc: Global, header: Header, directive: Directive) -> Ste
         items,
         faults,
     } = header_directed(alloc, header, directive)?;
-    Ok((Entry::Header(header), Items::of(items, faults)))
+    let entry = Entry::in_header(alloc, header)?;
+    Ok((entry, Items::of(items, faults)))
 }
 
 /// A cell of a header: a line of music ends it, and is a cell of the body.
@@ -167,8 +170,8 @@ fn stepped(alloc: Global, entry: &Entry, cell: &[Token]) -> Stepped
         Entry::Opening(defaults) => {
             header_stepped(alloc, Header::opening(alloc, *defaults), cell)
         }
-        Entry::Header(header) => header_stepped(alloc, header.copied()?, cell),
-        Entry::Body(body) => body_stepped(alloc, body.clone()?, cell),
+        Entry::Header(header) => header_stepped(alloc, header.get().copied()?, cell),
+        Entry::Body(body) => body_stepped(alloc, body.get().clone()?, cell),
     }
 }
 

@@ -1,6 +1,6 @@
 //! What holds at a place of a tune's body.
 
-ghost use Rattle.std.specs.Prelude.{◌≡◌, [], ◌∷◌, false, if◌then◌else◌, None, Some, IfOk, OnOk};
+ghost use Rattle.std.specs.Prelude.{◌≡◌, [], ◌∷◌, false, if◌then◌else◌, None, Some, IfOk, OnErr, OnOk};
 ghost use Rattle.std.specs.Borrow.{sem};
 ghost use Rattle.abc_bars.specs.Body.{IsUnnamed, here, joined_by, moved_to, mentioned, made_current, after_part, all_without_accidentals};
 ghost use Rattle.abc_bars.specs.declared.body.Current.TheVariants as Current;
@@ -12,7 +12,6 @@ use crate::voices::Voices;
 use abc_fields::Shift;
 use abc_music::{MOST_VOICES, Settings};
 use std::alloc::{AllocError, Global};
-use std::mem;
 
 /// The voice that is the current one.
 #[derive(Drop)]
@@ -98,7 +97,8 @@ impl Body {
 
     /// The first note, chord, rest or bar rest of the voice without a name mentions it.
     pub(crate) fn mention(&mut self, alloc: Global) -> Result<(), AllocError>
-        ensures { OnOk result (self.new ≡ mentioned self.old) }
+        ensures ok { OnOk result (self.new ≡ mentioned self.old) }
+        ensures err { OnErr result (self.new ≡ self.old) }
     {
         match self.current {
             Current::At(_) => Ok(()),
@@ -111,10 +111,13 @@ impl Body {
     #[inline(never)]
     fn mention_unnamed(&mut self, alloc: Global) -> Result<(), AllocError>
         requires { IsUnnamed self.old.current }
-        ensures { OnOk result (self.new ≡ mentioned self.old) }
+        ensures ok { OnOk result (self.new ≡ mentioned self.old) }
+        ensures err { OnErr result (self.new ≡ self.old) }
     {
-        if let Current::Unnamed(settings) = mem::replace(&mut self.current, Current::At(0)) {
+        if let Current::Unnamed(settings) = &self.current {
+            let settings = settings.clone()?;
             self.voices = nameless(alloc, settings)?;
+            self.current = Current::At(0);
         }
         Ok(())
     }
@@ -129,6 +132,7 @@ impl Body {
     ) -> Result<bool, AllocError>
         ensures value { IfOk result (λ made. made_current self.old name.now said ≡ (if made then Some self.new else None)) }
         ensures refused { IfOk result (λ made. made ≡ false → self.new ≡ self.old) }
+        ensures err { OnErr result (self.new ≡ self.old) }
     {
         let name = VoiceName::new(alloc, name)?;
         match self.voices.place_of(&name) {
@@ -156,7 +160,8 @@ impl Body {
     /// Mentions another voice, which becomes the current one, with these properties.
     fn join(&mut self, name: VoiceName, said: Shift) -> Result<(), AllocError>
         requires { place_of name self.old.voices ≡ None }
-        ensures { OnOk result (self.new ≡ joined_by self.old name said) }
+        ensures ok { OnOk result (self.new ≡ joined_by self.old name said) }
+        ensures err { OnErr result (self.new ≡ self.old) }
     {
         let mut settings = self.another.clone()?;
         settings.shift = settings.shift.with_properties(said);

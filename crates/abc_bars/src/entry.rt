@@ -8,9 +8,11 @@ ghost use Rattle.abc_bars.specs.Defaults.{no_defaults};
 use crate::body::Body;
 use crate::defaults::{Defaults, NO_DEFAULTS};
 use crate::header::Header;
+use abc_fold::Shared;
 use std::alloc::{AllocError, Global};
 
-/// All that what follows a place of a file header or of a tune can depend on.
+/// All that what follows a place of a file header or of a tune can depend on. A copy shares what holds in a header or in
+/// a body; so each place is of a few words.
 #[derive(Drop)]
 pub enum Entry {
     /// In a file header: its values so far.
@@ -18,12 +20,28 @@ pub enum Entry {
     /// Before the first field of a tune: the file header's values.
     Opening(Defaults),
     /// In a tune's header, also where a line of music ends it.
-    Header(Header),
+    Header(Shared<Header>),
     /// In a tune's body.
-    Body(Body),
+    Body(Shared<Body>),
 }
 
 impl Entry {
+    /// What holds in a tune's header.
+    pub(crate) fn in_header(alloc: Global, header: Header) -> Result<Entry, AllocError>
+        ensures { IfOk result (λ entry. entry ≡ Entry.Header header) }
+    {
+        let header = Shared::new(alloc, header)?;
+        Ok(Entry::Header(header))
+    }
+
+    /// What holds in a tune's body.
+    pub(crate) fn in_body(alloc: Global, body: Body) -> Result<Entry, AllocError>
+        ensures { IfOk result (λ entry. entry ≡ Entry.Body body) }
+    {
+        let body = Shared::new(alloc, body)?;
+        Ok(Entry::Body(body))
+    }
+
     /// What holds where a file header begins. No memory is taken.
     pub fn header(_alloc: Global) -> Entry
         ensures { result ≡ Entry.FileHeader no_defaults }
@@ -52,7 +70,7 @@ impl Entry {
         }
     }
 
-    /// A copy of all that holds there.
+    /// The same, which holds there. No memory is taken.
     pub fn copied(&self) -> Result<Entry, AllocError>
         ensures { IfOk result (λ copy. copy ≡ self.now) }
     {
@@ -60,11 +78,11 @@ impl Entry {
             Entry::FileHeader(defaults) => Ok(Entry::FileHeader(*defaults)),
             Entry::Opening(defaults) => Ok(Entry::Opening(*defaults)),
             Entry::Header(header) => {
-                let header = header.copied()?;
+                let header = header.share()?;
                 Ok(Entry::Header(header))
             }
             Entry::Body(body) => {
-                let body = body.clone()?;
+                let body = body.share()?;
                 Ok(Entry::Body(body))
             }
         }

@@ -23,6 +23,7 @@ mod item_laws;
 mod key_laws;
 mod length_laws;
 mod name_laws;
+mod names;
 mod opening;
 mod reference;
 mod room;

@@ -168,8 +168,8 @@ impl Entry {
         match (self, other) {
             (Entry::FileHeader(defaults), Entry::FileHeader(with)) => defaults.same(with),
             (Entry::Opening(defaults), Entry::Opening(with)) => defaults.same(with),
-            (Entry::Header(header), Entry::Header(with)) => header.same(with),
-            (Entry::Body(body), Entry::Body(with)) => body.same(with),
+            (Entry::Header(header), Entry::Header(with)) => header.get().same(with.get()),
+            (Entry::Body(body), Entry::Body(with)) => body.get().same(with.get()),
             _ => false,
         }
     }

@@ -1,6 +1,6 @@
 //! The voices of a tune.
 
-ghost use Rattle.std.specs.Prelude.{◌≡◌, ◌==◌, ◌<◌, [], ◌∷◌, ◌++◌, bytes_eq, length, slice_get, None, Some, IfSome, OnOk};
+ghost use Rattle.std.specs.Prelude.{◌≡◌, ◌==◌, ◌<◌, [], ◌∷◌, ◌++◌, bytes_eq, length, slice_get, None, Some, IfSome, OnErr, OnOk};
 ghost use Rattle.std.specs.Borrow.{sem};
 ghost use Rattle.std.specs.List.{AllZip, IsDistinct};
 ghost use Rattle.std.specs.Map.{keys_of};
@@ -9,27 +9,32 @@ ghost use Rattle.std.specs.Option.{option_copied, option_copied_mut, option_map}
 ghost use Rattle.abc_bars.specs.Voices.{place_of, voice_at};
 ghost use Rattle.abc_bars.specs.VoicesLent.{lends_known, lends_voice};
 
+use crate::names::Names;
 use crate::voice_name::VoiceName;
-use indexmap::IndexMap;
 use std::alloc::{AllocError, Global};
 use std::marker::Model;
 
 /// Voices in the order in which they were mentioned, each with what is known of it (ABC 2.1 section
-/// 7.1). No two have the same name. Contracts see pairs of a name and what is known.
+/// 7.1). No two have the same name. Contracts see pairs of a name and what is known. Copies share the names.
 #[derive(Drop)]
 pub struct Voices<S> {
-    map: IndexMap<VoiceName, S>,
+    names: Names,
+    /// What is known of each, in the order of the names.
+    known: Vec<S>,
 }
 
 impl<S> Model for Voices<S> {
-    ghost use Rattle.std.specs.Prelude.{List, ℕ};
+    ghost use Rattle.std.specs.Prelude.{◌≡◌, List, ℕ, length};
     ghost use Rattle.std.specs.Coded.{coded×, coded_list, coded_ℕ};
+    ghost use Rattle.std.specs.List.{zip};
 
     ghost Value = { List (List ℕ × S) };
 
     ghost coded = { coded_list (coded× (coded_list coded_ℕ) S.code) };
 
-    ghost view = { λ voices. voices.map.entries };
+    ghost view = { λ voices. zip voices.names voices.known.items };
+
+    ghost invariant = { λ voices. length voices.known.items ≡ length voices.names };
 }
 
 impl<S> Voices<S> {
@@ -38,7 +43,8 @@ impl<S> Voices<S> {
         ensures { result ≡ [] }
     {
         Voices {
-            map: IndexMap::new(alloc),
+            names: Names::new(),
+            known: Vec::new(alloc),
         }
     }
 
@@ -46,14 +52,14 @@ impl<S> Voices<S> {
     pub fn len(&self) -> usize
         ensures { result ≡ length self.now }
     {
-        self.map.len()
+        self.names.len()
     }
 
     /// Whether there are none.
     pub fn is_empty(&self) -> bool
         ensures { result ≡ (length self.now == 0) }
     {
-        self.map.is_empty()
+        self.names.len() == 0
     }
 
     /// The place of the voice with this name.
@@ -61,7 +67,7 @@ impl<S> Voices<S> {
         ensures value { result ≡ place_of name.now self.now }
         ensures inside { IfSome result (λ at. at < length self.now) }
     {
-        self.map.get_index_of(name)
+        self.names.place_of(name)
     }
 
     /// The name of the voice at a place, and what is known of it. No two voices have the same name.
@@ -69,16 +75,16 @@ impl<S> Voices<S> {
         ensures value { option_map deref_pair result ≡ slice_get self.now at }
         ensures distinct { IsDistinct bytes_eq (keys_of self.now) }
     {
-        let _count = self.map.len();
-        self.map.get_index(at)
+        let name = self.names.get(at)?;
+        let known = self.known.get(at)?;
+        Some((name, known))
     }
 
     /// What is known of the voice at a place.
     pub fn get(&self, at: usize) -> Option<&S>
         ensures { option_copied result ≡ voice_at self.now at }
     {
-        let (_, known) = self.map.get_index(at)?;
-        Some(known)
+        self.known.get(at)
     }
 
     /// What is known of the voice at a place, to be changed.
@@ -86,7 +92,11 @@ impl<S> Voices<S> {
         ensures* writes_back { sem 𝓛 (lends_voice S.row self.entry at result) }
         ensures value { option_copied_mut result ≡ voice_at self.old at }
     {
-        self.map.get_index_mut(at)
+        if at < self.len() {
+            Some(self.known_mut(at))
+        } else {
+            None
+        }
     }
 
     /// What is known of the voice at a place that there is, to be changed.
@@ -95,7 +105,7 @@ impl<S> Voices<S> {
         ensures* writes_back { sem 𝓛 (lends_known S.row self.entry at result) }
         ensures value { voice_at self.old at ≡ Some result.now }
     {
-        &mut self.map[at]
+        &mut self.known[at]
     }
 
     /// Puts one more voice at the end.
@@ -103,9 +113,12 @@ impl<S> Voices<S> {
     where
         S: Drop,
         requires { place_of name self.old ≡ None }
-        ensures { OnOk result (self.new ≡ self.old ++ (name, known) ∷ []) }
+        ensures ok { OnOk result (self.new ≡ self.old ++ (name, known) ∷ []) }
+        ensures err { OnErr result (self.new ≡ self.old) }
     {
-        self.map.insert(name, known)?;
+        let names = self.names.with(*self.known.allocator(), name)?;
+        self.known.push(known)?;
+        self.names = names;
         Ok(())
     }
 }
@@ -114,7 +127,8 @@ impl<S: Clone> Clone for Voices<S> {
     ghost is_clone = { λ voices copies. AllZip (λ p q. (q.0 ≡ p.0) × S.is_clone p.1 q.1) voices copies };
 
     fn clone(&self) -> Result<Self, AllocError> {
-        let map = self.map.clone()?;
-        Ok(Voices { map })
+        let names = self.names.share()?;
+        let known = self.known.clone()?;
+        Ok(Voices { names, known })
     }
 }

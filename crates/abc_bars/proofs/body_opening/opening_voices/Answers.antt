@@ -26,7 +26,7 @@ loop-at-preserved c =
           let made = one_more_made (opening_voice header c.args.key.now) header.voices c.loop-at.at
           (w.in-Some.name.now, w.in-Some.said.now) (sym w.in-Some.ensures.value) in
           let cloned = w.in_ok-clone.ensures.cases in
-          w.voices-is ∙ w.in_ok-push.ensures
+          w.voices-is ∙ w.in_ok-push.ensures.ok
           ∙ ap (λ voices. voices ++ (w.in_ok-clone.field-0, w.opening_settings-settings.result) ∷ []) c.loop-at.invariant
           ∙ ap (λ name. so_far ++ (name, w.opening_settings-settings.result) ∷ []) cloned
           ∙ ap (λ settings. so_far ++ (w.in-Some.name.now, settings) ∷ []) w.opening_settings-settings.ensures ∙ sym made)

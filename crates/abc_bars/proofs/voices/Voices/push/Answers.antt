@@ -1,12 +1,16 @@
-use Rattle.std.proofs.Common.{bytes_eq, ap, ◌∙◌, [], ◌∷◌, ◌++◌}
-use Rattle.indexmap.proofs.CallerLemmas.{insert_entry-new}
-use Rattle.abc_bars.specs.Voices.{place_of}
-use Rattle.abc_bars.proofs.VoicesLemmas.{lookup-none}
+use Rattle.std.proofs.Common.{◌∙◌, [], ◌∷◌, ◌++◌, ap, bytes_eq, position}
+use Rattle.std.specs.List.{zip}
+use Rattle.abc_bars.proofs.NamedLists.{seen, zip-one_more}
 use Rattle.abc_bars.proofs.voices.Voices.push.Goals as goal
 
-pub returns : goal.returns
-returns g c =
-    let map = c.self.inside.map in
-    let absent = lookup-none c.args.name map.entries (ap (place_of c.args.name) c.self.view_is ∙ c.requires) in
-    c.in_ok-insert.ensures.entries ∙ insert_entry-new bytes_eq map c.args.name c.args.known absent
-    ∙ ap (λ voices. voices ++ (c.args.name, c.args.known) ∷ []) c.self.view_is
+pub with-requires : goal.with-requires
+with-requires g c =
+    let s = seen c.self.inside.names c.self.inside.known.items c.args.self.now c.self.view_is c.self.invariant in
+    ap (position (bytes_eq c.args.name)) s.names ∙ c.requires
+
+pub returns-clause-ok : goal.returns-clause-ok
+returns-clause-ok g c =
+    let s = seen c.self.inside.names c.self.inside.known.items c.args.self.now c.self.view_is c.self.invariant in
+    (λ i. zip (c.in_ok-names.ensures i) (c.in_ok-push.ensures.items i))
+    ∙ zip-one_more c.self.inside.names c.self.inside.known.items c.args.name c.args.known c.self.invariant
+    ∙ ap (λ pairs. pairs ++ (c.args.name, c.args.known) ∷ []) s.entries
