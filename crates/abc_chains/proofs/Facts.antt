@@ -42,7 +42,7 @@ all_as P Q [] each all = All-nil Q
 all_as P Q (x ∷ xs) each all = All-cons Q x xs (each x (all 0 x (omega arith))) (all_as P Q xs each (λ i d l. all (suc i) d (omega arith)))
 
 -- The steps of tunes where they lie in the text.
-sums_moved : {State Cell Items : Type 0} (steps : Steps State Cell Items) (own : State) (old : List (Chained State Cell Items)) (a rows b : List (CarriedRow Cell)) (n : ℕ) (tunes : List Block) → n ≡ length a → All (LiesWithin (length rows)) tunes
+pub sums_moved : {State Cell Items : Type 0} (steps : Steps State Cell Items) (own : State) (old : List (Chained State Cell Items)) (a rows b : List (CarriedRow Cell)) (n : ℕ) (tunes : List Block) → n ≡ length a → All (LiesWithin (length rows)) tunes
     → sum_by (steps_taken steps own old rows) tunes ≡ sum_by (steps_taken steps own old (a ++ (rows ++ b))) (map (moved n) tunes)
 sums_moved steps own old a rows b n [] e within = refl
 sums_moved steps own old a rows b n (t ∷ tunes) e within =
@@ -53,7 +53,7 @@ sums_moved steps own old a rows b n (t ∷ tunes) e within =
     omega (arith, here, there, first, more)
 
 -- The same of what goes along old tunes.
-along_moved : {State Cell Items : Type 0} (steps : Steps State Cell Items) (own : State) (old : List (Chained State Cell Items)) (a rows b : List (CarriedRow Cell)) (n : ℕ) (tunes : List Block) (taken : List (Option ℕ)) → n ≡ length a → All (LiesWithin (length rows)) tunes
+pub along_moved : {State Cell Items : Type 0} (steps : Steps State Cell Items) (own : State) (old : List (Chained State Cell Items)) (a rows b : List (CarriedRow Cell)) (n : ℕ) (tunes : List Block) (taken : List (Option ℕ)) → n ≡ length a → All (LiesWithin (length rows)) tunes
     → AllZip (λ tune one. GoesAlong steps old own (rows_in rows tune) → IsSome one) tunes taken
     → AllZip (λ tune one. GoesAlong steps old own (rows_in (a ++ (rows ++ b)) tune) → IsSome one) (map (moved n) tunes) taken
 along_moved steps own old a rows b n [] [] e within all = tt
@@ -80,7 +80,7 @@ old_opening : {State Cell Items Defaults : Type 0} (steps : Steps State Cell Ite
 old_opening steps rules text first tunes own laws lawful chains is =
     subst (λ o. IsAlike steps o (opening_of steps.next rules text (blocks_in rules text))) (sym is) (opening_alike steps rules text first (header_in (blocks_in rules text)) laws lawful chains.0)
 
-alike_old : {State Cell Items Defaults : Type 0} (steps : Steps State Cell Items) (rules : Rules State Cell Items Defaults) (text : Text) (chains : List (Chained State Cell Items)) (first : Chained State Cell Items) (own : State)
+pub alike_old : {State Cell Items Defaults : Type 0} (steps : Steps State Cell Items) (rules : Rules State Cell Items Defaults) (text : Text) (chains : List (Chained State Cell Items)) (first : Chained State Cell Items) (own : State)
     → IsResumable steps → AreLawful steps rules → AreChains steps rules text chains → first ≡ get_or chains 0 first → own ≡ rules.tune (behind_chain (header_in (blocks_in rules text)) first)
     → IsAlike steps own (opening_of steps.next rules text (blocks_in rules text))
 alike_old steps rules text [] first own laws lawful chains there is = absurd chains
@@ -99,12 +99,12 @@ chains_kept steps rules text new stretch [] made rows own places laws chains hea
 chains_kept steps rules text new stretch (first ∷ tunes) made rows own places laws chains header ends e f all before starts alike read made_are =
     chains_stay steps rules text new stretch.from (stretch.to - stretch.from) stretch.came first tunes made rows own stretch.front stretch.behind places laws chains header ends e f all before starts alike read made_are
 
-zips_moved : {State Cell Items : Type 0} (steps : Steps State Cell Items) (own : State) (a rows b : List (CarriedRow Cell)) (n : ℕ) (made : List (Chained State Cell Items)) (tunes : List Block) → n ≡ length a → All (LiesWithin (length rows)) tunes
+pub zips_moved : {State Cell Items : Type 0} (steps : Steps State Cell Items) (own : State) (a rows b : List (CarriedRow Cell)) (n : ℕ) (made : List (Chained State Cell Items)) (tunes : List Block) → n ≡ length a → All (LiesWithin (length rows)) tunes
     → AllZip (IsChain steps own rows) made tunes → AllZip (IsChain steps own (a ++ (rows ++ b))) made (map (moved n) tunes)
 zips_moved steps own a rows b n made tunes e within all =
     zip_given (IsChain steps own rows) (IsChain steps own (a ++ (rows ++ b))) (LiesWithin (length rows)) (moved n) made tunes (λ chain block known is. chain_moved steps own a rows b n chain block e known is) within all
 
-stretch_length : {State Cell Items Defaults : Type 0} (rules : Rules State Cell Items Defaults) (s : Splice) (from to : ℕ) (own : List (CarriedRow Cell)) → length own ≡ to - from → from ≤ s.at → s.at + s.removed ≤ to → length (stretch_rows rules s from own) ≡ to - from - s.removed + length s.lines
+pub stretch_length : {State Cell Items Defaults : Type 0} (rules : Rules State Cell Items Defaults) (s : Splice) (from to : ℕ) (own : List (CarriedRow Cell)) → length own ≡ to - from → from ≤ s.at → s.at + s.removed ≤ to → length (stretch_rows rules s from own) ≡ to - from - s.removed + length s.lines
 stretch_length rules s from to own count h k =
     let a = take (s.at - from) own in
     let b = map (fresh_row rules) s.lines in

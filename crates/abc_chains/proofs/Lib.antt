@@ -20,8 +20,8 @@ pub mod Renewed
 pub mod Outside
 pub mod Narrow
 pub mod Facts
-pub mod WholeText
 pub mod Narrowed
-pub mod WholeRows
 pub mod Replaced
 pub mod Prepared
+pub mod Leading
+pub mod Led

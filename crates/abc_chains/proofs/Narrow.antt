@@ -38,7 +38,7 @@ two_parts front behind xs h =
     let here : front + (behind - front) ≡ behind = omega arith in
     sym (take-append-drop (behind - front) (drop front xs)) ∙ ap (λ l. take (behind - front) (drop front xs) ++ l) (drop-drop (behind - front) front xs ∙ ap (λ n. drop n xs) here)
 
-begin_behind : (blocks : List Block) (last : ℕ) → BeginBehind (start_of blocks last) blocks
+pub begin_behind : (blocks : List Block) (last : ℕ) → BeginBehind (start_of blocks last) blocks
 begin_behind [] last = tt
 begin_behind (block ∷ blocks) last = omega arith
 
@@ -59,13 +59,13 @@ some_taken zero own rest h some = absurd (omega arith)
 some_taken (suc k) [] rest h some = absurd (omega arith)
 some_taken (suc k) (x ∷ own) rest h some = omega arith
 
-all_starts : (at : ℕ) (xs : List Block) (last : ℕ) (line : ℕ) → line ≤ at → RiseFromTo at xs last → All (StartsFrom line) xs
+pub all_starts : (at : ℕ) (xs : List Block) (last : ℕ) (line : ℕ) → line ≤ at → RiseFromTo at xs last → All (StartsFrom line) xs
 all_starts at [] last line h rise = λ i d l. absurd (omega (arith, l))
 all_starts at (block ∷ xs) last line h rise =
     let own : StartsFrom line block = (omega (arith, h, rise.0), omega (arith, rise.1)) in
     All-cons (StartsFrom line) block xs own (all_starts block.to xs last line (omega (arith, h, rise.0, rise.1)) rise.2)
 
-strict_rest : (at : ℕ) (xs ys : List Block) (last : ℕ) → RiseFromTo at (xs ++ ys) last → RiseFromTo (start_of ys last) ys last
+pub strict_rest : (at : ℕ) (xs ys : List Block) (last : ℕ) → RiseFromTo at (xs ++ ys) last → RiseFromTo (start_of ys last) ys last
 strict_rest at [] [] last rise = omega arith
 strict_rest at [] (block ∷ ys) last rise = let here : block.from ≤ block.from = omega arith in (here, rise.1, rise.2)
 strict_rest at (block ∷ xs) ys last rise = strict_rest block.to xs ys last rise.2

@@ -1,5 +1,5 @@
 -- The tunes and the file header of a text of which a stretch is replaced.
-use Rattle.std.proofs.Common.{◌≡◌, ◌↔◌, ℕ, zero, suc, ◌+◌, ◌-◌, ◌<◌, ◌≤◌, true, false, if◌then◌else◌, List, [], ◌∷◌, ◌++◌, map, Some, None, All, length, take, drop, slice_get, refl, sym, ◌∙◌, ap, subst, arith, append_assoc, ⊎_elim, inr}
+use Rattle.std.proofs.Common.{◌≡◌, ◌↔◌, ℕ, zero, suc, ◌+◌, ◌-◌, ◌<◌, ◌≤◌, true, false, if◌then◌else◌, List, [], ◌∷◌, ◌++◌, map, Some, None, All, length, take, drop, slice_get, refl, sym, ◌∙◌, ap, subst, arith, append_assoc, ⊎_elim, inl, inr}
 use Rattle.std.specs.Prelude.{IsTrue, cond, count_by, nat_le}
 use Rattle.std.proofs.lemmas.Bool.{cases_Bool, cases_lt, eqb-true}
 use Rattle.std.proofs.lemmas.Bool.Decides.{nat_tests}
@@ -20,7 +20,7 @@ use Rattle.abc_scan.specs.declared.class.LineClass.TheVariants.{Blank, Comment, 
 use Rattle.abc_tunebook.specs.Book.{header_in, is_file_header, is_tune, tunes_in}
 use Rattle.abc_chains.specs.Renewing.{start_of}
 use Rattle.abc_chains.proofs.Parts.{drop_past}
-use Rattle.abc_chains.proofs.Spans.{before_are, behind_are, tunes_before, tunes_behind, tunes_both, tunes_moved, tunes_shifted, tunes_strict}
+use Rattle.abc_chains.proofs.Spans.{before_are, behind_are, keep_none, tunes_before, tunes_behind, tunes_both, tunes_moved, tunes_shifted, tunes_strict}
 
 begin_x : (classes : List LineClass) (n : ℕ) → slice_get classes n ≡ Some (Field letter_x) → BeginTune (drop n classes)
 begin_x [] n e = absurd (cc)
@@ -170,16 +170,19 @@ run_begins before old behind front mid back run =
     let rest : drop (start_of (mid ++ back) (length all)) all ≡ old ++ behind = ap (λ n. drop n all) (sym run.from) ∙ (drop_past (length before) before (old ++ behind) (omega arith) ∙ (let z : length before - length before ≡ 0 = omega arith in ap (λ n. drop n (old ++ behind)) z)) in
     begin_front old behind run.some (subst BeginTune rest here)
 
-run_ends : (before old behind : List LineClass) (front mid back : List Block) → IsRun before old behind front mid back → BeginTune behind
-run_ends before old behind front mid back run =
+-- What stands behind a stretch begins a tune where the tunes behind it do.
+pub begin_rest : (before old behind : List LineClass) (front back : List Block) → tunes_in (blocks_of (before ++ (old ++ behind))) ≡ front ++ back → length before + length old ≡ start_of back (length (before ++ (old ++ behind))) → BeginTune behind
+begin_rest before old behind front back tunes to =
     let all = before ++ (old ++ behind) in
-    let both : tunes_in (blocks_of all) ≡ (front ++ mid) ++ back = run.tunes ∙ sym (append_assoc front mid back) in
-    let here = begin_start all (front ++ mid) back both in
+    let here = begin_start all front back tunes in
     let rest : drop (start_of back (length all)) all ≡ behind =
-    ap (λ n. drop n all) (sym run.to) ∙ (drop_past (length before + length old) before (old ++ behind) (omega arith)
+    ap (λ n. drop n all) (sym to) ∙ (drop_past (length before + length old) before (old ++ behind) (omega arith)
     ∙ ((let z : length before + length old - length before ≡ length old = omega arith in ap (λ n. drop n (old ++ behind)) z)
     ∙ (drop_past (length old) old behind (omega arith) ∙ (let z : length old - length old ≡ 0 = omega arith in ap (λ n. drop n behind) z)))) in
     subst BeginTune rest here
+
+run_ends : (before old behind : List LineClass) (front mid back : List Block) → IsRun before old behind front mid back → BeginTune behind
+run_ends before old behind front mid back run = begin_rest before old behind (front ++ mid) back (run.tunes ∙ sym (append_assoc front mid back)) run.to
 
 -- The tunes behind the edit of a stretch.
 pub tunes_after : (before old new behind : List LineClass) (front mid back : List Block) → IsRun before old behind front mid back → BeginTune new
@@ -210,3 +213,38 @@ pub header_after : (before old new behind : List LineClass) (front mid back : Li
 header_after before old new behind front mid back run more begins =
     header_stays before (old ++ behind) (new ++ behind) (some_whole old behind run.some) (some_whole new behind more)
     (begin_whole old behind run.some (run_begins before old behind front mid back run)) (begin_whole new behind more begins)
+
+-- The tunes behind the edit of the first lines of a text.
+pub tunes_first : (before old new behind : List LineClass) (mid back : List Block) → before ≡ [] → tunes_in (blocks_of (before ++ (old ++ behind))) ≡ mid ++ back → length before + length old ≡ start_of back (length (before ++ (old ++ behind)))
+    → tunes_in (blocks_of (before ++ (new ++ behind))) ≡ map (moved (length before)) (tunes_in (blocks_of new)) ++ map (shifted (length old) (length new)) back
+tunes_first before old new behind mid back none tunes to =
+    let all = before ++ (old ++ behind) in
+    let there = blocks_of all in
+    let n = length all in
+    let law = stretch_is_enough before old new behind (inl none) (inl none) (begin_rest before old behind mid back tunes to) in
+    let rise = subst (λ (t : List Block). RiseFromTo 0 t n) tunes (tunes_strict 0 there n (blocks_rise all)) in
+    let zeroth : length before ≡ 0 = ap length none in
+    let first : tunes_in (blocks_before (length before) there) ≡ [] = ap (λ k. tunes_in (blocks_before k there)) zeroth ∙ ap tunes_in (keep_none 0 there (λ i d l. omega arith)) in
+    let last : tunes_in (blocks_behind (length before + length old) there) ≡ back =
+    tunes_behind (length before + length old) there ∙ ((λ i. blocks_behind (to i) (tunes i)) ∙ behind_are mid back n rise) in
+    let a = blocks_before (length before) there in
+    let b = blocks_at (length before) new in
+    let c = map (shifted (length old) (length new)) (blocks_behind (length before + length old) there) in
+    ap tunes_in law ∙ (tunes_both a (b ++ c)
+    ∙ (λ i. first i ++ (tunes_both b c ∙ (λ j. tunes_moved (length before) (blocks_of new) j ++ (tunes_shifted (length old) (length new) (blocks_behind (length before + length old) there) ∙ ap (map (shifted (length old) (length new))) last) j)) i))
+
+append_none : {X : Type 0} (xs : List X) → xs ++ [] ≡ xs
+append_none [] = refl
+append_none (x ∷ xs) = ap (λ l. x ∷ l) (append_none xs)
+
+header_only : (new behind : List LineClass) → BeginTune behind → header_in (blocks_of (new ++ behind)) ≡ header_in (blocks_of new)
+header_only new [] begin = ap (λ c. header_in (blocks_of c)) (append_none new)
+header_only new (x ∷ behind) begin =
+    let some : 1 ≤ suc (length behind) = omega arith in
+    ap header_in (cut new (x ∷ behind) some begin)
+    ∙ (header_front (blocks_of new) (map (moved (length new)) (blocks_of (x ∷ behind))) [] (header_moved (length new) (blocks_of (x ∷ behind)) (no_header (x ∷ behind) some begin)) refl
+    ∙ ap header_in (append_none (blocks_of new)))
+
+-- And the file header, which is that of the first lines.
+pub header_first : (before new behind : List LineClass) → before ≡ [] → BeginTune behind → header_in (blocks_of (before ++ (new ++ behind))) ≡ header_in (blocks_of new)
+header_first before new behind none begin = ap (λ (b : List LineClass). header_in (blocks_of (b ++ (new ++ behind)))) none ∙ header_only new behind begin

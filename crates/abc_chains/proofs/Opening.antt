@@ -64,7 +64,7 @@ tunes_made steps read own opening text rows (chain ∷ chains) [] laws alike cel
 tunes_made steps read own opening text rows (chain ∷ chains) (block ∷ blocks) laws alike cells made =
     (chain_made steps read own opening text rows chain block laws alike cells made.0, tunes_made steps read own opening text rows chains blocks laws alike cells made.1)
 
-header_made : {State Cell Items : Type 0} (steps : Steps State Cell Items) (read : List ℕ → List Cell) (first : State) (text : Text) (rows : List (CarriedRow Cell)) (chain : Chained State Cell Items) (header : Option Block)
+pub header_made : {State Cell Items : Type 0} (steps : Steps State Cell Items) (read : List ℕ → List Cell) (first : State) (text : Text) (rows : List (CarriedRow Cell)) (chain : Chained State Cell Items) (header : Option Block)
     → IsResumable steps → map cells_in rows ≡ map read text → IsHeader steps first rows chain header → IsHeaderOf steps read first text chain header
 header_made steps read first text rows chain None laws cells made = made
 header_made steps read first text rows chain (Some block) laws cells made = chain_made steps read first first text rows chain block laws (laws.reflexive first) cells made

@@ -54,7 +54,7 @@ chain_before steps read opening text new from chain block e ends own = record {
   cells = own.cells ∙ ap (flat_map read) (sym (part_before new text block.from block.to from e ends.0 ends.1));
 }
 
-chain_behind : {State Cell Items : Type 0} (steps : Steps State Cell Items) (read : List ℕ → List Cell) (opening : State) (text new : Text) (from gone came : ℕ) (chain : Chained State Cell Items) (block : Block) → drop (from + came) new ≡ drop (from + gone) text → StartsFrom (from + gone) block
+pub chain_behind : {State Cell Items : Type 0} (steps : Steps State Cell Items) (read : List ℕ → List Cell) (opening : State) (text new : Text) (from gone came : ℕ) (chain : Chained State Cell Items) (block : Block) → drop (from + came) new ≡ drop (from + gone) text → StartsFrom (from + gone) block
     → IsChainOf steps read opening text chain block → IsChainOf steps read opening new chain (shifted gone came block)
 chain_behind steps read opening text new from gone came chain block e starts own = record {
   folds = own.folds;

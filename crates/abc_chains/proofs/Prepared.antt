@@ -16,7 +16,6 @@ use Rattle.abc_chains.specs.declared.stretch.Stretch.{Stretch}
 use Rattle.std.proofs.lemmas.List.{length-take-le}
 use Rattle.abc_chains.proofs.Edits.{spliced_is}
 use Rattle.abc_chains.proofs.Meaning.{length-over}
-use Rattle.abc_chains.proofs.WholeTunes.{chains_count}
 
 all_among : (stretch : Stretch) (tunes : List Block) → All (LiesWithin stretch.came) tunes → All (LiesAmong stretch) (map (moved stretch.from) tunes)
 all_among stretch [] all = All-nil (LiesAmong stretch)
@@ -39,18 +38,14 @@ first_same steps rules text (Some new) stretch (chain ∷ tunes) made own none =
 
 module _ {C State Cell Items Defaults : Type 0} (steps : Steps State Cell Items) (rules : Rules State Cell Items Defaults) (on : Keeping C State Cell Items) (s : Splice) (stretch : Stretch) (header : Option Block) (first : Option (Chained State Cell Items)) (tunes : List Block) (made : List (Chained State Cell Items)) (taken : List (Option ℕ))
     (stands : Stands steps rules on.lines.text on.rows.items on.header on.tunes on.chains.items) (renewed : IsRenewed steps rules on s stretch header first tunes made taken) where
-  -- A new file header comes with all tunes.
-  pub may_be_anew : MayBeAnew first stretch (length on.chains.items)
+  -- A new file header comes with the first tunes.
+  pub may_be_anew : MayBeAnew first stretch
   may_be_anew = by_first first renewed.keeps
     where
-      by_first : (first : Option (Chained State Cell Items)) → Stays first header on.header stretch ⊎ IsAnew first on.tunes on.lines.text stretch → MayBeAnew first stretch (length on.chains.items)
+      by_first : (first : Option (Chained State Cell Items)) → Stays first header on.header stretch ⊎ IsAnew first header on.header stretch → MayBeAnew first stretch
       by_first None keeps = tt
       by_first (Some new) (inl stays) = absurd (let bad = stays.none in cc)
-      by_first (Some new) (inr anew) =
-          let count = chains_count steps rules on.lines.text on.chains.items stands.chains_are in
-          let same = ap length stands.tunes_are in
-          let behind = anew.behind in
-          (anew.front, omega (arith, count, same, behind))
+      by_first (Some new) (inr anew) = anew.front
 
   pub lines_order : stretch.from ≤ stretch.to
   lines_order = let a = renewed.begins in let b = renewed.ends in omega (arith, a, b)
@@ -89,7 +84,7 @@ module _ {C State Cell Items Defaults : Type 0} (steps : Steps State Cell Items)
               chain = ap (take 1) c ∙ first_same steps rules on.lines.text first stretch on.chains.items made stands.chains_are stays.none;
               before = stays.before;
             }))
-            (λ (anew : IsAnew first on.tunes on.lines.text stretch). inl (record { front = anew.front; behind = anew.behind; from = anew.from; to = anew.to }))
+            (λ (anew : IsAnew first header on.header stretch). inl (record { front = anew.front; from = anew.from; goes = anew.goes; comes = anew.comes }))
             renewed.keeps;
         lines_before = ap (take stretch.from) x ∙ renewed.lines_before;
         lines_behind = ap (drop (stretch.from + stretch.came)) x ∙ renewed.lines_behind;

@@ -1,5 +1,5 @@
 -- The chains and the rows of a text, with others in the place of some.
-use Rattle.std.proofs.Common.{◌≡◌, ℕ, suc, ◌+◌, ◌-◌, ◌≤◌, List, [], ◌∷◌, ◌++◌, map, Option, Some, None, Result, Ok, Err, IfOk, length, take, drop, refl, sym, ◌∙◌, ap, subst, arith, append_assoc}
+use Rattle.std.proofs.Common.{◌≡◌, ℕ, suc, ◌+◌, ◌-◌, ◌≤◌, List, [], ◌∷◌, ◌++◌, map, Option, Some, None, Result, Ok, Err, IfOk, length, take, drop, sym, ◌∙◌, ap, subst, arith, append_assoc}
 use Rattle.std.proofs.lemmas.List.{map-append, take-map, drop-map}
 use Rattle.abc_fold.specs.Chain.{Chained}
 use Rattle.abc_lines.specs.GapList.{Gapped, replaced_run}
@@ -27,22 +27,13 @@ chains_same stretch (first ∷ tunes) made order inside =
     let b : stretch.front + 1 + (stretch.behind - stretch.front) ≡ suc stretch.behind = omega (arith, order) in
     (λ i. take (a i) (first ∷ tunes) ++ made ++ drop (b i) (first ∷ tunes)) ∙ append_assoc (first ∷ take stretch.front tunes) made (drop stretch.behind tunes)
 
-dropped : {X : Type 0} (xs : List X) → drop (0 + length xs) xs ≡ []
-dropped [] = refl
-dropped (x ∷ xs) = (let e : 0 + suc (length xs) ≡ suc (0 + length xs) = omega arith in ap (λ n. drop n (x ∷ xs)) e) ∙ dropped xs
-
-dropped_all : {X : Type 0} (xs : List X) → drop (length xs) xs ≡ []
-dropped_all [] = refl
-dropped_all (x ∷ xs) = dropped_all xs
-
 -- The chains where it is made anew.
-pub chains_anew : {State Cell Items : Type 0} (first : Chained State Cell Items) (stretch : Stretch) (old made : List (Chained State Cell Items)) → stretch.front ≡ 0 → stretch.behind + 1 ≡ length old
-    → replaced_run old 0 (length old) (first ∷ made) ≡ chains_after (Some first) stretch old made
-chains_anew first stretch [] made front behind = absurd (omega (arith, behind))
-chains_anew first stretch (chain ∷ tunes) made front behind =
-    let b : stretch.behind ≡ length tunes = omega (arith, behind) in
-    let last : drop stretch.behind tunes ≡ [] = ap (λ n. drop n tunes) b ∙ dropped_all tunes in
-    ap (λ l. first ∷ (made ++ l)) (dropped (chain ∷ tunes) ∙ sym last)
+pub chains_anew : {State Cell Items : Type 0} (first : Chained State Cell Items) (stretch : Stretch) (old made : List (Chained State Cell Items)) → stretch.front ≡ 0 → stretch.behind + 1 ≤ length old
+    → replaced_run old 0 (stretch.behind + 1) (first ∷ made) ≡ chains_after (Some first) stretch old made
+chains_anew first stretch [] made front inside = absurd (omega (arith, inside))
+chains_anew first stretch (chain ∷ tunes) made front inside =
+    let b : 0 + (stretch.behind + 1) ≡ suc stretch.behind = omega arith in
+    ap (λ n. first ∷ (made ++ drop n (chain ∷ tunes))) b
     ∙ ap (λ n. first ∷ (take n tunes ++ (made ++ drop stretch.behind tunes))) (sym front)
 
 -- A splice of chains that has been prepared.
@@ -54,14 +45,14 @@ place_same (Ok patch) list stretch first made new none same order inside after =
     ∙ (ap (replaced_run list.items (stretch.front + 1) (stretch.behind - stretch.front)) same
     ∙ (chains_same stretch list.items made order inside ∙ ap (λ f. chains_after f stretch list.items made) (sym none)))
 
-pub place_anew : {State Cell Items E : Type 0} (result : Result (Patched (Chained State Cell Items)) E) (list : Gapped (Chained State Cell Items)) (stretch : Stretch) (first : Option (Chained State Cell Items)) (own : Chained State Cell Items) (made new : List (Chained State Cell Items)) (count : ℕ) → first ≡ Some own → new ≡ own ∷ made → count ≡ length list.items → MayBeAnew first stretch (length list.items)
-    → IfOk result (λ patch. patch.after ≡ after_splice list 0 count new) → IfOk result (λ patch. patch.after.items ≡ chains_after first stretch list.items made)
-place_anew (Err error) list stretch first own made new count some same all anew after = tt
-place_anew (Ok patch) list stretch first own made new count some same all anew after =
-    let is = subst (λ f. MayBeAnew f stretch (length list.items)) some anew in
-    items_after list patch.after 0 count new after
-    ∙ ((λ i. replaced_run list.items 0 (all i) (same i))
-    ∙ (chains_anew own stretch list.items made is.0 is.1 ∙ ap (λ f. chains_after f stretch list.items made) (sym some)))
+pub place_anew : {State Cell Items E : Type 0} (result : Result (Patched (Chained State Cell Items)) E) (list : Gapped (Chained State Cell Items)) (stretch : Stretch) (first : Option (Chained State Cell Items)) (own : Chained State Cell Items) (made new : List (Chained State Cell Items)) → first ≡ Some own → new ≡ own ∷ made → MayBeAnew first stretch → stretch.behind + 1 ≤ length list.items
+    → IfOk result (λ patch. patch.after ≡ after_splice list 0 (stretch.behind + 1) new) → IfOk result (λ patch. patch.after.items ≡ chains_after first stretch list.items made)
+place_anew (Err error) list stretch first own made new some same anew inside after = tt
+place_anew (Ok patch) list stretch first own made new some same anew inside after =
+    let is = subst (λ f. MayBeAnew f stretch) some anew in
+    items_after list patch.after 0 (stretch.behind + 1) new after
+    ∙ (ap (replaced_run list.items 0 (stretch.behind + 1)) same
+    ∙ (chains_anew own stretch list.items made is inside ∙ ap (λ f. chains_after f stretch list.items made) (sym some)))
 
 -- The rows of the new text.
 map_run : {A B : Type 0} (g : A → B) (xs new : List A) (at removed : ℕ) → map g (replaced_run xs at removed new) ≡ take at (map g xs) ++ (map g new ++ drop (at + removed) (map g xs))

@@ -106,7 +106,7 @@ keep_all line (block ∷ ys) all =
     let test : nat_lt block.from line ≡ true = grind (arith, nat_tests) in
     simp test (ap (λ l. block ∷ l) (keep_all line ys (λ i d l. all (suc i) d (omega arith))))
 
-keep_none : (line : ℕ) (ys : List Block) → All (BeginsFrom line) ys → blocks_before line ys ≡ []
+pub keep_none : (line : ℕ) (ys : List Block) → All (BeginsFrom line) ys → blocks_before line ys ≡ []
 keep_none line [] all = refl
 keep_none line (block ∷ ys) all =
     let own : line ≤ block.from = all 0 block (omega arith) in

@@ -10,9 +10,11 @@ use Rattle.abc_tunebook.specs.Book.{blocks_in, header_in, tunes_in}
 use Rattle.abc_tunebook.specs.Rules.{Rules}
 use Rattle.abc_chains.specs.Holding.{LiesWithin}
 use Rattle.abc_chains.specs.Keeping.{AreChains}
-use Rattle.abc_chains.specs.Standing.{Keeping, LiesAmid, LiesBefore, LiesBehind, MayLieBefore, gone, kept_numbers, moved_on}
+use Rattle.abc_chains.specs.Rows.{CarriedRow, Row, bare}
+use Rattle.abc_chains.specs.Standing.{Keeping, LiesAmid, LiesBefore, LiesBehind, MayEndBy, MayLieBefore, gone, kept_numbers, moved_on}
 use Rattle.abc_chains.specs.Taking.{HasItemsOf, TakesUntouched}
 use Rattle.abc_chains.specs.declared.stretch.Stretch.{Stretch}
+use Rattle.abc_chains.specs.declared.stretch.Lead.{Lead}
 use Rattle.abc_chains.specs.declared.stretch.Span.{Span}
 
 -- Where the first of some blocks begins; without one, at the end.
@@ -32,6 +34,16 @@ pub record IsSpan (tunes : List Block) (count at removed : ℕ) (span : Span) : 
   pub to : span.to ≡ start_of (drop span.behind tunes) count
   pub begins : span.from < at
   pub ends : at + removed ≤ span.to
+
+-- The first lines of a text, up to a tune or to the end, that an edit may change that ends at a line.
+pub record IsLead (tunes : List Block) (count end : ℕ) (lead : Lead) : Type 0 where
+  pub most : lead.behind ≤ length tunes
+  pub to : lead.to ≡ start_of (drop lead.behind tunes) count
+  pub ends : end ≤ lead.to
+
+-- Lines after an edit of them: new ones, whose cells no chain holds, are in the place of those that go.
+abbrev pub edited_rows : {Cell : Type 0} → ℕ → ℕ → List (Row Cell) → List (CarriedRow Cell) → List (CarriedRow Cell)
+edited_rows at removed new old = take at old ++ (map bare new ++ drop (at + removed) old)
 
 -- The chain of the file header: a new one, or the old one.
 abbrev pub first_of : {State Cell Items : Type 0} → Option (Chained State Cell Items) → List (Chained State Cell Items) → List (Chained State Cell Items)
@@ -53,13 +65,13 @@ pub record Stays {State Cell Items : Type 0} (first : Option (Chained State Cell
   pub header_stays : header ≡ was
   pub before : MayLieBefore stretch was
 
--- It is made anew with the whole text.
-pub record IsAnew {State Cell Items : Type 0} (first : Option (Chained State Cell Items)) (tunes : List Block) (text : Text) (stretch : Stretch) : Type 0 where
+-- It is made anew, and lies in the first lines of the text before and after.
+pub record IsAnew {State Cell Items : Type 0} (first : Option (Chained State Cell Items)) (header was : Option Block) (stretch : Stretch) : Type 0 where
   pub some : IsSome first
   pub front : stretch.front ≡ 0
-  pub behind : stretch.behind ≡ length tunes
   pub from : stretch.from ≡ 0
-  pub to : stretch.to ≡ length text
+  pub goes : MayEndBy stretch.to was
+  pub comes : MayEndBy stretch.came header
 
 -- What is made anew is that of the new text.
 pub record IsRenewed {C State Cell Items Defaults : Type 0} (steps : Steps State Cell Items) (rules : Rules State Cell Items Defaults) (on : Keeping C State Cell Items) (s : Splice) (stretch : Stretch) (header : Option Block) (first : Option (Chained State Cell Items)) (tunes : List Block) (made : List (Chained State Cell Items)) (taken : List (Option ℕ)) : Type 0 where
@@ -77,13 +89,13 @@ pub record IsRenewed {C State Cell Items Defaults : Type 0} (steps : Steps State
   pub beyond : All (LiesBehind stretch) (drop stretch.behind on.tunes)
   pub among : All (LiesWithin stretch.came) tunes
   pub amid : All (LiesAmid stretch) (take (stretch.behind - stretch.front) (drop stretch.front on.tunes))
-  pub keeps : Stays first header on.header stretch ⊎ IsAnew first on.tunes on.lines.text stretch
+  pub keeps : Stays first header on.header stretch ⊎ IsAnew first header on.header stretch
   pub lines_before : take stretch.from (spliced on.lines.text s) ≡ take stretch.from on.lines.text
   pub lines_behind : drop (stretch.from + stretch.came) (spliced on.lines.text s) ≡ drop stretch.to on.lines.text
   pub items : AllZip (HasItemsOf (drop 1 on.chains.items)) made taken
   pub untouched : TakesUntouched steps rules on.lines.text s (kept_numbers 0 stretch.front ++ (taken ++ kept_numbers stretch.behind (length on.tunes - stretch.behind)))
 
--- A new chain of the file header comes with all tunes.
-abbrev pub MayBeAnew : {A : Type 0} → Option A → Stretch → ℕ → Type 0
-MayBeAnew None stretch chains = Unit {0}
-MayBeAnew (Some first) stretch chains = (stretch.front ≡ 0) × (stretch.behind + 1 ≡ chains)
+-- A new chain of the file header comes with the first tunes.
+abbrev pub MayBeAnew : {A : Type 0} → Option A → Stretch → Type 0
+MayBeAnew None stretch = Unit {0}
+MayBeAnew (Some first) stretch = stretch.front ≡ 0

@@ -89,12 +89,15 @@ LiesAmid stretch block = (stretch.from ≤ block.from) × (block.to ≤ stretch.
 abbrev pub MayLieBefore : Stretch → Option Block → Type 0
 MayLieBefore stretch header = (block : Block) → header ≡ Some block → LiesBefore stretch block
 
--- The stretch is the whole text.
-pub record IsWhole {C State Cell Items : Type 0} (patch : Edited C State Cell Items) : Type 0 where
+abbrev pub MayEndBy : ℕ → Option Block → Type 0
+MayEndBy line header = (block : Block) → header ≡ Some block → block.to ≤ line
+
+-- The stretch begins with the text, and the file header lies in it, before and after.
+pub record HoldsHeader {C State Cell Items : Type 0} (patch : Edited C State Cell Items) : Type 0 where
   pub front : patch.stretch.front ≡ 0
-  pub behind : patch.stretch.behind ≡ length patch.on.tunes
   pub from : patch.stretch.from ≡ 0
-  pub to : patch.stretch.to ≡ length patch.on.lines.text
+  pub goes : MayEndBy patch.stretch.to patch.on.header
+  pub comes : MayEndBy patch.stretch.came patch.header
 
 -- The file header lies before the stretch, and stays.
 pub record KeepsHeader {C State Cell Items : Type 0} (patch : Edited C State Cell Items) : Type 0 where
@@ -118,7 +121,7 @@ pub record IsStretch {C State Cell Items : Type 0} (s : Splice) (patch : Edited 
   pub beyond : All (LiesBehind patch.stretch) (drop patch.stretch.behind patch.on.tunes)
   pub among : All (LiesAmong patch.stretch) patch.places
   pub amid : All (LiesAmid patch.stretch) (take (patch.stretch.behind - patch.stretch.front) (drop patch.stretch.front patch.on.tunes))
-  pub header_is : IsWhole patch ⊎ KeepsHeader patch
+  pub header_is : HoldsHeader patch ⊎ KeepsHeader patch
   pub lines_before : take patch.stretch.from patch.text ≡ take patch.stretch.from patch.on.lines.text
   pub lines_behind : drop (patch.stretch.from + patch.stretch.came) patch.text ≡ drop patch.stretch.to patch.on.lines.text
 

@@ -4,7 +4,7 @@
 mod blocks;
 mod carried;
 mod folded;
-mod lines;
+mod lead;
 mod made;
 mod pieces;
 mod place;

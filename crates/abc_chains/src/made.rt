@@ -2,16 +2,16 @@
 
 ghost use Rattle.std.specs.Prelude.{◌≡◌, ◌+◌, ◌-◌, ◌≤◌, ◌++◌, IfOk, OnOk, drop, length, map, take};
 ghost use Rattle.abc_book.specs.Laws.{moved};
-ghost use Rattle.abc_chains.specs.Renewing.{IsRenewed, IsSpan, chains_after, splice_at, tunes_after};
+ghost use Rattle.abc_chains.specs.Renewing.{IsRenewed, IsSpan, chains_after, edited_rows, splice_at, tunes_after};
 ghost use Rattle.abc_chains.specs.Rows.{bare, new_row};
 ghost use Rattle.abc_fold.specs.Steps.{steps_of};
 ghost use Rattle.abc_fold.specs.Work.{IsRaisedUpTo};
 ghost use Rattle.abc_lines.specs.Text.{Text};
 ghost use Rattle.abc_rework.specs.Fresh.{fresh_after};
 
-use crate::blocks::{blocks_of, header_in, places_of};
+use crate::blocks::blocks_of;
 use crate::carried::{CarriedRow, item_at};
-use crate::folded::{header_chain, opening_behind};
+use crate::folded::opening_behind;
 use crate::renew::{Folded, folded_tunes};
 use crate::row::Row;
 use crate::settle::settled;
@@ -61,7 +61,7 @@ fn append_new<K: Drop>(rows: &mut Vec<CarriedRow<K>>, new: &[Row<K>]) -> Result<
 }
 
 /// The rows of a stretch after an edit.
-fn edited<K: Drop>(
+pub(crate) fn edited<K: Drop>(
     alloc: Global,
     old: &[CarriedRow<K>],
     at: usize,
@@ -69,7 +69,7 @@ fn edited<K: Drop>(
     new: &[Row<K>],
 ) -> Result<Vec<CarriedRow<K>>, AllocError>
     requires { at + removed ≤ length old.now }
-    ensures { IfOk result (λ rows. rows.items ≡ take at old.now ++ (map bare new.now ++ drop (at + removed) old.now)) }
+    ensures { IfOk result (λ rows. rows.items ≡ edited_rows at removed new.now old.now) }
 {
     let mut rows = Vec::new(alloc);
     append_rows(&mut rows, old, 0, at)?;
@@ -125,45 +125,6 @@ impl<C: Compiler> KeptText<C> {
         })
     }
 
-    /// What an edit makes anew where no tune begins before it: the file header's chain, and all tunes.
-    pub(crate) fn whole(
-        &self,
-        at: usize,
-        removed: usize,
-        new: &[Row<C::Cell>],
-        work: &mut C::Work,
-    ) -> Result<Renewed<C>, AllocError>
-        requires { at + removed ≤ length self.now.lines.text }
-        ensures renewed { let c = self.now.compiler in (lines : Text) → new.now ≡ map (new_row (C.rules c)) lines →
-            IfOk result (λ r. IsRenewed (steps_of (C.next c) (C.gives c) (C.alike c)) (C.rules c) self.now (splice_at at removed lines) r.stretch r.header r.first r.folded.tunes.items r.folded.made.items r.folded.taken.items) }
-        ensures counted { let c = self.now.compiler in (lines : Text) → new.now ≡ map (new_row (C.rules c)) lines →
-            IsRaisedUpTo (fresh_after (steps_of (C.next c) (C.gives c) (C.alike c)) (C.rules c) self.now.lines.text (splice_at at removed lines)) (C.Work.counts work.old) (C.Work.counts work.new) }
-    {
-        let alloc = self.lines.allocator();
-        let count = self.rows.len();
-        let places = places_of(alloc, self.header, &self.tunes)?;
-        let old = settled(alloc, &self.rows, 0, count, 0, &places)?;
-        let rows = edited(alloc, &old, at, removed, new)?;
-        let blocks = blocks_of(alloc, &rows)?;
-        let header = header_in(&blocks);
-        let first = header_chain(alloc, &self.compiler, &self.chains, &rows, header, work)?;
-        let opening = opening_behind(alloc, &self.compiler, header, first.get());
-        let folded = folded_tunes(&self.compiler, &opening, &self.chains, &rows, &blocks, work)?;
-        let came = rows.len();
-        Ok(Renewed {
-            stretch: Stretch {
-                front: 0,
-                behind: self.tunes.len(),
-                from: 0,
-                to: count,
-                came,
-            },
-            header,
-            first: Some(first),
-            folded,
-        })
-    }
-
     /// What an edit makes anew.
     pub(crate) fn renewed(
         &self,
@@ -179,7 +140,7 @@ impl<C: Compiler> KeptText<C> {
             IsRaisedUpTo (fresh_after (steps_of (C.next c) (C.gives c) (C.alike c)) (C.rules c) self.now.lines.text (splice_at at removed lines)) (C.Work.counts work.old) (C.Work.counts work.new) }
     {
         match span_of(&self.tunes, self.lines.len(), at, removed) {
-            None => self.whole(at, removed, new, work),
+            None => self.early(at, removed, new, work),
             Some(span) => self.narrow(span, at, removed, new, work),
         }
     }

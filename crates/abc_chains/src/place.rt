@@ -118,12 +118,13 @@ impl<C: Compiler> KeptText<C> {
     ) -> Result<SplicePatch<Shared<Chain<C>>>, AllocError>
         requires order { stretch.front ≤ stretch.behind }
         requires inside { stretch.behind + 1 ≤ length self.now.chains.items }
-        requires anew { MayBeAnew first.now stretch (length self.now.chains.items) }
+        requires anew { MayBeAnew first.now stretch }
         ensures on { IfOk result (λ patch. patch.on ≡ self.now.chains) }
         ensures after { IfOk result (λ patch. patch.after.items ≡ chains_after first.now stretch self.now.chains.items made.now) }
     {
         let alloc = self.lines.allocator();
-        let all = self.chains.len();
+        // There are fewer chains than the greatest number that the type has.
+        let _ = self.chains.len();
         let mut new = Vec::new(alloc);
         match first {
             None => {
@@ -135,7 +136,8 @@ impl<C: Compiler> KeptText<C> {
             Some(first) => {
                 new.push(first.share()?)?;
                 append_shares(&mut new, made)?;
-                self.chains.splice_prepare(alloc, 0, all, new)
+                self.chains
+                    .splice_prepare(alloc, 0, stretch.behind + 1, new)
             }
         }
     }
@@ -154,7 +156,7 @@ impl<C: Compiler> KeptText<C> {
         requires lines { renewed.now.stretch.from ≤ renewed.now.stretch.to }
         requires beyond { All (LiesBehind renewed.now.stretch) (drop renewed.now.stretch.behind self.now.tunes) }
         requires within { All (LiesWithin renewed.now.stretch.came) renewed.now.folded.tunes.items }
-        requires anew { MayBeAnew renewed.now.first renewed.now.stretch (length self.now.chains.items) }
+        requires anew { MayBeAnew renewed.now.first renewed.now.stretch }
         requires numbers { renewed.now.stretch.came ≤ MOST_LINES }
         requires from { renewed.now.stretch.from ≤ length self.now.lines.text }
         ensures rows_on { IfOk result (λ placed. placed.rows.on ≡ self.now.rows) }

@@ -1,7 +1,7 @@
 //! The stretch of a text that an edit may change.
 
 ghost use Rattle.std.specs.Prelude.{◌+◌, ◌-◌, ◌<◌, ◌≤◌, IfSome, drop, length};
-ghost use Rattle.abc_chains.specs.Renewing.{IsSpan, start_of};
+ghost use Rattle.abc_chains.specs.Renewing.{IsLead, IsSpan, start_of};
 
 use abc_book::Block;
 
@@ -22,6 +22,13 @@ pub(crate) struct Span {
     pub(crate) front: usize,
     pub(crate) behind: usize,
     pub(crate) from: usize,
+    pub(crate) to: usize,
+}
+
+/// The first lines of a text, up to one of its tunes or to its end, and how many tunes begin among them.
+#[derive(Clone, Copy)]
+pub(crate) struct Lead {
+    pub(crate) behind: usize,
     pub(crate) to: usize,
 }
 
@@ -62,4 +69,19 @@ pub(crate) fn span_of(tunes: &[Block], count: usize, at: usize, removed: usize) 
         from: tunes[begun - 1].from,
         to,
     })
+}
+
+/// The first lines of a text with so many that an edit may change that ends at this line: up to the first tune that begins
+/// there or behind it.
+pub(crate) fn lead_of(tunes: &[Block], count: usize, end: usize) -> Lead
+    requires { end ≤ count }
+    ensures { IsLead tunes.now count end result }
+{
+    let behind = begun_before(tunes, 0, end);
+    let to = if behind < tunes.len() {
+        tunes[behind].from
+    } else {
+        count
+    };
+    Lead { behind, to }
 }

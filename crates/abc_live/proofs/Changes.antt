@@ -1,26 +1,27 @@
 -- The book of the new text is what the stretch makes of the book of the old one.
-use Rattle.std.proofs.Common.{◌≡◌, ℕ, ◌+◌, ◌-◌, ◌<◌, ◌≤◌, if◌then◌else◌, nat_lt, List, [], ◌++◌, length, drop, map, take, Option, Some, None, slice_get, refl, sym, ap, ◌∙◌, subst, inl, inr, arith, append_assoc}
+use Rattle.std.proofs.Common.{◌≡◌, ℕ, ◌+◌, ◌-◌, ◌<◌, ◌≤◌, if◌then◌else◌, nat_lt, List, [], ◌++◌, length, drop, map, take, Option, Some, None, slice_get, refl, sym, ap, ◌∙◌, subst, inl, inr, arith, append_assoc, ⊎_elim}
 use Rattle.std.specs.List.{AllZip}
 use Rattle.std.specs.Prelude.{All, IfSome, ◌⊎◌}
 use Rattle.std.proofs.lemmas.Bool.Decides.{nat_tests}
 use Rattle.std.proofs.lemmas.Grind.{flat_map-append}
-use Rattle.std.proofs.lemmas.List.{append-nil, drop-drop, drop_all, map-append, take-append-drop}
+use Rattle.std.proofs.lemmas.List.{drop-drop, map-append, take-append-drop}
 use Rattle.std.proofs.lemmas.List.Elements.{All-append, All-contains, All-contains_itself, All-drop, All-nil, All-take}
 use Rattle.abc_book.specs.declared.block.Block.{Block}
 use Rattle.abc_chains.specs.Keeping.{AreChains, IsHeaderOf}
-use Rattle.abc_chains.specs.Standing.{Edited, IsWhole, KeepsHeader, gone, moved_on}
+use Rattle.abc_chains.specs.Standing.{Edited, HoldsHeader, KeepsHeader, gone, moved_on}
 use Rattle.abc_fold.specs.Chain.{Chained}
-use Rattle.abc_fold.specs.Steps.{Steps}
+use Rattle.abc_fold.specs.Steps.{Steps, IsAlike, IsResumable}
 use Rattle.abc_kept_book.specs.Faults.{fault_shifted, faults_after}
 use Rattle.abc_kept_book.specs.Laws.{Gives, StandsAmong, StandsBefore, StandsBehind}
 use Rattle.abc_kept_book.proofs.Following.{files_follow, titles_follow}
 use Rattle.abc_kept_book.proofs.Meeting.{faults_meet}
 use Rattle.abc_lines.specs.Text.{Splice, Text}
 use Rattle.abc_live.specs.Prepared.{IsBook, IsPrepared, header_faults_there}
+use Rattle.abc_live.proofs.Alike.{tunes_alike}
 use Rattle.abc_live.proofs.Found.{header_stands, same_behind, same_header_faults, same_tunes, shifted_tunes, tunes_stand}
 use Rattle.abc_live.proofs.Lying.{LiesIn, header_lies}
 use Rattle.abc_live.proofs.Parts.{fold_of, folds_of, gives_of, tune_chains}
-use Rattle.abc_live.proofs.Stretches.{first_is, made_chains, old_lie, old_stretch, parts_lie, places_lie, spliced_length}
+use Rattle.abc_live.proofs.Stretches.{first_is, made_chains, old_lie, old_stretch, parts_lie, places_lie, still_alike}
 use Rattle.abc_outputs.specs.Output.{output_in}
 use Rattle.abc_outputs.specs.Tunes.{LiesAmong, cell_faults_by, counts_among, faults_by, faults_of_tunes}
 use Rattle.abc_outputs.specs.declared.output.Output.{Output}
@@ -98,13 +99,13 @@ module _ {State Cell Items Defaults : Type 0} (steps : Steps State Cell Items) (
         (λ k d inside. All-contains P found _ all ((no_fault_lost found _).0 (All-contains_itself (sorted_once fault_cmp found) k d inside)))
 
   -- the faults of a file header that lies in some lines, which are the first
-  header_there : (text : Text) (from came : ℕ) (first : Chained State Cell Items) (header : Option Block) → IsHeaderOf steps rules.cells rules.header text first header → IfSome header (LiesIn (length text)) → from ≡ 0 → length text ≤ came
+  header_there : (text : Text) (from came : ℕ) (first : Chained State Cell Items) (header : Option Block) → IsHeaderOf steps rules.cells rules.header text first header → IfSome header (LiesIn (length text)) → from ≡ 0 → ((block : Block) → header ≡ Some block → block.to ≤ came)
       → header_faults_there rules from (counts_among rules.cells text from came) first header ≡ header_faults steps.next steps.gives rules text header
-  header_there text from came first None is lies none most = refl
-  header_there text from came first (Some block) is lies none most =
+  header_there text from came first None is lies none ends = refl
+  header_there text from came first (Some block) is lies none ends =
       let some = lies.some in
-      let within = lies.within in
-      let there : LiesAmong from came block = record { behind = omega (arith, none); order = omega (arith, some); within = omega (arith, none, most, within) } in
+      let most = ends block refl in
+      let there : LiesAmong from came block = record { behind = omega (arith, none); order = omega (arith, some); within = omega (arith, none, most) } in
       if_below from block.to (cell_faults_by rules from (counts_among rules.cells text from came) first block) [] (omega (arith, none, some))
       ∙ header_follows steps rules text from came first block (fold_of steps rules.cells rules.header text first block is) there
 
@@ -141,96 +142,140 @@ module _ {State Cell Items Defaults : Type 0} (steps : Steps State Cell Items) (
     new_header : IfSome patch.header (LiesIn (length patch.text))
     new_header = header_lies rules.class patch.text patch.header is.stands.header_is
 
-    -- where the stretch is the whole text
-    module _ (whole : IsWhole patch) where
-      whole_count : length patch.text ≤ patch.stretch.came
-      whole_count =
-          let from_is = whole.from in
-          let to_is = whole.to in
-          let ends = is.narrow.ends in
-          let count = is.narrow.came in
-          let long = spliced_length steps rules s patch is in
-          omega (arith, from_is, to_is, ends, count, long)
+    abbrev start : State
+    start = opening_of steps.next rules patch.on.lines.text (blocks_in rules patch.on.lines.text)
 
-      whole_places : patch.tunes ≡ patch.places
-      whole_places =
-          is.narrow.tunes_are
-          ∙ ap (λ n. take n patch.on.tunes ++ (patch.places ++ map (moved_on patch.stretch) (drop patch.stretch.behind patch.on.tunes))) whole.front
-          ∙ ap (λ n. patch.places ++ map (moved_on patch.stretch) (drop n patch.on.tunes)) whole.behind
-          ∙ ap (λ l. patch.places ++ map (moved_on patch.stretch) l) (drop_all (length patch.on.tunes) patch.on.tunes (omega arith))
-          ∙ append-nil patch.places
+    abbrev front_tunes : List Block
+    front_tunes = take patch.stretch.front patch.on.tunes
 
-      whole_header : header_faults_there rules patch.stretch.from (counts_among rules.cells patch.text patch.stretch.from patch.stretch.came) first patch.header ≡ header_faults steps.next steps.gives rules patch.text patch.header
-      whole_header = header_there patch.text patch.stretch.from patch.stretch.came first patch.header (first_is steps rules s patch is first there) new_header whole.from whole_count
+    abbrev amid_tunes : List Block
+    amid_tunes = take (patch.stretch.behind - patch.stretch.front) (drop patch.stretch.front patch.on.tunes)
 
-      whole_new : new_faults ≡ faults_found patch.text patch.header patch.tunes
-      whole_new =
-          let start = opening_of steps.next rules patch.text (blocks_in rules patch.text) in
-          ap (λ l. l ++ faults_by rules patch.stretch.from (counts_among rules.cells patch.text patch.stretch.from patch.stretch.came) patch.made patch.places) whole_header
-          ∙ ap (λ l. header_faults steps.next steps.gives rules patch.text patch.header ++ l) (own_faults ∙ ap (tune_faults start patch.text) (sym whole_places))
+    abbrev behind_tunes : List Block
+    behind_tunes = drop patch.stretch.behind patch.on.tunes
 
-      whole_stand : All (StandsAmong patch.stretch.from patch.stretch.came) new_faults
-      whole_stand =
+    abbrev old_faults : List Block → List Fault
+    old_faults tunes = tune_faults (opening_of steps.next rules patch.on.lines.text (blocks_in rules patch.on.lines.text)) patch.on.lines.text tunes
+
+    amid_lie : All (LiesIn (length patch.on.lines.text)) (take (patch.stretch.behind - patch.stretch.front) (drop patch.stretch.front patch.on.tunes))
+    amid_lie =
+        let P = LiesIn (length patch.on.lines.text) in
+        All-take P (patch.stretch.behind - patch.stretch.front) (drop patch.stretch.front patch.on.tunes) (All-drop P patch.stretch.front patch.on.tunes (old_lie steps rules s patch is))
+
+    behind_lie : All (LiesIn (length patch.on.lines.text)) (drop patch.stretch.behind patch.on.tunes)
+    behind_lie = All-drop (LiesIn (length patch.on.lines.text)) patch.stretch.behind patch.on.tunes (old_lie steps rules s patch is)
+
+    end_is : patch.stretch.to ≡ patch.stretch.from + gone patch.stretch
+    end_is = let order = old_stretch steps rules s patch is in omega (arith, order)
+
+    amid_stand : All (StandsAmong patch.stretch.from (gone patch.stretch)) (old_faults (take (patch.stretch.behind - patch.stretch.front) (drop patch.stretch.front patch.on.tunes)))
+    amid_stand =
+        tunes_stand steps rules start patch.on.lines.text (StandsAmong patch.stretch.from (gone patch.stretch)) (take (patch.stretch.behind - patch.stretch.front) (drop patch.stretch.front patch.on.tunes)) amid_lie
+        (λ k d inside. λ fault stands.
+        let own = is.narrow.amid k d inside in
+        let behind = own.0 in
+        let before = own.1 in
+        let least = stands.0 in
+        let most = stands.1 in
+        let end = end_is in
+        (omega (arith, behind, least), omega (arith, before, most, end)))
+
+    behind_stand : All (StandsBehind (patch.stretch.from + gone patch.stretch)) (old_faults (drop patch.stretch.behind patch.on.tunes))
+    behind_stand =
+        tunes_stand steps rules start patch.on.lines.text (StandsBehind (patch.stretch.from + gone patch.stretch)) (drop patch.stretch.behind patch.on.tunes) behind_lie
+        (λ k d inside. λ fault stands.
+        let behind = is.narrow.beyond k d inside in
+        let least = stands.0 in
+        let end = end_is in
+        omega (arith, behind, least, end))
+
+    -- the tunes behind the stretch give as before, where they begin in a state that is alike
+    from_start : IsResumable steps → tune_faults (opening_of steps.next rules patch.text (blocks_in rules patch.text)) patch.text (map (moved_on patch.stretch) behind_tunes) ≡ tune_faults start patch.text (map (moved_on patch.stretch) behind_tunes)
+    from_start laws =
+        let now = opening_of steps.next rules patch.text (blocks_in rules patch.text) in
+        ⊎_elim
+        (λ (none : drop patch.stretch.behind patch.on.tunes ≡ []).
+        ap (λ l. tune_faults now patch.text (map (moved_on patch.stretch) l)) none ∙ sym (ap (λ l. tune_faults start patch.text (map (moved_on patch.stretch) l)) none))
+        (λ (alike : IsAlike steps start now). ap faults_of_tunes (sym (tunes_alike steps laws rules start now patch.text (map (moved_on patch.stretch) behind_tunes) alike)))
+        (still_alike steps rules s patch is laws)
+
+    behind_shifted : tune_faults start patch.text (map (moved_on patch.stretch) behind_tunes) ≡ map (fault_shifted (gone patch.stretch) patch.stretch.came) (old_faults behind_tunes)
+    behind_shifted =
+        let same = is.narrow.lines_behind ∙ ap (λ n. drop n patch.on.lines.text) end_is in
+        let beyond : All (λ (block : Block). patch.stretch.from + gone patch.stretch ≤ block.from) behind_tunes = λ k d inside. let behind = is.narrow.beyond k d inside in let end = end_is in omega (arith, behind, end) in
+        shifted_tunes steps rules start patch.on.lines.text patch.text patch.stretch.from (gone patch.stretch) patch.stretch.came behind_tunes same beyond behind_lie
+
+    -- where the stretch begins with the text and holds the file header
+    module _ (holds : HoldsHeader patch) where
+      holds_parts : patch.on.tunes ≡ amid_tunes ++ behind_tunes
+      holds_parts =
+          three_parts patch.stretch.front patch.stretch.behind patch.on.tunes is.narrow.order
+          ∙ ap (λ n. take n patch.on.tunes ++ (amid_tunes ++ behind_tunes)) holds.front
+
+      holds_places : patch.tunes ≡ patch.places ++ map (moved_on patch.stretch) behind_tunes
+      holds_places = is.narrow.tunes_are ∙ ap (λ n. take n patch.on.tunes ++ (patch.places ++ map (moved_on patch.stretch) behind_tunes)) holds.front
+
+      holds_header : header_faults_there rules patch.stretch.from (counts_among rules.cells patch.text patch.stretch.from patch.stretch.came) first patch.header ≡ header_faults steps.next steps.gives rules patch.text patch.header
+      holds_header = header_there patch.text patch.stretch.from patch.stretch.came first patch.header (first_is steps rules s patch is first there) new_header holds.from holds.comes
+
+      holds_new : IsResumable steps → faults_found patch.text patch.header patch.tunes ≡ new_faults ++ map (fault_shifted (gone patch.stretch) patch.stretch.came) (old_faults behind_tunes)
+      holds_new laws =
+          let own = opening_of steps.next rules patch.text (blocks_in rules patch.text) in
+          let head = header_faults steps.next steps.gives rules patch.text patch.header in
+          let moved = map (moved_on patch.stretch) behind_tunes in
+          let shifted = map (fault_shifted (gone patch.stretch) patch.stretch.came) (old_faults behind_tunes) in
+          ap (λ tunes. head ++ tune_faults own patch.text tunes) holds_places
+          ∙ ap (λ l. head ++ l) (faults_append own patch.text patch.places moved)
+          ∙ ap (λ l. head ++ (tune_faults own patch.text patch.places ++ l)) (from_start laws ∙ behind_shifted)
+          ∙ ap (λ l. head ++ (l ++ shifted)) (sym own_faults)
+          ∙ ap (λ l. l ++ (faults_by rules patch.stretch.from (counts_among rules.cells patch.text patch.stretch.from patch.stretch.came) patch.made patch.places ++ shifted)) (sym holds_header)
+          ∙ sym (append_assoc (header_faults_there rules patch.stretch.from (counts_among rules.cells patch.text patch.stretch.from patch.stretch.came) first patch.header) (faults_by rules patch.stretch.from (counts_among rules.cells patch.text patch.stretch.from patch.stretch.came) patch.made patch.places) shifted)
+
+      holds_stand : All (StandsAmong patch.stretch.from patch.stretch.came) new_faults
+      holds_stand =
           let P = StandsAmong patch.stretch.from patch.stretch.came in
           All-append P _ _
-          (subst (All P) (sym whole_header) (header_stands steps rules patch.text P patch.header new_header
+          (subst (All P) (sym holds_header) (header_stands steps rules patch.text P patch.header new_header
           (λ block is_some fault stands.
-          let lies = subst (λ h. IfSome h (LiesIn (length patch.text))) is_some new_header in
-          let within = lies.within in
+          let ends = holds.comes block is_some in
           let least = stands.0 in
           let most = stands.1 in
-          let none = whole.from in
-          let all = whole_count in
-          (omega (arith, least, none), omega (arith, most, within, all, none)))))
+          let none = holds.from in
+          (omega (arith, least, none), omega (arith, most, ends, none)))))
           (subst (All P) (sym own_faults) own_stand)
 
-      whole_old : All (StandsAmong patch.stretch.from (gone patch.stretch)) (faults_found patch.on.lines.text patch.on.header patch.on.tunes)
-      whole_old =
+      holds_old : All (StandsAmong patch.stretch.from (gone patch.stretch)) (header_faults steps.next steps.gives rules patch.on.lines.text patch.on.header ++ old_faults amid_tunes)
+      holds_old =
           let P = StandsAmong patch.stretch.from (gone patch.stretch) in
-          let text = patch.on.lines.text in
-          let none = whole.from in
-          let all = whole.to in
-          All-append P (header_faults steps.next steps.gives rules text patch.on.header) (tune_faults (opening_of steps.next rules text (blocks_in rules text)) text patch.on.tunes)
-          (header_stands steps rules text P patch.on.header old_header
+          All-append P (header_faults steps.next steps.gives rules patch.on.lines.text patch.on.header) (old_faults amid_tunes)
+          (header_stands steps rules patch.on.lines.text P patch.on.header old_header
           (λ block is_some fault stands.
-          let lies = subst (λ h. IfSome h (LiesIn (length text))) is_some old_header in
-          let within = lies.within in
+          let ends = holds.goes block is_some in
+          let end = end_is in
           let least = stands.0 in
           let most = stands.1 in
-          (omega (arith, least, none), omega (arith, most, within, all, none))))
-          (tunes_stand steps rules (opening_of steps.next rules text (blocks_in rules text)) text P patch.on.tunes (old_lie steps rules s patch is)
-          (λ k d inside. λ fault stands.
-          let within = (old_lie steps rules s patch is k d inside).within in
-          let least = stands.0 in
-          let most = stands.1 in
-          (omega (arith, least, none), omega (arith, most, within, all, none))))
+          let none = holds.from in
+          (omega (arith, least, none), omega (arith, most, ends, end))))
+          amid_stand
 
-      whole_meets : faults_after patch.stretch.from (gone patch.stretch) patch.stretch.came (book_of steps.next steps.gives rules patch.on.lines.text).faults new_faults ≡ (book_of steps.next steps.gives rules patch.text).faults
-      whole_meets =
-          let old = faults_found patch.on.lines.text patch.on.header patch.on.tunes in
+      holds_was : faults_found patch.on.lines.text patch.on.header patch.on.tunes ≡ [] ++ ((header_faults steps.next steps.gives rules patch.on.lines.text patch.on.header ++ old_faults amid_tunes) ++ old_faults behind_tunes)
+      holds_was =
+          let head = header_faults steps.next steps.gives rules patch.on.lines.text patch.on.header in
+          ap (λ tunes. head ++ old_faults tunes) holds_parts
+          ∙ ap (λ l. head ++ l) (faults_append start patch.on.lines.text amid_tunes behind_tunes)
+          ∙ sym (append_assoc head (old_faults amid_tunes) (old_faults behind_tunes))
+
+      holds_meets : IsResumable steps → faults_after patch.stretch.from (gone patch.stretch) patch.stretch.came (book_of steps.next steps.gives rules patch.on.lines.text).faults new_faults ≡ (book_of steps.next steps.gives rules patch.text).faults
+      holds_meets laws =
           ap (λ faults. faults_after patch.stretch.from (gone patch.stretch) patch.stretch.came faults new_faults)
-          (book_faults patch.on.lines.text patch.on.header patch.on.tunes is.stood.header_is is.stood.tunes_are ∙ ap (sorted_once fault_cmp) (sym (append-nil old)))
-          ∙ faults_meet patch.stretch.from (gone patch.stretch) patch.stretch.came [] old [] new_faults (All-nil (StandsBefore patch.stretch.from)) whole_old (All-nil (StandsBehind (patch.stretch.from + gone patch.stretch))) whole_stand
-          ∙ ap (sorted_once fault_cmp) (append-nil new_faults ∙ whole_new)
+          (book_faults patch.on.lines.text patch.on.header patch.on.tunes is.stood.header_is is.stood.tunes_are ∙ ap (sorted_once fault_cmp) holds_was)
+          ∙ faults_meet patch.stretch.from (gone patch.stretch) patch.stretch.came [] (header_faults steps.next steps.gives rules patch.on.lines.text patch.on.header ++ old_faults amid_tunes) (old_faults behind_tunes) new_faults
+          (All-nil (StandsBefore patch.stretch.from)) holds_old behind_stand holds_stand
+          ∙ ap (sorted_once fault_cmp) (sym (holds_new laws))
           ∙ sym (book_faults patch.text patch.header patch.tunes is.stands.header_is is.stands.tunes_are)
 
     -- where the file header stays
     module _ (keeps : KeepsHeader patch) where
-      abbrev start : State
-      start = opening_of steps.next rules patch.on.lines.text (blocks_in rules patch.on.lines.text)
-
-      abbrev front_tunes : List Block
-      front_tunes = take patch.stretch.front patch.on.tunes
-
-      abbrev amid_tunes : List Block
-      amid_tunes = take (patch.stretch.behind - patch.stretch.front) (drop patch.stretch.front patch.on.tunes)
-
-      abbrev behind_tunes : List Block
-      behind_tunes = drop patch.stretch.behind patch.on.tunes
-
-      abbrev old_faults : List Block → List Fault
-      old_faults tunes = tune_faults (opening_of steps.next rules patch.on.lines.text (blocks_in rules patch.on.lines.text)) patch.on.lines.text tunes
-
       start_same : opening_of steps.next rules patch.text (blocks_in rules patch.text) ≡ opening_of steps.next rules patch.on.lines.text (blocks_in rules patch.on.lines.text)
       start_same =
           ap (λ h. rules.tune (behind_header steps.next rules patch.text h)) (sym is.stands.header_is ∙ keeps.header)
@@ -239,17 +284,6 @@ module _ {State Cell Items Defaults : Type 0} (steps : Steps State Cell Items) (
 
       front_lie : All (LiesIn (length patch.on.lines.text)) (take patch.stretch.front patch.on.tunes)
       front_lie = All-take (LiesIn (length patch.on.lines.text)) patch.stretch.front patch.on.tunes (old_lie steps rules s patch is)
-
-      amid_lie : All (LiesIn (length patch.on.lines.text)) (take (patch.stretch.behind - patch.stretch.front) (drop patch.stretch.front patch.on.tunes))
-      amid_lie =
-          let P = LiesIn (length patch.on.lines.text) in
-          All-take P (patch.stretch.behind - patch.stretch.front) (drop patch.stretch.front patch.on.tunes) (All-drop P patch.stretch.front patch.on.tunes (old_lie steps rules s patch is))
-
-      behind_lie : All (LiesIn (length patch.on.lines.text)) (drop patch.stretch.behind patch.on.tunes)
-      behind_lie = All-drop (LiesIn (length patch.on.lines.text)) patch.stretch.behind patch.on.tunes (old_lie steps rules s patch is)
-
-      end_is : patch.stretch.to ≡ patch.stretch.from + gone patch.stretch
-      end_is = let order = old_stretch steps rules s patch is in omega (arith, order)
 
       front_stand : All (StandsBefore patch.stretch.from) (header_faults steps.next steps.gives rules patch.on.lines.text patch.on.header ++ old_faults (take patch.stretch.front patch.on.tunes))
       front_stand =
@@ -265,27 +299,6 @@ module _ {State Cell Items Defaults : Type 0} (steps : Steps State Cell Items) (
           let before = is.narrow.before k d inside in
           let most = stands.1 in
           omega (arith, before, most)))
-
-      amid_stand : All (StandsAmong patch.stretch.from (gone patch.stretch)) (old_faults (take (patch.stretch.behind - patch.stretch.front) (drop patch.stretch.front patch.on.tunes)))
-      amid_stand =
-          tunes_stand steps rules start patch.on.lines.text (StandsAmong patch.stretch.from (gone patch.stretch)) (take (patch.stretch.behind - patch.stretch.front) (drop patch.stretch.front patch.on.tunes)) amid_lie
-          (λ k d inside. λ fault stands.
-          let own = is.narrow.amid k d inside in
-          let behind = own.0 in
-          let before = own.1 in
-          let least = stands.0 in
-          let most = stands.1 in
-          let end = end_is in
-          (omega (arith, behind, least), omega (arith, before, most, end)))
-
-      behind_stand : All (StandsBehind (patch.stretch.from + gone patch.stretch)) (old_faults (drop patch.stretch.behind patch.on.tunes))
-      behind_stand =
-          tunes_stand steps rules start patch.on.lines.text (StandsBehind (patch.stretch.from + gone patch.stretch)) (drop patch.stretch.behind patch.on.tunes) behind_lie
-          (λ k d inside. λ fault stands.
-          let behind = is.narrow.beyond k d inside in
-          let least = stands.0 in
-          let end = end_is in
-          omega (arith, behind, least, end))
 
       kept_new : new_faults ≡ tune_faults (opening_of steps.next rules patch.text (blocks_in rules patch.text)) patch.text patch.places
       kept_new =
@@ -312,11 +325,7 @@ module _ {State Cell Items Defaults : Type 0} (steps : Steps State Cell Items) (
           ∙ same_tunes steps rules start patch.on.lines.text patch.text patch.stretch.from front_tunes is.narrow.lines_before is.narrow.before front_lie
 
       new_behind : tune_faults (opening_of steps.next rules patch.text (blocks_in rules patch.text)) patch.text (map (moved_on patch.stretch) behind_tunes) ≡ map (fault_shifted (gone patch.stretch) patch.stretch.came) (old_faults behind_tunes)
-      new_behind =
-          let same = is.narrow.lines_behind ∙ ap (λ n. drop n patch.on.lines.text) end_is in
-          let beyond : All (λ (block : Block). patch.stretch.from + gone patch.stretch ≤ block.from) behind_tunes = λ k d inside. let behind = is.narrow.beyond k d inside in let end = end_is in omega (arith, behind, end) in
-          ap (λ own. tune_faults own patch.text (map (moved_on patch.stretch) behind_tunes)) start_same
-          ∙ shifted_tunes steps rules start patch.on.lines.text patch.text patch.stretch.from (gone patch.stretch) patch.stretch.came behind_tunes same beyond behind_lie
+      new_behind = ap (λ own. tune_faults own patch.text (map (moved_on patch.stretch) behind_tunes)) start_same ∙ behind_shifted
 
       new_is : faults_found patch.text patch.header patch.tunes
           ≡ (header_faults steps.next steps.gives rules patch.on.lines.text patch.on.header ++ old_faults front_tunes) ++ (new_faults ++ map (fault_shifted (gone patch.stretch) patch.stretch.came) (old_faults behind_tunes))
@@ -341,10 +350,10 @@ module _ {State Cell Items Defaults : Type 0} (steps : Steps State Cell Items) (
           ∙ ap (sorted_once fault_cmp) (sym new_is)
           ∙ sym (book_faults patch.text patch.header patch.tunes is.stands.header_is is.stands.tunes_are)
 
-    meets : IsWhole patch ⊎ KeepsHeader patch → faults_after patch.stretch.from (gone patch.stretch) patch.stretch.came (book_of steps.next steps.gives rules patch.on.lines.text).faults new_faults ≡ (book_of steps.next steps.gives rules patch.text).faults
-    meets (inl whole) = whole_meets whole
-    meets (inr keeps) = kept_meets keeps
+    meets : IsResumable steps → HoldsHeader patch ⊎ KeepsHeader patch → faults_after patch.stretch.from (gone patch.stretch) patch.stretch.came (book_of steps.next steps.gives rules patch.on.lines.text).faults new_faults ≡ (book_of steps.next steps.gives rules patch.text).faults
+    meets laws (inl holds) = holds_meets holds laws
+    meets laws (inr keeps) = kept_meets keeps
 
     -- the faults of the new text
-    pub faults_are : faults_after patch.stretch.from (gone patch.stretch) patch.stretch.came (book_of steps.next steps.gives rules patch.on.lines.text).faults new_faults ≡ (book_of steps.next steps.gives rules patch.text).faults
-    faults_are = meets is.narrow.header_is
+    pub faults_are : IsResumable steps → faults_after patch.stretch.from (gone patch.stretch) patch.stretch.came (book_of steps.next steps.gives rules patch.on.lines.text).faults new_faults ≡ (book_of steps.next steps.gives rules patch.text).faults
+    faults_are laws = meets laws is.narrow.header_is

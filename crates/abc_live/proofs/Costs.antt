@@ -12,7 +12,7 @@ use Rattle.abc_lines.specs.declared.edit_error.EditError.TheVariants.{BadRange}
 use Rattle.abc_outputs.specs.Built.{IsBuiltUpTo, made_at, made_of}
 use Rattle.abc_rework.specs.Fresh.{fresh_after, is_untouched, touched_after}
 use Rattle.abc_tunebook.specs.Rules.{Rules}
-use Rattle.abc_live.specs.Counting.{HasRisen, IsWorkedUpTo, MayCost}
+use Rattle.abc_live.specs.Counting.{Cost, HasRisen, IsWorkedUpTo, MayCost, cost_of}
 use Rattle.abc_outputs.proofs.Taking.{made_least}
 use Rattle.abc_rework.specs.Entered.{entered_of}
 use Rattle.abc_rework.specs.Laid.{laid_in, tune_chains}
@@ -21,8 +21,11 @@ use Rattle.abc_rework.specs.Laid.{laid_in, tune_chains}
 stays : (k count : ℕ) → HasRisen k count count
 stays k count = record { least = omega arith; most = raised-least count k }
 
+abbrev pub cost_with : ℕ → ℕ → ℕ → Cost
+cost_with lines steps tunes = record { lines = lines; steps = steps; tunes = tunes }
+
 -- lines and steps first, then tunes
-pub worked_built : (lines steps made tunes : ℕ) (before between after : Counters) → made ≤ tunes → IsWorkUpTo lines steps before between → IsBuiltUpTo made between after → IsWorkedUpTo lines steps tunes before after
+pub worked_built : (lines steps made tunes : ℕ) (before between after : Counters) → made ≤ tunes → IsWorkUpTo lines steps before between → IsBuiltUpTo made between after → IsWorkedUpTo (cost_with lines steps tunes) before after
 worked_built lines steps made tunes before between after fewer worked built =
     let scanned : HasRisen lines before.scanned between.scanned = record { least = worked.least_scanned; most = worked.most_scanned } in
     let folded : HasRisen steps before.folded between.folded = record { least = worked.least_folded; most = worked.most_folded } in
@@ -42,7 +45,7 @@ worked_built lines steps made tunes before between after fewer worked built =
     }
 
 -- lines and steps alone
-pub worked_more : (lines steps tunes : ℕ) (before after : Counters) → IsWorkUpTo lines steps before after → IsWorkedUpTo lines steps tunes before after
+pub worked_more : (lines steps tunes : ℕ) (before after : Counters) → IsWorkUpTo lines steps before after → IsWorkedUpTo (cost_with lines steps tunes) before after
 worked_more lines steps tunes before after worked =
     record {
       lines = record { least = worked.least_scanned; most = worked.most_scanned };
@@ -76,22 +79,22 @@ stretch_built patch =
     omega (arith, all, rest, no_front, no_behind)
 
 module _ {State Cell Items Defaults : Type 0} (steps : Steps State Cell Items) (rules : Rules State Cell Items Defaults) (text : Text) where
-  pub cost_is : (edit : Option Splice) (s : Splice) (before after : Counters) → Some s ≡ edit → MayCost steps rules text (Some s) before after → MayCost steps rules text edit before after
-  cost_is edit s before after is cost = subst (λ e. MayCost steps rules text e before after) is cost
+  pub cost_is : (edit : Option Splice) (s : Splice) (before after : Counters) → Some s ≡ edit → MayCost (cost_of steps rules text (Some s)) before after → MayCost (cost_of steps rules text edit) before after
+  cost_is edit s before after is cost = subst (λ e. MayCost (cost_of steps rules text e) before after) is cost
 
-  pub cost_none : (edit : Option Splice) (now : Counters) → None ≡ edit → MayCost steps rules text edit now now
-  cost_none edit now is = subst (λ e. MayCost steps rules text e now now) is refl
+  pub cost_none : (edit : Option Splice) (now : Counters) → None ≡ edit → MayCost (cost_of steps rules text edit) now now
+  cost_none edit now is = subst (λ e. MayCost (cost_of steps rules text e) now now) is refl
 
   module _ (s : Splice) (count : ℕ) (lines : count ≡ length s.lines) (before between after : Counters) (folds : IsWorkUpTo count (fresh_after steps rules text s) before between) where
     folds_lines : IsWorkUpTo (length s.lines) (fresh_after steps rules text s) before between
     folds_lines = subst (λ n. IsWorkUpTo n (fresh_after steps rules text s) before between) lines folds
 
     -- where nothing is built
-    pub fold_only : MayCost steps rules text (Some s) before between
+    pub fold_only : MayCost (cost_of steps rules text (Some s)) before between
     fold_only = worked_more (length s.lines) (fresh_after steps rules text s) (touched_after steps rules text s) before between folds_lines
 
     -- where the tunes of the stretch that take nothing over are built
-    pub fold_build : (taken made : List (Option ℕ)) → TakesUntouched steps rules text s taken → made_of taken ≡ made_of made → IsBuiltUpTo (made_of made) between after → MayCost steps rules text (Some s) before after
+    pub fold_build : (taken made : List (Option ℕ)) → TakesUntouched steps rules text s taken → made_of taken ≡ made_of made → IsBuiltUpTo (made_of made) between after → MayCost (cost_of steps rules text (Some s)) before after
     fold_build taken made takes same builds =
         let laid = laid_in steps rules (spliced text s) in
         let fewer : made_of taken ≤ touched_after steps rules text s = made_least (λ tune. is_untouched steps rules.cells (laid_in steps rules text) s (entered_of steps rules.cells (spliced text s) tune)) (tune_chains 1 laid.opening laid.tunes) taken takes in

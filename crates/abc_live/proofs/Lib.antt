@@ -1,4 +1,5 @@
 pub mod Books
+pub mod Alike
 pub mod Changes
 pub mod Costs
 pub mod Found

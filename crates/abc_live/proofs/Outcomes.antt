@@ -7,7 +7,7 @@ use Rattle.abc_book.specs.declared.block.Block.{Block}
 use Rattle.abc_chains.specs.Standing.{Edited, Keeping, gone, old_tunes}
 use Rattle.abc_chains.specs.declared.stretch.Stretch.{Stretch}
 use Rattle.abc_fold.specs.Chain.{Chained}
-use Rattle.abc_fold.specs.Steps.{Steps}
+use Rattle.abc_fold.specs.Steps.{Steps, IsResumable}
 use Rattle.abc_kept_book.specs.Faults.{faults_after}
 use Rattle.abc_lines.specs.Lines.{Lines}
 use Rattle.abc_lines.specs.Text.{IsText, Splice, Text, is_line, spliced}
@@ -109,11 +109,11 @@ module _ {C State Cell Items Defaults : Type 0} (steps : Steps State Cell Items)
         (subst (λ c. HeaderCells patch.stretch.from c first header) (sym (own_counts counts are))
         (subst (HeaderCells patch.stretch.from (counts_among rules.cells patch.text patch.stretch.from patch.stretch.came) first) (sym same) (first_cells steps rules s patch is first own_first)))
 
-    pub faults_now : (counts : List ℕ) (header : Option Block) (old new : List Fault) → counts ≡ map count_in (take patch.stretch.came (drop patch.stretch.from patch.rows)) → header ≡ patch.header
+    pub faults_now : IsResumable steps → (counts : List ℕ) (header : Option Block) (old new : List Fault) → counts ≡ map count_in (take patch.stretch.came (drop patch.stretch.from patch.rows)) → header ≡ patch.header
         → old ≡ (book_of steps.next steps.gives rules text.lines.text).faults
         → new ≡ header_faults_there rules stretch.from counts first header ++ faults_by rules stretch.from counts patch.made patch.places
         → faults_after stretch.from (stretch.to - stretch.from) stretch.came old new ≡ (book_of steps.next steps.gives rules patch.text).faults
-    faults_now counts header old new are same old_is new_is =
+    faults_now laws counts header old new are same old_is new_is =
         let old_own = old_is ∙ ap (λ (k : Keeping C State Cell Items). (book_of steps.next steps.gives rules k.lines.text).faults) (sym on) in
         let new_own =
         new_is
@@ -123,7 +123,7 @@ module _ {C State Cell Items Defaults : Type 0} (steps : Steps State Cell Items)
         ap (λ (x : Stretch). faults_after x.from (x.to - x.from) x.came old new) there
         ∙ ap (λ o. faults_after patch.stretch.from (gone patch.stretch) patch.stretch.came o new) old_own
         ∙ ap (faults_after patch.stretch.from (gone patch.stretch) patch.stretch.came (book_of steps.next steps.gives rules patch.on.lines.text).faults) new_own
-        ∙ faults_are steps rules s patch is first own_first
+        ∙ faults_are steps rules s patch is first own_first laws
 
   pub book_now : (outputs : List Output) (found : List Fault) → outputs ≡ map (output_in rules) (drop 1 patch.chains) → found ≡ (book_of steps.next steps.gives rules patch.text).faults
       → IsBook outputs found (book_of steps.next steps.gives rules patch.text)

@@ -6,7 +6,7 @@ use Rattle.std.proofs.lemmas.List.{drop-map, length-map, take-map, map-append}
 use Rattle.std.proofs.lemmas.List.Elements.{All-head, All-tail}
 use Rattle.abc_book.specs.declared.block.Block.{Block}
 use Rattle.abc_chains.specs.Keeping.{IsChainOf, IsHeaderOf, behind_chain}
-use Rattle.abc_chains.specs.Standing.{Edited, IsWhole, KeepsHeader, old_tunes}
+use Rattle.abc_chains.specs.Standing.{Edited, HoldsHeader, KeepsHeader, moved_on, old_tunes}
 use Rattle.abc_chains.proofs.Opening.{opening_alike}
 use Rattle.abc_compiler.specs.Lawful.{AreLawful}
 use Rattle.abc_fold.specs.Chain.{Chained}
@@ -15,9 +15,10 @@ use Rattle.abc_fold.proofs.Alike.{equal_items}
 use Rattle.abc_lines.specs.Text.{Splice, Text, is_line}
 use Rattle.abc_lines.proofs.Splices.{length-spliced}
 use Rattle.abc_live.specs.Prepared.{HeaderCells, IsPrepared, count_in}
+use Rattle.abc_live.proofs.Alike.{chains_alike}
 use Rattle.abc_live.proofs.Lying.{LiesIn, all_first, all_second, header_lies, tunes_lie}
 use Rattle.abc_live.proofs.Parts.{counts_are, fold_of, folds_of, header_chain, some_chain, tune_chains}
-use Rattle.abc_live.proofs.Zips.{zip_fronts, zip_middle}
+use Rattle.abc_live.proofs.Zips.{zip_behind, zip_fronts, zip_middle, zip_rest}
 use Rattle.abc_outputs.specs.Output.{TakesOver, counts_of, output_in}
 use Rattle.abc_outputs.specs.Tunes.{HasCells, IsTuneAt, LiesAmong, counts_among, lowered}
 use Rattle.abc_outputs.proofs.Following.{has_cells, zipped_cells}
@@ -63,20 +64,19 @@ tunes_at steps rules laws opening left from came text (chain ∷ chains) (place 
   tunes_at steps rules laws opening left from came text chains places alike inside (All-tail (LiesAmong from came) place places lie) all.1,
 )
 
--- a file header that does not lie before a stretch lies in it, since this is then the whole text
+-- a file header that does not lie before a stretch lies in it, since this then begins with the text
 header_cells : {State Cell Items Defaults : Type 0} (steps : Steps State Cell Items) (rules : Rules State Cell Items Defaults) (text : Text) (from came : ℕ) (first : Chained State Cell Items) (header : Option Block)
     → from + came ≤ length text → IfSome header (LiesIn (length text)) → IsHeaderOf steps rules.cells rules.header text first header
-    → ((block : Block) → header ≡ Some block → from < block.to → (from ≡ 0) × (length text ≤ came))
+    → ((block : Block) → header ≡ Some block → from < block.to → (from ≡ 0) × (block.to ≤ came))
     → HeaderCells from (counts_among rules.cells text from came) first header
-header_cells steps rules text from came first None inside lies is whole = tt
-header_cells steps rules text from came first (Some block) inside lies is whole =
+header_cells steps rules text from came first None inside lies is held = tt
+header_cells steps rules text from came first (Some block) inside lies is held =
     λ reaches.
-    let all = whole block refl reaches in
+    let all = held block refl reaches in
     let none = all.0 in
     let most = all.1 in
     let some = lies.some in
-    let within = lies.within in
-    let there : LiesAmong from came block = record { behind = omega (arith, none); order = omega (arith, some); within = omega (arith, none, most, within) } in
+    let there : LiesAmong from came block = record { behind = omega (arith, none); order = omega (arith, some); within = omega (arith, none, most) } in
     has_cells steps rules.cells rules.header text first block (fold_of steps rules.cells rules.header text first block is) from came there inside
 
 module _ {C State Cell Items Defaults : Type 0} (steps : Steps State Cell Items) (rules : Rules State Cell Items Defaults) (s : Splice) (patch : Edited C State Cell Items) (is : IsPrepared steps rules s patch) where
@@ -157,6 +157,20 @@ module _ {C State Cell Items Defaults : Type 0} (steps : Steps State Cell Items)
       (zip_fronts (IsChainOf steps rules.cells (opening_of steps.next rules patch.on.lines.text (blocks_in rules patch.on.lines.text)) patch.on.lines.text) patch.stretch.front (old_tunes patch) patch.on.tunes old_chains)
       (sym is.narrow.places_count) both
 
+  -- those behind the stretch: where there are any, the tunes begin in a state alike to the old one
+  pub still_alike : IsResumable steps → (drop patch.stretch.behind patch.on.tunes ≡ []) ⊎ IsAlike steps (opening_of steps.next rules patch.on.lines.text (blocks_in rules patch.on.lines.text)) (opening_of steps.next rules patch.text (blocks_in rules patch.text))
+  still_alike laws =
+      let was = opening_of steps.next rules patch.on.lines.text (blocks_in rules patch.on.lines.text) in
+      let now = opening_of steps.next rules patch.text (blocks_in rules patch.text) in
+      let P = IsChainOf steps rules.cells was patch.on.lines.text in
+      let R = IsChainOf steps rules.cells now patch.text in
+      let parts : AllZip R (take patch.stretch.front (old_tunes patch) ++ (patch.made ++ drop patch.stretch.behind (old_tunes patch))) patch.tunes = subst (λ chains. AllZip R chains patch.tunes) is.narrow.chains_are new_chains in
+      let both = subst (AllZip R (take patch.stretch.front (old_tunes patch) ++ (patch.made ++ drop patch.stretch.behind (old_tunes patch)))) is.narrow.tunes_are parts in
+      let behind = zip_behind R (take patch.stretch.front (old_tunes patch)) patch.made (drop patch.stretch.behind (old_tunes patch)) (take patch.stretch.front patch.on.tunes) patch.places (map (moved_on patch.stretch) (drop patch.stretch.behind patch.on.tunes))
+      (zip_fronts P patch.stretch.front (old_tunes patch) patch.on.tunes old_chains) (sym is.narrow.places_count) both in
+      chains_alike steps laws rules.cells was now patch.on.lines.text patch.text (drop patch.stretch.behind (old_tunes patch)) (drop patch.stretch.behind patch.on.tunes) (map (moved_on patch.stretch) (drop patch.stretch.behind patch.on.tunes))
+      (zip_rest P patch.stretch.behind (old_tunes patch) patch.on.tunes old_chains) behind
+
   pub made_cells : AllZip (HasCells patch.stretch.from (counts_among rules.cells patch.text patch.stretch.from patch.stretch.came)) patch.made patch.places
   made_cells =
       zipped_cells steps rules (opening_of steps.next rules patch.text (blocks_in rules patch.text)) patch.text patch.stretch.from patch.stretch.came patch.made patch.places
@@ -183,23 +197,17 @@ module _ {C State Cell Items Defaults : Type 0} (steps : Steps State Cell Items)
         subst (λ h. IsAlike steps (rules.tune (behind_chain patch.header first)) (rules.tune (behind_header steps.next rules patch.text h))) is.stands.header_is (opening_alike steps rules patch.text first patch.header laws lawful first_is) in
         tunes_at steps rules laws own (behind_chain patch.header first) patch.stretch.from patch.stretch.came patch.text patch.made patch.places alike stretch_inside places_lie made_chains
 
-    -- where a file header reaches into the stretch, this is the whole text
-    pub whole_text : IsWhole patch ⊎ KeepsHeader patch → (block : Block) → patch.header ≡ Some block → patch.stretch.from < block.to → (patch.stretch.from ≡ 0) × (length patch.text ≤ patch.stretch.came)
-    whole_text (inl whole) block header reaches =
-        let from_is = whole.from in
-        let to_is = whole.to in
-        let ends = is.narrow.ends in
-        let count = is.narrow.came in
-        let long = spliced_length in
-        (from_is, omega (arith, from_is, to_is, ends, count, long))
-    whole_text (inr keeps) block header reaches =
+    -- where a file header reaches into the stretch, this begins with the text and has all of it
+    pub held_there : HoldsHeader patch ⊎ KeepsHeader patch → (block : Block) → patch.header ≡ Some block → patch.stretch.from < block.to → (patch.stretch.from ≡ 0) × (block.to ≤ patch.stretch.came)
+    held_there (inl holds) block header reaches = (holds.from, holds.comes block header)
+    held_there (inr keeps) block header reaches =
         let before = keeps.before block (sym keeps.header ∙ header) in
         absurd (omega (arith, before, reaches))
 
     pub first_cells : HeaderCells patch.stretch.from (counts_among rules.cells patch.text patch.stretch.from patch.stretch.came) first patch.header
     first_cells =
         header_cells steps rules patch.text patch.stretch.from patch.stretch.came first patch.header stretch_inside
-        (header_lies rules.class patch.text patch.header is.stands.header_is) first_is (whole_text is.narrow.header_is)
+        (header_lies rules.class patch.text patch.header is.stands.header_is) first_is (held_there is.narrow.header_is)
 
   -- what the tunes give
   pub new_outputs : take patch.stretch.front (map (output_in rules) (old_tunes patch)) ++ (map (output_in rules) patch.made ++ drop patch.stretch.behind (map (output_in rules) (old_tunes patch))) ≡ map (output_in rules) (drop 1 patch.chains)

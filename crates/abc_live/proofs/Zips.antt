@@ -1,5 +1,5 @@
 -- Lists that go together place by place, taken apart.
-use Rattle.std.proofs.Common.{◌≡◌, ℕ, zero, suc, List, [], ◌∷◌, ◌++◌, length, take, refl, ap, arith}
+use Rattle.std.proofs.Common.{◌≡◌, ℕ, zero, suc, List, [], ◌∷◌, ◌++◌, length, drop, take, refl, ap, arith}
 use Rattle.std.specs.List.{AllZip}
 
 module _ {A B : Type 0} (R : A → B → Type 0) where
@@ -16,6 +16,18 @@ module _ {A B : Type 0} (R : A → B → Type 0) where
   pub zip_middle : (before xs behind : List A) (first us last : List B) → length before ≡ length first → length xs ≡ length us → AllZip R (before ++ (xs ++ behind)) (first ++ (us ++ last)) → AllZip R xs us
   zip_middle before xs behind first us last fronts same all =
       (zip_parts xs behind us last same (zip_parts before (xs ++ behind) first (us ++ last) fronts all).1).0
+
+  -- those behind
+  pub zip_behind : (before xs behind : List A) (first us last : List B) → length before ≡ length first → length xs ≡ length us → AllZip R (before ++ (xs ++ behind)) (first ++ (us ++ last)) → AllZip R behind last
+  zip_behind before xs behind first us last fronts same all =
+      (zip_parts xs behind us last same (zip_parts before (xs ++ behind) first (us ++ last) fronts all).1).1
+
+  pub zip_rest : (n : ℕ) (xs : List A) (us : List B) → AllZip R xs us → AllZip R (drop n xs) (drop n us)
+  zip_rest zero xs us all = all
+  zip_rest (suc n) [] [] all = tt
+  zip_rest (suc n) [] (u ∷ us) all = absurd all
+  zip_rest (suc n) (x ∷ xs) [] all = absurd all
+  zip_rest (suc n) (x ∷ xs) (u ∷ us) all = zip_rest n xs us all.1
 
   -- the first few of each are as many
   pub zip_fronts : (n : ℕ) (xs : List A) (us : List B) → AllZip R xs us → length (take n xs) ≡ length (take n us)

@@ -11,13 +11,25 @@ pub record HasRisen (k before after : ℕ) : Type 0 where
   pub least : before ≤ after
   pub most : after ≤ raised before k
 
--- The counters have risen by so many lines, steps and tunes at most.
-pub record IsWorkedUpTo (scanned folded built : ℕ) (before after : Counters) : Type 0 where
-  pub lines : HasRisen scanned before.scanned after.scanned
-  pub steps : HasRisen folded before.folded after.folded
-  pub tunes : HasRisen built before.built after.built
+-- How many lines are scanned, steps folded and tunes built.
+pub record Cost : Type 0 where
+  pub lines : ℕ
+  pub steps : ℕ
+  pub tunes : ℕ
 
--- What an edit may cost: its new lines, the fresh cells and the touched tunes; nothing where it names no splice.
-abbrev pub MayCost : {State Cell Items Defaults : Type 0} → Steps State Cell Items → Rules State Cell Items Defaults → Text → Option Splice → Counters → Counters → Type 0
-MayCost steps rules text None before after = after ≡ before
-MayCost steps rules text (Some s) before after = IsWorkedUpTo (length s.lines) (fresh_after steps rules text s) (touched_after steps rules text s) before after
+-- What an edit of a text costs at most: its new lines, the fresh cells and the touched tunes; nothing where it names no
+-- splice.
+abbrev pub cost_of : {State Cell Items Defaults : Type 0} → Steps State Cell Items → Rules State Cell Items Defaults → Text → Option Splice → Option Cost
+cost_of steps rules text None = None
+cost_of steps rules text (Some s) = Some (record { lines = length s.lines; steps = fresh_after steps rules text s; tunes = touched_after steps rules text s })
+
+-- The counters have risen by so many lines, steps and tunes at most.
+pub record IsWorkedUpTo (cost : Cost) (before after : Counters) : Type 0 where
+  pub lines : HasRisen cost.lines before.scanned after.scanned
+  pub steps : HasRisen cost.steps before.folded after.folded
+  pub tunes : HasRisen cost.tunes before.built after.built
+
+-- The counters have risen by a cost at most, or stay where there is none.
+abbrev pub MayCost : Option Cost → Counters → Counters → Type 0
+MayCost None before after = after ≡ before
+MayCost (Some cost) before after = IsWorkedUpTo cost before after

@@ -6,7 +6,7 @@ ghost use Rattle.std.specs.Map.{keys_of};
 ghost use Rattle.abc_fold.specs.Steps.{steps_of};
 ghost use Rattle.abc_lines.specs.Edits.{Refuses, edited, replaced};
 ghost use Rattle.abc_lines.specs.declared.limits.TheConstants.{MOST_LINES};
-ghost use Rattle.abc_live.specs.Counting.{MayCost};
+ghost use Rattle.abc_live.specs.Counting.{MayCost, cost_of};
 ghost use Rattle.abc_live.specs.Edit.{line_at, splice_of};
 ghost use Rattle.abc_live.specs.Prepared.{splice_in};
 ghost use Rattle.abc_live.specs.Session.{book_in, tunes_given};
@@ -96,7 +96,7 @@ impl<C: Compiler> LiveSession<C> {
             IfOk result (λ patch. Reports (book_in C.next C.gives C.rules self.old).files (book_of (C.next c) (C.gives c) (C.rules c) patch.text).files patch.report) }
         ensures refused { IfErr result (λ e. Refuses e (edited self.old.text (splice_of edit.now))) }
         ensures uncounted { IfErr result (λ e. e ≢ EditError.OutOfMemory → work.new ≡ work.old) }
-        ensures counted { MayCost (steps_of (C.next self.old.compiler) (C.gives self.old.compiler) (C.alike self.old.compiler)) (C.rules self.old.compiler) self.old.text (splice_of edit.now) (C.Work.counts work.old) (C.Work.counts work.new) }
+        ensures counted { MayCost (cost_of (steps_of (C.next self.old.compiler) (C.gives self.old.compiler) (C.alike self.old.compiler)) (C.rules self.old.compiler) self.old.text (splice_of edit.now)) (C.Work.counts work.old) (C.Work.counts work.new) }
     {
         match change_of(edit) {
             Some(change) => self.prepare_change(&change, work),
@@ -117,7 +117,7 @@ impl<C: Compiler> LiveSession<C> {
             IfOk result (λ patch. Reports (book_in C.next C.gives C.rules self.old).files (book_of (C.next c) (C.gives c) (C.rules c) patch.text).files patch.report) }
         ensures refused { IfErr result (λ e. Refuses e (replaced self.old.text (splice_in change.now))) }
         ensures uncounted { IfErr result (λ e. e ≢ EditError.OutOfMemory → work.new ≡ work.old) }
-        ensures counted { MayCost (steps_of (C.next self.old.compiler) (C.gives self.old.compiler) (C.alike self.old.compiler)) (C.rules self.old.compiler) self.old.text (Some (splice_in change.now)) (C.Work.counts work.old) (C.Work.counts work.new) }
+        ensures counted { MayCost (cost_of (steps_of (C.next self.old.compiler) (C.gives self.old.compiler) (C.alike self.old.compiler)) (C.rules self.old.compiler) self.old.text (Some (splice_in change.now))) (C.Work.counts work.old) (C.Work.counts work.new) }
     {
         let _ = self.text.lines();
         let kept = self
@@ -154,7 +154,7 @@ impl<C: Compiler> LiveSession<C> {
         ensures refused { IfErr result (λ e. Refuses e (edited self.old.text (splice_of edit.now))) }
         ensures uncounted { IfErr result (λ e. e ≢ EditError.OutOfMemory → work.new ≡ work.old) }
         ensures report { IfOk result (Reports (book_in C.next C.gives C.rules self.old).files (book_in C.next C.gives C.rules self.new).files) }
-        ensures counted { MayCost (steps_of (C.next self.old.compiler) (C.gives self.old.compiler) (C.alike self.old.compiler)) (C.rules self.old.compiler) self.old.text (splice_of edit.now) (C.Work.counts work.old) (C.Work.counts work.new) }
+        ensures counted { MayCost (cost_of (steps_of (C.next self.old.compiler) (C.gives self.old.compiler) (C.alike self.old.compiler)) (C.rules self.old.compiler) self.old.text (splice_of edit.now)) (C.Work.counts work.old) (C.Work.counts work.new) }
     {
         let patch = self.prepare(edit, work)?;
         Ok(self.commit(patch))

@@ -100,7 +100,7 @@ returns-clause-book g c =
     ∙ ap (λ chains. header_faults_there (g.C.Compiler.rules c.args.text.now.compiler) c.stretch-stretch.result.from c.deref-2.result.now c.first_chain-first.result.now c.header-2.result ++ faults_by (g.C.Compiler.rules c.args.text.now.compiler) c.stretch-stretch.result.from c.deref-2.result.now chains c.places.result.now) c.made.ensures
     ∙ ap (λ places. header_faults_there (g.C.Compiler.rules c.args.text.now.compiler) c.stretch-stretch.result.from c.deref-2.result.now c.first_chain-first.result.now c.header-2.result ++ faults_by (g.C.Compiler.rules c.args.text.now.compiler) c.stretch-stretch.result.from c.deref-2.result.now c.args.kept.now.made places) c.places.ensures in
     let faults = faults_now (steps_of (g.C.Fold.next c.args.text.now.compiler) (g.C.Fold.gives c.args.text.now.compiler) (g.C.Resumable.alike c.args.text.now.compiler)) (g.C.Compiler.rules c.args.text.now.compiler) (splice_in c.args.change.now) c.args.kept.now c.requires.prepared c.args.text.now c.requires.on c.stretch-stretch.result c.stretch-stretch.ensures
-    c.first_chain-first.result.now c.first_chain-first.ensures c.deref-2.result.now c.header-2.result c.args.book.now.faults c.in_ok-faults.faults.items (c.deref-2.ensures.value ∙ c.in_ok-counts.ensures) c.header-2.ensures c.requires.faults found in
+    c.first_chain-first.result.now c.first_chain-first.ensures (g.met.C.Resumable.resumable c.args.text.now.compiler) c.deref-2.result.now c.header-2.result c.args.book.now.faults c.in_ok-faults.faults.items (c.deref-2.ensures.value ∙ c.in_ok-counts.ensures) c.header-2.ensures c.requires.faults found in
     ok_both c.prepare.result _ _ (λ patch. IsBook patch.outputs patch.faults (book_of (g.C.Fold.next c.args.text.now.compiler) (g.C.Fold.gives c.args.text.now.compiler) (g.C.Compiler.rules c.args.text.now.compiler) c.args.kept.now.text))
     (λ patch outputs_are faults_are. book_now (steps_of (g.C.Fold.next c.args.text.now.compiler) (g.C.Fold.gives c.args.text.now.compiler) (g.C.Resumable.alike c.args.text.now.compiler)) (g.C.Compiler.rules c.args.text.now.compiler) (splice_in c.args.change.now) c.args.kept.now c.requires.prepared c.args.text.now c.requires.on c.stretch-stretch.result c.stretch-stretch.ensures patch.outputs patch.faults (outputs_are ∙ after) (faults_are ∙ faults))
     c.prepare.ensures.outputs c.prepare.ensures.faults

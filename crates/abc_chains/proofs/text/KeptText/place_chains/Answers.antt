@@ -1,5 +1,5 @@
 use Rattle.std.proofs.Common.{◌≡◌, ◌≤◌, ◌+◌, ◌∷◌, ◌++◌, IfOk, length, refl, sym, ◌∙◌, ap, subst}
-use Rattle.abc_chains.specs.Renewing.{MayBeAnew, chains_after}
+use Rattle.abc_chains.specs.Renewing.{chains_after}
 use Rattle.abc_chains.specs.Standing.{Keeping}
 use Rattle.abc_chains.proofs.Replaced.{place_anew, place_same}
 use Rattle.abc_chains.proofs.text.KeptText.place_chains.Goals as goal
@@ -13,7 +13,7 @@ returns-in_ok-append_shares-in-None-clause-after g c =
 
 pub returns-in_ok-append_shares-in-Some-clause-after : goal.returns-in_ok-append_shares-in-Some-clause-after
 returns-in_ok-append_shares-in-Some-clause-after g c =
-    let anew = subst (λ (k : Keeping g.row.C.Denot g.row.C-State.Denot g.row.C-Cell.Denot g.row.C-Items.Denot). MayBeAnew c.args.first.now c.args.stretch (length k.chains.items)) (sym c.self.view_is) c.requires.anew in
+    let inside = subst (λ (k : Keeping g.row.C.Denot g.row.C-State.Denot g.row.C-Cell.Denot g.row.C-Items.Denot). c.args.stretch.behind + 1 ≤ length k.chains.items) (sym c.self.view_is) c.requires.inside in
     let new : c.append_shares-in-Some.new.chains.items ≡ c.in-Some.first ∷ c.args.made.now = rw (c.in_ok-append_shares-in-Some.ensures, c.in_ok-push-in-Some.ensures.items, c.in_ok-share-in-Some.ensures, c.new-new.ensures.items) refl in
     subst (λ (k : Keeping g.row.C.Denot g.row.C-State.Denot g.row.C-Cell.Denot g.row.C-Items.Denot). IfOk c.splice_prepare-in-Some.result (λ patch. patch.after.items ≡ chains_after c.args.first.now c.args.stretch k.chains.items c.args.made.now)) c.self.view_is
-    (place_anew c.splice_prepare-in-Some.result c.self.inside.chains c.args.stretch c.args.first.now c.in-Some.first c.args.made.now c.append_shares-in-Some.new.chains.items c.len-all.result c.in-Some.is new c.len-all.ensures.count anew c.splice_prepare-in-Some.ensures.after)
+    (place_anew c.splice_prepare-in-Some.result c.self.inside.chains c.args.stretch c.args.first.now c.in-Some.first c.args.made.now c.append_shares-in-Some.new.chains.items c.in-Some.is new c.requires.anew inside c.splice_prepare-in-Some.ensures.after)
