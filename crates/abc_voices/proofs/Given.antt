@@ -29,19 +29,11 @@ there step = step.now
 pub of_music : {V : Type 0} (f : Item → V) (v : V) → ((tones : List Tone) (length : Grains) → f (items.Tone tones length) ≡ v)
     → ((length : Grains) (bar : Bool) → f (items.Rest length bar) ≡ v) → ((line : _) → f (items.Bar line) ≡ v)
     → ((numbers : ℕ) → f (items.Ending numbers) ≡ v) → (item : Item) → is_music item ≡ true → f item ≡ v
-of_music f v tone rest bar ending (items.Number number) h = cc
 of_music f v tone rest bar ending (items.Tone tones length) h = tone tones length
 of_music f v tone rest bar ending (items.Rest length whole) h = rest length whole
 of_music f v tone rest bar ending (items.Bar line) h = bar line
 of_music f v tone rest bar ending (items.Ending numbers) h = ending numbers
-of_music f v tone rest bar ending (items.Section letter) h = cc
-of_music f v tone rest bar ending (items.Tempo opening micros out) h = cc
-of_music f v tone rest bar ending (items.Meter opening meter) h = cc
-of_music f v tone rest bar ending (items.Key opening key) h = cc
-of_music f v tone rest bar ending (items.Voice opening name) h = cc
-of_music f v tone rest bar ending (items.Title text) h = cc
-of_music f v tone rest bar ending (items.Order text) h = cc
-of_music f v tone rest bar ending (items.Program opening number) h = cc
+of_music f v tone rest bar ending _ h = cc
 
 -- what is taken on from step to step, and stays where it is at music
 left_step : {A V W : Type 0} (item_of : A → Item) (f : V → List A → W) (past : V → Item → V)

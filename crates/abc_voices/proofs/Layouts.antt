@@ -147,19 +147,8 @@ names_more known name true = omega arith
 names_more known name false = grind (arith, common_steps)
 
 name_past : (known : List (List ℕ)) (item : Item) → length known ≤ length (names_past known item)
-name_past known (items.Number number) = omega arith
-name_past known (items.Tone tones length) = omega arith
-name_past known (items.Rest length bar) = omega arith
-name_past known (items.Bar line) = omega arith
-name_past known (items.Ending numbers) = omega arith
-name_past known (items.Section letter) = omega arith
-name_past known (items.Tempo opening micros out) = omega arith
-name_past known (items.Meter opening meter) = omega arith
-name_past known (items.Key opening key) = omega arith
 name_past known (items.Voice opening name) = names_more known name (list_any (bytes_eq name) known)
-name_past known (items.Title title) = omega arith
-name_past known (items.Order order) = omega arith
-name_past known (items.Program opening number) = omega arith
+name_past known _ = omega arith
 
 names_within : (known : List (List ℕ)) (tune : List (Bor Item)) → length known ≤ length (names_from there known tune)
 names_within known [] = omega arith

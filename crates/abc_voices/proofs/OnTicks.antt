@@ -149,20 +149,7 @@ sections_said tick voices voice at (section ∷ rest) =
 -- what a tune opens with is the last program of its header
 one_past : (program : Option ℕ) (item : Item) → program_past program item ≡ or_said (opening_program_of item) program
 one_past program (items.Program true (Some number)) = refl
-one_past program (items.Program true None) = refl
-one_past program (items.Program false number) = refl
-one_past program (items.Number number) = refl
-one_past program (items.Tone tones length) = refl
-one_past program (items.Rest length bar) = refl
-one_past program (items.Bar line) = refl
-one_past program (items.Ending numbers) = refl
-one_past program (items.Section letter) = refl
-one_past program (items.Tempo opening micros out) = refl
-one_past program (items.Meter opening meter) = refl
-one_past program (items.Key opening key) = refl
-one_past program (items.Voice opening name) = refl
-one_past program (items.Title text) = refl
-one_past program (items.Order text) = refl
+one_past program _ = refl
 
 all_past : (program : Option ℕ) (tune : List Item) → past_all (λ item. item) program_past program tune ≡ or_said (last_said opening_program_of tune) program
 all_past program [] = refl

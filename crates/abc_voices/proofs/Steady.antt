@@ -30,49 +30,25 @@ there step = step.now
 
 -- such a step sets nothing
 sets_no_tempo : (item : Item) → is_field item ≡ false → tempo_of item ≡ None
-sets_no_tempo (items.Number number) h = refl
-sets_no_tempo (items.Tone tones length) h = refl
-sets_no_tempo (items.Rest length bar) h = refl
-sets_no_tempo (items.Bar line) h = refl
-sets_no_tempo (items.Ending numbers) h = refl
-sets_no_tempo (items.Section letter) h = refl
 sets_no_tempo (items.Tempo opening micros out) h = cc
 sets_no_tempo (items.Meter opening meter) h = cc
 sets_no_tempo (items.Key opening key) h = cc
-sets_no_tempo (items.Voice opening name) h = refl
-sets_no_tempo (items.Title text) h = refl
-sets_no_tempo (items.Order text) h = refl
 sets_no_tempo (items.Program opening number) h = cc
+sets_no_tempo _ h = refl
 
 sets_no_meter : (item : Item) → is_field item ≡ false → meter_of item ≡ None
-sets_no_meter (items.Number number) h = refl
-sets_no_meter (items.Tone tones length) h = refl
-sets_no_meter (items.Rest length bar) h = refl
-sets_no_meter (items.Bar line) h = refl
-sets_no_meter (items.Ending numbers) h = refl
-sets_no_meter (items.Section letter) h = refl
 sets_no_meter (items.Tempo opening micros out) h = cc
 sets_no_meter (items.Meter opening meter) h = cc
 sets_no_meter (items.Key opening key) h = cc
-sets_no_meter (items.Voice opening name) h = refl
-sets_no_meter (items.Title text) h = refl
-sets_no_meter (items.Order text) h = refl
 sets_no_meter (items.Program opening number) h = cc
+sets_no_meter _ h = refl
 
 sets_no_key : (item : Item) → is_field item ≡ false → key_of item ≡ None
-sets_no_key (items.Number number) h = refl
-sets_no_key (items.Tone tones length) h = refl
-sets_no_key (items.Rest length bar) h = refl
-sets_no_key (items.Bar line) h = refl
-sets_no_key (items.Ending numbers) h = refl
-sets_no_key (items.Section letter) h = refl
 sets_no_key (items.Tempo opening micros out) h = cc
 sets_no_key (items.Meter opening meter) h = cc
 sets_no_key (items.Key opening key) h = cc
-sets_no_key (items.Voice opening name) h = refl
-sets_no_key (items.Title text) h = refl
-sets_no_key (items.Order text) h = refl
 sets_no_key (items.Program opening number) h = cc
+sets_no_key _ h = refl
 
 -- nor do steps, parts and stages of such steps
 module _ {V : Type 0} (value_of : Item → Option V) (kind : Item → Bool) (sets_none : (item : Item) → kind item ≡ false → value_of item ≡ None) where

@@ -100,19 +100,8 @@ abbrev pub IsAccepted : Option (List ℕ) → Type 0
 IsAccepted order = ForSome order (λ text. parts_of text ≡ Ok tt)
 
 order_step : (order : Option (List ℕ)) (item : Item) → IsAccepted order → IsItem item → IsAccepted (order_past order item)
-order_step order (items.Number number) h is = h
-order_step order (items.Tone tones length) h is = h
-order_step order (items.Rest length bar) h is = h
-order_step order (items.Bar line) h is = h
-order_step order (items.Ending numbers) h is = h
-order_step order (items.Section letter) h is = h
-order_step order (items.Tempo opening micros out) h is = h
-order_step order (items.Meter opening meter) h is = h
-order_step order (items.Key opening key) h is = h
-order_step order (items.Voice opening name) h is = h
-order_step order (items.Title title) h is = h
 order_step order (items.Order text) h is = λ other e. let same : text ≡ other = cc in subst (λ t. parts_of t ≡ Ok tt) same is
-order_step order (items.Program opening number) h is = h
+order_step order _ h is = h
 
 pub order_accepted : (tune : List (Bor Item)) (order : Option (List ℕ)) → IsAccepted order → All (λ step. IsItem step.now) tune
     → IsAccepted (past_all (λ step. step.now) order_past order tune)

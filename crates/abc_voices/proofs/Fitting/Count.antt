@@ -1,5 +1,5 @@
 -- How many notes and changes there are, by how much is played.
-use Rattle.std.proofs.Common.{ℕ, ◌+◌, ◌*◌, ◌≤◌, true, false, List, [], ◌∷◌, length, Option, Some, None, arith, zero, suc, length-append}
+use Rattle.std.proofs.Common.{ℕ, ◌+◌, ◌*◌, ◌≤◌, false, List, [], ◌∷◌, length, Option, Some, None, arith, zero, suc, length-append}
 use Rattle.std.specs.Prelude.{All, IfSome, remove, filter_map, slice_get}
 use Rattle.std.specs.List.{cons_option}
 use Rattle.std.proofs.lemmas.List.Elements.{All-head, All-tail}
@@ -49,19 +49,8 @@ before_more at (Some tones) notes few =
 
 few_tones : (item : Item) → IsItem item → IsFew (tones_of item)
 few_tones (items.Tone tones length) is = is.0.few
-few_tones (items.Rest length true) is = tt
 few_tones (items.Rest length false) is = omega arith
-few_tones (items.Number number) is = tt
-few_tones (items.Bar bar) is = tt
-few_tones (items.Ending passes) is = tt
-few_tones (items.Section letter) is = tt
-few_tones (items.Tempo opening micros out) is = tt
-few_tones (items.Meter opening meter) is = tt
-few_tones (items.Key opening key) is = tt
-few_tones (items.Voice opening name) is = tt
-few_tones (items.Title title) is = tt
-few_tones (items.Order order) is = tt
-few_tones (items.Program opening number) is = tt
+few_tones _ is = tt
 
 -- each step gives sixteen notes at most
 pub notes_few : {A : Type 0} (item_of : A → Item) (at : ℕ) (steps : List A) (notes : Notes) → All (λ step. IsItem (item_of step)) steps

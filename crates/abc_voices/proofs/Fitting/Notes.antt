@@ -1,5 +1,5 @@
 -- The notes of what is played have keys and velocities of MIDI, begin when they are played or later, and end no sooner.
-use Rattle.std.proofs.Common.{◌≡◌, ℕ, ◌+◌, ◌≤◌, true, false, List, [], ◌∷◌, length, Option, Some, None, arith, refl, subst, zero, suc, take, drop}
+use Rattle.std.proofs.Common.{◌≡◌, ℕ, ◌+◌, ◌≤◌, false, List, [], ◌∷◌, length, Option, Some, None, arith, refl, subst, zero, suc, take, drop}
 use Rattle.std.specs.Prelude.{All, IfSome, slice_index_or, remove}
 use Rattle.std.proofs.lemmas.List.Elements.{All-nil, All-head, All-tail, All-append, All-push, All-take, All-drop, All-weaker}
 use Rattle.abc_music.specs.Item.{IsItem, IsTone}
@@ -78,19 +78,8 @@ before_fits at (Some tones) notes all fits =
 
 tones_within : (item : Item) → IsItem item → IfSome (tones_of item) (All IsTone)
 tones_within (items.Tone tones length) is = is.0.each
-tones_within (items.Rest length true) is = tt
 tones_within (items.Rest length false) is = All-nil IsTone
-tones_within (items.Number number) is = tt
-tones_within (items.Bar bar) is = tt
-tones_within (items.Ending passes) is = tt
-tones_within (items.Section letter) is = tt
-tones_within (items.Tempo opening micros out) is = tt
-tones_within (items.Meter opening meter) is = tt
-tones_within (items.Key opening key) is = tt
-tones_within (items.Voice opening name) is = tt
-tones_within (items.Title title) is = tt
-tones_within (items.Order order) is = tt
-tones_within (items.Program opening number) is = tt
+tones_within _ is = tt
 
 pub all_earlier : (at k : ℕ) (notes : Notes) → AllFit (at + k) notes → AllFit at notes
 all_earlier at k notes fits = record {

@@ -22,22 +22,10 @@ use Rattle.abc_voices.proofs.Fitting.Voices.{IsHeard, size_of}
 one_of_three : (at : ℕ) (item : Item) (tempos : List (Grains × ℕ)) (meters : List (Grains × Meter)) (keys : List (Grains × (ℤ × Bool)))
     → length (cons_option (at_moment at (tempo_of item)) tempos) + length (cons_option (at_moment at (meter_of item)) meters)
     + length (cons_option (at_moment at (key_of item)) keys) ≤ length tempos + length meters + length keys + 1
-one_of_three at (items.Tempo opening None out) tempos meters keys = omega arith
 one_of_three at (items.Tempo opening (Some micros) out) tempos meters keys = omega arith
-one_of_three at (items.Meter opening None) tempos meters keys = omega arith
 one_of_three at (items.Meter opening (Some meter)) tempos meters keys = omega arith
-one_of_three at (items.Key opening None) tempos meters keys = omega arith
 one_of_three at (items.Key opening (Some key)) tempos meters keys = omega arith
-one_of_three at (items.Tone tones length) tempos meters keys = omega arith
-one_of_three at (items.Rest length bar) tempos meters keys = omega arith
-one_of_three at (items.Number number) tempos meters keys = omega arith
-one_of_three at (items.Bar bar) tempos meters keys = omega arith
-one_of_three at (items.Ending passes) tempos meters keys = omega arith
-one_of_three at (items.Section letter) tempos meters keys = omega arith
-one_of_three at (items.Voice opening name) tempos meters keys = omega arith
-one_of_three at (items.Title title) tempos meters keys = omega arith
-one_of_three at (items.Order order) tempos meters keys = omega arith
-one_of_three at (items.Program opening number) tempos meters keys = omega arith
+one_of_three at _ tempos meters keys = omega arith
 
 module _ {A : Type 0} (item_of : A → Item) where
   -- how many values steps set

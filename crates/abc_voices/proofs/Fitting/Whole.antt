@@ -67,134 +67,41 @@ notes_within end notes fits ends few =
 -- what the fields of a header and of a body say
 tempo_is : (item : Item) → IsItem item → IfSome (tempo_of item) FitsInTempoEvent
 tempo_is (items.Tempo opening micros out) is = is
-tempo_is (items.Tone tones length) is = tt
-tempo_is (items.Rest length bar) is = tt
-tempo_is (items.Number number) is = tt
-tempo_is (items.Bar bar) is = tt
-tempo_is (items.Ending passes) is = tt
-tempo_is (items.Section letter) is = tt
-tempo_is (items.Meter opening meter) is = tt
-tempo_is (items.Key opening key) is = tt
-tempo_is (items.Voice opening name) is = tt
-tempo_is (items.Title title) is = tt
-tempo_is (items.Order order) is = tt
-tempo_is (items.Program opening number) is = tt
+tempo_is _ is = tt
 
 meter_is : (item : Item) → IsItem item → IfSome (meter_of item) IsMeterInRange
 meter_is (items.Meter opening meter) is = is
-meter_is (items.Tone tones length) is = tt
-meter_is (items.Rest length bar) is = tt
-meter_is (items.Number number) is = tt
-meter_is (items.Bar bar) is = tt
-meter_is (items.Ending passes) is = tt
-meter_is (items.Section letter) is = tt
-meter_is (items.Tempo opening micros out) is = tt
-meter_is (items.Key opening key) is = tt
-meter_is (items.Voice opening name) is = tt
-meter_is (items.Title title) is = tt
-meter_is (items.Order order) is = tt
-meter_is (items.Program opening number) is = tt
+meter_is _ is = tt
 
 abbrev IsKey : ℤ × Bool → Type 0
 IsKey key = IsSharps key.0
 
 key_is : (item : Item) → IsItem item → IfSome (key_of item) IsKey
 key_is (items.Key opening key) is = is
-key_is (items.Tone tones length) is = tt
-key_is (items.Rest length bar) is = tt
-key_is (items.Number number) is = tt
-key_is (items.Bar bar) is = tt
-key_is (items.Ending passes) is = tt
-key_is (items.Section letter) is = tt
-key_is (items.Tempo opening micros out) is = tt
-key_is (items.Meter opening meter) is = tt
-key_is (items.Voice opening name) is = tt
-key_is (items.Title title) is = tt
-key_is (items.Order order) is = tt
-key_is (items.Program opening number) is = tt
+key_is _ is = tt
 
 abbrev IsProgram : ℕ → Type 0
 IsProgram number = number ≤ HIGHEST_PROGRAM
 
 program_is : (item : Item) → IsItem item → IfSome (program_of item) IsProgram
 program_is (items.Program opening number) is = is
-program_is (items.Tone tones length) is = tt
-program_is (items.Rest length bar) is = tt
-program_is (items.Number number) is = tt
-program_is (items.Bar bar) is = tt
-program_is (items.Ending passes) is = tt
-program_is (items.Section letter) is = tt
-program_is (items.Tempo opening micros out) is = tt
-program_is (items.Meter opening meter) is = tt
-program_is (items.Key opening key) is = tt
-program_is (items.Voice opening name) is = tt
-program_is (items.Title title) is = tt
-program_is (items.Order order) is = tt
+program_is _ is = tt
 
 tempo_past_is : (tempo : Option ℕ) (item : Item) → IfSome tempo FitsInTempoEvent → IsItem item → IfSome (tempo_past tempo item) FitsInTempoEvent
 tempo_past_is tempo (items.Tempo true micros out) was is = is
-tempo_past_is tempo (items.Tempo false micros out) was is = was
-tempo_past_is tempo (items.Tone tones length) was is = was
-tempo_past_is tempo (items.Rest length bar) was is = was
-tempo_past_is tempo (items.Number number) was is = was
-tempo_past_is tempo (items.Bar bar) was is = was
-tempo_past_is tempo (items.Ending passes) was is = was
-tempo_past_is tempo (items.Section letter) was is = was
-tempo_past_is tempo (items.Meter opening meter) was is = was
-tempo_past_is tempo (items.Key opening key) was is = was
-tempo_past_is tempo (items.Voice opening name) was is = was
-tempo_past_is tempo (items.Title title) was is = was
-tempo_past_is tempo (items.Order order) was is = was
-tempo_past_is tempo (items.Program opening number) was is = was
+tempo_past_is tempo _ was is = was
 
 meter_past_is : (meter : Option Meter) (item : Item) → IfSome meter IsMeterInRange → IsItem item → IfSome (meter_past meter item) IsMeterInRange
 meter_past_is meter (items.Meter true set) was is = is
-meter_past_is meter (items.Meter false set) was is = was
-meter_past_is meter (items.Tone tones length) was is = was
-meter_past_is meter (items.Rest length bar) was is = was
-meter_past_is meter (items.Number number) was is = was
-meter_past_is meter (items.Bar bar) was is = was
-meter_past_is meter (items.Ending passes) was is = was
-meter_past_is meter (items.Section letter) was is = was
-meter_past_is meter (items.Tempo opening micros out) was is = was
-meter_past_is meter (items.Key opening key) was is = was
-meter_past_is meter (items.Voice opening name) was is = was
-meter_past_is meter (items.Title title) was is = was
-meter_past_is meter (items.Order order) was is = was
-meter_past_is meter (items.Program opening number) was is = was
+meter_past_is meter _ was is = was
 
 key_past_is : (key : Option (ℤ × Bool)) (item : Item) → IfSome key IsKey → IsItem item → IfSome (key_past key item) IsKey
 key_past_is key (items.Key true set) was is = is
-key_past_is key (items.Key false set) was is = was
-key_past_is key (items.Tone tones length) was is = was
-key_past_is key (items.Rest length bar) was is = was
-key_past_is key (items.Number number) was is = was
-key_past_is key (items.Bar bar) was is = was
-key_past_is key (items.Ending passes) was is = was
-key_past_is key (items.Section letter) was is = was
-key_past_is key (items.Tempo opening micros out) was is = was
-key_past_is key (items.Meter opening meter) was is = was
-key_past_is key (items.Voice opening name) was is = was
-key_past_is key (items.Title title) was is = was
-key_past_is key (items.Order order) was is = was
-key_past_is key (items.Program opening number) was is = was
+key_past_is key _ was is = was
 
 program_past_is : (program : Option ℕ) (item : Item) → IfSome program IsProgram → IsItem item → IfSome (program_past program item) IsProgram
 program_past_is program (items.Program true (Some number)) was is = is
-program_past_is program (items.Program true None) was is = was
-program_past_is program (items.Program false number) was is = was
-program_past_is program (items.Tone tones length) was is = was
-program_past_is program (items.Rest length bar) was is = was
-program_past_is program (items.Number number) was is = was
-program_past_is program (items.Bar bar) was is = was
-program_past_is program (items.Ending passes) was is = was
-program_past_is program (items.Section letter) was is = was
-program_past_is program (items.Tempo opening micros out) was is = was
-program_past_is program (items.Meter opening meter) was is = was
-program_past_is program (items.Key opening key) was is = was
-program_past_is program (items.Voice opening name) was is = was
-program_past_is program (items.Title title) was is = was
-program_past_is program (items.Order order) was is = was
+program_past_is program _ was is = was
 
 or_else_is : {V : Type 0} (Q : V → Type 0) (value : V) (other : Option V) → Q value → IfSome other Q → Q (or_else value other)
 or_else_is Q value None is known = is
