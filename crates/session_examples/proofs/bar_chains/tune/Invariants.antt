@@ -4,5 +4,5 @@ use Rattle.abc_fold.specs.Piece.{IsKept}
 use Rattle.session_examples.proofs.bar_chains.tune.Given as goal
 
 -- nothing is kept yet
-abbrev pub invariant-loop : goal.invariant-loop
-invariant-loop l = All (IsKept bars) l.pieces.items
+abbrev pub invariant-loop-line : goal.invariant-loop-line
+invariant-loop-line g l = All (IsKept bars) l.pieces.items
