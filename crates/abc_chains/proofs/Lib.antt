@@ -25,3 +25,4 @@ pub mod Replaced
 pub mod Prepared
 pub mod Leading
 pub mod Led
+pub mod Putting

@@ -13,6 +13,7 @@ mod row;
 mod settle;
 mod stretch;
 mod text;
+mod tunes;
 mod whole;
 
 pub use row::{Row, read};

@@ -4,7 +4,8 @@ ghost use Rattle.std.specs.Prelude.{◌≡◌, ◌+◌, ◌-◌, ◌≤◌, ◌+
 ghost use Rattle.abc_book.specs.Laws.{moved};
 ghost use Rattle.abc_chains.specs.Holding.{LiesWithin};
 ghost use Rattle.abc_chains.specs.Renewing.{MayBeAnew, chains_after, tunes_after};
-ghost use Rattle.abc_chains.specs.Standing.{LiesBehind, gone, moved_on};
+ghost use Rattle.abc_chains.specs.Putting.{MayBePut, tunes_put};
+ghost use Rattle.abc_chains.specs.Standing.{LiesBehind, gone};
 ghost use Rattle.abc_lines.specs.GapList.{replaced_run};
 ghost use Rattle.abc_lines.specs.declared.limits.TheConstants.{MOST_LINES};
 
@@ -12,6 +13,7 @@ use crate::made::Renewed;
 use crate::row::Row;
 use crate::stretch::Stretch;
 use crate::text::KeptText;
+use crate::tunes::NewTunes;
 use abc_book::Block;
 use abc_compiler::Compiler;
 use abc_fold::{Chain, Resumable, Shared};
@@ -23,7 +25,7 @@ use std::alloc::{AllocError, Global};
 pub(crate) struct Placed<C: Compiler> {
     pub(crate) rows: SplicePatch<Row<C::Cell>>,
     pub(crate) chains: SplicePatch<Shared<Chain<C>>>,
-    pub(crate) tunes: Vec<Block>,
+    pub(crate) tunes: NewTunes,
     pub(crate) places: Vec<Block>,
 }
 
@@ -43,55 +45,6 @@ fn placed_tunes(alloc: Global, tunes: &[Block], stretch: Stretch) -> Result<Vec<
         })?;
     }
     Ok(places)
-}
-
-/// Appends the tunes behind a stretch, where they lie after the edit.
-fn append_behind(
-    tunes: &mut Vec<Block>,
-    old: &[Block],
-    stretch: Stretch,
-    count: usize,
-) -> Result<(), AllocError>
-    requires inside { stretch.behind ≤ length old.now }
-    requires beyond { All (LiesBehind stretch) (drop stretch.behind old.now) }
-    requires within { All (LiesWithin count) old.now }
-    requires order { stretch.from ≤ stretch.to }
-    requires numbers { count + stretch.came ≤ usize.MAX }
-    ensures { OnOk result (tunes.new.items ≡ tunes.old.items ++ map (moved_on stretch) (drop stretch.behind old.now)) }
-{
-    let gone = stretch.to - stretch.from;
-    for i in stretch.behind..old.len() {
-        let block = &old[i];
-        tunes.push(Block {
-            kind: block.kind,
-            from: block.from - gone + stretch.came,
-            to: block.to - gone + stretch.came,
-        })?;
-    }
-    Ok(())
-}
-
-/// Where the tunes of a text lie after an edit.
-fn all_tunes(
-    alloc: Global,
-    old: &[Block],
-    stretch: Stretch,
-    places: &[Block],
-    count: usize,
-) -> Result<Vec<Block>, AllocError>
-    requires order { stretch.front ≤ stretch.behind }
-    requires inside { stretch.behind ≤ length old.now }
-    requires beyond { All (LiesBehind stretch) (drop stretch.behind old.now) }
-    requires within { All (LiesWithin count) old.now }
-    requires lines { stretch.from ≤ stretch.to }
-    requires numbers { count + stretch.came ≤ usize.MAX }
-    ensures { IfOk result (λ tunes. tunes.items ≡ take stretch.front old.now ++ (places.now ++ map (moved_on stretch) (drop stretch.behind old.now))) }
-{
-    let mut tunes = Vec::new(alloc);
-    tunes.extend_from_slice(&old[..stretch.front])?;
-    tunes.extend_from_slice(places)?;
-    append_behind(&mut tunes, old, stretch, count)?;
-    Ok(tunes)
 }
 
 /// Appends shares of chains.
@@ -163,14 +116,16 @@ impl<C: Compiler> KeptText<C> {
         ensures rows { IfOk result (λ placed. placed.rows.after.items ≡ replaced_run self.now.rows.items at removed new.items) }
         ensures chains_on { IfOk result (λ placed. placed.chains.on ≡ self.now.chains) }
         ensures chains { IfOk result (λ placed. placed.chains.after.items ≡ chains_after renewed.now.first renewed.now.stretch self.now.chains.items renewed.now.folded.made.items) }
-        ensures tunes { IfOk result (λ placed. placed.tunes.items ≡ tunes_after renewed.now.stretch self.now.tunes renewed.now.folded.tunes.items) }
+        ensures tunes { IfOk result (λ placed. tunes_put placed.tunes renewed.now.stretch self.now.tunes placed.places.items ≡ tunes_after renewed.now.stretch self.now.tunes renewed.now.folded.tunes.items) }
+        ensures put { IfOk result (λ placed. MayBePut placed.tunes renewed.now.stretch self.now.tunes placed.places.items) }
         ensures places { IfOk result (λ placed. placed.places.items ≡ map (moved renewed.now.stretch.from) renewed.now.folded.tunes.items) }
     {
         let alloc = self.lines.allocator();
         let stretch = renewed.stretch;
-        let count = self.lines.len();
+        // The text has no more lines than it may have.
+        let _ = self.lines.len();
         let places = placed_tunes(alloc, &renewed.folded.tunes, stretch)?;
-        let tunes = all_tunes(alloc, &self.tunes, stretch, &places, count)?;
+        let tunes = NewTunes::of(alloc, &self.tunes, stretch, &places)?;
         let rows = self.rows.splice_prepare(alloc, at, removed, new)?;
         match self.place_chains(stretch, &renewed.first, &renewed.folded.made) {
             Ok(chains) => Ok(Placed {

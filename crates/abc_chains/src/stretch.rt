@@ -40,11 +40,17 @@ fn begun_before(tunes: &[Block], first: usize, line: usize) -> usize
     ensures next { line ≤ start_of (drop result tunes.now) line }
     ensures last { first < result → start_of (drop (result - 1) tunes.now) 0 < line }
 {
-    let mut count = first;
-    while count < tunes.len() && tunes[count].from < line {
-        count += 1;
+    let mut begun = first;
+    let mut end = tunes.len();
+    while begun < end {
+        let middle = begun + (end - begun) / 2;
+        if tunes[middle].from < line {
+            begun = middle + 1;
+        } else {
+            end = middle;
+        }
     }
-    count
+    begun
 }
 
 /// The stretch of an edit of a text with so many lines: from the last tune that begins before it to the first that

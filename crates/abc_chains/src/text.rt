@@ -5,6 +5,7 @@ ghost use Rattle.std.specs.Prelude.{◌≡◌, ◌≢◌, ◌+◌, ◌≤◌, []
 ghost use Rattle.std.specs.List.{AllZip};
 ghost use Rattle.abc_chains.specs.Standing.{AreRows, IsStretch, IsWorkUpTo, Stands, all_taken};
 ghost use Rattle.abc_book.specs.Laws.{moved};
+ghost use Rattle.abc_chains.specs.Putting.{MayBePut, tunes_put};
 ghost use Rattle.abc_chains.specs.Renewing.{IsRenewed, chains_after, tunes_after};
 ghost use Rattle.abc_chains.specs.Taking.{HasItemsOf, TakesUntouched};
 ghost use Rattle.abc_fold.specs.Chain.{no_cells};
@@ -18,6 +19,7 @@ use crate::place::Placed;
 use crate::renew::Folded;
 use crate::row::{Row, read};
 use crate::stretch::Stretch;
+use crate::tunes::NewTunes;
 use abc_book::Block;
 use abc_compiler::Compiler;
 use abc_fold::{Chain, Counts, Fold, Resumable, Shared};
@@ -56,7 +58,7 @@ pub struct KeptPatch<C: Compiler> {
     pub(crate) lines: LinePatch,
     rows: SplicePatch<Row<C::Cell>>,
     header: Option<Block>,
-    tunes: Vec<Block>,
+    tunes: NewTunes,
     chains: SplicePatch<Shared<Chain<C>>>,
     stretch: Stretch,
     made: Vec<Shared<Chain<C>>>,
@@ -65,14 +67,15 @@ pub struct KeptPatch<C: Compiler> {
 }
 
 impl<C: Compiler> Model for KeptPatch<C> {
+    ghost use Rattle.abc_chains.specs.Putting.{MayBePut, tunes_put};
     ghost use Rattle.abc_chains.specs.Standing.{Edited, IsPatch};
     ghost use Rattle.abc_fold.specs.Steps.{steps_of};
 
     ghost Value = { Edited C C.State C.Cell C.Items };
 
-    ghost view = { λ p. record { on = p.on.value; text = p.lines.after; rows = p.rows.after.items; header = p.header; tunes = p.tunes.items; chains = p.chains.after.items; stretch = p.stretch; made = p.made.items; places = p.places.items; taken = p.taken.items } };
+    ghost view = { λ p. record { on = p.on.value; text = p.lines.after; rows = p.rows.after.items; header = p.header; tunes = tunes_put p.tunes p.stretch p.on.value.tunes p.places.items; chains = p.chains.after.items; stretch = p.stretch; made = p.made.items; places = p.places.items; taken = p.taken.items } };
 
-    ghost invariant = { λ p. IsPatch (steps_of (C.next p.on.value.compiler) (C.gives p.on.value.compiler) (C.alike p.on.value.compiler)) (C.rules p.on.value.compiler) p.on.value p.lines p.rows p.header p.tunes.items p.chains };
+    ghost invariant = { λ p. IsPatch (steps_of (C.next p.on.value.compiler) (C.gives p.on.value.compiler) (C.alike p.on.value.compiler)) (C.rules p.on.value.compiler) p.on.value p.lines p.rows p.header (tunes_put p.tunes p.stretch p.on.value.tunes p.places.items) p.chains × MayBePut p.tunes p.stretch p.on.value.tunes p.places.items };
 }
 
 /// What an edit makes anew, and what it puts in place.
@@ -160,7 +163,8 @@ impl<C: Compiler> KeptText<C> {
             IfOk result (λ made. AreRows (C.rules c) (spliced self.now.lines.text (splice_from at removed lines.now)) made.placed.rows.after.items) }
         ensures chains_on { IfOk result (λ made. made.placed.chains.on ≡ self.now.chains) }
         ensures chains { IfOk result (λ made. made.placed.chains.after.items ≡ chains_after made.renewed.first made.renewed.stretch self.now.chains.items made.renewed.folded.made.items) }
-        ensures tunes { IfOk result (λ made. made.placed.tunes.items ≡ tunes_after made.renewed.stretch self.now.tunes made.renewed.folded.tunes.items) }
+        ensures tunes { IfOk result (λ made. tunes_put made.placed.tunes made.renewed.stretch self.now.tunes made.placed.places.items ≡ tunes_after made.renewed.stretch self.now.tunes made.renewed.folded.tunes.items) }
+        ensures put { IfOk result (λ made. MayBePut made.placed.tunes made.renewed.stretch self.now.tunes made.placed.places.items) }
         ensures places { IfOk result (λ made. made.placed.places.items ≡ map (moved made.renewed.stretch.from) made.renewed.folded.tunes.items) }
         ensures counted { let c = self.now.compiler in
             IsWorkUpTo (length lines.now) (fresh_after (steps_of (C.next c) (C.gives c) (C.alike c)) (C.rules c) self.now.lines.text (splice_from at removed lines.now)) (C.Work.counts work.old) (C.Work.counts work.new) }
@@ -254,15 +258,15 @@ impl<C: Compiler> KeptText<C> {
             header,
             tunes,
             chains,
-            stretch: _,
+            stretch,
             made: _,
-            places: _,
+            places,
             taken: _,
         } = patch;
+        tunes.put_in_place(&mut self.tunes, stretch, &places);
         self.lines.commit(lines);
         self.rows.commit(rows);
         self.header = header;
-        self.tunes = tunes;
         self.chains.commit(chains);
     }
 }

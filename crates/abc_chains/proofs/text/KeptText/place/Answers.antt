@@ -1,19 +1,20 @@
 use Rattle.std.proofs.Common.{◌≡◌, ◌≤◌, ◌+◌, All, length, sym, subst, arith}
 use Rattle.abc_fold.specs.Steps.{steps_of}
 use Rattle.abc_lines.specs.GapList.{replaced_run}
+use Rattle.abc_lines.specs.declared.limits.TheConstants.{MOST_LINES}
 use Rattle.abc_chains.specs.Holding.{LiesWithin}
 use Rattle.abc_chains.specs.Standing.{Keeping}
 use Rattle.abc_chains.proofs.Narrowed.{chain_total, tunes_inside}
+use Rattle.abc_chains.proofs.Putting.{within_most}
 use Rattle.abc_chains.proofs.Replaced.{items_after}
 use Rattle.abc_chains.proofs.text.KeptText.place.Goals as goal
 
-pub all_tunes-requires-clause-within : goal.all_tunes-requires-clause-within
-all_tunes-requires-clause-within g c =
+pub of-requires-clause-within : goal.of-requires-clause-within
+of-requires-clause-within g c =
     let on : Keeping g.row.C.Denot g.row.C-State.Denot g.row.C-Cell.Denot g.row.C-Items.Denot = record { compiler = c.self.inside.compiler; lines = c.self.inside.lines; rows = c.self.inside.rows; header = c.self.inside.header; tunes = c.self.inside.tunes.items; chains = c.self.inside.chains } in
     let steps = steps_of (g.C.Fold.next c.self.inside.compiler) (g.C.Fold.gives c.self.inside.compiler) (g.C.Resumable.alike c.self.inside.compiler) in
     let rules' = g.C.Compiler.rules c.self.inside.compiler in
-    subst (λ n. All (LiesWithin n) c.deref-2.result.now) (sym c.len-count.ensures.count)
-    (subst (All (LiesWithin (length c.self.inside.lines.text))) (sym c.deref-2.ensures.value) (tunes_inside steps rules' on c.self.invariant))
+    subst (All (LiesWithin MOST_LINES)) (sym c.deref-2.ensures.value) (within_most (length c.self.inside.lines.text) MOST_LINES c.self.inside.tunes.items (tunes_inside steps rules' on c.self.invariant) c.len.ensures.limits.count)
 
 pub place_chains-requires-clause-inside : goal.place_chains-requires-clause-inside
 place_chains-requires-clause-inside g c =

@@ -1,6 +1,7 @@
 use Rattle.std.proofs.Common.{◌≡◌, ◌+◌, ◌≤◌, length, ap, sym, ◌∙◌, subst}
 use Rattle.abc_fold.specs.Steps.{steps_of}
 use Rattle.abc_lines.specs.Text.{IsText, Text, splice_from, spliced}
+use Rattle.abc_chains.specs.Putting.{MayBePut, tunes_put}
 use Rattle.abc_chains.specs.Standing.{Keeping, Stands}
 use Rattle.abc_chains.proofs.Edits.{accepted}
 use Rattle.abc_chains.proofs.Prepared.{new_stands, new_stretch}
@@ -30,16 +31,19 @@ invariant_of-result g c =
     let s = splice_from c.args.at c.args.removed c.args.lines.now in
     let made = c.in-Ok.made in
     let r = made.renewed in
+    let all = tunes_put made.placed.tunes r.stretch now.tunes made.placed.places.items in
     let text : c.in_ok-patch.patch.after ≡ spliced now.lines.text s =
     (accepted c.self.inside.lines.text s c.in_ok-patch.patch.after c.in_ok-patch.ensures.after).1 ∙ ap (λ (k : Keeping g.row.C.Denot g.row.C-State.Denot g.row.C-Cell.Denot g.row.C-Items.Denot). spliced k.lines.text s) c.self.view_is in
-    let own = new_stands steps rules' now s r.stretch r.header r.first r.folded.tunes.items r.folded.made.items r.folded.taken.items stands c.in-Ok.ensures.renewed made.placed.rows.after.items made.placed.tunes.items made.placed.chains.after.items c.in-Ok.ensures.rows c.in-Ok.ensures.tunes c.in-Ok.ensures.chains in
-    let there = subst (λ (t : Text). Stands steps rules' t made.placed.rows.after.items r.header made.placed.tunes.items made.placed.chains.after.items) (sym text) own in
-    record {
-      lines_on = c.in_ok-patch.ensures.on ∙ (ap (λ (k : Keeping g.row.C.Denot g.row.C-State.Denot g.row.C-Cell.Denot g.row.C-Items.Denot). k.lines) c.self.view_is ∙ sym (ap (λ (k : Keeping g.row.C.Denot g.row.C-State.Denot g.row.C-Cell.Denot g.row.C-Items.Denot). k.lines) c.of.ensures));
-      rows_on = c.in-Ok.ensures.rows_on ∙ sym (ap (λ (k : Keeping g.row.C.Denot g.row.C-State.Denot g.row.C-Cell.Denot g.row.C-Items.Denot). k.rows) c.of.ensures);
-      chains_on = c.in-Ok.ensures.chains_on ∙ sym (ap (λ (k : Keeping g.row.C.Denot g.row.C-State.Denot g.row.C-Cell.Denot g.row.C-Items.Denot). k.chains) c.of.ensures);
-      stands = subst (λ (k : Keeping g.row.C.Denot g.row.C-State.Denot g.row.C-Cell.Denot g.row.C-Items.Denot). Stands (steps_of (g.C.Fold.next k.compiler) (g.C.Fold.gives k.compiler) (g.C.Resumable.alike k.compiler)) (g.C.Compiler.rules k.compiler) c.in_ok-patch.patch.after made.placed.rows.after.items r.header made.placed.tunes.items made.placed.chains.after.items) (sym c.of.ensures) there;
-    }
+    let own = new_stands steps rules' now s r.stretch r.header r.first r.folded.tunes.items r.folded.made.items r.folded.taken.items stands c.in-Ok.ensures.renewed made.placed.rows.after.items all made.placed.chains.after.items c.in-Ok.ensures.rows c.in-Ok.ensures.tunes c.in-Ok.ensures.chains in
+    let there = subst (λ (t : Text). Stands steps rules' t made.placed.rows.after.items r.header all made.placed.chains.after.items) (sym text) own in (
+      record {
+        lines_on = c.in_ok-patch.ensures.on ∙ (ap (λ (k : Keeping g.row.C.Denot g.row.C-State.Denot g.row.C-Cell.Denot g.row.C-Items.Denot). k.lines) c.self.view_is ∙ sym (ap (λ (k : Keeping g.row.C.Denot g.row.C-State.Denot g.row.C-Cell.Denot g.row.C-Items.Denot). k.lines) c.of.ensures));
+        rows_on = c.in-Ok.ensures.rows_on ∙ sym (ap (λ (k : Keeping g.row.C.Denot g.row.C-State.Denot g.row.C-Cell.Denot g.row.C-Items.Denot). k.rows) c.of.ensures);
+        chains_on = c.in-Ok.ensures.chains_on ∙ sym (ap (λ (k : Keeping g.row.C.Denot g.row.C-State.Denot g.row.C-Cell.Denot g.row.C-Items.Denot). k.chains) c.of.ensures);
+        stands = subst (λ (k : Keeping g.row.C.Denot g.row.C-State.Denot g.row.C-Cell.Denot g.row.C-Items.Denot). Stands (steps_of (g.C.Fold.next k.compiler) (g.C.Fold.gives k.compiler) (g.C.Resumable.alike k.compiler)) (g.C.Compiler.rules k.compiler) c.in_ok-patch.patch.after made.placed.rows.after.items r.header (tunes_put made.placed.tunes r.stretch k.tunes made.placed.places.items) made.placed.chains.after.items) (sym c.of.ensures) there;
+      },
+      subst (λ (k : Keeping g.row.C.Denot g.row.C-State.Denot g.row.C-Cell.Denot g.row.C-Items.Denot). MayBePut made.placed.tunes r.stretch k.tunes made.placed.places.items) (sym c.of.ensures) c.in-Ok.ensures.put,
+    )
 
 pub returns-in-Ok-clause-stands : goal.returns-in-Ok-clause-stands
 returns-in-Ok-clause-stands g c =
@@ -51,11 +55,12 @@ returns-in-Ok-clause-stands g c =
     let s = splice_from c.args.at c.args.removed c.args.lines.now in
     let made = c.in-Ok.made in
     let r = made.renewed in
+    let all = tunes_put made.placed.tunes r.stretch now.tunes made.placed.places.items in
     let text : c.in_ok-patch.patch.after ≡ spliced now.lines.text s =
     (accepted c.self.inside.lines.text s c.in_ok-patch.patch.after c.in_ok-patch.ensures.after).1 ∙ ap (λ (k : Keeping g.row.C.Denot g.row.C-State.Denot g.row.C-Cell.Denot g.row.C-Items.Denot). spliced k.lines.text s) c.self.view_is in
-    let own = new_stands steps rules' now s r.stretch r.header r.first r.folded.tunes.items r.folded.made.items r.folded.taken.items stands c.in-Ok.ensures.renewed made.placed.rows.after.items made.placed.tunes.items made.placed.chains.after.items c.in-Ok.ensures.rows c.in-Ok.ensures.tunes c.in-Ok.ensures.chains in
-    let there = subst (λ (t : Text). Stands steps rules' t made.placed.rows.after.items r.header made.placed.tunes.items made.placed.chains.after.items) (sym text) own in
-    there
+    let own = new_stands steps rules' now s r.stretch r.header r.first r.folded.tunes.items r.folded.made.items r.folded.taken.items stands c.in-Ok.ensures.renewed made.placed.rows.after.items all made.placed.chains.after.items c.in-Ok.ensures.rows c.in-Ok.ensures.tunes c.in-Ok.ensures.chains in
+    let there = subst (λ (t : Text). Stands steps rules' t made.placed.rows.after.items r.header all made.placed.chains.after.items) (sym text) own in
+    subst (λ (k : Keeping g.row.C.Denot g.row.C-State.Denot g.row.C-Cell.Denot g.row.C-Items.Denot). Stands steps rules' c.in_ok-patch.patch.after made.placed.rows.after.items r.header (tunes_put made.placed.tunes r.stretch k.tunes made.placed.places.items) made.placed.chains.after.items) (sym c.of.ensures) there
 
 pub returns-in-Ok-clause-stretch : goal.returns-in-Ok-clause-stretch
 returns-in-Ok-clause-stretch g c =
@@ -67,9 +72,10 @@ returns-in-Ok-clause-stretch g c =
     let s = splice_from c.args.at c.args.removed c.args.lines.now in
     let made = c.in-Ok.made in
     let r = made.renewed in
+    let all = tunes_put made.placed.tunes r.stretch now.tunes made.placed.places.items in
     let text : c.in_ok-patch.patch.after ≡ spliced now.lines.text s =
     (accepted c.self.inside.lines.text s c.in_ok-patch.patch.after c.in_ok-patch.ensures.after).1 ∙ ap (λ (k : Keeping g.row.C.Denot g.row.C-State.Denot g.row.C-Cell.Denot g.row.C-Items.Denot). spliced k.lines.text s) c.self.view_is in
-    let own = new_stands steps rules' now s r.stretch r.header r.first r.folded.tunes.items r.folded.made.items r.folded.taken.items stands c.in-Ok.ensures.renewed made.placed.rows.after.items made.placed.tunes.items made.placed.chains.after.items c.in-Ok.ensures.rows c.in-Ok.ensures.tunes c.in-Ok.ensures.chains in
-    let there = subst (λ (t : Text). Stands steps rules' t made.placed.rows.after.items r.header made.placed.tunes.items made.placed.chains.after.items) (sym text) own in
-    new_stretch steps rules' now s r.stretch r.header r.first r.folded.tunes.items r.folded.made.items r.folded.taken.items stands c.in-Ok.ensures.renewed c.in_ok-patch.patch.after made.placed.rows.after.items made.placed.tunes.items made.placed.places.items made.placed.chains.after.items text c.in-Ok.ensures.tunes c.in-Ok.ensures.places c.in-Ok.ensures.chains _
-    (ap (λ (k : Keeping g.row.C.Denot g.row.C-State.Denot g.row.C-Cell.Denot g.row.C-Items.Denot). record { on = k; text = c.in_ok-patch.patch.after; rows = made.placed.rows.after.items; header = r.header; tunes = made.placed.tunes.items; chains = made.placed.chains.after.items; stretch = r.stretch; made = r.folded.made.items; places = made.placed.places.items; taken = r.folded.taken.items }) c.of.ensures)
+    let own = new_stands steps rules' now s r.stretch r.header r.first r.folded.tunes.items r.folded.made.items r.folded.taken.items stands c.in-Ok.ensures.renewed made.placed.rows.after.items all made.placed.chains.after.items c.in-Ok.ensures.rows c.in-Ok.ensures.tunes c.in-Ok.ensures.chains in
+    let there = subst (λ (t : Text). Stands steps rules' t made.placed.rows.after.items r.header all made.placed.chains.after.items) (sym text) own in
+    new_stretch steps rules' now s r.stretch r.header r.first r.folded.tunes.items r.folded.made.items r.folded.taken.items stands c.in-Ok.ensures.renewed c.in_ok-patch.patch.after made.placed.rows.after.items all made.placed.places.items made.placed.chains.after.items text c.in-Ok.ensures.tunes c.in-Ok.ensures.places c.in-Ok.ensures.chains _
+    (ap (λ (k : Keeping g.row.C.Denot g.row.C-State.Denot g.row.C-Cell.Denot g.row.C-Items.Denot). record { on = k; text = c.in_ok-patch.patch.after; rows = made.placed.rows.after.items; header = r.header; tunes = tunes_put made.placed.tunes r.stretch k.tunes made.placed.places.items; chains = made.placed.chains.after.items; stretch = r.stretch; made = r.folded.made.items; places = made.placed.places.items; taken = r.folded.taken.items }) c.of.ensures)

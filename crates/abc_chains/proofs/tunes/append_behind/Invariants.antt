@@ -1,6 +1,6 @@
 use Rattle.std.proofs.Common.{◌≡◌, ◌-◌, ◌++◌, map, take, drop}
 use Rattle.abc_chains.specs.Standing.{moved_on}
-use Rattle.abc_chains.proofs.place.append_behind.Given as goal
+use Rattle.abc_chains.proofs.tunes.append_behind.Given as goal
 
 abbrev pub invariant-loop-i : goal.invariant-loop-i
 invariant-loop-i l = record {
