@@ -96,13 +96,13 @@ tunes_folded steps read opening text (chain ∷ chains) [] all = absurd all
 tunes_folded steps read opening text (chain ∷ chains) (block ∷ blocks) all =
     All-cons (IsFolded steps) chain chains (inr (opening, all.0.folds)) (tunes_folded steps read opening text chains blocks all.1)
 
-header_folded : {State Cell Items : Type 0} (steps : Steps State Cell Items) (read : List ℕ → List Cell) (first : State) (text : Text) (chain : Chained State Cell Items) (header : Option Block) → IsHeaderOf steps read first text chain header → IsFolded steps chain
-header_folded steps read first text chain None own = inl own
-header_folded steps read first text chain (Some block) own = inr (first, own.folds)
+header_folded : {State Cell Items Defaults : Type 0} (steps : Steps State Cell Items) (rules : Rules State Cell Items Defaults) (text : Text) (chain : Chained State Cell Items) (header : Option Block) → IsHeaderOf steps rules text chain header → IsFolded steps chain
+header_folded steps rules text chain None own = inl own
+header_folded steps rules text chain (Some block) own = inr (rules.header, own.folds)
 
 -- The chains of a text are folds.
 pub are_folded : {State Cell Items Defaults : Type 0} (steps : Steps State Cell Items) (rules : Rules State Cell Items Defaults) (text : Text) (chains : List (Chained State Cell Items)) → AreChains steps rules text chains → All (IsFolded steps) chains
 are_folded steps rules text [] own = absurd own
 are_folded steps rules text (chain ∷ chains) own =
-    All-cons (IsFolded steps) chain chains (header_folded steps rules.cells rules.header text chain (header_in (blocks_in rules text)) own.0)
+    All-cons (IsFolded steps) chain chains (header_folded steps rules text chain (header_in (blocks_in rules text)) own.0)
     (tunes_folded steps rules.cells (opening_of steps.next rules text (blocks_in rules text)) text chains (tunes_in (blocks_in rules text)) own.1)

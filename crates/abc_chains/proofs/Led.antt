@@ -301,7 +301,7 @@ module _ {C State Cell Items Defaults : Type 0} (steps : Steps State Cell Items)
             header_is = h;
             tunes_are = all;
             chains_are = (
-              header_made steps rules.cells rules.header new all_rows first (header_in now_blocks) laws all_renewed.read.cells head,
+              header_made steps rules new all_rows first (header_in now_blocks) laws all_renewed.read.cells head,
               subst (AllZip Q (made ++ drop lead.behind (drop 1 on.chains.items))) (sym (all ∙ ap (λ (t : List Block). map (moved 0) tunes ++ map moved_on (drop lead.behind t)) same)) both,
             );
             count = zip_length (IsChain steps own run) made tunes chains;

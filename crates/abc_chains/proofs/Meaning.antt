@@ -198,25 +198,25 @@ kept_tune steps read opening text chain chains blocks was i all h e =
     let number : suc own.0 ≡ was.source = (let n : suc own.0 ≡ 1 + own.0 = omega arith in n) ∙ sym own.1 in
     subst (λ k. AllZip (IsAlike steps) (entries_at (chain ∷ chains) k) (states_of steps read text was)) number own.2
 
-kept_all : {State Cell Items : Type 0} (steps : Steps State Cell Items) (read : List ℕ → List Cell) (first opening : State) (text : Text) (chain : Chained State Cell Items) (chains : List (Chained State Cell Items)) (header : Option Block) (blocks : List Block)
-    → IsHeaderOf steps read first text chain header → AllZip (IsChainOf steps read opening text) chains blocks
-    → (was : Chain State) → Contains (header_chain first header ++ tune_chains 1 opening blocks) was
-    → AllZip (IsAlike steps) (entries_at (chain ∷ chains) was.source) (states_of steps read text was)
-kept_all steps read first opening text chain chains None blocks own all was member =
-    kept_tune steps read opening text chain chains blocks was member.0 all member.1 member.2
-kept_all {State = State} steps read first opening text chain chains (Some block) blocks own all was (zero, h, e) =
+kept_all : {State Cell Items Defaults : Type 0} (steps : Steps State Cell Items) (rules : Rules State Cell Items Defaults) (opening : State) (text : Text) (chain : Chained State Cell Items) (chains : List (Chained State Cell Items)) (header : Option Block) (blocks : List Block)
+    → IsHeaderOf steps rules text chain header → AllZip (IsChainOf steps rules.cells opening text) chains blocks
+    → (was : Chain State) → Contains (header_chain rules.header header ++ tune_chains 1 opening blocks) was
+    → AllZip (IsAlike steps) (entries_at (chain ∷ chains) was.source) (states_of steps rules.cells text was)
+kept_all steps rules opening text chain chains None blocks own all was member =
+    kept_tune steps rules.cells opening text chain chains blocks was member.0 all member.1 member.2
+kept_all {State = State} steps rules opening text chain chains (Some block) blocks own all was (zero, h, e) =
     let number : 0 ≡ was.source = ap (λ (c : Chain State). c.source) e in
-    subst (λ k. AllZip (IsAlike steps) (entries_at (chain ∷ chains) k) (states_of steps read text was)) number
-    (subst (λ (c : Chain State). AllZip (IsAlike steps) chain.entries (states_of steps read text c)) e (kept_here steps read first text chain 0 block own))
-kept_all steps read first opening text chain chains (Some block) blocks own all was (suc i, h, e) =
-    kept_tune steps read opening text chain chains blocks was i all (omega arith) e
+    subst (λ k. AllZip (IsAlike steps) (entries_at (chain ∷ chains) k) (states_of steps rules.cells text was)) number
+    (subst (λ (c : Chain State). AllZip (IsAlike steps) chain.entries (states_of steps rules.cells text c)) e (kept_here steps rules.cells rules.header text chain 0 block own))
+kept_all steps rules opening text chain chains (Some block) blocks own all was (suc i, h, e) =
+    kept_tune steps rules.cells opening text chain chains blocks was i all (omega arith) e
 
 -- The chains of a text are kept.
 pub are_kept : {State Cell Items Defaults : Type 0} (steps : Steps State Cell Items) (rules : Rules State Cell Items Defaults) (text : Text) (chains : List (Chained State Cell Items))
     → AreChains steps rules text chains → AreKept steps rules.cells (laid_in steps rules text) (entries_at chains)
 are_kept steps rules text [] own = absurd own
 are_kept steps rules text (chain ∷ chains) own =
-    kept_all steps rules.cells rules.header (opening_of steps.next rules text (blocks_in rules text)) text chain chains (header_in (blocks_in rules text)) (tunes_in (blocks_in rules text)) own.0 own.1
+    kept_all steps rules (opening_of steps.next rules text (blocks_in rules text)) text chain chains (header_in (blocks_in rules text)) (tunes_in (blocks_in rules text)) own.0 own.1
 
 -- The steps over the blocks of a new text are its fresh cells.
 pub edit_steps : {State Cell Items Defaults : Type 0} (steps : Steps State Cell Items) (rules : Rules State Cell Items Defaults) (text : Text) (s : Splice) (old : List (Chained State Cell Items)) (rows : List (CarriedRow Cell)) (own : State)

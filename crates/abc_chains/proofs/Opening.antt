@@ -37,7 +37,7 @@ last_state steps (cell ∷ placed) (entry ∷ entries) state alike = last_state 
 
 -- The tunes begin in a state alike to the definition's.
 pub opening_alike : {State Cell Items Defaults : Type 0} (steps : Steps State Cell Items) (rules : Rules State Cell Items Defaults) (text : Text) (chain : Chained State Cell Items) (header : Option Block)
-    → IsResumable steps → AreLawful steps rules → IsHeaderOf steps rules.cells rules.header text chain header
+    → IsResumable steps → AreLawful steps rules → IsHeaderOf steps rules text chain header
     → IsAlike steps (rules.tune (behind_chain header chain)) (rules.tune (behind_header steps.next rules text header))
 opening_alike steps rules text chain None laws lawful own = laws.reflexive (rules.tune None)
 opening_alike {State = State} {Cell = Cell} steps rules text chain (Some block) laws lawful own =
@@ -64,10 +64,10 @@ tunes_made steps read own opening text rows (chain ∷ chains) [] laws alike cel
 tunes_made steps read own opening text rows (chain ∷ chains) (block ∷ blocks) laws alike cells made =
     (chain_made steps read own opening text rows chain block laws alike cells made.0, tunes_made steps read own opening text rows chains blocks laws alike cells made.1)
 
-pub header_made : {State Cell Items : Type 0} (steps : Steps State Cell Items) (read : List ℕ → List Cell) (first : State) (text : Text) (rows : List (CarriedRow Cell)) (chain : Chained State Cell Items) (header : Option Block)
-    → IsResumable steps → map cells_in rows ≡ map read text → IsHeader steps first rows chain header → IsHeaderOf steps read first text chain header
-header_made steps read first text rows chain None laws cells made = made
-header_made steps read first text rows chain (Some block) laws cells made = chain_made steps read first first text rows chain block laws (laws.reflexive first) cells made
+pub header_made : {State Cell Items Defaults : Type 0} (steps : Steps State Cell Items) (rules : Rules State Cell Items Defaults) (text : Text) (rows : List (CarriedRow Cell)) (chain : Chained State Cell Items) (header : Option Block)
+    → IsResumable steps → map cells_in rows ≡ map rules.cells text → IsHeader steps rules.header rows chain header → IsHeaderOf steps rules text chain header
+header_made steps rules text rows chain None laws cells made = made
+header_made steps rules text rows chain (Some block) laws cells made = chain_made steps rules.cells rules.header rules.header text rows chain block laws (laws.reflexive rules.header) cells made
 
 -- The opening that the chain of the file header gives.
 pub own_opening : {State Cell Items Defaults : Type 0} (steps : Steps State Cell Items) (rules : Rules State Cell Items Defaults) (text : Text) (rows : List (CarriedRow Cell)) (blocks : List Block) (chain : Chained State Cell Items) (own : State)
@@ -77,7 +77,7 @@ pub own_opening : {State Cell Items Defaults : Type 0} (steps : Steps State Cell
 own_opening steps rules text rows blocks chain own laws lawful read are made is =
     let same : blocks ≡ blocks_in rules text = are ∙ ap blocks_of read.classes in
     subst (λ (b : List Block). IsAlike steps own (opening_of steps.next rules text b)) same
-    (rw is (opening_alike steps rules text chain (header_in blocks) laws lawful (header_made steps rules.cells rules.header text rows chain (header_in blocks) laws read.cells made)))
+    (rw is (opening_alike steps rules text chain (header_in blocks) laws lawful (header_made steps rules text rows chain (header_in blocks) laws read.cells made)))
 
 -- The chains that are made are those of the text.
 pub chains_made : {State Cell Items Defaults : Type 0} (steps : Steps State Cell Items) (rules : Rules State Cell Items Defaults) (text : Text) (rows : List (CarriedRow Cell)) (blocks : List Block) (chain : Chained State Cell Items) (own : State) (chains : List (Chained State Cell Items))
@@ -87,6 +87,6 @@ pub chains_made : {State Cell Items Defaults : Type 0} (steps : Steps State Cell
     → AreChains steps rules text (chain ∷ chains)
 chains_made steps rules text rows blocks chain own chains laws read are alike first made =
     let same : blocks ≡ blocks_in rules text = are ∙ ap blocks_of read.classes in (
-      subst (λ (b : List Block). IsHeaderOf steps rules.cells rules.header text chain (header_in b)) same (header_made steps rules.cells rules.header text rows chain (header_in blocks) laws read.cells first),
+      subst (λ (b : List Block). IsHeaderOf steps rules text chain (header_in b)) same (header_made steps rules text rows chain (header_in blocks) laws read.cells first),
       subst (λ (b : List Block). AllZip (IsChainOf steps rules.cells (opening_of steps.next rules text (blocks_in rules text)) text) chains (tunes_in b)) same (tunes_made steps rules.cells own (opening_of steps.next rules text (blocks_in rules text)) text rows chains (tunes_in blocks) laws alike read.cells made),
     )

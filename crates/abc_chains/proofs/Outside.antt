@@ -65,10 +65,10 @@ chain_behind steps read opening text new from gone came chain block e starts own
 abbrev pub HeaderEnds : ℕ → Option Block → Type 0
 HeaderEnds from header = (block : Block) → header ≡ Some block → Ends from block
 
-header_before : {State Cell Items : Type 0} (steps : Steps State Cell Items) (read : List ℕ → List Cell) (first : State) (text new : Text) (from : ℕ) (chain : Chained State Cell Items) (header : Option Block) → take from new ≡ take from text → HeaderEnds from header
-    → IsHeaderOf steps read first text chain header → IsHeaderOf steps read first new chain header
-header_before steps read first text new from chain None e ends own = own
-header_before steps read first text new from chain (Some block) e ends own = chain_before steps read first text new from chain block e (ends block refl) own
+header_before : {State Cell Items Defaults : Type 0} (steps : Steps State Cell Items) (rules : Rules State Cell Items Defaults) (text new : Text) (from : ℕ) (chain : Chained State Cell Items) (header : Option Block) → take from new ≡ take from text → HeaderEnds from header
+    → IsHeaderOf steps rules text chain header → IsHeaderOf steps rules new chain header
+header_before steps rules text new from chain None e ends own = own
+header_before steps rules text new from chain (Some block) e ends own = chain_before steps rules.cells rules.header text new from chain block e (ends block refl) own
 
 state_before : {State Cell Items Defaults : Type 0} (next : State → Cell → State) (rules : Rules State Cell Items Defaults) (text new : Text) (from : ℕ) (header : Option Block) → take from new ≡ take from text → HeaderEnds from header
     → behind_header next rules new header ≡ behind_header next rules text header
@@ -103,7 +103,7 @@ module _ {State Cell Items Defaults : Type 0} (steps : Steps State Cell Items) (
       let a = zip_same (IsChainOf steps rules.cells now text) (IsChainOf steps rules.cells now new) (Ends from) (take front tunes) (take front blocks) (λ chain block known own. chain_before steps rules.cells now text new from chain block e known own) before (zip_take (IsChainOf steps rules.cells now text) front tunes blocks old_tunes) in
       let b = tunes_made steps rules.cells own now new rows made places laws alike read chains in
       let c = zip_given (IsChainOf steps rules.cells now text) (IsChainOf steps rules.cells now new) (StartsFrom (from + gone)) (shifted gone came) (drop behind tunes) (drop behind blocks) (λ chain block known own. chain_behind steps rules.cells now text new from gone came chain block f known own) starts (zip_drop (IsChainOf steps rules.cells now text) behind tunes blocks old_tunes) in (
-        subst (λ (h : Option Block). IsHeaderOf steps rules.cells rules.header new first h) (sym header) (header_before steps rules.cells rules.header text new from first (header_in (blocks_in rules text)) e ends old.0),
+        subst (λ (h : Option Block). IsHeaderOf steps rules new first h) (sym header) (header_before steps rules text new from first (header_in (blocks_in rules text)) e ends old.0),
         subst (AllZip (IsChainOf steps rules.cells now new) (take front tunes ++ (made ++ drop behind tunes))) (sym all)
             (zip_both (IsChainOf steps rules.cells now new) (take front tunes) (made ++ drop behind tunes) (take front blocks) (places ++ map (shifted gone came) (drop behind blocks)) a
             (zip_both (IsChainOf steps rules.cells now new) made (drop behind tunes) places (map (shifted gone came) (drop behind blocks)) b c)),

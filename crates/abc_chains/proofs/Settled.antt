@@ -94,17 +94,17 @@ tune_cells steps read opening text rows (chain ∷ chains) [] e all = absurd all
 tune_cells steps read opening text rows (chain ∷ chains) (block ∷ blocks) e all =
     (all.0.cells ∙ sym (block_cells read rows text block e), tune_cells steps read opening text rows chains blocks e all.1)
 
-header_cells : {State Cell Items : Type 0} (steps : Steps State Cell Items) (read : List ℕ → List Cell) (first : State) (text : Text) (rows : List (CarriedRow Cell)) (chain : Chained State Cell Items) (header : Option Block)
-    → map cells_in rows ≡ map read text → IsHeaderOf steps read first text chain header → HasCells rows chain (header_place header)
-header_cells {State = State} {Cell = Cell} {Items = Items} steps read first text rows chain None e own = ap (λ (c : Chained State Cell Items). c.cells) own
-header_cells steps read first text rows chain (Some block) e own = own.cells ∙ sym (block_cells read rows text block e)
+header_cells : {State Cell Items Defaults : Type 0} (steps : Steps State Cell Items) (rules : Rules State Cell Items Defaults) (text : Text) (rows : List (CarriedRow Cell)) (chain : Chained State Cell Items) (header : Option Block)
+    → map cells_in rows ≡ map rules.cells text → IsHeaderOf steps rules text chain header → HasCells rows chain (header_place header)
+header_cells {State = State} {Cell = Cell} {Items = Items} steps rules text rows chain None e own = ap (λ (c : Chained State Cell Items). c.cells) own
+header_cells steps rules text rows chain (Some block) e own = own.cells ∙ sym (block_cells rules.cells rows text block e)
 
 pub settled_carried : {State Cell Items Defaults : Type 0} (steps : Steps State Cell Items) (rules : Rules State Cell Items Defaults) (text : Text) (rows : List (CarriedRow Cell)) (chains : List (Chained State Cell Items))
     → map cells_in rows ≡ map rules.cells text → AreChains steps rules text chains → All (IsCarried chains) (placed_from rows 0 0 (places_of (blocks_in rules text)))
 settled_carried steps rules text rows [] e own = absurd own
 settled_carried steps rules text rows (chain ∷ chains) e own =
     from_carried (chain ∷ chains) (chain ∷ chains) rows 0 0 (places_of (blocks_in rules text)) (λ k. (let n : 0 + k ≡ k = omega arith in ap (cells_at (chain ∷ chains)) n)) (
-      header_cells steps rules.cells rules.header text rows chain (header_in (blocks_in rules text)) e own.0,
+      header_cells steps rules text rows chain (header_in (blocks_in rules text)) e own.0,
       tune_cells steps rules.cells (opening_of steps.next rules text (blocks_in rules text)) text rows chains (tunes_in (blocks_in rules text)) e own.1,
     )
 

@@ -44,7 +44,7 @@ late_work lines steps before now after scan raise = record {
 }
 
 empty_chains : {State Cell Items Defaults : Type 0} (steps : Steps State Cell Items) (rules : Rules State Cell Items Defaults) (blocks : List Block) → blocks ≡ []
-    → IsHeaderOf steps rules.cells rules.header [] no_cells (header_in blocks) × AllZip (IsChainOf steps rules.cells (opening_of steps.next rules [] blocks) []) [] (tunes_in blocks)
+    → IsHeaderOf steps rules [] no_cells (header_in blocks) × AllZip (IsChainOf steps rules.cells (opening_of steps.next rules [] blocks) []) [] (tunes_in blocks)
 empty_chains steps rules [] e = (refl, tt)
 empty_chains steps rules (block ∷ blocks) e = absurd (cc)
 

@@ -38,16 +38,16 @@ pub record IsChainOf {State Cell Items : Type 0} (steps : Steps State Cell Items
   pub cells : chain.cells ≡ flat_map read (lines_in text block)
 
 -- The chain of a file header, by the lines of its text.
-abbrev pub IsHeaderOf : {State Cell Items : Type 0} → Steps State Cell Items → (List ℕ → List Cell) → State → Text → Chained State Cell Items → Option Block → Type 0
-IsHeaderOf steps read first text chain None = chain ≡ no_cells
-IsHeaderOf steps read first text chain (Some block) = IsChainOf steps read first text chain block
+abbrev pub IsHeaderOf : {State Cell Items Defaults : Type 0} → Steps State Cell Items → Rules State Cell Items Defaults → Text → Chained State Cell Items → Option Block → Type 0
+IsHeaderOf steps rules text chain None = chain ≡ no_cells
+IsHeaderOf steps rules text chain (Some block) = IsChainOf steps rules.cells rules.header text chain block
 
 -- The chains of a text, that of the file header first: the folds over its blocks from the states in which they begin by
 -- definition.
 abbrev pub AreChains : {State Cell Items Defaults : Type 0} → Steps State Cell Items → Rules State Cell Items Defaults → Text → List (Chained State Cell Items) → Type 0
 AreChains steps rules text [] = ⊥
 AreChains steps rules text (header ∷ tunes) =
-    IsHeaderOf steps rules.cells rules.header text header (header_in (blocks_in rules text))
+    IsHeaderOf steps rules text header (header_in (blocks_in rules text))
     × AllZip (IsChainOf steps rules.cells (opening_of steps.next rules text (blocks_in rules text)) text) tunes (tunes_in (blocks_in rules text))
 
 -- Where the chain of the file header lies; without one, nowhere.

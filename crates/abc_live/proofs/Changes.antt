@@ -99,7 +99,7 @@ module _ {State Cell Items Defaults : Type 0} (steps : Steps State Cell Items) (
         (λ k d inside. All-contains P found _ all ((no_fault_lost found _).0 (All-contains_itself (sorted_once fault_cmp found) k d inside)))
 
   -- the faults of a file header that lies in some lines, which are the first
-  header_there : (text : Text) (from came : ℕ) (first : Chained State Cell Items) (header : Option Block) → IsHeaderOf steps rules.cells rules.header text first header → IfSome header (LiesIn (length text)) → from ≡ 0 → ((block : Block) → header ≡ Some block → block.to ≤ came)
+  header_there : (text : Text) (from came : ℕ) (first : Chained State Cell Items) (header : Option Block) → IsHeaderOf steps rules text first header → IfSome header (LiesIn (length text)) → from ≡ 0 → ((block : Block) → header ≡ Some block → block.to ≤ came)
       → header_faults_there rules from (counts_among rules.cells text from came) first header ≡ header_faults steps.next steps.gives rules text header
   header_there text from came first None is lies none ends = refl
   header_there text from came first (Some block) is lies none ends =

@@ -35,9 +35,9 @@ module _ {State Cell Items Defaults : Type 0} (steps : Steps State Cell Items) (
 
   -- it is that of the file header
   pub header_chain : (chains : List (Chained State Cell Items)) (first : Chained State Cell Items) → AreChains steps rules text chains → slice_get chains 0 ≡ Some first
-      → IsHeaderOf steps rules.cells rules.header text first (header_in (blocks_in rules text))
+      → IsHeaderOf steps rules text first (header_in (blocks_in rules text))
   header_chain [] first are is = absurd are
-  header_chain (chain ∷ chains) first are is = let same : chain ≡ first = cc in subst (λ (c : Chained State Cell Items). IsHeaderOf steps rules.cells rules.header text c (header_in (blocks_in rules text))) same are.0
+  header_chain (chain ∷ chains) first are is = let same : chain ≡ first = cc in subst (λ (c : Chained State Cell Items). IsHeaderOf steps rules text c (header_in (blocks_in rules text))) same are.0
 
   -- and the others are those of the tunes
   pub tune_chains : (chains : List (Chained State Cell Items)) → AreChains steps rules text chains

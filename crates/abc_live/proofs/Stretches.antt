@@ -66,7 +66,7 @@ tunes_at steps rules laws opening left from came text (chain ∷ chains) (place 
 
 -- a file header that does not lie before a stretch lies in it, since this then begins with the text
 header_cells : {State Cell Items Defaults : Type 0} (steps : Steps State Cell Items) (rules : Rules State Cell Items Defaults) (text : Text) (from came : ℕ) (first : Chained State Cell Items) (header : Option Block)
-    → from + came ≤ length text → IfSome header (LiesIn (length text)) → IsHeaderOf steps rules.cells rules.header text first header
+    → from + came ≤ length text → IfSome header (LiesIn (length text)) → IsHeaderOf steps rules text first header
     → ((block : Block) → header ≡ Some block → from < block.to → (from ≡ 0) × (block.to ≤ came))
     → HeaderCells from (counts_among rules.cells text from came) first header
 header_cells steps rules text from came first None inside lies is held = tt
@@ -185,8 +185,8 @@ module _ {C State Cell Items Defaults : Type 0} (steps : Steps State Cell Items)
 
   module _ (first : Chained State Cell Items) (there : slice_get patch.chains 0 ≡ Some first) where
     -- the chain of the file header
-    pub first_is : IsHeaderOf steps rules.cells rules.header patch.text first patch.header
-    first_is = subst (IsHeaderOf steps rules.cells rules.header patch.text first) (sym is.stands.header_is) (header_chain steps rules patch.text patch.chains first is.stands.chains_are there)
+    pub first_is : IsHeaderOf steps rules patch.text first patch.header
+    first_is = subst (IsHeaderOf steps rules patch.text first) (sym is.stands.header_is) (header_chain steps rules patch.text patch.chains first is.stands.chains_are there)
 
     -- the tunes of the stretch begin in a state alike to that which it leaves
     pub made_tunes : IsResumable steps → AreLawful steps rules

@@ -93,7 +93,7 @@ behind_lines steps read line source place state (bytes ∷ lines) n k h =
     find_behind (is_at n k) _ _ (other_line steps.next line 0 source place state (read bytes) n k (λ e. omega arith))
     ∙ behind_lines steps read (line + 1) source (place + length (read bytes)) (state_behind steps.next state (read bytes)) lines n k (omega arith)
 
-pub in_lines : {State Cell Items : Type 0} (steps : Steps State Cell Items) (read : List ℕ → List Cell) (line source place : ℕ) (state : State) (lines : Text) (i k : ℕ) → option_map as_past (find (is_at (line + i) k) (full_along steps read line source place state lines)) ≡ past_at (pasts_along steps read source place state lines) i k
+pub in_lines : {State Cell Items : Type 0} (steps : Steps State Cell Items) (read : List ℕ → List Cell) (line source place : ℕ) (state : State) (lines : Text) (i k : ℕ) → option_map as_past (find (is_at (line + i) k) (full_along steps read line source place state lines)) ≡ past_at (pasts_along steps read (past_of source place state) lines) i k
 in_lines steps read line source place state [] i k = refl
 in_lines steps read line source place state (bytes ∷ lines) zero k =
     let here : line + 0 ≡ line = add-zero line in

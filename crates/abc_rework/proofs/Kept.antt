@@ -104,7 +104,7 @@ pub kept_edits : {State Cell Items Defaults : Type 0} → KeptEdits State Cell I
 kept_edits {State = State} steps rules text s kept begins inside one k alike =
     let old = laid_in steps rules text in
     let new = spliced text s in
-    let walked : Chain State → ℕ = λ chain. steps_over steps (begins chain) (cells_of rules.cells new chain) (held_over steps rules.cells old s kept new chain) in
+    let walked : Chain State → ℕ = λ chain. steps_over steps (begins chain) (cells_of rules.cells new chain) (held_over kept (pieces_of rules.cells new (pasts steps rules.cells old s) chain)) in
     let each : (chain : Chain State) → walked chain ≡ fresh_of steps rules.cells new (pasts steps rules.cells old s) chain =
     λ chain. steps_are_fresh steps rules.cells new (pasts steps rules.cells old s) chain (begins chain) _ one (alike chain) (helds_stand steps rules.cells old s chain kept (chains_lie steps rules text) inside k) in
     ap (λ (count : Chain State → ℕ). sum_by count (chains_of (laid_in steps rules new))) (λ i chain. each chain i)

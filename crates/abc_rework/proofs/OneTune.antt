@@ -1,6 +1,7 @@
 -- The first piece names the only tune that all of them can be of.
 use Rattle.std.proofs.Common.{◌≡◌, ℕ, zero, suc, ◌+◌, ◌<◌, ◌==◌, ◌||◌, true, false, Bool, List, [], ◌∷◌, length, slice_get, Option, Some, None, refl, ap, ◌∙◌, arith}
 use Rattle.std.specs.List.{list_any}
+use Rattle.std.specs.Option.{option_map}
 use Rattle.std.proofs.lemmas.Bool.{ne_eqb, and_left}
 use Rattle.abc_book.specs.declared.block.Block.{Block}
 use Rattle.abc_fold.specs.Steps.{Steps}
@@ -29,7 +30,7 @@ before steps read old first (block ∷ blocks) past pieces h =
     let more = before steps read old (first + 1) blocks past pieces (omega arith) in
     λ i. here i || more i
 
-from : {State Cell Items : Type 0} (steps : Steps State Cell Items) (read : List ℕ → List Cell) (old : Laid State) (first number : ℕ) (blocks : List Block) (past : Past State) (pieces : List (Option (Past State))) → past.source ≡ first + number → list_any (λ tune. are_places tune.source 0 (length (entered_of steps read old.text tune)) (Some past ∷ pieces)) (tune_chains first old.opening blocks) ≡ are_of_tune steps read old past.source (Some past ∷ pieces) (slice_get blocks number)
+from : {State Cell Items : Type 0} (steps : Steps State Cell Items) (read : List ℕ → List Cell) (old : Laid State) (first number : ℕ) (blocks : List Block) (past : Past State) (pieces : List (Option (Past State))) → past.source ≡ first + number → list_any (λ tune. are_places tune.source 0 (length (entered_of steps read old.text tune)) (Some past ∷ pieces)) (tune_chains first old.opening blocks) ≡ are_of_tune steps read old.text (Some past ∷ pieces) (option_map (chain_at past.source old.opening) (slice_get blocks number))
 from steps read old first number [] past pieces e = refl
 from steps read old first zero (block ∷ blocks) past pieces e =
     let test : Bool = are_places first 0 (length (entered_of steps read old.text (chain_at first old.opening block))) (Some past ∷ pieces) in

@@ -8,7 +8,7 @@ use Rattle.abc_fold.specs.Steps.{Steps}
 use Rattle.abc_rework.specs.Laid.{Chain, chains_of, ChainsRise}
 use Rattle.abc_rework.specs.Entered.{Spot, state_behind, entered_in_line, entered_along, entered_of}
 use Rattle.abc_rework.specs.Fresh.{carried}
-use Rattle.abc_rework.specs.Pasts.{Past, pasts_in_line, no_pasts, pasts_along, lines_between, rows_from, rows_of, row_at, past_at}
+use Rattle.abc_rework.specs.Pasts.{Past, past_of, pasts_in_line, no_pasts, pasts_along, lines_between, rows_from, rows_of, row_at, past_at}
 use Rattle.abc_rework.specs.Origins.{Origin, no_origins, origins_along, origins_from, origins_of, origins, numbered, addresses, addresses_beside, address_of}
 use Rattle.abc_rework.specs.Kept.{cells_of, states_of, states_over}
 use Rattle.abc_rework.specs.Laws.{OriginsStand, PastsHeld}
@@ -25,7 +25,7 @@ in_line : {State Cell : Type 0} (next : State → Cell → State) (source place 
 in_line next source place state [] = refl
 in_line next source place state (cell ∷ cells) = ap (λ l. Some (source, place) ∷ l) (in_line next source (place + 1) (next state cell) cells)
 
-along : {State Cell Items : Type 0} (steps : Steps State Cell Items) (read : List ℕ → List Cell) (source place : ℕ) (state : State) (lines : Text) → addressed (pasts_along steps read source place state lines) ≡ addresses_beside read (origins_along read source place lines) lines
+along : {State Cell Items : Type 0} (steps : Steps State Cell Items) (read : List ℕ → List Cell) (source place : ℕ) (state : State) (lines : Text) → addressed (pasts_along steps read (past_of source place state) lines) ≡ addresses_beside read (origins_along read source place lines) lines
 along steps read source place state [] = refl
 along steps read source place state (bytes ∷ lines) = λ i. in_line steps.next source place state (read bytes) i ∷ along steps read source (place + length (read bytes)) (state_behind steps.next state (read bytes)) lines i
 
@@ -74,7 +74,7 @@ rows_stand steps read text at [] h = none_along steps read (drop at text)
 rows_stand {State = State} steps read text at (chain ∷ chains) h =
     let gap = lines_between text at chain.block.from in
     let lines = lines_in text chain.block in
-    let own = pasts_along steps read chain.source 0 chain.opening lines in
+    let own = pasts_along steps read (past_of chain.source 0 chain.opening) lines in
     let others = rows_from steps read text chain.block.to chains in
     let by : List (Option (Past State)) → List (Option (ℕ × ℕ)) = λ row. map address_of row in
     let cut : drop at text ≡ gap ++ (lines ++ drop chain.block.to text) = split text at chain.block.from h.0 ∙ ap (λ l. gap ++ l) (split text chain.block.from chain.block.to (omega (arith, h.1))) in

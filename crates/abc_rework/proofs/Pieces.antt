@@ -11,7 +11,7 @@ use Rattle.abc_rework.specs.Laid.{Laid, laid_in, Chain, header_chain, tune_chain
 use Rattle.abc_rework.specs.Entered.{Spot, state_behind, entered_in_line, entered_along, entered_of}
 use Rattle.abc_rework.specs.Fresh.{carried, is_line, is_carried_from, are_carried_from, is_untouched}
 use Rattle.abc_rework.specs.Pasts.{Past, rows_of, pasts, flat_option, past_at, first_past, first_row, rest}
-use Rattle.abc_rework.specs.Pieces.{pasts_beside, pasts_over, pieces_of, is_place, are_places, is_untouched_by}
+use Rattle.abc_rework.specs.Pieces.{pasts_beside, pasts_over, pieces_of, is_place, are_places, is_untouched_by, rowed}
 use Rattle.abc_rework.specs.Laws.{PiecesTell, PiecesCount, EditsTouch}
 use Rattle.abc_rework.proofs.Words.{chains_lie}
 use Rattle.abc_rework.proofs.Lists.{row_drop}
@@ -176,7 +176,7 @@ pieces_tell steps read old s text chain h inside =
 pub pieces_count : {State Cell Items : Type 0} → PiecesCount State Cell Items
 pieces_count steps read old new s h inside =
     counted_alike
-    (λ tune. not (is_untouched_by steps read old (pasts steps read old s) new.text tune))
+    (λ tune. not (is_untouched_by steps read old (rowed new.text (pasts steps read old s)) tune))
     (λ tune. not (is_untouched steps read old s (entered_of steps read new.text tune)))
     (tune_chains 1 new.opening new.tunes)
     (λ tune. ap not (pieces_tell steps read old s new.text tune h inside))

@@ -8,7 +8,7 @@ use Rattle.abc_fold.specs.Steps.{Steps}
 use Rattle.abc_rework.specs.Laid.{Laid, Chain, chains_of, ChainsRise, LiesInOrder}
 use Rattle.abc_rework.specs.Entered.{Spot, state_behind, stands_at, entered_at}
 use Rattle.abc_rework.specs.Fresh.{carried}
-use Rattle.abc_rework.specs.Pasts.{Past, no_pasts, pasts_along, lines_between, rows_from, rows_of, pasts, flat_option, row_at, past_at, entered_past}
+use Rattle.abc_rework.specs.Pasts.{Past, past_of, no_pasts, pasts_along, lines_between, rows_from, rows_of, pasts, flat_option, row_at, past_at, entered_past}
 use Rattle.abc_rework.specs.Laws.{RowsTell}
 use Rattle.abc_rework.proofs.Lists.{find-map, find_behind, find_before, row_before, row_behind, row_take, row_drop}
 use Rattle.abc_rework.proofs.Full.{Full, full_of, as_past, as_spot, is_at, all_spots, before_lines, behind_lines, in_lines}
@@ -23,7 +23,7 @@ none_in_rows steps read [] i k = refl
 none_in_rows {State = State} steps read (bytes ∷ lines) zero k = none_in_line {A = Past State} (read bytes) k
 none_in_rows steps read (bytes ∷ lines) (suc i) k = none_in_rows steps read lines i k
 
-pub length-along : {State Cell Items : Type 0} (steps : Steps State Cell Items) (read : List ℕ → List Cell) (source place : ℕ) (state : State) (lines : Text) → length (pasts_along steps read source place state lines) ≡ length lines
+pub length-along : {State Cell Items : Type 0} (steps : Steps State Cell Items) (read : List ℕ → List Cell) (source place : ℕ) (state : State) (lines : Text) → length (pasts_along steps read (past_of source place state) lines) ≡ length lines
 length-along steps read source place state [] = refl
 length-along steps read source place state (bytes ∷ lines) = ap suc (length-along steps read source (place + length (read bytes)) (state_behind steps.next state (read bytes)) lines)
 
@@ -43,10 +43,10 @@ length-rows steps read text at (chain ∷ chains) h =
     let gap = lines_between text at chain.block.from in
     let lines = lines_in text chain.block in
     let a : length (map (no_pasts steps read) gap) ≡ chain.block.from - at = length-map gap (no_pasts steps read) ∙ length-between text at chain.block.from first (omega arith) in
-    let b : length (pasts_along steps read chain.source 0 chain.opening lines) ≡ chain.block.to - chain.block.from = length-along steps read chain.source 0 chain.opening lines ∙ length-between text chain.block.from chain.block.to second end in
+    let b : length (pasts_along steps read (past_of chain.source 0 chain.opening) lines) ≡ chain.block.to - chain.block.from = length-along steps read chain.source 0 chain.opening lines ∙ length-between text chain.block.from chain.block.to second end in
     let c : length (rows_from steps read text chain.block.to chains) ≡ length text - chain.block.to = length-rows steps read text chain.block.to chains h.2 in
-    length-append (map (no_pasts steps read) gap) (pasts_along steps read chain.source 0 chain.opening lines ++ rows_from steps read text chain.block.to chains)
-    ∙ (ap (λ n. length (map (no_pasts steps read) gap) + n) (length-append (pasts_along steps read chain.source 0 chain.opening lines) (rows_from steps read text chain.block.to chains))
+    length-append (map (no_pasts steps read) gap) (pasts_along steps read (past_of chain.source 0 chain.opening) lines ++ rows_from steps read text chain.block.to chains)
+    ∙ (ap (λ n. length (map (no_pasts steps read) gap) + n) (length-append (pasts_along steps read (past_of chain.source 0 chain.opening) lines) (rows_from steps read text chain.block.to chains))
     ∙ omega (arith, a, b, c))
 
 pub before_chains : {State Cell Items : Type 0} (steps : Steps State Cell Items) (read : List ℕ → List Cell) (text : Text) (first : ℕ) (chains : List (Chain State)) (last : ℕ) (n k : ℕ) → ChainsRise first chains last → n < first → find (is_at n k) (flat_map (full_of steps read text) chains) ≡ None
@@ -67,7 +67,7 @@ in_chains {State = State} steps read text at (chain ∷ chains) i k h =
     let end : chain.block.to ≤ length text = rise_end chain.block.to chains (length text) h.2 in
     let gap = map (no_pasts steps read) (lines_between text at chain.block.from) in
     let lines = lines_in text chain.block in
-    let own = pasts_along steps read chain.source 0 chain.opening lines in
+    let own = pasts_along steps read (past_of chain.source 0 chain.opening) lines in
     let others = rows_from steps read text chain.block.to chains in
     let a : length gap ≡ chain.block.from - at = length-map (lines_between text at chain.block.from) (no_pasts steps read) ∙ length-between text at chain.block.from first (omega arith) in
     let b' : length lines ≡ chain.block.to - chain.block.from = length-between text chain.block.from chain.block.to second end in

@@ -10,7 +10,7 @@ use Rattle.abc_tunebook.specs.Tune.{lines_in}
 use Rattle.abc_fold.specs.Steps.{Steps, IsResumable}
 use Rattle.abc_rework.specs.Laid.{Laid, Chain, header_chain, tune_chains, chains_of, LiesInOrder}
 use Rattle.abc_rework.specs.Entered.{Spot, spot_at, state_behind, entered_in_line, entered_along, entered_of, entered_at}
-use Rattle.abc_rework.specs.Fresh.{carried, entered_before, is_fresh_after, is_fresh, is_line, is_carried_from, are_carried_from}
+use Rattle.abc_rework.specs.Fresh.{carried, cell_at, entered_before, is_fresh_after, is_fresh, is_line, is_carried_from, are_carried_from}
 use Rattle.abc_rework.specs.Pasts.{Past, rows_of, past_at, entered_past, first_past, first_row, rest, fresh_in_line, fresh_along}
 use Rattle.abc_rework.specs.Pieces.{pasts_beside, pasts_over, pieces_of}
 use Rattle.abc_rework.specs.Kept.{cells_of, Held, entry_of, behind, steps_over, StandsFor, StandFor}
@@ -220,7 +220,7 @@ same_openings {State = State} steps read old s was opening spot spots h i first 
         let line : carried s spot.line ≡ Some w.line = is_carried_line (carried s spot.line) w.line one.0 in
         let nth : spot.nth ≡ w.nth = eqb-true spot.nth w.nth one.1 in
         let state : w.entered ≡ was.opening = first_entered steps read was.block.from was.opening (lines_in old.text was.block) (as_spot w) (map as_spot ws) (sym e) in
-        let before : entered_before steps read old s spot.line spot.nth ≡ Some was.opening =
+        let before : entered_before steps read old s (cell_at spot.line spot.nth) ≡ Some was.opening =
         (λ i. option_and_then (λ m. entered_at steps read old m (nth i)) (line i)) ∙ (spot_found steps read old w h (k w (inl refl)) ∙ ap (λ y. Some y) state) in
         let count = sum_by-cons (λ (x : Spot State). cond (is_fresh steps read old s x) 1 0) spot spots in
         let not_fresh : is_fresh steps read old s spot ≡ false = ⊎_elim

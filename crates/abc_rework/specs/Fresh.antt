@@ -15,9 +15,17 @@ carried s line =
     if nat_lt line (s.at + length s.lines) then None else
     Some (line - length s.lines + s.removed)
 
--- The state in which a cell of the new text was entered in the old one, if it was there.
-abbrev pub entered_before : {State Cell Items : Type 0} → Steps State Cell Items → (List ℕ → List Cell) → Laid State → Splice → ℕ → ℕ → Option State
-entered_before steps read old s line nth = option_and_then (λ was. entered_at steps read old was nth) (carried s line)
+-- The place of a cell: its line, and its place in the line, both counted from 0.
+pub record CellPlace : Type 0 where
+  pub line : ℕ
+  pub nth : ℕ
+
+abbrev pub cell_at : ℕ → ℕ → CellPlace
+cell_at line nth = record { line = line; nth = nth }
+
+-- The state in which the cell at a place of the new text was entered in the old one, if it was there.
+abbrev pub entered_before : {State Cell Items : Type 0} → Steps State Cell Items → (List ℕ → List Cell) → Laid State → Splice → CellPlace → Option State
+entered_before steps read old s place = option_and_then (λ was. entered_at steps read old was place.nth) (carried s place.line)
 
 -- A cell that was not there is fresh, and one that was there is where it was entered in a state that is not alike.
 abbrev pub is_fresh_after : {State : Type 0} → (State → State → Bool) → State → Option State → Bool
@@ -26,7 +34,7 @@ is_fresh_after alike entered (Some was) = not (alike was entered)
 
 -- Whether a cell of the new text is fresh.
 abbrev pub is_fresh : {State Cell Items : Type 0} → Steps State Cell Items → (List ℕ → List Cell) → Laid State → Splice → Spot State → Bool
-is_fresh steps read old s spot = is_fresh_after steps.alike spot.entered (entered_before steps read old s spot.line spot.nth)
+is_fresh steps read old s spot = is_fresh_after steps.alike spot.entered (entered_before steps read old s (cell_at spot.line spot.nth))
 
 -- The number of fresh cells of a new text.
 abbrev pub fresh_in : {State Cell Items : Type 0} → Steps State Cell Items → (List ℕ → List Cell) → Laid State → Splice → Laid State → ℕ

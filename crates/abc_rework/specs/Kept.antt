@@ -3,14 +3,13 @@
 use Rattle.std.specs.Prelude.{ℕ, ◌+◌, cond, List, [], ◌∷◌, map, slice_get, Contains, Option, Some, None}
 use Rattle.std.specs.List.{AllZip, flat_map}
 use Rattle.std.specs.Option.{option_map}
-use Rattle.abc_lines.specs.Text.{Splice, Text}
+use Rattle.abc_lines.specs.Text.{Text}
 use Rattle.abc_tunebook.specs.Placed.{Placed, cells_from, items_along}
 use Rattle.abc_tunebook.specs.Tune.{lines_in}
 use Rattle.abc_rework.specs.Fresh.{is_fresh_after}
 use Rattle.abc_rework.specs.Laid.{Chain, Laid, chains_of}
 use Rattle.abc_rework.specs.Origins.{address_of}
-use Rattle.abc_rework.specs.Pasts.{Past, first_past, pasts, rest}
-use Rattle.abc_rework.specs.Pieces.{pieces_of}
+use Rattle.abc_rework.specs.Pasts.{Past, first_past, rest}
 use Rattle.abc_fold.specs.Steps.{IsAlike, Steps}
 
 -- The cells of a chain.
@@ -80,9 +79,9 @@ abbrev pub held_at : {State : Type 0} → (ℕ → List State) → Option (ℕ �
 held_at kept None = None
 held_at kept (Some address) = both_held (slice_get (kept address.0) address.1) (slice_get (kept address.0) (address.1 + 1))
 
--- What is held of the cells of a new chain, found by the places that they had.
-abbrev pub held_over : {State Cell Items : Type 0} → Steps State Cell Items → (List ℕ → List Cell) → Laid State → Splice → (ℕ → List State) → Text → Chain State → List (Option (Held State))
-held_over steps read old s kept text chain = map (λ piece. held_at kept (address_of piece)) (pieces_of read text (pasts steps read old s) chain)
+-- What is held of cells of a new text, found by the places that these pieces had in the old one.
+abbrev pub held_over : {State : Type 0} → (ℕ → List State) → List (Option (Past State)) → List (Option (Held State))
+held_over kept pieces = map (λ piece. held_at kept (address_of piece)) pieces
 
 -- The kept states of each old chain are alike to those from scratch, one by one.
 abbrev pub AreKept : {State Cell Items : Type 0} → Steps State Cell Items → (List ℕ → List Cell) → Laid State → (ℕ → List State) → Type 0

@@ -26,12 +26,12 @@ pasts_in_line next source place state (cell ∷ cells) = Some (past_of source pl
 abbrev pub no_pasts : {State Cell Items : Type 0} → Steps State Cell Items → (List ℕ → List Cell) → List ℕ → List (Option (Past State))
 no_pasts steps read bytes = map (λ _. None) (read bytes)
 
--- The rows of the lines of a chain, the first of which holds the chain's cells from this place on.
-abbrev pub pasts_along : {State Cell Items : Type 0} → Steps State Cell Items → (List ℕ → List Cell) → ℕ → ℕ → State → Text → List (List (Option (Past State)))
-pasts_along steps read source place state [] = []
-pasts_along steps read source place state (bytes ∷ lines) =
-    pasts_in_line steps.next source place state (read bytes)
-    ∷ pasts_along steps read source (place + length (read bytes)) (state_behind steps.next state (read bytes)) lines
+-- The rows of the lines of a chain, the first of which holds the chain's cells from this one on.
+abbrev pub pasts_along : {State Cell Items : Type 0} → Steps State Cell Items → (List ℕ → List Cell) → Past State → Text → List (List (Option (Past State)))
+pasts_along steps read first [] = []
+pasts_along steps read first (bytes ∷ lines) =
+    pasts_in_line steps.next first.source first.place first.entered (read bytes)
+    ∷ pasts_along steps read (past_of first.source (first.place + length (read bytes)) (state_behind steps.next first.entered (read bytes))) lines
 
 -- The lines from one number up to another.
 abbrev pub lines_between : Text → ℕ → ℕ → Text
@@ -42,7 +42,7 @@ abbrev pub rows_from : {State Cell Items : Type 0} → Steps State Cell Items �
 rows_from steps read text at [] = map (no_pasts steps read) (drop at text)
 rows_from steps read text at (chain ∷ chains) =
     map (no_pasts steps read) (lines_between text at chain.block.from)
-    ++ (pasts_along steps read chain.source 0 chain.opening (lines_in text chain.block) ++ rows_from steps read text chain.block.to chains)
+    ++ (pasts_along steps read (past_of chain.source 0 chain.opening) (lines_in text chain.block) ++ rows_from steps read text chain.block.to chains)
 
 -- The rows of the old text: each of its cells is the one that it was.
 abbrev pub rows_of : {State Cell Items : Type 0} → Steps State Cell Items → (List ℕ → List Cell) → Laid State → List (List (Option (Past State)))

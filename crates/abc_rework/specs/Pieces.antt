@@ -6,7 +6,7 @@ use Rattle.abc_lines.specs.Text.{Splice, Text}
 use Rattle.abc_tunebook.specs.Tune.{lines_in}
 use Rattle.abc_rework.specs.Entered.{Spot, entered_of}
 use Rattle.abc_rework.specs.Fresh.{carried, is_line}
-use Rattle.abc_rework.specs.Laid.{Chain, Laid, chain_at, tune_chains}
+use Rattle.abc_rework.specs.Laid.{Chain, Laid, tune_chains}
 use Rattle.abc_rework.specs.Pasts.{Past, first_past, first_row, fresh_of, rest}
 use Rattle.abc_fold.specs.Steps.{Steps}
 
@@ -40,15 +40,23 @@ abbrev pub are_of_one : {State Cell Items : Type 0} → Steps State Cell Items �
 are_of_one steps read old pieces =
     list_any (λ tune. are_places tune.source 0 (length (entered_of steps read old.text tune)) pieces) (tune_chains 1 old.opening old.tunes)
 
--- Whether a tune is untouched by its pieces: none of its cells is fresh, and they are all those of one old tune.
-abbrev pub is_untouched_by : {State Cell Items : Type 0} → Steps State Cell Items → (List ℕ → List Cell) → Laid State → List (List (Option (Past State))) → Text → Chain State → Bool
-is_untouched_by steps read old rows text chain =
-    (fresh_of steps read text rows chain == 0) && are_of_one steps read old (pieces_of read text rows chain)
+-- A new text with its rows.
+pub record Rowed (State : Type 0) : Type 0 where
+  pub text : Text
+  pub rows : List (List (Option (Past State)))
 
--- Whether pieces are all the cells of this tune of the old text, if there is such a tune.
-abbrev pub are_of_tune : {State Cell Items : Type 0} → Steps State Cell Items → (List ℕ → List Cell) → Laid State → ℕ → List (Option (Past State)) → Option Block → Bool
-are_of_tune steps read old source pieces None = false
-are_of_tune steps read old source pieces (Some block) = are_places source 0 (length (entered_of steps read old.text (chain_at source old.opening block))) pieces
+abbrev pub rowed : {State : Type 0} → Text → List (List (Option (Past State))) → Rowed State
+rowed text rows = record { text = text; rows = rows }
+
+-- Whether a tune is untouched by its pieces: none of its cells is fresh, and they are all those of one old tune.
+abbrev pub is_untouched_by : {State Cell Items : Type 0} → Steps State Cell Items → (List ℕ → List Cell) → Laid State → Rowed State → Chain State → Bool
+is_untouched_by steps read old new chain =
+    (fresh_of steps read new.text new.rows chain == 0) && are_of_one steps read old (pieces_of read new.text new.rows chain)
+
+-- Whether pieces are all the cells of a tune of the old text, if there is one.
+abbrev pub are_of_tune : {State Cell Items : Type 0} → Steps State Cell Items → (List ℕ → List Cell) → Text → List (Option (Past State)) → Option (Chain State) → Bool
+are_of_tune steps read old pieces None = false
+are_of_tune steps read old pieces (Some tune) = are_places tune.source 0 (length (entered_of steps read old tune)) pieces
 
 -- Whether the lines of these cells of the new text are carried, in order, from those of these of the old.
 abbrev pub have_lines_of : {State : Type 0} → Splice → List (Spot State) → List (Spot State) → Bool

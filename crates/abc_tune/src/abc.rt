@@ -24,7 +24,7 @@ impl Fold for Abc {
 
     type Cell = Shared<Cell>;
 
-    type Items = Items;
+    type Items = Shared<Items>;
 
     type Work = Work;
 
@@ -38,8 +38,9 @@ impl Fold for Abc {
         state: &Entry,
         cell: &Shared<Cell>,
         work: &mut Work,
-    ) -> Result<(Entry, Items), AllocError> {
-        BarFold.step(alloc, state, cell, work)
+    ) -> Result<(Entry, Shared<Items>), AllocError> {
+        let (next, items) = BarFold.step(alloc, state, cell, work)?;
+        Ok((next, Shared::new(alloc, items)?))
     }
 }
 
@@ -60,8 +61,12 @@ impl Resumable for Abc {
         BarFold.copy_cell(alloc, cell)
     }
 
-    fn copy_items(&self, alloc: Global, items: &Items) -> Result<Items, AllocError> {
-        BarFold.copy_items(alloc, items)
+    fn copy_items(
+        &self,
+        _alloc: Global,
+        items: &Shared<Items>,
+    ) -> Result<Shared<Items>, AllocError> {
+        items.share()
     }
 }
 
@@ -125,19 +130,24 @@ impl Compiler for Abc {
         after.defaults()
     }
 
-    fn number(&self, items: &Items) -> Option<u32> {
-        number_among(items.items())
+    fn number(&self, items: &Shared<Items>) -> Option<u32> {
+        number_among(items.get().items())
     }
 
-    fn title<'a>(&self, items: &'a Items) -> Option<&'a [u8]> {
-        title_among(items.items())
+    fn title<'a>(&self, items: &'a Shared<Items>) -> Option<&'a [u8]> {
+        title_among(items.get().items())
     }
 
-    fn faults<'a>(&self, items: &'a Items) -> &'a [(u32, FaultCode)] {
-        items.faults()
+    fn faults<'a>(&self, items: &'a Shared<Items>) -> &'a [(u32, FaultCode)] {
+        items.get().faults()
     }
 
-    fn build(&self, alloc: Global, items: &[Items], work: &mut Work) -> Result<Built, AllocError> {
+    fn build(
+        &self,
+        alloc: Global,
+        items: &[Shared<Items>],
+        work: &mut Work,
+    ) -> Result<Built, AllocError> {
         build(alloc, items, work)
     }
 }

@@ -11,7 +11,7 @@ ghost use Rattle.smf_bytes.specs.File.{file_bytes};
 
 use crate::whole_faults::faults_with;
 use abc_compiler::Built;
-use abc_fold::Work;
+use abc_fold::{Shared, Work};
 use abc_music::Items;
 use abc_text::Sequence;
 use abc_voices::{Arranged, BuildFault, arrange};
@@ -19,7 +19,11 @@ use smf_bytes::file_of;
 use std::alloc::{AllocError, Global};
 
 /// A tune with a file.
-fn with_file(alloc: Global, cells: &[Items], arranged: &Arranged) -> Result<Built, AllocError>
+fn with_file(
+    alloc: Global,
+    cells: &[Shared<Items>],
+    arranged: &Arranged,
+) -> Result<Built, AllocError>
     requires { IsWithinLimits arranged.now.score }
     ensures bytes { IfOk result (λ built. built.bytes ≡ Some (file_bytes arranged.now.score)) }
     ensures faults { IfOk result (λ built. built.faults ≡ faults_with (items_in cells.now) arranged.now.unknown arranged.now.uneven false) }
@@ -35,7 +39,7 @@ fn with_file(alloc: Global, cells: &[Items], arranged: &Arranged) -> Result<Buil
 }
 
 /// A tune that is too long for a file.
-fn without_file(alloc: Global, cells: &[Items], unknown: bool) -> Result<Built, AllocError>
+fn without_file(alloc: Global, cells: &[Shared<Items>], unknown: bool) -> Result<Built, AllocError>
     ensures bytes { IfOk result (λ built. built.bytes ≡ None) }
     ensures faults { IfOk result (λ built. built.faults ≡ faults_with (items_in cells.now) unknown false true) }
     ensures long { IfOk result (λ built. list_any is_too_long_fault built.faults ≡ true) }
@@ -51,7 +55,7 @@ fn without_file(alloc: Global, cells: &[Items], unknown: bool) -> Result<Built, 
 /// The file of a tune and its faults as a whole, of what its cells give in order: there is a file exactly
 /// where the tune is not too long. A call that finds no memory is counted too.
 #[tactic(auto, unfolding(crate::specs::Built::bytes_of, crate::specs::Built::build_faults_of))]
-pub fn build(alloc: Global, items: &[Items], work: &mut Work) -> Result<Built, AllocError>
+pub fn build(alloc: Global, items: &[Shared<Items>], work: &mut Work) -> Result<Built, AllocError>
     ensures bytes { IfOk result (λ built. built.bytes ≡ bytes_of items.now) }
     ensures faults { IfOk result (λ built. built.faults ≡ build_faults_of items.now) }
     ensures long { IfOk result (λ built. is_none built.bytes ≡ list_any is_too_long_fault built.faults) }

@@ -29,6 +29,7 @@ use crate::stages::{in_order, stages};
 use crate::track::{everyone, nameless_plays};
 use crate::tune_score::score_along;
 use crate::turns::{is_uneven, length_along};
+use abc_fold::Shared;
 use abc_music::{Item, Items};
 use abc_repeat::{OrderFault, Played, play_order};
 use std::alloc::{AllocError, Global};
@@ -45,13 +46,13 @@ fn put_items<'a>(tune: &mut Vec<&'a Item>, items: &'a [Item]) -> Result<(), Allo
 }
 
 /// The items of a tune, of what its cells give.
-fn tune_of<'a>(alloc: Global, items: &'a [Items]) -> Result<Vec<&'a Item>, AllocError>
+fn tune_of<'a>(alloc: Global, items: &'a [Shared<Items>]) -> Result<Vec<&'a Item>, AllocError>
     ensures value { IfOk result (λ tune. map (λ step. step.now) tune.items ≡ items_in items.entry.now) }
     ensures range { IfOk result (λ tune. All IsItem (map (λ step. step.now) tune.items)) }
 {
     let mut tune = Vec::new(alloc);
     for one in items {
-        put_items(&mut tune, one.items())?;
+        put_items(&mut tune, one.get().items())?;
     }
     Ok(tune)
 }
@@ -228,7 +229,7 @@ fn arranged(alloc: Global, tune: &[&Item], given: &[&Item]) -> Result<Arranged, 
 }
 
 /// A tune laid out in time, of what its cells give, or why it is not: it is too long, or there is no memory.
-pub fn arrange(alloc: Global, items: &[Items]) -> Result<Arranged, BuildFault>
+pub fn arrange(alloc: Global, items: &[Shared<Items>]) -> Result<Arranged, BuildFault>
     ensures value { IfOk result (λ laid. laid ≡ arranged_of (λ item. item) (items_in items.now)) }
     ensures short { IfOk result (λ _. is_too_long (λ item. item) (items_in items.now) ≡ false) }
     ensures limits { IfOk result (λ laid. IsWithinLimits laid.score) }
