@@ -2,7 +2,7 @@
 use Rattle.std.specs.Prelude.{◌≡◌, ℕ, Bool, true, false, if◌then◌else◌, List, [], ◌∷◌, ◌++◌, ◌==◌, All, Option}
 use Rattle.abc_publish.specs.Publisher.{Directory}
 use Rattle.abc_text.specs.Byte.{line_feed}
-use Rattle.abc2midi_live.specs.Storing.{StoreAnswer}
+use Rattle.abc2midi_live.specs.Storing.{Follows, StoreAnswer, StoreSeen}
 use Rattle.abc2midi_live.specs.Told.{Told, behind, nothing_more}
 use Rattle.abc2midi_live.specs.Transcript.{input_lines}
 use Rattle.abc2midi_live.specs.declared.machine.Reply.{Reply}
@@ -23,6 +23,18 @@ pub record Telling (X : Type 0) : Type 0 where
 abbrev pub telling : {X : Type 0} → Future X → Future X → Directory → Telling X
 telling before after directory = record { before = before; after = after; directory = directory }
 
+-- How a machine stands: what it tells to what comes, and what the directory is known to hold.
+pub record Standing (X : Type 0) : Type 0 where
+  pub future : Future X
+  pub directory : Directory
+
+abbrev pub standing : {X : Type 0} → Future X → Directory → Standing X
+standing future directory = record { future = future; directory = directory }
+
+-- what is to be told from how a machine stands before a piece to how it stands behind it
+abbrev pub between : {X : Type 0} → Standing X → Standing X → Telling X
+between before after = telling before.future after.future after.directory
+
 -- Whatever comes behind a piece, and whatever the store answers behind these answers: what was to be told before it
 -- is the text, and then, where the machine goes on, what is to be told after it.
 abbrev pub Answers : {X : Type 0} → Telling X → List X → List StoreAnswer → List ℕ → Bool → Type 0
@@ -36,6 +48,11 @@ Replies t line now Nothing = Answers t (line ∷ []) now [] true
 Replies t line now (Answer text) = Answers t (line ∷ []) now text.items true
 Replies t line now End = Answers t (line ∷ []) now [] false
 
+-- A line is taken: the store gives answers, which the reply goes with.
+abbrev pub TakesLine : Standing (List ℕ) → Standing (List ℕ) → List ℕ → StoreSeen → StoreSeen → Reply → Type 0
+TakesLine before after line old new reply =
+    (stored : List StoreAnswer) × Replies (between before after) line stored reply × Follows old new stored before.directory after.directory
+
 -- no line ends within these bytes
 abbrev pub IsClean : List ℕ → Type 0
 IsClean bytes = All (λ b. (b == line_feed) ≡ false) bytes
@@ -43,3 +60,7 @@ IsClean bytes = All (λ b. (b == line_feed) ≡ false) bytes
 -- what is told to bytes, where the beginning of a line has come before them
 unfoldable pub ahead : Future (List ℕ) → List ℕ → Future ℕ
 ahead future begun ended bytes answers = future ended (input_lines ended (begun ++ bytes)) answers
+
+-- how a machine stands towards bytes, where the beginning of a line has come before them
+abbrev pub hearing : Future (List ℕ) → List ℕ → Directory → Standing ℕ
+hearing future begun directory = standing (ahead future begun) directory

@@ -1,11 +1,11 @@
 -- How a run ends, and what it leaves. Our own.
-use Rattle.std.specs.Prelude.{◌≡◌, ℕ, ◌<◌, ◌≤◌, Bool, true, false, List, ◌++◌, length, Option, Some, Result, Ok, Err, ⊤, ◌⊎◌, IfSome, IsSome}
+use Rattle.std.specs.Prelude.{◌≡◌, ℕ, ◌<◌, ◌≤◌, Bool, true, false, List, [], ◌++◌, length, Option, Some, Result, Ok, Err, ⊤, ◌⊎◌, IfSome, IsSome, MatchResult}
 use Rattle.std.specs.Io.KnownBytes.{Appends, Consumes, Keeps}
 use Rattle.abc_publish.specs.Publisher.{Directory}
-use Rattle.abc2midi_live.specs.Machine.{Answers, Future, Telling}
+use Rattle.abc2midi_live.specs.Machine.{between, Answers, Future, Standing, Telling}
 use Rattle.abc2midi_live.specs.Storing.{Follows, HasNoFiles, IsAsked, MirrorsWhereTold, StoreAnswer, StoreSeen, faults_among}
 use Rattle.abc2midi_live.specs.Told.{Told}
-use Rattle.abc2midi_live.specs.Transcript.{no_directory}
+use Rattle.abc2midi_live.specs.Transcript.{input_lines, no_directory, transcript, transcript_so_far}
 use Rattle.abc_fold.specs.Work.{raised}
 use Rattle.abc2midi_live.specs.declared.reading.TheConstants.{MOST_READS}
 use Rattle.abc2midi_live.specs.declared.fault.RunFault.{RunFault}
@@ -46,11 +46,21 @@ Serves before t piece old new goes_on =
     (text : List ℕ) × (stored : List StoreAnswer) × Appends old.output new.output text × Answers t piece stored text goes_on
     × Follows old.store new.store stored before t.directory
 
+-- What comes of a piece that is served, or of the fault that it ends in.
+abbrev pub ServesOrFails : {X : Type 0} → Standing X → Standing X → List X → Outlets → Outlets → Result Bool RunFault → Type 0
+ServesOrFails before after piece old new result =
+    MatchResult result (Serves before.directory (between before after) piece old new) (Unserved before.directory old new)
+
 -- What is told for the answers of a store is written, and these are its answers.
 abbrev pub Tells : Directory → (List StoreAnswer → Option Told) → Outlets → Outlets → Type 0
 Tells before answered old new =
     (stored : List StoreAnswer) × (told : Told) × (answered stored ≡ Some told) × Appends old.output new.output told.text
     × Follows old.store new.store stored before told.directory
+
+-- What comes of the end of the input, or of the fault that serving it ends in.
+abbrev pub TellsOrFails : Standing ℕ → Outlets → Outlets → Result Unit RunFault → Type 0
+TellsOrFails before old new result =
+    MatchResult result (λ _. Tells before.directory (before.future true []) old new) (Unserved before.directory old new)
 
 -- What is told for answers of a store is written, and these are the answers that it gave first; it may have been asked
 -- for more since, of which nothing is written.
@@ -65,6 +75,11 @@ BrokenOff before future piece old new Read = ⊥
 BrokenOff before future piece old new Write = ⊤
 BrokenOff before future piece old new Memory =
     (front : List ℕ) × (back : List ℕ) × (piece ≡ front ++ back) × TellsFirst before (future false front) old new
+
+-- What comes of a piece of the input that is served, or of the fault within it.
+abbrev pub FeedsOrBreaks : Standing ℕ → Standing ℕ → List ℕ → Outlets → Outlets → Result Bool RunFault → Type 0
+FeedsOrBreaks before after piece old new result =
+    MatchResult result (Serves before.directory (between before after) piece old new) (BrokenOff before.directory before.future piece old new)
 
 -- The ends of a run, where they are told: what the reader has to give, what the writer holds, and what is seen of the
 -- store.
@@ -109,6 +124,17 @@ Turn before t old new true =
     (taken : List ℕ) × (0 < length taken) × Consumes old.input new.input taken × Serves before t taken old.out new.out true
 Turn before t old new false = Ended before t.before old new
 
+-- What comes of one read, or of the fault that it ends in.
+abbrev pub TurnsOrFails : Standing ℕ → Standing ℕ → Ends → Ends → Result Bool RunFault → Type 0
+TurnsOrFails before after old new result =
+    MatchResult result (Turn before.directory (between before after) old new) (Leaves before.directory (before.future false) old new)
+
+-- All of an input is answered by a machine that stands so at first, or what a fault leaves of that.
+abbrev pub AnswersAll : Standing (List ℕ) → Ends → Ends → Result Unit RunFault → Type 0
+AnswersAll before old new result =
+    MatchResult result (λ _. Ended before.directory (λ ended input. before.future ended (input_lines ended input)) old new)
+    (Leaves before.directory (λ input. before.future false (input_lines false input)) old new)
+
 -- What was written is what is told for all of an input and the answers that the store gave; it was called once for
 -- each of these, and they are its only faults; and where none of the files stood there at first, it holds what the
 -- directory is known to hold, and nothing else of that kind.
@@ -119,6 +145,11 @@ pub record Completes (answered : List ℕ → List StoreAnswer → Option Told) 
   pub failures : new.out.store.failures ≡ raised old.out.store.failures (faults_among stored)
   pub calls : new.out.store.calls ≡ raised old.out.store.calls (length stored)
   pub contents : HasNoFiles old.out.store.contents → MirrorsWhereTold old.out.store.contents new.out.store.contents told.directory
+
+-- The transcript of a tune book, if there is one, and of an input is complete, or what a fault leaves of it.
+abbrev pub Transcribes : Option (List ℕ) → Ends → Ends → Result Unit RunFault → Type 0
+Transcribes book old new result =
+    MatchResult result (λ _. Completes (transcript book) old new) (LeavesRun book (transcript_so_far book) old new)
 
 -- how many faults of the reader a read tells of
 abbrev pub read_faults : {T : Type 0} → Result T RunFault → ℕ

@@ -4,7 +4,7 @@ ghost use Rattle.std.specs.Prelude.{◌≡◌, string_bytes, ℕ, ◌<◌, ◌^�
 ghost use Rattle.abc_publish.specs.Publisher.{ended, maps_of, with_entry, Directory};
 ghost use Rattle.abc_publish.specs.declared.slot.Stored.TheVariants.{Unknown};
 ghost use Rattle.abc2midi_live.specs.Building.{answer_line, answer_of, entry_behind, stage, Builds, IsIdle, Stores};
-ghost use Rattle.abc2midi_live.specs.Storing.{file_name, store_seen, Follows, IsAsked, StoreAnswer};
+ghost use Rattle.abc2midi_live.specs.Storing.{file_name, Follows, IsAsked, StoreAnswer};
 
 use crate::answer::{put_failed, put_stored};
 use crate::streams::{Store, StoreFault};
@@ -29,7 +29,7 @@ fn put_or_remove<S: Store>(
 ) -> Result<(), StoreFault>
     requires { name.now ≡ file_name number }
     ensures { (directory : Directory)
-        → Follows (store_seen (S.failures store.old) (S.calls store.old) (S.contents store.old)) (store_seen (S.failures store.new) (S.calls store.new) (S.contents store.new))
+        → Follows (S.seen store.old) (S.seen store.new)
         (answer_of (is_ok result) ∷ []) directory (with_entry directory number (entry_behind (answer_of (is_ok result)) (option_copied bytes.entry))) }
 {
     match bytes {
@@ -47,9 +47,9 @@ fn store_file<S: Store>(
 ) -> Result<bool, AllocError>
     ensures text { IfOk result (λ stored. text.new.items ≡ text.old.items ++ answer_line (answer_of stored) job.now.number job.now.bytes) }
     ensures store { IfOk result (λ stored. (directory : Directory)
-        → Follows (store_seen (S.failures store.old) (S.calls store.old) (S.contents store.old)) (store_seen (S.failures store.new) (S.calls store.new) (S.contents store.new))
+        → Follows (S.seen store.old) (S.seen store.new)
         (answer_of stored ∷ []) directory (with_entry directory job.now.number (entry_behind (answer_of stored) job.now.bytes))) }
-    ensures asked { OnErr result ((directory : Directory) → IsAsked (store_seen (S.failures store.old) (S.calls store.old) (S.contents store.old)) (store_seen (S.failures store.new) (S.calls store.new) (S.contents store.new)) directory) }
+    ensures asked { OnErr result ((directory : Directory) → IsAsked (S.seen store.old) (S.seen store.new) directory) }
 {
     let number = job.number();
     let bytes = job.bytes();
@@ -75,9 +75,9 @@ fn carry_out<S: Store>(
     ensures text { IfOk result (λ stored. text.new.items ≡ text.old.items ++ answer_line (answer_of stored) job.number job.bytes) }
     ensures publisher { IfOk result (λ stored. maps_of publisher.new ≡ ended (maps_of publisher.old) job.number (entry_behind (answer_of stored) job.bytes)) }
     ensures err { OnErr result (maps_of publisher.new ≡ ended (maps_of publisher.old) job.number (Some Unknown)) }
-    ensures store { IfOk result (λ stored. Follows (store_seen (S.failures store.old) (S.calls store.old) (S.contents store.old)) (store_seen (S.failures store.new) (S.calls store.new) (S.contents store.new))
+    ensures store { IfOk result (λ stored. Follows (S.seen store.old) (S.seen store.new)
         (answer_of stored ∷ []) (maps_of publisher.old).directory (maps_of publisher.new).directory) }
-    ensures asked { OnErr result ((directory : Directory) → IsAsked (store_seen (S.failures store.old) (S.calls store.old) (S.contents store.old)) (store_seen (S.failures store.new) (S.calls store.new) (S.contents store.new)) directory) }
+    ensures asked { OnErr result ((directory : Directory) → IsAsked (S.seen store.old) (S.seen store.new) directory) }
     ensures jobs { (maps_of publisher.new).jobs ≡ with_entry (maps_of publisher.old).jobs job.number None }
 {
     let stored = store_file(alloc, &job, store, text);
@@ -100,11 +100,10 @@ fn store_next<S: Store>(
     text: &mut Vec<u8>,
 ) -> Result<Option<u32>, AllocError>
     requires { IsIdle (maps_of publisher.old) }
-    ensures stored { IfOk result (λ next. (now : List StoreAnswer) × (told : List ℕ) × (text.new.items ≡ text.old.items ++ told)
-        × Stores session.now.text (stage (maps_of publisher.old).directory (Some from)) now told (stage (maps_of publisher.new).directory next)
-        × Follows (store_seen (S.failures store.old) (S.calls store.old) (S.contents store.old)) (store_seen (S.failures store.new) (S.calls store.new) (S.contents store.new))
-        now (maps_of publisher.old).directory (maps_of publisher.new).directory) }
-    ensures asked { OnErr result (IsAsked (store_seen (S.failures store.old) (S.calls store.old) (S.contents store.old)) (store_seen (S.failures store.new) (S.calls store.new) (S.contents store.new)) (maps_of publisher.old).directory) }
+    ensures stored { let before = (maps_of publisher.old).directory in let after = (maps_of publisher.new).directory in IfOk result (λ next. (now : List StoreAnswer) × (told : List ℕ)
+        × (text.new.items ≡ text.old.items ++ told) × Stores session.now.text (stage before (Some from)) now told (stage after next)
+        × Follows (S.seen store.old) (S.seen store.new) now before after) }
+    ensures asked { OnErr result (IsAsked (S.seen store.old) (S.seen store.new) (maps_of publisher.old).directory) }
     ensures onward { IfOk result (λ next. IfSome next (λ n. (from < n) × (n < 2 ^ 32))) }
     ensures idle { IsIdle (maps_of publisher.new) }
 {
@@ -128,11 +127,9 @@ pub fn build<S: Store>(
     store: &mut S,
 ) -> Result<Vec<u8>, AllocError>
     requires { IsIdle (maps_of publisher.old) }
-    ensures answer { IfOk result (λ text. (now : List StoreAnswer)
-        × Builds session.now.text (maps_of publisher.old).directory now text.items (maps_of publisher.new).directory
-        × Follows (store_seen (S.failures store.old) (S.calls store.old) (S.contents store.old)) (store_seen (S.failures store.new) (S.calls store.new) (S.contents store.new))
-        now (maps_of publisher.old).directory (maps_of publisher.new).directory) }
-    ensures asked { OnErr result (IsAsked (store_seen (S.failures store.old) (S.calls store.old) (S.contents store.old)) (store_seen (S.failures store.new) (S.calls store.new) (S.contents store.new)) (maps_of publisher.old).directory) }
+    ensures answer { let before = (maps_of publisher.old).directory in let after = (maps_of publisher.new).directory in IfOk result (λ text. (now : List StoreAnswer)
+        × Builds session.now.text before now text.items after × Follows (S.seen store.old) (S.seen store.new) now before after) }
+    ensures asked { OnErr result (IsAsked (S.seen store.old) (S.seen store.new) (maps_of publisher.old).directory) }
     ensures idle { IsIdle (maps_of publisher.new) }
 {
     let mut text = Vec::new(alloc);

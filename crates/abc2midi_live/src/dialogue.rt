@@ -8,7 +8,7 @@ ghost use Rattle.abc_lines.specs.Edits.{edited, insertion};
 ghost use Rattle.abc_live.specs.Edit.{splice_of};
 ghost use Rattle.abc_publish.specs.Publisher.{maps_of};
 ghost use Rattle.abc2midi_live.specs.Building.{IsIdle};
-ghost use Rattle.abc2midi_live.specs.Storing.{store_seen, Follows, IsAsked, StoreAnswer};
+ghost use Rattle.abc2midi_live.specs.Storing.{Follows, IsAsked, StoreAnswer};
 ghost use Rattle.abc2midi_live.specs.Told.{holding};
 ghost use Rattle.abc2midi_live.specs.Transcript.{book_lines, edit_answer, no_directory, request_of};
 ghost use Rattle.abc2midi_live.specs.Dialogue.{Responds, Proceeds, begun_with, is_taken};
@@ -95,8 +95,8 @@ impl Dialogue {
         requires { length lines.items ≡ line_count command }
         ensures reply { let before = (maps_of self.old.publisher).directory in let after = (maps_of self.new.publisher).directory in IfOk result (λ reply. (stored : List StoreAnswer)
             × Responds (holding self.old.session.text before) (holding self.new.session.text after) (request_of command (text_of lines)) stored reply
-            × Follows (store_seen (S.failures store.old) (S.calls store.old) (S.contents store.old)) (store_seen (S.failures store.new) (S.calls store.new) (S.contents store.new)) stored before after) }
-        ensures asked { OnErr result (IsAsked (store_seen (S.failures store.old) (S.calls store.old) (S.contents store.old)) (store_seen (S.failures store.new) (S.calls store.new) (S.contents store.new)) (maps_of self.old.publisher).directory) }
+            × Follows (S.seen store.old) (S.seen store.new) stored before after) }
+        ensures asked { OnErr result (IsAsked (S.seen store.old) (S.seen store.new) (maps_of self.old.publisher).directory) }
         ensures gathering { self.new.gathering ≡ self.old.gathering }
         ensures uncounted { OnOk result (is_taken self.old.session.text (request_of command (text_of lines)) ≡ false → work.new ≡ work.old) }
     {
@@ -147,10 +147,10 @@ impl Dialogue {
     ) -> Result<Reply, AllocError>
         requires idle { self.old.gathering ≡ None }
         requires few { length lines.items ≤ line_count command }
-        ensures asked { OnErr result (IsAsked (store_seen (S.failures store.old) (S.calls store.old) (S.contents store.old)) (store_seen (S.failures store.new) (S.calls store.new) (S.contents store.new)) (maps_of self.old.publisher).directory) }
+        ensures asked { OnErr result (IsAsked (S.seen store.old) (S.seen store.new) (maps_of self.old.publisher).directory) }
         ensures reply { let before = (maps_of self.old.publisher).directory in let after = (maps_of self.new.publisher).directory in IfOk result (λ reply. (stored : List StoreAnswer)
             × Proceeds (holding self.old.session.text before) (begun_with command (text_of lines)) (holding self.new.session.text after) (begun_of self.new.gathering) stored reply
-            × Follows (store_seen (S.failures store.old) (S.calls store.old) (S.contents store.old)) (store_seen (S.failures store.new) (S.calls store.new) (S.contents store.new)) stored before after) }
+            × Follows (S.seen store.old) (S.seen store.new) stored before after) }
         ensures uncounted { OnOk result (is_taken self.old.session.text (request_of command (text_of lines)) ≡ false → work.new ≡ work.old) }
     {
         if lines.len() < command.line_count() {

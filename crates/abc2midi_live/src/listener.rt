@@ -3,9 +3,8 @@
 ghost use Rattle.std.specs.Prelude.{◌≡◌, ◌≤◌, [], ◌∷◌, ◌++◌, take, length, true, false, OnOk, MatchResult};
 ghost use Rattle.std.specs.Io.KnownBytes.{Appends};
 ghost use Rattle.abc_text.specs.Byte.{line_feed};
-ghost use Rattle.abc2midi_live.specs.Machine.{ahead, telling, IsClean};
-ghost use Rattle.abc2midi_live.specs.Outcome.{write_faults, outlets, Serves, Tells, Unserved, BrokenOff};
-ghost use Rattle.abc2midi_live.specs.Storing.{store_seen};
+ghost use Rattle.abc2midi_live.specs.Machine.{hearing, standing, IsClean};
+ghost use Rattle.abc2midi_live.specs.Outcome.{write_faults, outlets, FeedsOrBreaks, ServesOrFails, TellsOrFails};
 ghost use Rattle.abc2midi_live.specs.Transcript.{most_kept};
 ghost use Rattle.abc_fold.specs.Work.{raised};
 
@@ -30,11 +29,9 @@ fn serve<M: Machine, W: Sink, S: Store>(
     store: &mut S,
     work: &mut Work,
 ) -> Result<bool, RunFault>
-    ensures answer { MatchResult result
-        (Serves (M.directory machine.old) (telling (M.future machine.old) (M.future machine.new) (M.directory machine.new)) (line.items ∷ [])
-        (outlets (W.contents writer.old) (store_seen (S.failures store.old) (S.calls store.old) (S.contents store.old)))
-        (outlets (W.contents writer.new) (store_seen (S.failures store.new) (S.calls store.new) (S.contents store.new))))
-        (Unserved (M.directory machine.old) (outlets (W.contents writer.old) (store_seen (S.failures store.old) (S.calls store.old) (S.contents store.old))) (outlets (W.contents writer.new) (store_seen (S.failures store.new) (S.calls store.new) (S.contents store.new)))) }
+    ensures answer { let before = standing (M.future machine.old) (M.directory machine.old) in
+        let after = standing (M.future machine.new) (M.directory machine.new) in
+        ServesOrFails before after (line.items ∷ []) (outlets (W.contents writer.old) (S.seen store.old)) (outlets (W.contents writer.new) (S.seen store.new)) result }
     ensures fails { W.failures writer.new ≡ raised (W.failures writer.old) (write_faults result) }
     ensures uncounted { OnOk result (M.costs machine.old line.items ≡ false → work.new ≡ work.old) }
 {
@@ -118,13 +115,9 @@ impl<M: Machine> Listener<M> {
         work: &mut Work,
     ) -> Result<bool, RunFault>
         requires { IsClean piece.now }
-        ensures answer { MatchResult result
-            (Serves (M.directory self.old.machine)
-            (telling (ahead (M.future self.old.machine) self.old.begun.items) (ahead (M.future self.new.machine) self.new.begun.items) (M.directory self.new.machine))
-            (piece.now ++ line_feed ∷ [])
-            (outlets (W.contents writer.old) (store_seen (S.failures store.old) (S.calls store.old) (S.contents store.old)))
-            (outlets (W.contents writer.new) (store_seen (S.failures store.new) (S.calls store.new) (S.contents store.new))))
-            (Unserved (M.directory self.old.machine) (outlets (W.contents writer.old) (store_seen (S.failures store.old) (S.calls store.old) (S.contents store.old))) (outlets (W.contents writer.new) (store_seen (S.failures store.new) (S.calls store.new) (S.contents store.new)))) }
+        ensures answer { let before = hearing (M.future self.old.machine) self.old.begun.items (M.directory self.old.machine) in
+            let after = hearing (M.future self.new.machine) self.new.begun.items (M.directory self.new.machine) in
+            ServesOrFails before after (piece.now ++ line_feed ∷ []) (outlets (W.contents writer.old) (S.seen store.old)) (outlets (W.contents writer.new) (S.seen store.new)) result }
         ensures fails { W.failures writer.new ≡ raised (W.failures writer.old) (write_faults result) }
     {
         self.keep(piece)?;
@@ -141,14 +134,9 @@ impl<M: Machine> Listener<M> {
         store: &mut S,
         work: &mut Work,
     ) -> Result<bool, RunFault>
-        ensures answer { MatchResult result
-            (Serves (M.directory self.old.machine)
-            (telling (ahead (M.future self.old.machine) self.old.begun.items) (ahead (M.future self.new.machine) self.new.begun.items) (M.directory self.new.machine))
-            piece.now
-            (outlets (W.contents writer.old) (store_seen (S.failures store.old) (S.calls store.old) (S.contents store.old)))
-            (outlets (W.contents writer.new) (store_seen (S.failures store.new) (S.calls store.new) (S.contents store.new))))
-            (BrokenOff (M.directory self.old.machine) (ahead (M.future self.old.machine) self.old.begun.items) piece.now
-            (outlets (W.contents writer.old) (store_seen (S.failures store.old) (S.calls store.old) (S.contents store.old))) (outlets (W.contents writer.new) (store_seen (S.failures store.new) (S.calls store.new) (S.contents store.new)))) }
+        ensures answer { let before = hearing (M.future self.old.machine) self.old.begun.items (M.directory self.old.machine) in
+            let after = hearing (M.future self.new.machine) self.new.begun.items (M.directory self.new.machine) in
+            FeedsOrBreaks before after piece.now (outlets (W.contents writer.old) (S.seen store.old)) (outlets (W.contents writer.new) (S.seen store.new)) result }
         ensures fails { W.failures writer.new ≡ raised (W.failures writer.old) (write_faults result) }
     {
         let mut rest = piece;
@@ -175,11 +163,8 @@ impl<M: Machine> Listener<M> {
         store: &mut S,
         work: &mut Work,
     ) -> Result<(), RunFault>
-        ensures answer { MatchResult result
-            (λ _. Tells (M.directory self.old.machine) (ahead (M.future self.old.machine) self.old.begun.items true [])
-            (outlets (W.contents writer.old) (store_seen (S.failures store.old) (S.calls store.old) (S.contents store.old)))
-            (outlets (W.contents writer.new) (store_seen (S.failures store.new) (S.calls store.new) (S.contents store.new))))
-            (Unserved (M.directory self.old.machine) (outlets (W.contents writer.old) (store_seen (S.failures store.old) (S.calls store.old) (S.contents store.old))) (outlets (W.contents writer.new) (store_seen (S.failures store.new) (S.calls store.new) (S.contents store.new)))) }
+        ensures answer { let before = hearing (M.future self.old.machine) self.old.begun.items (M.directory self.old.machine) in
+            TellsOrFails before (outlets (W.contents writer.old) (S.seen store.old)) (outlets (W.contents writer.new) (S.seen store.new)) result }
         ensures fails { W.failures writer.new ≡ raised (W.failures writer.old) (write_faults result) }
     {
         if self.begun.is_empty() {

@@ -2,8 +2,8 @@
 
 ghost use Rattle.std.specs.Prelude.{◌≡◌, Bool, true, false, Some, List, ℕ, [], IfOk, OnErr, OnOk};
 ghost use Rattle.abc_publish.specs.Publisher.{Directory};
-ghost use Rattle.abc2midi_live.specs.Machine.{Future, Replies, telling};
-ghost use Rattle.abc2midi_live.specs.Storing.{Follows, IsAsked, StoreAnswer, store_seen};
+ghost use Rattle.abc2midi_live.specs.Machine.{standing, Future, TakesLine};
+ghost use Rattle.abc2midi_live.specs.Storing.{IsAsked};
 ghost use Rattle.abc2midi_live.specs.Told.{told};
 
 use crate::streams::Store;
@@ -40,11 +40,9 @@ pub trait Machine {
         store: &mut S,
         work: &mut Work,
     ) -> Result<Reply, AllocError>
-        ensures reply { IfOk result (λ reply. (stored : List StoreAnswer)
-            × Replies (telling (future self.old) (future self.new) (directory self.new)) line.items stored reply
-            × Follows (store_seen (S.failures store.old) (S.calls store.old) (S.contents store.old)) (store_seen (S.failures store.new) (S.calls store.new) (S.contents store.new))
-            stored (directory self.old) (directory self.new)) }
-        ensures asked { OnErr result (IsAsked (store_seen (S.failures store.old) (S.calls store.old) (S.contents store.old)) (store_seen (S.failures store.new) (S.calls store.new) (S.contents store.new)) (directory self.old)) }
+        ensures reply { let before = standing (future self.old) (directory self.old) in let after = standing (future self.new) (directory self.new) in
+            IfOk result (TakesLine before after line.items (S.seen store.old) (S.seen store.new)) }
+        ensures asked { OnErr result (IsAsked (S.seen store.old) (S.seen store.new) (directory self.old)) }
         ensures uncounted { OnOk result (costs self.old line.items ≡ false → work.new ≡ work.old) };
 
     /// What it tells where no more lines come.

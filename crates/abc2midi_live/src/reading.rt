@@ -1,10 +1,8 @@
 //! A machine that listens to a reader, from its first byte to the end of the input.
 
-ghost use Rattle.std.specs.Prelude.{◌≡◌, ◌<◌, ◌≤◌, ◌-◌, ◌^◌, ℕ, false, length, MatchResult};
-ghost use Rattle.abc2midi_live.specs.Transcript.{input_lines};
-ghost use Rattle.abc2midi_live.specs.Outcome.{read_faults, write_faults, ends, read_counts, Ended, Leaves, Reads, Turn};
-ghost use Rattle.abc2midi_live.specs.Machine.{ahead, telling};
-ghost use Rattle.abc2midi_live.specs.Storing.{store_seen};
+ghost use Rattle.std.specs.Prelude.{◌≡◌, ◌<◌, ◌≤◌, ◌-◌, ◌^◌, ℕ, length};
+ghost use Rattle.abc2midi_live.specs.Outcome.{read_faults, write_faults, ends, read_counts, AnswersAll, Reads, TurnsOrFails};
+ghost use Rattle.abc2midi_live.specs.Machine.{hearing, standing};
 ghost use Rattle.abc_fold.specs.Work.{raised};
 
 use crate::fault::RunFault;
@@ -36,15 +34,9 @@ fn turn<M: Machine, R: Source, W: Sink, S: Store>(
     work: &mut Work,
 ) -> Result<bool, RunFault>
     requires { 0 < length buffer.old }
-    ensures answers { MatchResult result
-        (Turn (M.directory listener.old.machine)
-        (telling (ahead (M.future listener.old.machine) listener.old.begun.items) (ahead (M.future listener.new.machine) listener.new.begun.items)
-        (M.directory listener.new.machine))
-        (ends (R.remaining reader.old) (W.contents writer.old) (store_seen (S.failures store.old) (S.calls store.old) (S.contents store.old)))
-        (ends (R.remaining reader.new) (W.contents writer.new) (store_seen (S.failures store.new) (S.calls store.new) (S.contents store.new))))
-        (Leaves (M.directory listener.old.machine) (ahead (M.future listener.old.machine) listener.old.begun.items false)
-        (ends (R.remaining reader.old) (W.contents writer.old) (store_seen (S.failures store.old) (S.calls store.old) (S.contents store.old)))
-        (ends (R.remaining reader.new) (W.contents writer.new) (store_seen (S.failures store.new) (S.calls store.new) (S.contents store.new)))) }
+    ensures answers { let before = hearing (M.future listener.old.machine) listener.old.begun.items (M.directory listener.old.machine) in
+        let after = hearing (M.future listener.new.machine) listener.new.begun.items (M.directory listener.new.machine) in
+        TurnsOrFails before after (ends (R.remaining reader.old) (W.contents writer.old) (S.seen store.old)) (ends (R.remaining reader.new) (W.contents writer.new) (S.seen store.new)) result }
     ensures calls { R.calls reader.new ≡ raised (R.calls reader.old) 1 }
     ensures reads { R.failures reader.new ≡ raised (R.failures reader.old) (read_faults result) }
     ensures writes { W.failures writer.new ≡ raised (W.failures writer.old) (write_faults result) }
@@ -70,13 +62,9 @@ pub fn listen<M: Machine + Drop, R: Source, W: Sink, S: Store>(
     store: &mut S,
     work: &mut Work,
 ) -> Result<(), RunFault>
-    ensures answers { MatchResult result
-        (λ _. Ended (M.directory machine) (λ ended input. M.future machine ended (input_lines ended input))
-        (ends (R.remaining reader.old) (W.contents writer.old) (store_seen (S.failures store.old) (S.calls store.old) (S.contents store.old)))
-        (ends (R.remaining reader.new) (W.contents writer.new) (store_seen (S.failures store.new) (S.calls store.new) (S.contents store.new))))
-        (Leaves (M.directory machine) (λ input. M.future machine false (input_lines false input))
-        (ends (R.remaining reader.old) (W.contents writer.old) (store_seen (S.failures store.old) (S.calls store.old) (S.contents store.old)))
-        (ends (R.remaining reader.new) (W.contents writer.new) (store_seen (S.failures store.new) (S.calls store.new) (S.contents store.new)))) }
+    ensures answers { let before = ends (R.remaining reader.old) (W.contents writer.old) (S.seen store.old) in
+        let after = ends (R.remaining reader.new) (W.contents writer.new) (S.seen store.new) in
+        AnswersAll (standing (M.future machine) (M.directory machine)) before after result }
     ensures calls { (made : ℕ) × (made ≤ MOST_READS) × (R.calls reader.new ≡ raised (R.calls reader.old) made) }
     ensures reads { Reads (R.remaining reader.old) (read_counts (R.failures reader.old) (R.calls reader.old))
         (read_counts (R.failures reader.new) (R.calls reader.new)) result }

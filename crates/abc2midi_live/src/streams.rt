@@ -6,7 +6,8 @@ ghost use Rattle.std.specs.Io.{ReadsAtMost};
 ghost use Rattle.std.specs.IoError.{error_kind};
 ghost use Rattle.std.specs.Io.KnownBytes.{Appends, ReadConsumes};
 ghost use Rattle.abc_fold.specs.Work.{raised};
-ghost use Rattle.abc2midi_live.specs.Streams.{faults, Contents, Puts, TakesOut, KeepsOthers};
+ghost use Rattle.abc2midi_live.specs.Storing.{StoreSeen};
+ghost use Rattle.abc2midi_live.specs.Streams.{faults, Puts, TakesOut, KeepsOthers};
 
 use std::io::{Error, ErrorKind, Read, Write};
 
@@ -54,30 +55,24 @@ pub trait Sink {
 
 /// What keeps files by their names.
 pub trait Store {
-    // How many calls failed.
-    ghost failures: { Self → ℕ };
-
-    // How many calls were made.
-    ghost calls: { Self → ℕ };
-
-    // The bytes under each name, where they are told.
-    ghost contents: { Self → Option Contents } = { λ _. None };
+    // How many calls failed, how many were made, and the bytes under each name, where they are told.
+    ghost seen: { Self → StoreSeen };
 
     /// Puts the bytes under the name, in place of what is there. A fault leaves the other names.
     fn put(&mut self, name: &str, bytes: &[u8]) -> Result<(), StoreFault>
         ensures files { MatchResult result
-            (λ _. Puts (contents self.old) (contents self.new) name.now bytes.now)
-            (λ _. KeepsOthers (contents self.old) (contents self.new) name.now) }
-        ensures fails { failures self.new ≡ raised (failures self.old) (faults result) }
-        ensures counts { calls self.new ≡ raised (calls self.old) 1 };
+            (λ _. Puts (seen self.old).contents (seen self.new).contents name.now bytes.now)
+            (λ _. KeepsOthers (seen self.old).contents (seen self.new).contents name.now) }
+        ensures fails { (seen self.new).failures ≡ raised (seen self.old).failures (faults result) }
+        ensures counts { (seen self.new).calls ≡ raised (seen self.old).calls 1 };
 
     /// Takes the name out, which is no fault where it is not there. A fault leaves the other names.
     fn remove(&mut self, name: &str) -> Result<(), StoreFault>
         ensures files { MatchResult result
-            (λ _. TakesOut (contents self.old) (contents self.new) name.now)
-            (λ _. KeepsOthers (contents self.old) (contents self.new) name.now) }
-        ensures fails { failures self.new ≡ raised (failures self.old) (faults result) }
-        ensures counts { calls self.new ≡ raised (calls self.old) 1 };
+            (λ _. TakesOut (seen self.old).contents (seen self.new).contents name.now)
+            (λ _. KeepsOthers (seen self.old).contents (seen self.new).contents name.now) }
+        ensures fails { (seen self.new).failures ≡ raised (seen self.old).failures (faults result) }
+        ensures counts { (seen self.new).calls ≡ raised (seen self.old).calls 1 };
 }
 
 /// A source over a reader of std, or a sink over a writer.

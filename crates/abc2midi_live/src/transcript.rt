@@ -2,14 +2,13 @@
 
 ghost use Rattle.std.specs.Prelude.{◌≡◌, ◌≤◌, ℕ, List, IfOk, MatchResult, option_copied};
 ghost use Rattle.std.specs.Io.KnownBytes.{Appends};
-ghost use Rattle.abc2midi_live.specs.Outcome.{write_faults, ends, read_counts, Completes, LeavesRun, Reads, Unopened};
+ghost use Rattle.abc2midi_live.specs.Outcome.{write_faults, ends, read_counts, Reads, Transcribes, Unopened};
 ghost use Rattle.abc_fold.specs.Work.{raised};
 ghost use Rattle.abc_publish.specs.Publisher.{maps_of};
 ghost use Rattle.abc2midi_live.specs.Dialogue.{Opens};
 ghost use Rattle.abc2midi_live.specs.Gathering.{begun_of};
-ghost use Rattle.abc2midi_live.specs.Storing.{store_seen};
 ghost use Rattle.abc2midi_live.specs.Told.{holding};
-ghost use Rattle.abc2midi_live.specs.Transcript.{no_directory, transcript, transcript_so_far};
+ghost use Rattle.abc2midi_live.specs.Transcript.{no_directory};
 
 use crate::dialogue::Dialogue;
 use crate::fault::RunFault;
@@ -26,10 +25,9 @@ fn opened<W: Sink>(
     writer: &mut W,
     work: &mut Work,
 ) -> Result<Dialogue, RunFault>
-    ensures answer { MatchResult result
-        (λ d. (text : List ℕ) × Appends (W.contents writer.old) (W.contents writer.new) text
-        × Opens (option_copied book.entry) text (holding d.session.text (maps_of d.publisher).directory) (begun_of d.gathering))
-        (Unopened (W.contents writer.old) (W.contents writer.new)) }
+    ensures answer { let before = W.contents writer.old in let after = W.contents writer.new in MatchResult result
+        (λ d. (text : List ℕ) × Appends before after text × Opens (option_copied book.entry) text (holding d.session.text (maps_of d.publisher).directory) (begun_of d.gathering))
+        (Unopened before after) }
     ensures directory { IfOk result (λ d. (maps_of d.publisher).directory ≡ no_directory) }
     ensures fails { W.failures writer.new ≡ raised (W.failures writer.old) (write_faults result) }
 {
@@ -63,13 +61,9 @@ pub fn run<R: Source, W: Sink, S: Store>(
 
     // What is written is the transcript of the book, of all that there is to read and of what the store answers,
     // which mirrors what this tells of it; or what a fault leaves of these.
-    ensures transcript { MatchResult result
-        (λ _. Completes (transcript (option_copied book.entry))
-        (ends (R.remaining reader.old) (W.contents writer.old) (store_seen (S.failures store.old) (S.calls store.old) (S.contents store.old)))
-        (ends (R.remaining reader.new) (W.contents writer.new) (store_seen (S.failures store.new) (S.calls store.new) (S.contents store.new))))
-        (LeavesRun (option_copied book.entry) (transcript_so_far (option_copied book.entry))
-        (ends (R.remaining reader.old) (W.contents writer.old) (store_seen (S.failures store.old) (S.calls store.old) (S.contents store.old)))
-        (ends (R.remaining reader.new) (W.contents writer.new) (store_seen (S.failures store.new) (S.calls store.new) (S.contents store.new)))) }
+    ensures transcript { let before = ends (R.remaining reader.old) (W.contents writer.old) (S.seen store.old) in
+        let after = ends (R.remaining reader.new) (W.contents writer.new) (S.seen store.new) in
+        Transcribes (option_copied book.entry) before after result }
 
     // What the counts of the reader and the writer say.
     ensures calls { (made : ℕ) × (made ≤ MOST_READS) × (R.calls reader.new ≡ raised (R.calls reader.old) made) }

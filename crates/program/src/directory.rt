@@ -1,5 +1,8 @@
 //! The folder that the MIDI files are kept in.
 
+ghost use Rattle.std.specs.Prelude.{None};
+ghost use Rattle.abc2midi_live.specs.Storing.{store_seen};
+
 use abc2midi_live::{Store, StoreFault};
 use std::fs::{self, File};
 use std::io::{self, ErrorKind, Write};
@@ -108,9 +111,7 @@ impl<'a, R: Runtime + AllocGlobal> Directory<'a, R> {
 
 #[tactic(auto, using(abc2midi_live::proofs::Counts::raised_none, abc2midi_live::proofs::Counts::raised_within))]
 impl<'a, R: Runtime + AllocGlobal> Store for Directory<'a, R> {
-    ghost failures = { λ d. d.failures };
-
-    ghost calls = { λ d. d.calls };
+    ghost seen = { λ d. store_seen d.failures d.calls None };
 
     fn put(&mut self, name: &str, bytes: &[u8]) -> Result<(), StoreFault> {
         self.calls = self.calls.saturating_add(1);

@@ -1,6 +1,7 @@
 //! A store in memory that tells what it contains, and fails at one of its calls.
 
 ghost use Rattle.std.specs.Prelude.{◌≡◌, ◌∷◌, Some, IsErr, OnErr, OnOk};
+ghost use Rattle.abc2midi_live.specs.Storing.{store_seen};
 ghost use Rattle.abc_fold.specs.Work.{raised};
 ghost use Rattle.session_examples.specs.Shelf.{contents_of};
 
@@ -90,11 +91,7 @@ impl Shelf {
 
 #[tactic(auto, using(abc2midi_live::proofs::Counts::raised_none))]
 impl Store for Shelf {
-    ghost failures = { λ s. s.failures };
-
-    ghost calls = { λ s. s.calls };
-
-    ghost contents = { λ s. Some (contents_of s.changes.items) };
+    ghost seen = { λ s. store_seen s.failures s.calls (Some (contents_of s.changes.items)) };
 
     fn put(&mut self, name: &str, bytes: &[u8]) -> Result<(), StoreFault> {
         if self.is_failing() {

@@ -2,7 +2,7 @@ use Rattle.std.proofs.Common.{ℕ, List, Some, sym, subst, arith}
 use Rattle.abc_publish.specs.Publisher.{maps_of}
 use Rattle.abc2midi_live.specs.Answer.{end_line}
 use Rattle.abc2midi_live.specs.Building.{stage}
-use Rattle.abc2midi_live.specs.Storing.{store_seen, IsAsked}
+use Rattle.abc2midi_live.specs.Storing.{IsAsked}
 use Rattle.abc2midi_live.proofs.Pending.{build_seen, StoresSoFar, so_far_none, so_far_more, so_far_all, left_fewer, left_small}
 use Rattle.abc2midi_live.proofs.Storing.{asked_more, on_err}
 use Rattle.abc2midi_live.proofs.building.build.Goals as goal
@@ -10,7 +10,7 @@ use Rattle.abc2midi_live.proofs.building.build.Goals as goal
 pub loop-next-init : goal.loop-next-init
 loop-next-init g c =
     let directory = (maps_of c.args.publisher.now).directory in
-    let seen = store_seen (g.S.Store.failures c.args.store.now) (g.S.Store.calls c.args.store.now) (g.S.Store.contents c.args.store.now) in
+    let seen = g.S.Store.seen c.args.store.now in
     record {
       stored = subst (λ (t : List ℕ). StoresSoFar c.args.session.now.text directory seen (stage directory (Some 0)) (build_seen t seen)) (sym c.new-text.ensures.items) (so_far_none c.args.session.now.text directory seen);
       idle = c.requires;
@@ -48,12 +48,10 @@ returns-in_err-next-clause-idle g c = c.store_next.ensures.idle
 
 pub returns-in_err-next-clause-asked : goal.returns-in_err-next-clause-asked
 returns-in_err-next-clause-asked g c =
-    let failures = g.S.Store.failures in
-    let calls = g.S.Store.calls in
-    let contents = g.S.Store.contents in
-    let old = store_seen (failures c.args.store.now) (calls c.args.store.now) (contents c.args.store.now) in
-    let mid = store_seen (failures c.loop-next.store) (calls c.loop-next.store) (contents c.loop-next.store) in
-    let new = store_seen (failures c.store_next.new.store) (calls c.store_next.new.store) (contents c.store_next.new.store) in
+    let seen = g.S.Store.seen in
+    let old = seen c.args.store.now in
+    let mid = seen c.loop-next.store in
+    let new = seen c.store_next.new.store in
     let before = (maps_of c.args.publisher.now).directory in
     on_err c.from_residual.result (IsAsked old new before)
     (asked_more old mid new c.loop-next.invariant.stored.0 before (maps_of c.loop-next.publisher).directory c.loop-next.invariant.stored.2 c.in_err-next.ensures.asked)

@@ -2,19 +2,16 @@ use Rattle.std.proofs.Common.{◌<◌, ◌^◌}
 use Rattle.std.specs.Prelude.{IfSome}
 use Rattle.abc_publish.specs.Publisher.{maps_of}
 use Rattle.abc2midi_live.specs.Building.{stage, IsIdle}
-use Rattle.abc2midi_live.specs.Storing.{store_seen}
 use Rattle.abc2midi_live.proofs.Pending.{build_seen, StoresSoFar, left_from}
 use Rattle.abc2midi_live.proofs.building.build.Given as goal
 
 -- what has been stored so far
 abbrev pub invariant-loop-next : goal.invariant-loop-next
 invariant-loop-next g l =
-    let failures = g.S.Store.failures in
-    let calls = g.S.Store.calls in
-    let contents = g.S.Store.contents in
+    let seen = g.S.Store.seen in
     record {
-      stored : StoresSoFar l.session.text (maps_of l.fn.publisher).directory (store_seen (failures l.fn.store) (calls l.fn.store) (contents l.fn.store))
-          (stage (maps_of l.publisher).directory l.next) (build_seen l.text.items (store_seen (failures l.store) (calls l.store) (contents l.store)));
+      stored : StoresSoFar l.session.text (maps_of l.fn.publisher).directory (seen l.fn.store)
+          (stage (maps_of l.publisher).directory l.next) (build_seen l.text.items (seen l.store));
       idle : IsIdle (maps_of l.publisher);
       small : IfSome l.next (λ n. n < 2 ^ 32);
     }

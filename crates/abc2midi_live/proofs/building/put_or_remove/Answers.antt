@@ -3,20 +3,20 @@ use Rattle.std.specs.Prelude.{is_ok, option_copied}
 use Rattle.std.specs.Borrow.{Bor}
 use Rattle.abc_publish.specs.Publisher.{with_entry}
 use Rattle.abc2midi_live.specs.Building.{answer_of, entry_behind}
-use Rattle.abc2midi_live.specs.Storing.{store_seen, Follows}
+use Rattle.abc2midi_live.specs.Storing.{Follows}
 use Rattle.abc2midi_live.proofs.Pending.{follows_stored, follows_taken}
 use Rattle.abc2midi_live.proofs.building.put_or_remove.Goals as goal
 
 pub returns-in-Some : goal.returns-in-Some
 returns-in-Some g c = λ directory.
-    let old = store_seen (g.S.Store.failures c.args.store.now) (g.S.Store.calls c.args.store.now) (g.S.Store.contents c.args.store.now) in
-    let new = store_seen (g.S.Store.failures c.put.new.self) (g.S.Store.calls c.put.new.self) (g.S.Store.contents c.put.new.self) in
+    let old = g.S.Store.seen c.args.store.now in
+    let new = g.S.Store.seen c.put.new.self in
     subst (λ (b : Option (Bor (List ℕ))). Follows old new (answer_of (is_ok c.put.result) ∷ []) directory (with_entry directory c.args.number (entry_behind (answer_of (is_ok c.put.result)) (option_copied b)))) (sym c.in-Some.is)
     (follows_stored c.put.result old new directory c.args.number c.args.name.now _ c.ranges.number.fits c.requires c.put.ensures.files c.put.ensures.fails c.put.ensures.counts)
 
 pub returns-in-None : goal.returns-in-None
 returns-in-None g c = λ directory.
-    let old = store_seen (g.S.Store.failures c.args.store.now) (g.S.Store.calls c.args.store.now) (g.S.Store.contents c.args.store.now) in
-    let new = store_seen (g.S.Store.failures c.remove.new.self) (g.S.Store.calls c.remove.new.self) (g.S.Store.contents c.remove.new.self) in
+    let old = g.S.Store.seen c.args.store.now in
+    let new = g.S.Store.seen c.remove.new.self in
     subst (λ (b : Option (Bor (List ℕ))). Follows old new (answer_of (is_ok c.remove.result) ∷ []) directory (with_entry directory c.args.number (entry_behind (answer_of (is_ok c.remove.result)) (option_copied b)))) (sym c.in-None.is)
     (follows_taken c.remove.result old new directory c.args.number c.args.name.now c.ranges.number.fits c.requires c.remove.ensures.files c.remove.ensures.fails c.remove.ensures.counts)

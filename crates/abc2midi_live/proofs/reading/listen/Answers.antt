@@ -3,7 +3,6 @@ use Rattle.std.specs.Prelude.{IfSome}
 use Rattle.abc2midi_live.specs.declared.reading.TheConstants.{MOST_READS}
 use Rattle.abc2midi_live.specs.Machine.{ahead, telling}
 use Rattle.abc2midi_live.specs.Outcome.{ends, outlets, Leaves, Turn, Exhausted, read_faults}
-use Rattle.abc2midi_live.specs.Storing.{store_seen}
 use Rattle.abc_fold.specs.Work.{raised}
 use Rattle.abc2midi_live.proofs.Counts.{raised_none}
 use Rattle.abc2midi_live.proofs.Feeding.{heard_none, heard_turn, heard_end, heard_left, heard_so_far, heard_enough, nothing_ahead, fault_exit, fault_is, reads_exit, calls_more}
@@ -11,7 +10,7 @@ use Rattle.abc2midi_live.proofs.reading.listen.Goals as goal
 
 pub reads-init : goal.reads-init
 reads-init g c = record {
-  heard = heard_none (ahead (g.M.Machine.future c.args.machine) []) (ahead (g.M.Machine.future c.new-listener.result.machine) c.new-listener.result.begun.items) (g.M.Machine.directory c.args.machine) (g.M.Machine.directory c.new-listener.result.machine) (g.R.Source.remaining c.args.reader.now) (outlets (g.W.Sink.contents c.args.writer.now) (store_seen (g.S.Store.failures c.args.store.now) (g.S.Store.calls c.args.store.now) (g.S.Store.contents c.args.store.now)))
+  heard = heard_none (ahead (g.M.Machine.future c.args.machine) []) (ahead (g.M.Machine.future c.new-listener.result.machine) c.new-listener.result.begun.items) (g.M.Machine.directory c.args.machine) (g.M.Machine.directory c.new-listener.result.machine) (g.R.Source.remaining c.args.reader.now) (outlets (g.W.Sink.contents c.args.writer.now) (g.S.Store.seen c.args.store.now))
       (ap (λ m. ahead (g.M.Machine.future m) c.new-listener.result.begun.items) c.new-listener.ensures.machine ∙ ap (ahead (g.M.Machine.future c.args.machine)) c.new-listener.ensures.begun)
       (ap g.M.Machine.directory c.new-listener.ensures.machine);
   calls = sym (raised_none _);
@@ -23,10 +22,10 @@ pub returns-in_err-turn-clause-answers : goal.returns-in_err-turn-clause-answers
 unfolding ahead
 returns-in_err-turn-clause-answers g c =
     let now = c.reads.listener in
-    fault_exit c.from_residual.result _ (Leaves (g.M.Machine.directory c.args.machine) (ahead (g.M.Machine.future c.args.machine) [] false) (ends (g.R.Source.remaining c.args.reader.now) (g.W.Sink.contents c.args.writer.now) (store_seen (g.S.Store.failures c.args.store.now) (g.S.Store.calls c.args.store.now) (g.S.Store.contents c.args.store.now))) (ends (g.R.Source.remaining c.turn.new.reader) (g.W.Sink.contents c.turn.new.writer) (store_seen (g.S.Store.failures c.turn.new.store) (g.S.Store.calls c.turn.new.store) (g.S.Store.contents c.turn.new.store)))) c.in_err-turn.field-0.0 c.from_residual.ensures
+    fault_exit c.from_residual.result _ (Leaves (g.M.Machine.directory c.args.machine) (ahead (g.M.Machine.future c.args.machine) [] false) (ends (g.R.Source.remaining c.args.reader.now) (g.W.Sink.contents c.args.writer.now) (g.S.Store.seen c.args.store.now)) (ends (g.R.Source.remaining c.turn.new.reader) (g.W.Sink.contents c.turn.new.writer) (g.S.Store.seen c.turn.new.store))) c.in_err-turn.field-0.0 c.from_residual.ensures
     (heard_left (ahead (g.M.Machine.future c.args.machine) []) (ahead (g.M.Machine.future now.machine) now.begun.items) (g.M.Machine.directory c.args.machine) (g.M.Machine.directory now.machine) (g.R.Source.remaining c.args.reader.now) (g.R.Source.remaining c.reads.reader) (g.R.Source.remaining c.turn.new.reader)
-    (outlets (g.W.Sink.contents c.args.writer.now) (store_seen (g.S.Store.failures c.args.store.now) (g.S.Store.calls c.args.store.now) (g.S.Store.contents c.args.store.now))) (outlets (g.W.Sink.contents c.reads.writer) (store_seen (g.S.Store.failures c.reads.store) (g.S.Store.calls c.reads.store) (g.S.Store.contents c.reads.store)))
-    (outlets (g.W.Sink.contents c.turn.new.writer) (store_seen (g.S.Store.failures c.turn.new.store) (g.S.Store.calls c.turn.new.store) (g.S.Store.contents c.turn.new.store))) c.in_err-turn.field-0.0 c.reads.invariant.heard c.in_err-turn.ensures.answers)
+    (outlets (g.W.Sink.contents c.args.writer.now) (g.S.Store.seen c.args.store.now)) (outlets (g.W.Sink.contents c.reads.writer) (g.S.Store.seen c.reads.store))
+    (outlets (g.W.Sink.contents c.turn.new.writer) (g.S.Store.seen c.turn.new.store)) c.in_err-turn.field-0.0 c.reads.invariant.heard c.in_err-turn.ensures.answers)
 
 pub returns-in_err-turn-clause-calls : goal.returns-in_err-turn-clause-calls
 returns-in_err-turn-clause-calls g c = (c.reads.counter + 1, omega arith, calls_more _ _ _ c.reads.counter c.reads.invariant.calls c.turn.ensures.calls)
@@ -42,10 +41,10 @@ returns-then-not-branch-clause-answers g c =
     let now = c.reads.listener in
     let after = c.turn.new.listener in
     heard_end (ahead (g.M.Machine.future c.args.machine) []) (ahead (g.M.Machine.future now.machine) now.begun.items) (ahead (g.M.Machine.future after.machine) after.begun.items) (g.M.Machine.directory c.args.machine) (g.M.Machine.directory now.machine) (g.M.Machine.directory after.machine) (g.R.Source.remaining c.args.reader.now) (g.R.Source.remaining c.reads.reader) (g.R.Source.remaining c.turn.new.reader)
-    (outlets (g.W.Sink.contents c.args.writer.now) (store_seen (g.S.Store.failures c.args.store.now) (g.S.Store.calls c.args.store.now) (g.S.Store.contents c.args.store.now))) (outlets (g.W.Sink.contents c.reads.writer) (store_seen (g.S.Store.failures c.reads.store) (g.S.Store.calls c.reads.store) (g.S.Store.contents c.reads.store)))
-    (outlets (g.W.Sink.contents c.turn.new.writer) (store_seen (g.S.Store.failures c.turn.new.store) (g.S.Store.calls c.turn.new.store) (g.S.Store.contents c.turn.new.store))) c.reads.invariant.heard
-    (subst (Turn (g.M.Machine.directory now.machine) (telling (ahead (g.M.Machine.future now.machine) now.begun.items) (ahead (g.M.Machine.future after.machine) after.begun.items) (g.M.Machine.directory after.machine)) (ends (g.R.Source.remaining c.reads.reader) (g.W.Sink.contents c.reads.writer) (store_seen (g.S.Store.failures c.reads.store) (g.S.Store.calls c.reads.store) (g.S.Store.contents c.reads.store)))
-    (ends (g.R.Source.remaining c.turn.new.reader) (g.W.Sink.contents c.turn.new.writer) (store_seen (g.S.Store.failures c.turn.new.store) (g.S.Store.calls c.turn.new.store) (g.S.Store.contents c.turn.new.store)))) c.if-not-branch.true c.in_ok-turn.ensures.answers)
+    (outlets (g.W.Sink.contents c.args.writer.now) (g.S.Store.seen c.args.store.now)) (outlets (g.W.Sink.contents c.reads.writer) (g.S.Store.seen c.reads.store))
+    (outlets (g.W.Sink.contents c.turn.new.writer) (g.S.Store.seen c.turn.new.store)) c.reads.invariant.heard
+    (subst (Turn (g.M.Machine.directory now.machine) (telling (ahead (g.M.Machine.future now.machine) now.begun.items) (ahead (g.M.Machine.future after.machine) after.begun.items) (g.M.Machine.directory after.machine)) (ends (g.R.Source.remaining c.reads.reader) (g.W.Sink.contents c.reads.writer) (g.S.Store.seen c.reads.store))
+    (ends (g.R.Source.remaining c.turn.new.reader) (g.W.Sink.contents c.turn.new.writer) (g.S.Store.seen c.turn.new.store))) c.if-not-branch.true c.in_ok-turn.ensures.answers)
 
 pub returns-then-not-branch-clause-calls : goal.returns-then-not-branch-clause-calls
 returns-then-not-branch-clause-calls g c = (c.reads.counter + 1, omega arith, calls_more _ _ _ c.reads.counter c.reads.invariant.calls c.turn.ensures.calls)
@@ -56,10 +55,10 @@ reads-preserved g c =
     let after = c.turn.new.listener in
     record {
       heard = heard_turn c.reads.counter (ahead (g.M.Machine.future c.args.machine) []) (ahead (g.M.Machine.future now.machine) now.begun.items) (ahead (g.M.Machine.future after.machine) after.begun.items) (g.M.Machine.directory c.args.machine) (g.M.Machine.directory now.machine) (g.M.Machine.directory after.machine) (g.R.Source.remaining c.args.reader.now) (g.R.Source.remaining c.reads.reader) (g.R.Source.remaining c.turn.new.reader)
-          (outlets (g.W.Sink.contents c.args.writer.now) (store_seen (g.S.Store.failures c.args.store.now) (g.S.Store.calls c.args.store.now) (g.S.Store.contents c.args.store.now))) (outlets (g.W.Sink.contents c.reads.writer) (store_seen (g.S.Store.failures c.reads.store) (g.S.Store.calls c.reads.store) (g.S.Store.contents c.reads.store)))
-          (outlets (g.W.Sink.contents c.turn.new.writer) (store_seen (g.S.Store.failures c.turn.new.store) (g.S.Store.calls c.turn.new.store) (g.S.Store.contents c.turn.new.store))) c.reads.invariant.heard
-          (subst (Turn (g.M.Machine.directory now.machine) (telling (ahead (g.M.Machine.future now.machine) now.begun.items) (ahead (g.M.Machine.future after.machine) after.begun.items) (g.M.Machine.directory after.machine)) (ends (g.R.Source.remaining c.reads.reader) (g.W.Sink.contents c.reads.writer) (store_seen (g.S.Store.failures c.reads.store) (g.S.Store.calls c.reads.store) (g.S.Store.contents c.reads.store)))
-          (ends (g.R.Source.remaining c.turn.new.reader) (g.W.Sink.contents c.turn.new.writer) (store_seen (g.S.Store.failures c.turn.new.store) (g.S.Store.calls c.turn.new.store) (g.S.Store.contents c.turn.new.store)))) c.if-not-branch.false c.in_ok-turn.ensures.answers);
+          (outlets (g.W.Sink.contents c.args.writer.now) (g.S.Store.seen c.args.store.now)) (outlets (g.W.Sink.contents c.reads.writer) (g.S.Store.seen c.reads.store))
+          (outlets (g.W.Sink.contents c.turn.new.writer) (g.S.Store.seen c.turn.new.store)) c.reads.invariant.heard
+          (subst (Turn (g.M.Machine.directory now.machine) (telling (ahead (g.M.Machine.future now.machine) now.begun.items) (ahead (g.M.Machine.future after.machine) after.begun.items) (g.M.Machine.directory after.machine)) (ends (g.R.Source.remaining c.reads.reader) (g.W.Sink.contents c.reads.writer) (g.S.Store.seen c.reads.store))
+          (ends (g.R.Source.remaining c.turn.new.reader) (g.W.Sink.contents c.turn.new.writer) (g.S.Store.seen c.turn.new.store))) c.if-not-branch.false c.in_ok-turn.ensures.answers);
       calls = calls_more _ _ _ c.reads.counter c.reads.invariant.calls c.turn.ensures.calls;
       reads = c.in_ok-turn.ensures.reads ∙ raised_none _ ∙ c.reads.invariant.reads;
       writes = c.in_ok-turn.ensures.writes ∙ raised_none _ ∙ c.reads.invariant.writes;
@@ -69,7 +68,7 @@ pub returns-clause-answers : goal.returns-clause-answers
 unfolding ahead
 returns-clause-answers g c =
     let now = c.reads.listener in
-    heard_so_far (ahead (g.M.Machine.future c.args.machine) []) (ahead (g.M.Machine.future now.machine) now.begun.items) (g.M.Machine.directory c.args.machine) (g.M.Machine.directory now.machine) (g.R.Source.remaining c.args.reader.now) (g.R.Source.remaining c.reads.reader) (outlets (g.W.Sink.contents c.args.writer.now) (store_seen (g.S.Store.failures c.args.store.now) (g.S.Store.calls c.args.store.now) (g.S.Store.contents c.args.store.now))) (outlets (g.W.Sink.contents c.reads.writer) (store_seen (g.S.Store.failures c.reads.store) (g.S.Store.calls c.reads.store) (g.S.Store.contents c.reads.store))) c.reads.invariant.heard
+    heard_so_far (ahead (g.M.Machine.future c.args.machine) []) (ahead (g.M.Machine.future now.machine) now.begun.items) (g.M.Machine.directory c.args.machine) (g.M.Machine.directory now.machine) (g.R.Source.remaining c.args.reader.now) (g.R.Source.remaining c.reads.reader) (outlets (g.W.Sink.contents c.args.writer.now) (g.S.Store.seen c.args.store.now)) (outlets (g.W.Sink.contents c.reads.writer) (g.S.Store.seen c.reads.store)) c.reads.invariant.heard
     (nothing_ahead (g.M.Machine.future now.machine) (g.M.Machine.directory now.machine) now.begun.items now.whole (g.met.M.Machine.waits now.machine))
 
 pub returns-clause-calls : goal.returns-clause-calls
@@ -78,6 +77,6 @@ returns-clause-calls g c = (c.reads.counter, omega arith, c.reads.invariant.call
 pub returns-clause-reads : goal.returns-clause-reads
 returns-clause-reads g c =
     let all : c.reads.counter ≡ MOST_READS = omega arith in
-    let enough = heard_enough c.reads.counter (ahead (g.M.Machine.future c.args.machine) []) (ahead (g.M.Machine.future c.reads.listener.machine) c.reads.listener.begun.items) (g.M.Machine.directory c.args.machine) (g.M.Machine.directory c.reads.listener.machine) (g.R.Source.remaining c.args.reader.now) (g.R.Source.remaining c.reads.reader) (outlets (g.W.Sink.contents c.args.writer.now) (store_seen (g.S.Store.failures c.args.store.now) (g.S.Store.calls c.args.store.now) (g.S.Store.contents c.args.store.now))) (outlets (g.W.Sink.contents c.reads.writer) (store_seen (g.S.Store.failures c.reads.store) (g.S.Store.calls c.reads.store) (g.S.Store.contents c.reads.store))) c.reads.invariant.heard in
+    let enough = heard_enough c.reads.counter (ahead (g.M.Machine.future c.args.machine) []) (ahead (g.M.Machine.future c.reads.listener.machine) c.reads.listener.begun.items) (g.M.Machine.directory c.args.machine) (g.M.Machine.directory c.reads.listener.machine) (g.R.Source.remaining c.args.reader.now) (g.R.Source.remaining c.reads.reader) (outlets (g.W.Sink.contents c.args.writer.now) (g.S.Store.seen c.args.store.now)) (outlets (g.W.Sink.contents c.reads.writer) (g.S.Store.seen c.reads.store)) c.reads.invariant.heard in
     Exhausted c.reads.invariant.reads (c.reads.invariant.calls ∙ ap (raised (g.R.Source.calls c.args.reader.now)) all)
     (subst (λ made. IfSome (g.R.Source.remaining c.args.reader.now) (λ bytes. made ≤ length bytes)) all enough)

@@ -1,7 +1,6 @@
 use Rattle.std.proofs.Common.{◌≡◌, []}
 use Rattle.abc2midi_live.specs.Machine.{ahead}
 use Rattle.abc2midi_live.specs.Outcome.{outlets}
-use Rattle.abc2midi_live.specs.Storing.{store_seen}
 use Rattle.abc_fold.specs.Work.{raised}
 use Rattle.abc2midi_live.proofs.Feeding.{Heard}
 use Rattle.abc2midi_live.proofs.reading.listen.Given as goal
@@ -12,13 +11,11 @@ invariant-reads g l =
     let future = g.M.Machine.future in
     let directory = g.M.Machine.directory in
     let contents = g.W.Sink.contents in
-    let failures = g.S.Store.failures in
-    let calls = g.S.Store.calls in
-    let files = g.S.Store.contents in
+    let seen = g.S.Store.seen in
     record {
       heard : Heard l.counter (ahead (future l.fn.machine) []) (ahead (future l.listener.machine) l.listener.begun.items) (directory l.fn.machine) (directory l.listener.machine)
           (g.R.Source.remaining l.fn.reader) (g.R.Source.remaining l.reader)
-          (outlets (contents l.fn.writer) (store_seen (failures l.fn.store) (calls l.fn.store) (files l.fn.store))) (outlets (contents l.writer) (store_seen (failures l.store) (calls l.store) (files l.store)));
+          (outlets (contents l.fn.writer) (seen l.fn.store)) (outlets (contents l.writer) (seen l.store));
       calls : g.R.Source.calls l.reader ≡ raised (g.R.Source.calls l.fn.reader) l.counter;
       reads : g.R.Source.failures l.reader ≡ g.R.Source.failures l.fn.reader;
       writes : g.W.Sink.failures l.writer ≡ g.W.Sink.failures l.fn.writer;

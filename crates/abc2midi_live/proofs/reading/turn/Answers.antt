@@ -1,7 +1,6 @@
 use Rattle.std.proofs.Common.{◌≡◌, ◌<◌, length, false, arith}
 use Rattle.abc2midi_live.specs.Machine.{ahead}
 use Rattle.abc2midi_live.specs.Outcome.{ends, outlets, Leaves}
-use Rattle.abc2midi_live.specs.Storing.{store_seen}
 use Rattle.abc2midi_live.proofs.Feeding.{turn_failed, some_read, turn_fed, turn_ended, turn_unserved, nothing_ahead, nothing_read, fault_exit}
 use Rattle.abc2midi_live.proofs.reading.turn.Goals as goal
 
@@ -9,7 +8,7 @@ pub returns-in-Err-clause-answers : goal.returns-in-Err-clause-answers
 returns-in-Err-clause-answers g c =
     let now = c.args.listener.now in
     let d = g.M.Machine.directory now.machine in
-    let old = outlets (g.W.Sink.contents c.args.writer.now) (store_seen (g.S.Store.failures c.args.store.now) (g.S.Store.calls c.args.store.now) (g.S.Store.contents c.args.store.now)) in
+    let old = outlets (g.W.Sink.contents c.args.writer.now) (g.S.Store.seen c.args.store.now) in
     turn_failed (ahead (g.M.Machine.future now.machine) now.begun.items) d (g.R.Source.remaining c.args.reader.now) (g.R.Source.remaining c.read.new.self) old c.in-Err.ensures.bytes
     (nothing_ahead (g.M.Machine.future now.machine) d now.begun.items now.whole (g.met.M.Machine.waits now.machine))
 
@@ -17,8 +16,8 @@ pub returns-then-count-gt0-clause-answers : goal.returns-then-count-gt0-clause-a
 returns-then-count-gt0-clause-answers g c =
     let now = c.args.listener.now in
     let after = c.feed.new.self in
-    let old = outlets (g.W.Sink.contents c.args.writer.now) (store_seen (g.S.Store.failures c.args.store.now) (g.S.Store.calls c.args.store.now) (g.S.Store.contents c.args.store.now)) in
-    let new = outlets (g.W.Sink.contents c.feed.new.writer) (store_seen (g.S.Store.failures c.feed.new.store) (g.S.Store.calls c.feed.new.store) (g.S.Store.contents c.feed.new.store)) in
+    let old = outlets (g.W.Sink.contents c.args.writer.now) (g.S.Store.seen c.args.store.now) in
+    let new = outlets (g.W.Sink.contents c.feed.new.writer) (g.S.Store.seen c.feed.new.store) in
     turn_fed c.feed.result (ahead (g.M.Machine.future now.machine) now.begun.items) (ahead (g.M.Machine.future after.machine) after.begun.items) (g.M.Machine.directory now.machine) (g.M.Machine.directory after.machine) _
     (g.R.Source.remaining c.args.reader.now) (g.R.Source.remaining c.read.new.self) old new (some_read c.in-Ok.count c.read.new.buf c.if-count-gt0.true c.in-Ok.ensures.within.0) c.in-Ok.ensures.bytes.0 c.feed.ensures.answer
 
@@ -28,8 +27,8 @@ returns-in_err-finish-clause-answers g c =
     let d = g.M.Machine.directory now.machine in
     let input = g.R.Source.remaining c.args.reader.now in
     let left = g.R.Source.remaining c.read.new.self in
-    let old = outlets (g.W.Sink.contents c.args.writer.now) (store_seen (g.S.Store.failures c.args.store.now) (g.S.Store.calls c.args.store.now) (g.S.Store.contents c.args.store.now)) in
-    let new = outlets (g.W.Sink.contents c.finish.new.writer) (store_seen (g.S.Store.failures c.finish.new.store) (g.S.Store.calls c.finish.new.store) (g.S.Store.contents c.finish.new.store)) in
+    let old = outlets (g.W.Sink.contents c.args.writer.now) (g.S.Store.seen c.args.store.now) in
+    let new = outlets (g.W.Sink.contents c.finish.new.writer) (g.S.Store.seen c.finish.new.store) in
     fault_exit c.from_residual.result _ (Leaves d (ahead (g.M.Machine.future now.machine) now.begun.items false) (ends input old.output old.store) (ends left new.output new.store)) c.in_err-finish.field-0.0 c.from_residual.ensures
     (turn_unserved (ahead (g.M.Machine.future now.machine) now.begun.items) d input left old new c.in_err-finish.field-0.0
     (nothing_read c.in-Ok.count c.read.new.buf input left c.if-count-gt0.false c.in-Ok.ensures.bytes.0)
@@ -42,8 +41,8 @@ returns-clause-answers g c =
     let room : 0 < length c.read.new.buf = omega arith in
     let input = g.R.Source.remaining c.args.reader.now in
     let left = g.R.Source.remaining c.read.new.self in
-    let old = outlets (g.W.Sink.contents c.args.writer.now) (store_seen (g.S.Store.failures c.args.store.now) (g.S.Store.calls c.args.store.now) (g.S.Store.contents c.args.store.now)) in
-    let new = outlets (g.W.Sink.contents c.finish.new.writer) (store_seen (g.S.Store.failures c.finish.new.store) (g.S.Store.calls c.finish.new.store) (g.S.Store.contents c.finish.new.store)) in
+    let old = outlets (g.W.Sink.contents c.args.writer.now) (g.S.Store.seen c.args.store.now) in
+    let new = outlets (g.W.Sink.contents c.finish.new.writer) (g.S.Store.seen c.finish.new.store) in
     turn_ended (ahead (g.M.Machine.future now.machine) now.begun.items) (g.M.Machine.directory now.machine) input left old new
     (nothing_read c.in-Ok.count c.read.new.buf input left c.if-count-gt0.false c.in-Ok.ensures.bytes.0)
     (c.in-Ok.ensures.bytes.1 none room) c.in_ok-finish.ensures.answer

@@ -4,7 +4,6 @@ use Rattle.abc_fold.specs.Work.{raised}
 use Rattle.abc_publish.specs.Publisher.{maps_of}
 use Rattle.abc2midi_live.specs.Gathering.{begun_of}
 use Rattle.abc2midi_live.specs.Outcome.{ends, outlets, LeavesRun, write_faults}
-use Rattle.abc2midi_live.specs.Storing.{store_seen}
 use Rattle.abc2midi_live.specs.Transcript.{transcript_so_far}
 use Rattle.abc2midi_live.proofs.Counts.{raised_none}
 use Rattle.abc2midi_live.proofs.Feeding.{fault_exit}
@@ -15,7 +14,7 @@ pub returns-in_err-dialogue-clause-transcript : goal.returns-in_err-dialogue-cla
 returns-in_err-dialogue-clause-transcript g c =
     let input = g.R.Source.remaining c.args.reader.now in
     let book = option_copied c.args.book in
-    let old = outlets (g.W.Sink.contents c.args.writer.now) (store_seen (g.S.Store.failures c.args.store.now) (g.S.Store.calls c.args.store.now) (g.S.Store.contents c.args.store.now)) in
+    let old = outlets (g.W.Sink.contents c.args.writer.now) (g.S.Store.seen c.args.store.now) in
     let new = outlets (g.W.Sink.contents c.opened.new.writer) old.store in
     fault_exit c.from_residual.result _ (LeavesRun book (transcript_so_far book) (ends input old.output old.store) (ends input new.output old.store)) c.in_err-dialogue.field-0.0 c.from_residual.ensures
     (not_opened c.in_err-dialogue.field-0.0 book input old new.output c.in_err-dialogue.ensures.answer)
@@ -27,8 +26,8 @@ pub returns-clause-transcript : goal.returns-clause-transcript
 returns-clause-transcript g c =
     let d = c.in_ok-dialogue.dialogue in
     let opened = c.in_ok-dialogue.ensures.answer in
-    let old = outlets (g.W.Sink.contents c.args.writer.now) (store_seen (g.S.Store.failures c.args.store.now) (g.S.Store.calls c.args.store.now) (g.S.Store.contents c.args.store.now)) in
-    let new = outlets (g.W.Sink.contents c.listen.new.writer) (store_seen (g.S.Store.failures c.listen.new.store) (g.S.Store.calls c.listen.new.store) (g.S.Store.contents c.listen.new.store)) in
+    let old = outlets (g.W.Sink.contents c.args.writer.now) (g.S.Store.seen c.args.store.now) in
+    let new = outlets (g.W.Sink.contents c.listen.new.writer) (g.S.Store.seen c.listen.new.store) in
     told_run (option_copied c.args.book) opened.0 d.session.text (maps_of d.publisher).directory (begun_of d.gathering) opened.2 c.in_ok-dialogue.ensures.directory
     c.listen.result (g.R.Source.remaining c.args.reader.now) (g.R.Source.remaining c.listen.new.reader) old new (g.W.Sink.contents c.opened.new.writer) opened.1 c.listen.ensures.answers
 

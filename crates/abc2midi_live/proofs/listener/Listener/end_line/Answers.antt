@@ -1,7 +1,6 @@
 use Rattle.std.proofs.Common.{ap, ◌∙◌}
 use Rattle.std.proofs.KnownBytes.{Keeps-refl}
 use Rattle.abc2midi_live.specs.Outcome.{outlets, Unserved}
-use Rattle.abc2midi_live.specs.Storing.{store_seen}
 use Rattle.abc2midi_live.specs.declared.fault.RunFault.TheVariants.{Memory}
 use Rattle.abc2midi_live.proofs.Feeding.{fault_exit, serve_line}
 use Rattle.abc2midi_live.proofs.Storing.{asked_none}
@@ -12,12 +11,12 @@ returns-clause-answer g c =
     let before = c.args.self.now in
     let same = c.take_begun-line.ensures.machine ∙ c.keep.ensures.machine in
     serve_line c.serve.result (g.M.Machine.future before.machine) _ (g.M.Machine.future c.serve.new.machine) (g.M.Machine.directory before.machine) _ (g.M.Machine.directory c.serve.new.machine) before.begun.items c.args.piece.now c.take_begun-line.result.items _
-    (outlets (g.W.Sink.contents c.args.writer.now) (store_seen (g.S.Store.failures c.args.store.now) (g.S.Store.calls c.args.store.now) (g.S.Store.contents c.args.store.now)))
-    (outlets (g.W.Sink.contents c.serve.new.writer) (store_seen (g.S.Store.failures c.serve.new.store) (g.S.Store.calls c.serve.new.store) (g.S.Store.contents c.serve.new.store)))
+    (outlets (g.W.Sink.contents c.args.writer.now) (g.S.Store.seen c.args.store.now))
+    (outlets (g.W.Sink.contents c.serve.new.writer) (g.S.Store.seen c.serve.new.store))
     (ap g.M.Machine.future same) (ap g.M.Machine.directory same) before.whole c.requires (c.take_begun-line.ensures.line ∙ c.in_ok-keep.ensures.begun) c.take_begun-line.ensures.begun c.serve.ensures.answer
 
 pub returns-in_err-keep-clause-answer : goal.returns-in_err-keep-clause-answer
 returns-in_err-keep-clause-answer g c =
     let d = g.M.Machine.directory c.args.self.now.machine in
-    let old = outlets (g.W.Sink.contents c.args.writer.now) (store_seen (g.S.Store.failures c.args.store.now) (g.S.Store.calls c.args.store.now) (g.S.Store.contents c.args.store.now)) in
+    let old = outlets (g.W.Sink.contents c.args.writer.now) (g.S.Store.seen c.args.store.now) in
     fault_exit c.from_residual.result _ (Unserved d old old) Memory c.from_residual.ensures (Keeps-refl old.output, asked_none old.store d)

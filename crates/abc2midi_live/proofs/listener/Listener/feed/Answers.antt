@@ -4,7 +4,6 @@ use Rattle.abc2midi_live.proofs.Counts.{raised_none}
 use Rattle.std.proofs.KnownBytes.{Keeps-refl}
 use Rattle.abc2midi_live.specs.Machine.{ahead, telling}
 use Rattle.abc2midi_live.specs.Outcome.{BrokenOff, Serves, outlets}
-use Rattle.abc2midi_live.specs.Storing.{store_seen}
 use Rattle.abc2midi_live.specs.declared.fault.RunFault.TheVariants.{Memory}
 use Rattle.abc2midi_live.proofs.Feeding.{Fed, fed_none, fed_more, fed_end, fed_all, fed_broken, fed_fault, nothing_ahead, piece_kept, fault_exit, cut_some, cut_none}
 use Rattle.abc2midi_live.proofs.Storing.{asked_none}
@@ -15,7 +14,7 @@ lines-init g c =
     let now = c.args.self.now in
     record {
       fed = fed_none (ahead (g.M.Machine.future now.machine) now.begun.items) (g.M.Machine.directory now.machine) c.args.piece.now
-          (outlets (g.W.Sink.contents c.args.writer.now) (store_seen (g.S.Store.failures c.args.store.now) (g.S.Store.calls c.args.store.now) (g.S.Store.contents c.args.store.now)));
+          (outlets (g.W.Sink.contents c.args.writer.now) (g.S.Store.seen c.args.store.now));
       failures = refl;
     }
 
@@ -24,11 +23,11 @@ pub returns-in_err-end_line-in_default-Some-clause-answer :
 returns-in_err-end_line-in_default-Some-clause-answer g c =
     let now = c.lines.self in
     let d = g.M.Machine.directory now.machine in
-    let out = outlets (g.W.Sink.contents c.lines.writer) (store_seen (g.S.Store.failures c.lines.store) (g.S.Store.calls c.lines.store) (g.S.Store.contents c.lines.store)) in
+    let out = outlets (g.W.Sink.contents c.lines.writer) (g.S.Store.seen c.lines.store) in
     let start = ahead (g.M.Machine.future c.args.self.now.machine) c.args.self.now.begun.items in
     let from = g.M.Machine.directory c.args.self.now.machine in
-    let first = outlets (g.W.Sink.contents c.args.writer.now) (store_seen (g.S.Store.failures c.args.store.now) (g.S.Store.calls c.args.store.now) (g.S.Store.contents c.args.store.now)) in
-    let new = outlets (g.W.Sink.contents c.end_line.new.writer) (store_seen (g.S.Store.failures c.end_line.new.store) (g.S.Store.calls c.end_line.new.store) (g.S.Store.contents c.end_line.new.store)) in
+    let first = outlets (g.W.Sink.contents c.args.writer.now) (g.S.Store.seen c.args.store.now) in
+    let new = outlets (g.W.Sink.contents c.end_line.new.writer) (g.S.Store.seen c.end_line.new.store) in
     fault_exit c.from_residual.result _ (BrokenOff from start c.args.piece.now first new) c.in_err-end_line-in_default-Some.field-0.0 c.from_residual.ensures
     (fed_fault start (ahead (g.M.Machine.future now.machine) now.begun.items) from d c.args.piece.now c.lines.rest.now first out new c.in_err-end_line-in_default-Some.field-0.0 c.lines.invariant.fed c.in_err-end_line-in_default-Some.ensures.answer
     (nothing_ahead (g.M.Machine.future now.machine) d now.begun.items now.whole (g.met.M.Machine.waits now.machine)))
@@ -39,13 +38,13 @@ returns-then-not-branch-clause-answer g c =
     let after = c.end_line.new.self in
     let d = g.M.Machine.directory now.machine in
     let e = g.M.Machine.directory after.machine in
-    let out = outlets (g.W.Sink.contents c.lines.writer) (store_seen (g.S.Store.failures c.lines.store) (g.S.Store.calls c.lines.store) (g.S.Store.contents c.lines.store)) in
-    let new = outlets (g.W.Sink.contents c.end_line.new.writer) (store_seen (g.S.Store.failures c.end_line.new.store) (g.S.Store.calls c.end_line.new.store) (g.S.Store.contents c.end_line.new.store)) in
+    let out = outlets (g.W.Sink.contents c.lines.writer) (g.S.Store.seen c.lines.store) in
+    let new = outlets (g.W.Sink.contents c.end_line.new.writer) (g.S.Store.seen c.end_line.new.store) in
     let before = ahead (g.M.Machine.future now.machine) now.begun.items in
     let behind = ahead (g.M.Machine.future after.machine) after.begun.items in
     let start = ahead (g.M.Machine.future c.args.self.now.machine) c.args.self.now.begun.items in
     let from = g.M.Machine.directory c.args.self.now.machine in
-    let first = outlets (g.W.Sink.contents c.args.writer.now) (store_seen (g.S.Store.failures c.args.store.now) (g.S.Store.calls c.args.store.now) (g.S.Store.contents c.args.store.now)) in
+    let first = outlets (g.W.Sink.contents c.args.writer.now) (g.S.Store.seen c.args.store.now) in
     fed_end start before behind from d e c.args.piece.now c.lines.rest.now c.cut.result.0.now c.in_default-Some.behind.now first out new c.lines.invariant.fed
     (cut_some c.lines.rest.now c.cut.result.0.now c.cut.result.1 c.in_default-Some.behind c.cut.ensures c.in_default-Some.is-1)
     (subst (Serves d (telling before behind e) (c.cut.result.0.now ++ 10 ∷ []) out new) c.if-not-branch.true c.in_ok-end_line-in_default-Some.ensures.answer)
@@ -57,9 +56,9 @@ lines-preserved g c =
     let d = g.M.Machine.directory now.machine in
     let e = g.M.Machine.directory after.machine in
     let from = g.M.Machine.directory c.args.self.now.machine in
-    let first = outlets (g.W.Sink.contents c.args.writer.now) (store_seen (g.S.Store.failures c.args.store.now) (g.S.Store.calls c.args.store.now) (g.S.Store.contents c.args.store.now)) in
-    let out = outlets (g.W.Sink.contents c.lines.writer) (store_seen (g.S.Store.failures c.lines.store) (g.S.Store.calls c.lines.store) (g.S.Store.contents c.lines.store)) in
-    let new = outlets (g.W.Sink.contents c.end_line.new.writer) (store_seen (g.S.Store.failures c.end_line.new.store) (g.S.Store.calls c.end_line.new.store) (g.S.Store.contents c.end_line.new.store)) in
+    let first = outlets (g.W.Sink.contents c.args.writer.now) (g.S.Store.seen c.args.store.now) in
+    let out = outlets (g.W.Sink.contents c.lines.writer) (g.S.Store.seen c.lines.store) in
+    let new = outlets (g.W.Sink.contents c.end_line.new.writer) (g.S.Store.seen c.end_line.new.store) in
     let start = ahead (g.M.Machine.future c.args.self.now.machine) c.args.self.now.begun.items in
     let before = ahead (g.M.Machine.future now.machine) now.begun.items in
     let behind = ahead (g.M.Machine.future after.machine) after.begun.items in
@@ -76,10 +75,10 @@ pub returns-in_err-keep-in_default-None-clause-answer :
 returns-in_err-keep-in_default-None-clause-answer g c =
     let now = c.lines.self in
     let d = g.M.Machine.directory now.machine in
-    let out = outlets (g.W.Sink.contents c.lines.writer) (store_seen (g.S.Store.failures c.lines.store) (g.S.Store.calls c.lines.store) (g.S.Store.contents c.lines.store)) in
+    let out = outlets (g.W.Sink.contents c.lines.writer) (g.S.Store.seen c.lines.store) in
     let start = ahead (g.M.Machine.future c.args.self.now.machine) c.args.self.now.begun.items in
     let from = g.M.Machine.directory c.args.self.now.machine in
-    let first = outlets (g.W.Sink.contents c.args.writer.now) (store_seen (g.S.Store.failures c.args.store.now) (g.S.Store.calls c.args.store.now) (g.S.Store.contents c.args.store.now)) in
+    let first = outlets (g.W.Sink.contents c.args.writer.now) (g.S.Store.seen c.args.store.now) in
     fault_exit c.from_residual-in_err-keep-in_default-None.result _ (BrokenOff from start c.args.piece.now first out) Memory c.from_residual-in_err-keep-in_default-None.ensures
     (fed_broken start (ahead (g.M.Machine.future now.machine) now.begun.items) from d c.args.piece.now c.lines.rest.now first out out c.lines.invariant.fed (Keeps-refl _) (asked_none out.store d)
     (nothing_ahead (g.M.Machine.future now.machine) d now.begun.items now.whole (g.met.M.Machine.waits now.machine)))
@@ -90,8 +89,8 @@ returns-in_default-None-clause-answer g c =
     let after = c.keep.new.self in
     let d = g.M.Machine.directory now.machine in
     let from = g.M.Machine.directory c.args.self.now.machine in
-    let first = outlets (g.W.Sink.contents c.args.writer.now) (store_seen (g.S.Store.failures c.args.store.now) (g.S.Store.calls c.args.store.now) (g.S.Store.contents c.args.store.now)) in
-    let out = outlets (g.W.Sink.contents c.lines.writer) (store_seen (g.S.Store.failures c.lines.store) (g.S.Store.calls c.lines.store) (g.S.Store.contents c.lines.store)) in
+    let first = outlets (g.W.Sink.contents c.args.writer.now) (g.S.Store.seen c.args.store.now) in
+    let out = outlets (g.W.Sink.contents c.lines.writer) (g.S.Store.seen c.lines.store) in
     let start = ahead (g.M.Machine.future c.args.self.now.machine) c.args.self.now.begun.items in
     let before = ahead (g.M.Machine.future now.machine) now.begun.items in
     let whole = fed_all start before (ahead (g.M.Machine.future now.machine) after.begun.items) from d c.args.piece.now c.lines.rest.now c.cut.result.0.now first out c.lines.invariant.fed

@@ -1,7 +1,6 @@
 use Rattle.std.proofs.Common.{◌≡◌, length}
 use Rattle.abc2midi_live.specs.Machine.{ahead}
 use Rattle.abc2midi_live.specs.Outcome.{outlets}
-use Rattle.abc2midi_live.specs.Storing.{store_seen}
 use Rattle.abc2midi_live.proofs.Feeding.{Fed}
 use Rattle.abc2midi_live.proofs.listener.Listener.feed.Given as goal
 
@@ -11,13 +10,11 @@ invariant-lines g l =
     let future = g.M.Machine.future in
     let directory = g.M.Machine.directory in
     let contents = g.W.Sink.contents in
-    let failures = g.S.Store.failures in
-    let calls = g.S.Store.calls in
-    let files = g.S.Store.contents in
+    let seen = g.S.Store.seen in
     record {
       fed : Fed (ahead (future l.fn.self.machine) l.fn.self.begun.items) (ahead (future l.self.machine) l.self.begun.items)
           (directory l.fn.self.machine) (directory l.self.machine) l.fn.piece l.rest
-          (outlets (contents l.fn.writer) (store_seen (failures l.fn.store) (calls l.fn.store) (files l.fn.store))) (outlets (contents l.writer) (store_seen (failures l.store) (calls l.store) (files l.store)));
+          (outlets (contents l.fn.writer) (seen l.fn.store)) (outlets (contents l.writer) (seen l.store));
       failures : g.W.Sink.failures l.writer ≡ g.W.Sink.failures l.fn.writer;
     }
 

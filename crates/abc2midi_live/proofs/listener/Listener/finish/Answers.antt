@@ -1,13 +1,12 @@
 use Rattle.std.proofs.Common.{sym, ap, subst}
 use Rattle.abc2midi_live.specs.Outcome.{outlets}
-use Rattle.abc2midi_live.specs.Storing.{store_seen}
 use Rattle.abc2midi_live.proofs.Feeding.{Served, last_served, finish_said, finish_none, not_empty, is_empty}
 use Rattle.abc2midi_live.proofs.listener.Listener.finish.Goals as goal
 
 pub returns-then-is_empty-clause-answer : goal.returns-then-is_empty-clause-answer
 returns-then-is_empty-clause-answer g c =
     let now = c.args.self.now in
-    let old = outlets (g.W.Sink.contents c.args.writer.now) (store_seen (g.S.Store.failures c.args.store.now) (g.S.Store.calls c.args.store.now) (g.S.Store.contents c.args.store.now)) in
+    let old = outlets (g.W.Sink.contents c.args.writer.now) (g.S.Store.seen c.args.store.now) in
     finish_none c.say.result (g.M.Machine.future now.machine) (g.M.Machine.directory now.machine) now.begun.items c.last_words.result.now old _ (is_empty now.begun.items now.begun.len now.begun.ok.0 (sym c.if-is_empty.ensures)) c.last_words.ensures c.say.ensures.answer
 
 pub returns-then-branch-clause-answer : goal.returns-then-branch-clause-answer
@@ -15,8 +14,8 @@ returns-then-branch-clause-answer g c =
     let now = c.args.self.now in
     let machine = c.serve.new.machine in
     let before = c.take_begun-line.new.self.machine in
-    let old = outlets (g.W.Sink.contents c.args.writer.now) (store_seen (g.S.Store.failures c.args.store.now) (g.S.Store.calls c.args.store.now) (g.S.Store.contents c.args.store.now)) in
-    let mid = outlets (g.W.Sink.contents c.serve.new.writer) (store_seen (g.S.Store.failures c.serve.new.store) (g.S.Store.calls c.serve.new.store) (g.S.Store.contents c.serve.new.store)) in
+    let old = outlets (g.W.Sink.contents c.args.writer.now) (g.S.Store.seen c.args.store.now) in
+    let mid = outlets (g.W.Sink.contents c.serve.new.writer) (g.S.Store.seen c.serve.new.store) in
     let served = subst (Served (g.M.Machine.future before) (g.M.Machine.future machine) (g.M.Machine.directory before) (g.M.Machine.directory machine) c.take_begun-line.result.items old mid) c.if-branch.true c.in_ok-serve.ensures.answer in
     finish_said c.say-then-branch.result (g.M.Machine.future now.machine) (g.M.Machine.future before) (g.M.Machine.future machine) (g.M.Machine.directory now.machine) (g.M.Machine.directory before) (g.M.Machine.directory machine)
     now.begun.items c.take_begun-line.result.items c.last_words-then-branch.result.now old mid _
@@ -27,8 +26,8 @@ returns-else-branch-clause-answer g c =
     let now = c.args.self.now in
     let machine = c.serve.new.machine in
     let before = c.take_begun-line.new.self.machine in
-    let old = outlets (g.W.Sink.contents c.args.writer.now) (store_seen (g.S.Store.failures c.args.store.now) (g.S.Store.calls c.args.store.now) (g.S.Store.contents c.args.store.now)) in
-    let mid = outlets (g.W.Sink.contents c.serve.new.writer) (store_seen (g.S.Store.failures c.serve.new.store) (g.S.Store.calls c.serve.new.store) (g.S.Store.contents c.serve.new.store)) in
+    let old = outlets (g.W.Sink.contents c.args.writer.now) (g.S.Store.seen c.args.store.now) in
+    let mid = outlets (g.W.Sink.contents c.serve.new.writer) (g.S.Store.seen c.serve.new.store) in
     last_served (g.M.Machine.future now.machine) (g.M.Machine.future before) (g.M.Machine.future machine) (g.M.Machine.directory now.machine) (g.M.Machine.directory before) (g.M.Machine.directory machine)
     now.begun.items c.take_begun-line.result.items old mid
     (ap g.M.Machine.future c.take_begun-line.ensures.machine) (ap g.M.Machine.directory c.take_begun-line.ensures.machine) c.take_begun-line.ensures.line now.whole (not_empty now.begun.items now.begun.len now.begun.ok.0 (sym c.if-is_empty.ensures)) now.kept
