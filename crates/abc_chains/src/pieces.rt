@@ -21,13 +21,17 @@ fn count_of<F: Resumable>(chain: &Shared<Chain<F>>) -> usize
 }
 
 /// What a chain keeps of the cell with `i` others before it.
-fn kept_at<F: Resumable>(chain: &Shared<Chain<F>>, i: usize) -> Result<Piece<F>, AllocError>
+fn kept_at<F: Resumable>(
+    fold: &F,
+    chain: &Shared<Chain<F>>,
+    i: usize,
+) -> Result<Piece<F>, AllocError>
     requires { i < length chain.now.cells }
     ensures place { IfOk result (λ piece. IsKeptAt chain.now i piece) }
     ensures resumable { (steps : Steps F.State F.Cell F.Items) (opening : F.State) → IsResumable steps → Folds steps opening chain.now →
         IfOk result (λ piece. IsKept steps piece) }
 {
-    chain.get().kept(i)
+    chain.get().kept(fold, i)
 }
 
 /// The piece of the cell of a line with `k` others before it: what an old chain keeps of it, or a new one.
@@ -53,7 +57,7 @@ fn piece_at<F: Resumable>(
         Some(origin) => {
             let chain = item_at(chains, origin.source);
             let count = count_of(chain);
-            kept_at(chain, origin.first + k)
+            kept_at(fold, chain, origin.first + k)
         }
     }
 }

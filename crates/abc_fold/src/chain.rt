@@ -16,8 +16,8 @@ use std::marker::Model;
 #[derive(Drop)]
 pub struct Chain<F: Resumable> {
     states: Vec<Shared<F::State>>,
-    cells: Vec<Shared<F::Cell>>,
-    items: Vec<Shared<F::Items>>,
+    cells: Vec<F::Cell>,
+    items: Vec<F::Items>,
 }
 
 impl<F: Resumable> Model for Chain<F> {
@@ -84,32 +84,30 @@ impl<F: Resumable> Chain<F> {
     pub fn items(&self, i: usize) -> Option<&F::Items>
         ensures { option_copied result ≡ slice_get self.now.items i }
     {
-        match self.items.get(i) {
-            Some(items) => Some(items.get()),
-            None => None,
-        }
+        self.items.get(i)
     }
 
     /// The cell with `i` others before it, with all that is kept of it. A chain of the same fold may take it up.
-    pub fn kept(&self, i: usize) -> Result<Piece<F>, AllocError>
+    pub fn kept(&self, fold: &F, i: usize) -> Result<Piece<F>, AllocError>
         requires { i < length self.now.cells }
         ensures place { IfOk result (λ piece. IsKeptAt self.now i piece) }
         ensures resumable { (steps : Steps F.State F.Cell F.Items) (opening : F.State) → IsResumable steps → Folds steps opening self.now →
             IfOk result (λ piece. IsKept steps piece) }
     {
-        self.shared(i)
+        self.copied(fold, i)
     }
 
-    /// What is kept at a place, shared.
-    fn shared(&self, i: usize) -> Result<Piece<F>, AllocError>
+    /// What is kept at a place, copied by the fold.
+    fn copied(&self, fold: &F, i: usize) -> Result<Piece<F>, AllocError>
         requires { i < length self.now.cells }
         ensures { IfOk result (λ piece. IsKeptAt self.now i piece) }
     {
+        let alloc = self.allocator();
         Ok(Piece::Kept {
-            cell: self.cells[i].share()?,
+            cell: fold.copy_cell(alloc, &self.cells[i])?,
             entered: self.states[i].share()?,
             left: self.states[i + 1].share()?,
-            items: self.items[i].share()?,
+            items: fold.copy_items(alloc, &self.items[i])?,
         })
     }
 
@@ -117,6 +115,7 @@ impl<F: Resumable> Chain<F> {
     /// stay as they were.
     pub fn append_kept(
         &self,
+        fold: &F,
         pieces: &mut Vec<Piece<F>>,
         from: usize,
         to: usize,
@@ -129,13 +128,14 @@ impl<F: Resumable> Chain<F> {
         ensures refused { OnErr result (pieces.new.items ≡ pieces.old.items) }
     {
         let count = pieces.len();
-        let appended = self.append_run(pieces, from, to);
+        let appended = self.append_run(fold, pieces, from, to);
         taken_back(pieces, count, appended)
     }
 
     /// Appends the cells from one place to another, as far as there is memory.
     fn append_run(
         &self,
+        fold: &F,
         pieces: &mut Vec<Piece<F>>,
         from: usize,
         to: usize,
@@ -148,7 +148,7 @@ impl<F: Resumable> Chain<F> {
         ensures front { take (length pieces.old.items) pieces.new.items ≡ pieces.old.items }
     {
         for i in from..to {
-            let piece = self.kept(i)?;
+            let piece = self.kept(fold, i)?;
             pieces.push(piece)?;
         }
         Ok(())

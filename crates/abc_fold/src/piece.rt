@@ -15,24 +15,24 @@ pub enum Piece<F: Resumable> {
     New(F::Cell),
     /// A cell, the states in which it was entered and left, and what it gave.
     Kept {
-        cell: Shared<F::Cell>,
+        cell: F::Cell,
         entered: Shared<F::State>,
         left: Shared<F::State>,
-        items: Shared<F::Items>,
+        items: F::Items,
     },
 }
 
-/// The cell of a piece: the kept one itself, or a copy of a new one.
+/// A copy of the cell of a piece.
 pub(crate) fn cell_in<F: Resumable>(
     alloc: Global,
     fold: &F,
     piece: &Piece<F>,
-) -> Result<Shared<F::Cell>, AllocError>
+) -> Result<F::Cell, AllocError>
     ensures { IfOk result (λ cell. cell ≡ cell_of piece.now) }
 {
     match piece {
-        Piece::New(cell) => Ok(Shared::new(alloc, fold.copy_cell(alloc, cell)?)?),
-        Piece::Kept { cell, .. } => cell.share(),
+        Piece::New(cell) => fold.copy_cell(alloc, cell),
+        Piece::Kept { cell, .. } => fold.copy_cell(alloc, cell),
     }
 }
 
@@ -60,14 +60,13 @@ fn stepped<F: Resumable>(
     state: &Shared<F::State>,
     cell: &F::Cell,
     work: &mut F::Work,
-) -> Result<(Shared<F::State>, Shared<F::Items>), AllocError>
+) -> Result<(Shared<F::State>, F::Items), AllocError>
     ensures state_after { let steps = steps_of (F.next fold.now) (F.gives fold.now) (F.alike fold.now) in
         IfOk result (λ made. IsAlike steps made.0 (steps.next state.now cell.now)) }
     ensures items { IfOk result (λ made. made.1 ≡ F.gives fold.now state.now cell.now) }
     ensures counted { F.Work.counts work.new ≡ after_steps (F.Work.counts work.old) 1 }
 {
     let (next, items) = fold.step(alloc, state.get(), cell, work)?;
-    let items = Shared::new(alloc, items)?;
     if fold.same(state.get(), &next) {
         return Ok((state.share()?, items));
     }
@@ -76,14 +75,13 @@ fn stepped<F: Resumable>(
 
 /// The state behind a piece and its items, where it is entered in a state: kept ones where it was kept from a state
 /// alike, and else by a step.
-
 pub(crate) fn passed<F: Resumable>(
     alloc: Global,
     fold: &F,
     state: &Shared<F::State>,
     piece: &Piece<F>,
     work: &mut F::Work,
-) -> Result<(Shared<F::State>, Shared<F::Items>), AllocError>
+) -> Result<(Shared<F::State>, F::Items), AllocError>
     requires kept { IsKept (steps_of (F.next fold.now) (F.gives fold.now) (F.alike fold.now)) piece.now }
     ensures state_after { let steps = steps_of (F.next fold.now) (F.gives fold.now) (F.alike fold.now) in
         IfOk result (λ made. IsAlike steps made.0 (steps.next state.now (cell_of piece.now))) }
@@ -100,10 +98,10 @@ pub(crate) fn passed<F: Resumable>(
             items,
         } => {
             if !fold.same(entered.get(), state.get()) {
-                return stepped(alloc, fold, state, cell.get(), work);
+                return stepped(alloc, fold, state, cell, work);
             }
             let left = one_of(fold, state, left)?;
-            Ok((left, items.share()?))
+            Ok((left, fold.copy_items(alloc, items)?))
         }
     }
 }

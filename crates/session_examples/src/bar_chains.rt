@@ -68,12 +68,12 @@ fn with_line(
 {
     let mut pieces = Vec::new(alloc);
     chain
-        .append_kept(&mut pieces, 0, at)
+        .append_kept(&BarFold, &mut pieces, 0, at)
         .expect(rt, "there is memory");
     let piece = line_piece(rt, alloc, line, work);
     pieces.push(piece).expect(rt, "there is memory");
     chain
-        .append_kept(&mut pieces, at + 1, chain.len())
+        .append_kept(&BarFold, &mut pieces, at + 1, chain.len())
         .expect(rt, "there is memory");
     pieces
 }
@@ -104,7 +104,7 @@ fn is_given_again(
 ) -> bool
     requires { i < length chain.now.cells }
 {
-    match chain.kept(i).expect(rt, "there is memory") {
+    match chain.kept(&BarFold, i).expect(rt, "there is memory") {
         Piece::New(_) => false,
         Piece::Kept {
             cell,
@@ -112,8 +112,8 @@ fn is_given_again(
             left,
             items,
         } => {
-            let (next, given) = step_of_copies(rt, alloc, entered.get(), cell.get(), work);
-            let items = BarFold.copy_items(alloc, items.get());
+            let (next, given) = step_of_copies(rt, alloc, entered.get(), &cell, work);
+            let items = BarFold.copy_items(alloc, &items);
             let items = items.expect(rt, "there is memory");
             BarFold.same(&next, left.get()) && given.items().len() == items.items().len()
         }

@@ -52,11 +52,11 @@ fn kept_cells_are_taken_up(rt: HostRuntime) {
     let mut pieces = Vec::new(alloc);
     assert!(rt; chain.len() == 5);
     chain
-        .append_kept(&mut pieces, 0, 1)
+        .append_kept(&Counting, &mut pieces, 0, 1)
         .expect(&rt, "there is memory");
     pieces.push(Piece::New(9)).expect(&rt, "there is memory");
     chain
-        .append_kept(&mut pieces, 1, 5)
+        .append_kept(&Counting, &mut pieces, 1, 5)
         .expect(&rt, "there is memory");
     let patch = chain
         .prepare(&Counting, &opening, &pieces, &mut work)
