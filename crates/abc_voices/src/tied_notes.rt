@@ -4,7 +4,7 @@ ghost use Rattle.std.specs.Prelude.{◌≡◌, ◌==◌, ◌≤◌, ◌<◌, ◌
 ghost use Rattle.abc_music.specs.Item.{IsTone};
 ghost use Rattle.abc_time.specs.Grains.{grains_of_the_latest_end};
 ghost use Rattle.abc_voices.specs.Arrange.{all_notes};
-ghost use Rattle.abc_voices.specs.TiedNotes.{before, next_place, notes_in, with_key, with_token_begun};
+ghost use Rattle.abc_voices.specs.TiedNotes.{before, next_place, notes_in, with_key};
 
 use crate::score::Sounding;
 use abc_music::Tone;
@@ -124,7 +124,10 @@ impl NotesInOne {
 
     /// Begins a time token in front of the first one.
     fn begin_token(&mut self)
-        ensures { self.new ≡ with_token_begun self.old }
+        ensures { self.new ≡ record {
+          linked = record { begun = []; next = self.old.linked.begun };
+          others = self.old.others ++ self.old.linked.next;
+        } }
     {
         self.next = self.begun;
         self.begun = self.notes.len();
