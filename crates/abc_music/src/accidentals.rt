@@ -49,7 +49,7 @@ impl Model for OctaveAccidentals {
 }
 
 /// The accidentals that were written in a bar, as far as they reach (ABC 2.1 section 11.3).
-#[derive(Clone, Drop)]
+#[derive(Drop)]
 pub enum Accidentals {
     /// None is heard on another note.
     Own,
@@ -139,6 +139,21 @@ impl Clone for OctaveAccidentals {
     }
 }
 
+impl Clone for Accidentals {
+    ghost is_clone = { λ accidentals copy. copy ≡ accidentals };
+
+    fn clone(&self) -> Result<Accidentals, AllocError> {
+        match self {
+            Accidentals::Own => Ok(Accidentals::Own),
+            Accidentals::InOctaves(octaves) => {
+                let octaves = octaves.clone()?;
+                Ok(Accidentals::InOctaves(octaves))
+            }
+            Accidentals::OnLetters(letters) => Ok(Accidentals::OnLetters(*letters)),
+        }
+    }
+}
+
 impl Accidentals {
     /// No accidentals, as at the beginning of a bar, that reach so far.
     pub fn none(alloc: Global, reach: Reach) -> Accidentals
@@ -148,17 +163,6 @@ impl Accidentals {
             Reach::Not => Accidentals::Own,
             Reach::Octave => Accidentals::InOctaves(OctaveAccidentals::new(alloc)),
             Reach::Pitch => Accidentals::OnLetters(NO_LETTERS),
-        }
-    }
-
-    /// How far they reach.
-    pub fn reach(&self) -> Reach
-        ensures { result ≡ reach_of self.now }
-    {
-        match self {
-            Accidentals::Own => Reach::Not,
-            Accidentals::InOctaves(_) => Reach::Octave,
-            Accidentals::OnLetters(_) => Reach::Pitch,
         }
     }
 
