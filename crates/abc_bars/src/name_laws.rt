@@ -20,9 +20,8 @@ pub fn named_voices()
     ensures names { (opening : Defaults) (fields : List HeaderLine) (key : Key) (before : List Element) →
         (roll_of (held_at (opening_at opening fields key) before)).names ≡ (naming_at (opening_at opening fields key) before).names }
     ensures voices { (opening : Defaults) (fields : List HeaderLine) (key : Key) (before : List Element) (at : ℕ) (name : List ℕ) →
-        slice_get (roll_of (held_at (opening_at opening fields key) before)).names at ≡ Some name →
-        voice_at (held_at (opening_at opening fields key) before).voices at
-        ≡ Some (settings_named (opening_at opening fields key) name before) }
+        let start = opening_at opening fields key in slice_get (roll_of (held_at start before)).names at ≡ Some name →
+        voice_at (held_at start before).voices at ≡ Some (settings_named start name before) }
     ensures current { (opening : Defaults) (fields : List HeaderLine) (key : Key) (before : List Element) →
         here (held_at (opening_at opening fields key) before)
         ≡ settings_named (opening_at opening fields key) (naming_at (opening_at opening fields key) before).current before }

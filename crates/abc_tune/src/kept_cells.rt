@@ -4,17 +4,7 @@ ghost use Rattle.std.specs.Prelude.{◌≡◌, IfOk};
 
 use abc_fold::Shared;
 use abc_scan::Cell;
-use abc_text::Sequence;
 use std::alloc::{AllocError, Global};
-
-/// The tokens of a cell, in a list without room for more.
-fn fitted(cell: Cell) -> Cell
-    ensures { result ≡ cell }
-{
-    let mut tokens = cell.into_vec();
-    tokens.shrink_to_fit();
-    Sequence::from(tokens)
-}
 
 /// The cells of a line, each of which its owners share.
 pub(crate) fn shared(alloc: Global, cells: Vec<Cell>) -> Result<Vec<Shared<Cell>>, AllocError>
@@ -22,7 +12,7 @@ pub(crate) fn shared(alloc: Global, cells: Vec<Cell>) -> Result<Vec<Shared<Cell>
 {
     let mut shared = Vec::with_capacity(alloc, cells.len())?;
     for cell in cells {
-        shared.push(Shared::new(alloc, fitted(cell))?)?;
+        shared.push(Shared::new(alloc, cell)?)?;
     }
     Ok(shared)
 }
