@@ -1,11 +1,11 @@
 -- When a splice is refused, and how many lines it leaves.
-use Rattle.std.proofs.Common.{◌≡◌, ℕ, ◌+◌, ◌<◌, ◌≤◌, true, false, List, [], ◌∷◌, ◌++◌, length, get_or, take, drop, ◌&&◌, Some, None, Ok, Err, sym, ap, ◌∙◌, arith}
+use Rattle.std.proofs.Common.{◌≡◌, ℕ, ◌+◌, ◌<◌, ◌≤◌, true, false, List, [], ◌∷◌, ◌++◌, length, get_or, take, drop, ◌&&◌, Some, Ok, Err, sym, ap, ◌∙◌, arith}
 use Rattle.std.specs.Global.{Vec}
 use Rattle.std.specs.Borrow.{Bor}
 use Rattle.std.specs.List.{list_all, slice_get}
 use Rattle.std.proofs.lemmas.Bool.Decides.{nat_tests}
 use Rattle.std.proofs.lemmas.Grind.{common_steps}
-use Rattle.std.proofs.lemmas.Option.{gets, slice_get_within, get_or_from_slice_get}
+use Rattle.std.proofs.lemmas.Option.{slice_get_within, get_or_from_slice_get}
 use Rattle.std.proofs.lemmas.List.{take_more, map-append, map_push, length-map}
 use Rattle.std.proofs.lemmas.List.Elements.{All-take, All-drop}
 use Rattle.std.proofs.lemmas.List.Folds.{list_all-append}
@@ -87,7 +87,3 @@ seen_more text i before after line here so_far pushed =
     ∙ ap (λ t. t ++ line.now ∷ []) so_far
     ∙ ap (λ x. take i text ++ x ∷ []) (sym item)
     ∙ sym (take_more text i line.now within)
-
--- there is a line at each place of a text
-pub none_within : (text : Text) (i : ℕ) → i < length text → None ≡ slice_get text i → (xs ys : Text) → xs ≡ ys
-none_within text i within none xs ys = grind (arith, common_steps, gets)

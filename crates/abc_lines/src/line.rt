@@ -2,11 +2,9 @@
 
 ghost use Rattle.std.specs.Prelude.{◌≡◌, IfOk};
 ghost use Rattle.std.specs.List.{list_all};
-ghost use Rattle.abc_lines.specs.Text.{is_line, lines_of, seen_lines};
+ghost use Rattle.abc_lines.specs.Text.{is_line, lines_of};
 
-use crate::gap_list::GapList;
 use crate::limits::LONGEST_LINE;
-use crate::splice_patch::SplicePatch;
 use abc_text::Sequence;
 use std::alloc::{AllocError, Global};
 
@@ -36,23 +34,4 @@ pub(crate) fn copies(alloc: Global, lines: &[Vec<u8>]) -> Result<Vec<Line>, Allo
         copies.push(Line::from_slice(alloc, line)?)?;
     }
     Ok(copies)
-}
-
-/// The bytes of the lines that there would be after a splice, borrowed where they lie.
-pub(crate) fn borrowed_after<'a>(
-    alloc: Global,
-    splice: &'a SplicePatch<Line>,
-    lines: &'a GapList<Line>,
-) -> Result<Vec<&'a [u8]>, AllocError>
-    requires { splice.now.on ≡ lines.now }
-    ensures { IfOk result (λ after. seen_lines after.items ≡ splice.now.after.items) }
-{
-    let count = splice.len(lines);
-    let mut after = Vec::with_capacity(alloc, count)?;
-    for i in 0..count {
-        if let Some(line) = splice.get(lines, i) {
-            after.push(line.as_slice())?;
-        }
-    }
-    Ok(after)
 }

@@ -1,13 +1,13 @@
 //! A text, and a splice of it that has been prepared.
 
 ghost use Rattle.std.specs.Prelude.{◌≡◌, ◌+◌, ◌≤◌, [], IfOk, IsOk, IfErr, Ok, Err, option_copied, slice_get, length};
-ghost use Rattle.abc_lines.specs.Text.{IsText, splice_from, spliced, seen_lines};
+ghost use Rattle.abc_lines.specs.Text.{IsText, splice_from, spliced};
 ghost use Rattle.abc_lines.specs.Edits.{replaced, Refuses};
 
 use crate::edit_error::EditError;
 use crate::gap_list::GapList;
 use crate::limits::MOST_LINES;
-use crate::line::{Line, are_lines, borrowed_after, copies};
+use crate::line::{Line, are_lines, copies};
 use crate::splice_patch::SplicePatch;
 use std::alloc::{AllocError, Global};
 use std::marker::Model;
@@ -137,14 +137,6 @@ impl LineBuffer {
 }
 
 impl LinePatch {
-    /// The lines that the text would have, borrowed where they lie. The patch belongs to the text as it is now.
-    pub fn after<'a>(&'a self, lines: &'a LineBuffer) -> Result<Vec<&'a [u8]>, AllocError>
-        requires { self.now.on ≡ lines.now }
-        ensures { IfOk result (λ after. seen_lines after.items ≡ self.now.after) }
-    {
-        borrowed_after(lines.allocator(), &self.splice, &lines.lines)
-    }
-
     /// Gives the patch up.
     pub fn drop_patch(self) {
         let LinePatch { splice } = self;

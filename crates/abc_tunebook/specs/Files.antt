@@ -26,10 +26,14 @@ abbrev pub owned : Files → ℕ → Option (List ℕ) → Files
 owned files number None = files
 owned files number (Some bytes) = if is_some (file_at files number) then files else insert_entry nat_cmp files number bytes
 
+-- The files of whatever gives some under numbers, behind those that are there.
+abbrev pub files_by : {A : Type 0} → (A → ℕ) → (A → Option (List ℕ)) → Files → List A → Files
+files_by number_of file_of files [] = files
+files_by number_of file_of files (one ∷ rest) = files_by number_of file_of (owned files (number_of one) (file_of one)) rest
+
 -- The files of tunes, behind those that are there.
 abbrev pub files_from : Files → List Tune → Files
-files_from files [] = files
-files_from files (tune ∷ tunes) = files_from (owned files tune.number tune.bytes) tunes
+files_from files tunes = files_by (λ tune. tune.number) (λ tune. tune.bytes) files tunes
 
 -- The numbers, rising, that have a file after, and before no file or other bytes.
 unfoldable pub written : Files → Files → List ℕ
