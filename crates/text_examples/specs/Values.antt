@@ -1,5 +1,5 @@
 -- Values as the worked examples write them: a tick is 484,323,840 grains. Our own.
-use Rattle.std.specs.Prelude.{ℕ, ℤ, ◌*◌, Option, Some, None, Result, Ok, Err}
+use Rattle.std.specs.Prelude.{ℕ, ℤ, ◌*◌, List, pos, Option, Some, None, Result, Ok, Err}
 use Rattle.abc_fields.specs.declared.fault.FaultCode.{FaultCode}
 use Rattle.abc_fields.specs.declared.key.Key.{Key}
 use Rattle.abc_fields.specs.declared.shift.Shift.{Shift}
@@ -7,7 +7,9 @@ use Rattle.abc_fields.specs.declared.voice.Voice.{Voice}
 use Rattle.abc_scan.specs.declared.length.WrittenLength.{WrittenLength}
 use Rattle.abc_scan.specs.declared.length.WrittenLength.TheVariants.{Factor}
 use Rattle.abc_text.specs.declared.letter.Letter.{Letter}
+use Rattle.abc_text.specs.declared.letter.Letter.TheVariants as letters
 use Rattle.abc_scan.specs.declared.parts.ChordPartKind.{ChordPartKind}
+use Rattle.abc_scan.specs.declared.parts.ChordPartKind.TheVariants as parts
 use Rattle.abc_scan.specs.declared.spanned.Spanned.{Spanned}
 use Rattle.abc_scan.specs.declared.token.TokenKind.{TokenKind}
 use Rattle.abc_scan.specs.declared.token.TokenKind.TheVariants as kinds
@@ -34,9 +36,25 @@ plain = Factor 1 1
 abbrev pub token : TokenKind → ℕ → ℕ → Spanned TokenKind
 token kind from to = record { kind = kind; from = from; to = to }
 
+-- A C of this octave and length, from one byte of a line to another.
+abbrev pub c_token : ℤ → WrittenLength → ℕ → ℕ → Spanned TokenKind
+c_token octave length from to = token (note letters.C octave length) from to
+
+-- A blank from one byte of a line to another.
+abbrev pub blank : ℕ → ℕ → Spanned TokenKind
+blank from to = token kinds.Blank from to
+
 -- A part from one byte of a chord to another, counted from 0.
 abbrev pub part : ChordPartKind → ℕ → ℕ → Spanned ChordPartKind
 part kind from to = record { kind = kind; from = from; to = to }
+
+-- A middle C in a chord, from one byte of the chord to another.
+abbrev pub c_part : ℕ → ℕ → Spanned ChordPartKind
+c_part from to = part (parts.Note (record { accidental = None; letter = letters.C; octave = pos 0; length = plain })) from to
+
+-- A chord of these parts, with no length behind it, from one byte of a line to another.
+abbrev pub chord_token : List (Spanned ChordPartKind) → ℕ → ℕ → Spanned TokenKind
+chord_token inside from to = token (kinds.Chord (record { parts = inside; length = plain })) from to
 
 -- A shift with these parts.
 abbrev pub shift : Option ℤ → Option ℤ → Option ℤ → Shift

@@ -16,7 +16,7 @@ ghost use Rattle.abc_scan.specs.Length.{length_at};
 ghost use Rattle.abc_scan.specs.Class.{class_of};
 ghost use Rattle.abc_scan.specs.Note.{octave};
 ghost use Rattle.abc_scan.specs.Text.{content};
-ghost use Rattle.text_examples.specs.Values.{note, part, plain, token};
+ghost use Rattle.text_examples.specs.Values.{blank, c_part, c_token, chord_token, part, plain, token};
 
 /// Blank lines and comments. ABC 2.1 section 2.2; that only spaces and tabs are blanks, and that one carriage return is
 /// dropped at the end, is our own.
@@ -130,30 +130,24 @@ pub fn octaves()
 /// The tokens of `C3/2 C/ C// C0 C1/17 C`: notes, and a blank between each two. ABC 2.1 section 4.3.
 pub fn tokens_of_lengths()
     ensures { tokens_of (codes "C3/2 C/ C// C0 C1/17 C") ≡
-        token (note C (pos 0) (Factor 3 2)) 0 4 ∷ token kinds.Blank 4 5
-        ∷ token (note C (pos 0) (Factor 1 2)) 5 7 ∷ token kinds.Blank 7 8
-        ∷ token (note C (pos 0) (Factor 1 4)) 8 11 ∷ token kinds.Blank 11 12
-        ∷ token (note C (pos 0) Refused) 12 14 ∷ token kinds.Blank 14 15
-        ∷ token (note C (pos 0) (Factor 1 17)) 15 20 ∷ token kinds.Blank 20 21
-        ∷ token (note C (pos 0) plain) 21 22 ∷ [] }
+        c_token (pos 0) (Factor 3 2) 0 4 ∷ blank 4 5 ∷ c_token (pos 0) (Factor 1 2) 5 7 ∷ blank 7 8 ∷ c_token (pos 0) (Factor 1 4) 8 11 ∷ blank 11 12
+        ∷ c_token (pos 0) Refused 12 14 ∷ blank 14 15 ∷ c_token (pos 0) (Factor 1 17) 15 20 ∷ blank 20 21 ∷ c_token (pos 0) plain 21 22 ∷ [] }
 {}
 
 /// The tokens of `C,,,,, C,,,,,, C`. ABC 2.1 section 4.1.
 pub fn tokens_of_low_notes()
     ensures { tokens_of (codes "C,,,,, C,,,,,, C") ≡
-        token (note C (negsuc 4) plain) 0 6 ∷ token kinds.Blank 6 7
-        ∷ token (note C (negsuc 5) plain) 7 14 ∷ token kinds.Blank 14 15
-        ∷ token (note C (pos 0) plain) 15 16 ∷ [] }
+        c_token (negsuc 4) plain 0 6 ∷ blank 6 7 ∷ c_token (negsuc 5) plain 7 14 ∷ blank 14 15 ∷ c_token (pos 0) plain 15 16 ∷ [] }
 {}
 
 /// The longest token is taken: `C//2` is `C//` and a byte that begins no token, and of three signs the first is none.
 /// ABC 2.1 sections 4.2, 4.3 and 4.5; a byte that begins no token stands alone, our own.
 pub fn longest_tokens()
-    ensures slashes { tokens_of (codes "C//2") ≡ token (note C (pos 0) (Factor 1 4)) 0 3 ∷ token kinds.BadByte 3 4 ∷ [] }
+    ensures slashes { tokens_of (codes "C//2") ≡ c_token (pos 0) (Factor 1 4) 0 3 ∷ token kinds.BadByte 3 4 ∷ [] }
     ensures signs { tokens_of (codes "^^^c") ≡ token kinds.BadByte 0 1
         ∷ token (kinds.Note (record { accidental = Some DoubleSharp; letter = C; octave = pos 1; length = plain })) 1 4 ∷ [] }
     ensures rest { tokens_of (codes "z3/2") ≡ token (kinds.Rest (Factor 3 2)) 0 4 ∷ [] }
-    ensures bar_line { tokens_of (codes "C|") ≡ token (note C (pos 0) plain) 0 1
+    ensures bar_line { tokens_of (codes "C|") ≡ c_token (pos 0) plain 0 1
         ∷ token (kinds.Bar (record { closes = 0; opens = 0; double = false })) 1 2 ∷ [] }
 {}
 
@@ -161,19 +155,14 @@ pub fn longest_tokens()
 /// has no effect. ABC 2.1 section 4.14; the last is our own.
 pub fn tokens_of_dynamics()
     ensures between_notes { tokens_of (codes "C!f!C!foo!C") ≡
-        token (note C (pos 0) plain) 0 1 ∷ token (kinds.Dynamic F) 1 4
-        ∷ token (note C (pos 0) plain) 4 5 ∷ token kinds.NoEffect 5 10 ∷ token (note C (pos 0) plain) 10 11 ∷ [] }
+        c_token (pos 0) plain 0 1 ∷ token (kinds.Dynamic F) 1 4
+        ∷ c_token (pos 0) plain 4 5 ∷ token kinds.NoEffect 5 10 ∷ c_token (pos 0) plain 10 11 ∷ [] }
     ensures loudest { tokens_of (codes "!fff!!ppp!") ≡ token (kinds.Dynamic Fff) 0 5 ∷ token (kinds.Dynamic Ppp) 5 10 ∷ [] }
     ensures middle { tokens_of (codes "!mp!!mf!") ≡ token (kinds.Dynamic Mp) 0 4 ∷ token (kinds.Dynamic Mf) 4 8 ∷ [] }
     ensures too_many { tokens_of (codes "!ffff!") ≡ token kinds.NoEffect 0 6 ∷ [] }
     ensures with_a_blank { tokens_of (codes "!p !") ≡ token kinds.NoEffect 0 4 ∷ [] }
     ensures open { tokens_of (codes "!p") ≡ token kinds.Unclosed 0 1 ∷ token kinds.NoEffect 1 2 ∷ [] }
-    ensures in_a_chord { tokens_of (codes "[C!f!]") ≡ token (kinds.Chord (record {
-      parts =
-          part (parts.Note (record { accidental = None; letter = C; octave = pos 0; length = plain })) 1 2
-          ∷ part parts.NoEffect 2 5 ∷ [];
-      length = plain;
-    })) 0 6 ∷ [] }
+    ensures in_a_chord { tokens_of (codes "[C!f!]") ≡ chord_token (c_part 1 2 ∷ part parts.NoEffect 2 5 ∷ []) 0 6 ∷ [] }
 {}
 
 /// A directive line is one token, with its comment and without its carriage return. Its number is the one written. Our own.
