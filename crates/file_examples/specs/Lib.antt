@@ -1,3 +1,4 @@
+pub mod Scores
 pub mod Tunes
 pub mod Values
 pub mod Words

@@ -14,7 +14,8 @@ ghost use Rattle.abc_text.specs.Power.{is_power_up_to};
 ghost use Rattle.smf_bytes.specs.Number.{number_text, reading};
 ghost use Rattle.smf_bytes.specs.Order.{in_order};
 ghost use Rattle.smf_bytes.specs.Track.{channel_of, conductor_events, track, track_body, voice_events};
-ghost use Rattle.file_examples.specs.Values.{at_tick, change_at, seventh, sounding};
+ghost use Rattle.file_examples.specs.Scores.{two_tempos, one_eighth, seven_notes, changes_in_no_order, notes_in_no_order, the_longest};
+ghost use Rattle.file_examples.specs.Values.{at_tick, change_at, sounding};
 
 /// Variable-length quantities, the first and the last of each count of bytes, and 240. SMF 1.0.
 pub fn number_texts()
@@ -117,59 +118,40 @@ pub fn an_empty_title()
 
 /// The track of a tempo that changes at tick 240 of 480. SMF 1.0.
 pub fn a_conductor_track()
-    ensures { encode_upper (track 480 (conductor_events []
-        (change_at 0 (Tempo 500000) ∷ change_at 0 (Key (pos 0) false) ∷ change_at 240 (Tempo 1000000) ∷ [])))
+    ensures { encode_upper (track 480 (conductor_events [] two_tempos))
         ≡ codes "4D54726B0000001A00FF510307A12000FF590200008170FF51030F42408170FF2F00" }
 {}
 
 /// The whole file of a tune with the title `A`, in C, of the one note C, an eighth. SMF 1.0.
 pub fn the_first_file()
-    ensures { encode_upper (file_bytes (record {
-      title = codes "A";
-      end = record { 0 = 116237721600 };
-      conductor = change_at 0 (Tempo 500000) ∷ change_at 0 (Key (pos 0) false) ∷ [];
-      voices = (sounding 60 0 240 ∷ []) ∷ [];
-      programs = [] ∷ [];
-    }))
+    ensures { encode_upper (file_bytes one_eighth)
         ≡ codes "4D546864000000060001000201E04D54726B0000001700FF03014100FF510307A12000FF590200008170FF2F004D54726B0000000D00903C508170803C4000FF2F00" }
 {}
 
 /// Seven notes in the time of four: each moment is rounded down by itself, so that they last 137 ticks, and the last one
 /// 138. The bytes are those of a second compiler.
 pub fn moments_rounded_down()
-    ensures { encode_upper (track 960 (voice_events 0 [] (
-        seventh 60 0 ∷ seventh 62 1 ∷ seventh 64 2 ∷ seventh 65 3 ∷ seventh 67 4 ∷ seventh 69 5 ∷ seventh 71 6 ∷ [])))
+    ensures { encode_upper (track 960 (voice_events 0 [] seven_notes))
         ≡ codes "4D54726B0000004300903C508109803C4000903E508109803E4000904050810980404000904150810980414000904350810980434000904550810980454000904750810A80474000FF2F00" }
 {}
 
 /// Changes in no order, several at one tick: the greater tempo of two comes later. The bytes are those of a second
 /// compiler.
 pub fn changes_at_one_tick()
-    ensures { encode_upper (track 960 (conductor_events [] (
-        change_at 0 (Key (negsuc 6) true) ∷ change_at 0 (Meter 6 8) ∷ change_at 0 (Tempo 500000)
-        ∷ change_at 480 (Tempo 1) ∷ change_at 480 (Meter 255 64) ∷ change_at 480 (Key (pos 7) false)
-        ∷ change_at 480 (Tempo 16777215) ∷ [])))
+    ensures { encode_upper (track 960 (conductor_events [] changes_in_no_order))
         ≡ codes "4D54726B0000003700FF510307A12000FF58040603180800FF5902F9018360FF510300000100FF5103FFFFFF00FF5804FF06180800FF590207008360FF2F00" }
 {}
 
 /// Notes in no order, several at one tick, and two that begin and end within one tick. The bytes are those of a second
 /// compiler.
 pub fn notes_at_one_tick()
-    ensures { encode_upper (track 960 (voice_events 0 [] (
-        sounding 64 0 480 ∷ sounding 60 0 480 ∷ sounding 67 480 960 ∷ sounding 60 480 481 ∷ sounding 61 480 480
-        ∷ sounding 127 960 960 ∷ sounding 0 0 960 ∷ [])))
+    ensures { encode_upper (track 960 (voice_events 0 [] notes_in_no_order))
         ≡ codes "4D54726B0000002E0090005000903C50009040508360803C400080404000903C500090435001803C40835F8000400080434000FF2F00" }
 {}
 
 /// The latest end, 131,072 whole notes, with a delta time of four bytes. The bytes are those of a second compiler.
 pub fn the_latest_end()
-    ensures { encode_upper (file_bytes (record {
-      title = [];
-      end = at_tick 251658240;
-      conductor = change_at 251658240 (Meter 2 1) ∷ [];
-      voices = (sounding 60 0 251658240 ∷ []) ∷ [];
-      programs = [] ∷ [];
-    }))
+    ensures { encode_upper (file_bytes the_longest)
         ≡ codes "4D546864000000060001000201E04D54726B0000000FF8808000FF58040200180800FF2F004D54726B0000000F00903C50F8808000803C4000FF2F00" }
 {}
 

@@ -8,7 +8,8 @@ ghost use Rattle.smf_bytes.specs.Event.{end_event, note_off, note_on, program_ch
 ghost use Rattle.smf_bytes.specs.File.{file_bytes};
 ghost use Rattle.smf_bytes.specs.Order.{in_order};
 ghost use Rattle.smf_bytes.specs.Track.{channel_of, track, track_body, voice_events};
-ghost use Rattle.file_examples.specs.Values.{at_tick, program_at, sounding, sounding_with};
+ghost use Rattle.file_examples.specs.Scores.{two_voices};
+ghost use Rattle.file_examples.specs.Values.{program_at, sounding, sounding_with};
 
 /// The track of a voice with the program 41, and of a note C of 240 ticks. SMF 1.0.
 pub fn a_program()
@@ -59,12 +60,6 @@ pub fn channels_of_programs()
 
 /// The file of two voices, of which the second alone has a program, on its own channel. SMF 1.0.
 pub fn the_second_voice_alone_has_a_program()
-    ensures { encode_upper (file_bytes (record {
-      title = [];
-      end = at_tick 240;
-      conductor = [];
-      voices = (sounding 60 0 240 ∷ []) ∷ (sounding_with 45 64 0 240 ∷ []) ∷ [];
-      programs = [] ∷ (program_at 0 1 ∷ []) ∷ [];
-    }))
+    ensures { encode_upper (file_bytes two_voices)
         ≡ codes "4D546864000000060001000301E04D54726B000000058170FF2F004D54726B0000000D00903C508170803C4000FF2F004D54726B0000001000C1010091402D817081404000FF2F00" }
 {}
