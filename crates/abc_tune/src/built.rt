@@ -30,7 +30,9 @@ fn with_file(
     ensures short { IfOk result (λ built. list_any is_too_long_fault built.faults ≡ false) }
     ensures rising { IfOk result (λ built. AreRisingFrom 0 built.faults) }
 {
-    let file = file_of(alloc, &arranged.score)?;
+    let mut file = file_of(alloc, &arranged.score)?;
+    // It is kept as long as the tune stands as it is.
+    file.shrink_to_fit();
     let faults = faults_with(alloc, cells, arranged.unknown, arranged.uneven, false)?;
     Ok(Built {
         bytes: Some(Sequence::from(file)),
