@@ -1,5 +1,4 @@
 pub mod Acting
-pub mod AddedNotes
 pub mod Alike
 pub mod BarCounts
 pub mod Canonical

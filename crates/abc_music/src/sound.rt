@@ -1,8 +1,9 @@
 //! Notes as they sound.
 
-ghost use Rattle.std.specs.Prelude.{◌≡◌, if◌then◌else◌, [], ◌∷◌, ◌++◌, All, IfOk, OnOk};
+ghost use Rattle.std.specs.Prelude.{◌≡◌, if◌then◌else◌, [], ◌∷◌, ◌++◌, All, IfOk, OnOk, unwrap_or};
 ghost use Rattle.abc_music.specs.Item.{IsTone, IsWithinLongest};
-ghost use Rattle.abc_music.specs.Sound.{fault_if, length_in, no_notes, with_note};
+ghost use Rattle.abc_music.specs.Alteration.{with_own};
+ghost use Rattle.abc_music.specs.Sound.{fault_if, length_in, no_notes, tied_note_in, tone_in, with_note};
 
 use crate::accidentals::Accidentals;
 use crate::alteration::{alteration_of, write_own};
@@ -128,7 +129,48 @@ fn push_tied_if(
     Ok(())
 }
 
-/// Puts one more note to those that sound together (ABC 2.1 sections 4.1 to 4.3).
+/// A note as it sounds.
+pub(crate) struct Sounding {
+    pub(crate) tone: Tone,
+    /// The note as a tie goes on from it.
+    pub(crate) tied_note: TiedNote,
+    /// Whether its length is refused.
+    pub(crate) refused: bool,
+}
+
+/// A note as it sounds behind these accidentals, with what stands around it (ABC 2.1 sections 4.1 to 4.3).
+pub(crate) fn sounding_of(
+    settings: &Settings,
+    accidentals: &Accidentals,
+    broken: &BrokenFactors,
+    around: Around,
+    note: Note,
+) -> Sounding
+    ensures tone { result.tone ≡ tone_in settings.now accidentals.now broken.now around.outer note around.tied }
+    ensures range { IsTone result.tone }
+    ensures tied_note { result.tied_note ≡ tied_note_in settings.now accidentals.now note }
+    ensures refused { result.refused ≡ (length_in settings.now broken.now note.length around.outer).1 }
+{
+    let alteration = alteration_of(settings, accidentals, note);
+    let key = key_of(settings.shift, note, alteration);
+    let (length, refused) = length_in(settings, broken, note.length, around.outer);
+    Sounding {
+        tone: Tone {
+            length,
+            key,
+            velocity: velocity_of(settings.dynamic),
+            tied: around.tied,
+        },
+        tied_note: TiedNote {
+            letter: note.letter,
+            octave: note.octave,
+            alteration,
+        },
+        refused,
+    }
+}
+
+/// Puts one more note to those that sound together.
 pub(crate) fn add_note(
     settings: &Settings,
     broken: &BrokenFactors,
@@ -140,23 +182,43 @@ pub(crate) fn add_note(
     ensures value { OnOk result (inside.new ≡ with_note settings.now broken.now around note inside.old) }
     ensures range { OnOk result (All IsTone inside.new.tones) }
 {
-    let alteration = alteration_of(settings, &inside.accidentals, note);
-    let key = key_of(settings.shift, note, alteration);
-    let (length, refused) = length_in(settings, broken, note.length, around.outer);
-    let tied_note = TiedNote {
-        letter: note.letter,
-        octave: note.octave,
-        alteration,
-    };
-    push_note_faults(&mut inside.faults, refused, key.is_none(), around.column)?;
-    let tone = Tone {
-        length,
-        key,
-        velocity: velocity_of(settings.dynamic),
-        tied: around.tied,
-    };
+    let Sounding {
+        tone,
+        tied_note,
+        refused,
+    } = sounding_of(settings, &inside.accidentals, broken, around, note);
+    let silent = tone.key.is_none();
+    push_note_faults(&mut inside.faults, refused, silent, around.column)?;
     push_tone(&mut inside.tones, tone)?;
     push_tied_if(&mut inside.tied, around.tied, tied_note)?;
     write_own(&mut inside.accidentals, note)?;
     Ok(())
+}
+
+/// The accidentals behind a note alone, where it has one of its own: they are copied only then.
+pub(crate) fn accidentals_behind(
+    settings: &Settings,
+    note: Note,
+) -> Result<Option<Accidentals>, AllocError>
+    ensures { IfOk result (λ changed. unwrap_or changed settings.now.accidentals ≡ with_own settings.now.accidentals note) }
+{
+    if note.accidental.is_none() {
+        return Ok(None);
+    }
+    let mut accidentals = settings.accidentals.clone()?;
+    write_own(&mut accidentals, note)?;
+    Ok(Some(accidentals))
+}
+
+/// The tied notes of a note alone.
+pub(crate) fn tied_alone(
+    alloc: Global,
+    tied: bool,
+    note: TiedNote,
+) -> Result<ShortSequence<TiedNote>, AllocError>
+    ensures { IfOk result (λ notes. notes ≡ (if tied then note ∷ [] else [])) }
+{
+    let mut notes = ShortSequence::new(alloc);
+    push_tied_if(&mut notes, tied, note)?;
+    Ok(notes)
 }

@@ -1,20 +1,25 @@
 //! Notes, chords and rests: what each gives and what it leaves for its voice.
 
-ghost use Rattle.std.specs.Prelude.{◌≡◌, ◌∷◌, false, All, IfOk, OnErr, OnOk};
-ghost use Rattle.abc_fields.specs.declared.fault.FaultCode.TheVariants.{BadLength, EmptyChord};
+ghost use Rattle.std.specs.Prelude.{◌≡◌, ◌∷◌, ◌++◌, [], false, All, IfOk, OnErr, OnOk, is_none, unwrap_or};
+ghost use Rattle.abc_fields.specs.declared.fault.FaultCode.TheVariants.{BadLength, EmptyChord, KeyRange};
 ghost use Rattle.abc_music.specs.Column.{column_of};
 ghost use Rattle.abc_music.specs.Item.{AreTones, IsTone, IsWithinLongest, and_faults, and_item};
 ghost use Rattle.abc_music.specs.Sound.{fault_if};
-ghost use Rattle.abc_music.specs.declared.item.Item.TheVariants.{Rest};
+ghost use Rattle.abc_music.specs.declared.item.Item.TheVariants as item_kinds;
+ghost use Rattle.abc_music.specs.Tuplet.{counted_down};
 ghost use Rattle.abc_music.specs.TimeTokens.{first_length, sounded, note_played, chord_played, rest_played, with_played};
 
+use crate::accidentals::Accidentals;
 use crate::broken::BrokenFactors;
 use crate::chords::{Outside, inside_of};
 use crate::column::column_of;
 use crate::item::{Item, Items, LocalFault, Tone};
 use crate::role::has_note;
 use crate::settings::Settings;
-use crate::sound::{Around, Inside, add_note, length_in};
+use crate::sound::{
+    Around, Inside, Sounding, accidentals_behind, length_in, sounding_of, tied_alone,
+};
+use crate::tied::TiedNote;
 use crate::tones::Tones;
 use crate::tuplet::counted_down;
 use abc_fields::FaultCode;
@@ -71,6 +76,39 @@ fn sound(
     Ok(())
 }
 
+/// Puts a note alone, and its faults: that its length is refused, and that MIDI has no key for it.
+fn push_note(items: &mut Items, tone: Tone, refused: bool, column: u32) -> Result<(), AllocError>
+    requires { IsTone tone }
+    ensures ok { OnOk result (items.new ≡ and_item (and_faults items.old
+        (fault_if refused column BadLength ++ fault_if (is_none tone.key) column KeyRange)) (item_kinds.Tone (tone ∷ []) tone.length)) }
+    ensures refused { OnErr result (items.new ≡ items.old) }
+{
+    let item = Item::Tone {
+        tones: Tones::one(tone),
+        length: tone.length,
+    };
+    let length = (column, FaultCode::BadLength);
+    let key = (column, FaultCode::KeyRange);
+    match (refused, tone.key) {
+        (false, Some(_)) => items.push_item(item),
+        (true, Some(_)) => items.push_with_faults(item, &[length]),
+        (false, None) => items.push_with_faults(item, &[key]),
+        (true, None) => items.push_with_faults(item, &[length, key]),
+    }
+}
+
+/// What holds for a voice behind a note alone: the accidentals stay where it has none of its own.
+fn settle(settings: &mut Settings, accidentals: Option<Accidentals>, tied: ShortSequence<TiedNote>)
+    ensures { settings.new ≡ record settings.old
+        { accidentals = unwrap_or accidentals settings.old.accidentals; tuplet = counted_down settings.old.tuplet; tied = tied } }
+{
+    if let Some(accidentals) = accidentals {
+        settings.accidentals = accidentals;
+    }
+    settings.tuplet = counted_down(settings.tuplet);
+    settings.tied = tied;
+}
+
 /// Gives a note.
 pub fn note_played(
     alloc: Global,
@@ -84,14 +122,21 @@ pub fn note_played(
     ensures items { OnOk result (items.new ≡ with_played items.old (note_played settings.old broken.now place.tied place.from note)) }
     ensures refused { OnErr result ((settings.new ≡ settings.old) × (items.new ≡ items.old)) }
 {
-    let mut inside = Inside::new(alloc, settings)?;
+    let column = column_of(place.from);
     let around = Around {
         outer: None,
-        column: column_of(place.from),
+        column,
         tied: place.tied,
     };
-    add_note(settings, broken, around, note, &mut inside)?;
-    sound(alloc, settings, items, inside)?;
+    let Sounding {
+        tone,
+        tied_note,
+        refused,
+    } = sounding_of(settings, &settings.accidentals, broken, around, note);
+    let accidentals = accidentals_behind(settings, note)?;
+    let tied = tied_alone(alloc, place.tied, tied_note)?;
+    push_note(items, tone, refused, column)?;
+    settle(settings, accidentals, tied);
     Ok(())
 }
 
@@ -151,7 +196,7 @@ fn push_rest(
     column: u32,
 ) -> Result<(), AllocError>
     requires { IsWithinLongest length }
-    ensures ok { OnOk result (items.new ≡ and_item (and_faults items.old (fault_if refused column BadLength)) (Rest length false)) }
+    ensures ok { OnOk result (items.new ≡ and_item (and_faults items.old (fault_if refused column BadLength)) (item_kinds.Rest length false)) }
     ensures refused { OnErr result (items.new ≡ items.old) }
 {
     let rest = Item::Rest { length, bar: false };

@@ -48,7 +48,7 @@ pub enum LentTones<'a> {
 
 impl Tones {
     /// One tone.
-    fn one(tone: Tone) -> Tones
+    pub(crate) fn one(tone: Tone) -> Tones
         ensures { result ≡ tone ∷ [] }
     {
         Tones {
