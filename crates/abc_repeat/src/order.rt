@@ -82,7 +82,8 @@ fn play_parts(alloc: Global, order: &[u8], letters: &[u8]) -> Result<Played, Ord
 /// The sections that are played, of a tune whose body has parts with these letters (ABC 2.1 section 3.1.9): the
 /// opening section, then the sections of the order in its header or, without one, all of them.
 ///
-/// Takes time for the order, the letters and the sections that are played, and for nothing else.
+/// No contract says how long it takes. As it is written, it goes through the order, the letters and the sections that are
+/// played.
 pub fn play_order(alloc: Global, order: Option<&[u8]>, letters: &[u8]) -> Result<Played, OrderFault>
     requires { ForSome (option_copied order) (λ text. parts_of text ≡ Ok tt) }
     ensures sections { IfOk result (λ played. played.sections.items ≡ sections_of (option_copied order.entry) letters.now) }

@@ -15,8 +15,7 @@ use crate::section::FirstSections;
 use arrayvec::ArrayVec;
 use std::alloc::{AllocError, Global};
 
-/// Repeats what stands from `begin` on, so that it stands there this many times. Where nothing stands, it takes no
-/// time.
+/// Repeats what stands from `begin` on, so that it stands there this many times. Nothing is not repeated one by one.
 fn put_copies(sections: &mut Vec<usize>, begin: usize, times: u32) -> Result<(), AllocError>
     requires inside { begin ≤ vec_len sections.old }
     requires some { 0 < times }

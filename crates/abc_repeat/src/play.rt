@@ -62,8 +62,8 @@ fn rounds(common: &[usize], passes: u64) -> u64
     }
 }
 
-/// Puts the play of a strain that begins at `from`. Passes that play nothing take no time, and none looks for its
-/// ending among what stands in front of the first.
+/// Puts the play of a strain that begins at `from`. Passes that play nothing are left out, and none looks for its ending
+/// among what stands in front of the first.
 fn put_strain(
     alloc: Global,
     play: &mut Vec<usize>,
@@ -105,7 +105,7 @@ fn put_play(alloc: Global, play: &mut Vec<usize>, marks: &[Mark]) -> Result<(), 
 /// The places of what is played, in order of play (ABC 2.1 sections 4.8 to 4.10), where there is room for so many.
 /// Fields that are played with an ending are to stand behind its sign.
 ///
-/// Takes time for the marks and for the places that are played, and for nothing else.
+/// No contract says how long it takes. As it is written, it goes through the marks and through the places that are played.
 #[inline(never)]
 pub fn expand_within(alloc: Global, marks: &[Mark], room: u64) -> Result<Vec<usize>, RepeatFault>
     ensures value { IfOk result (λ places. places.items ≡ play_of marks.now) }

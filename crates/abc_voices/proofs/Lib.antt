@@ -16,5 +16,6 @@ pub mod Steady
 pub mod Straight
 pub mod Ties
 pub mod TooLong
+pub mod Unmoved
 pub mod Voices
 pub mod Within

@@ -1,5 +1,5 @@
 -- Fields between a bar that ended an ending and the next ending's sign are played with that ending. Our own.
-use Rattle.std.specs.Prelude.{Bool, false, ◌||◌, if◌then◌else◌, List, [], ◌∷◌, ◌++◌}
+use Rattle.std.specs.Prelude.{Bool, true, false, not, ◌&&◌, ◌||◌, if◌then◌else◌, List, [], ◌∷◌, ◌++◌}
 use Rattle.abc_music.specs.declared.item.Item.{Item}
 use Rattle.abc_repeat.specs.declared.mark.Mark.{Mark}
 use Rattle.abc_repeat.specs.Mark.{is_ending, is_single, opens_next, closes_ending}
@@ -24,6 +24,12 @@ past _ mark = Common
 -- Where the rest stands behind a mark that waits for none.
 abbrev pub region_past : Region → Mark → Region
 region_past region mark = if is_ending mark then Inside else past region mark
+
+-- Whether none of some steps waits for an ending's sign, of which the first stands here.
+abbrev pub nothing_waits : {A : Type 0} → (A → Item) → Region → List A → Bool
+nothing_waits item_of region [] = true
+nothing_waits item_of region (step ∷ steps) =
+    not (waits region (item_of step)) && nothing_waits item_of (region_past region (mark_of (item_of step))) steps
 
 -- An ending's sign goes before what has waited for it, anything else behind it.
 abbrev pub set_down : {A : Type 0} → (A → Item) → List A → A → List A

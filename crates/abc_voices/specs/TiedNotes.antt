@@ -66,6 +66,13 @@ pub record NotesInParts : Type 0 where
   pub linked : TokenNotes
   pub others : List Sounding
 
+-- the parts, where a time token begins in front of the first one
+abbrev pub with_token_begun : NotesInParts → NotesInParts
+with_token_begun parts = record {
+  linked = record { begun = []; next = parts.linked.begun };
+  others = parts.others ++ parts.linked.next;
+}
+
 -- The notes of a play, of their parts.
 abbrev pub notes_in : NotesInParts → Notes
 notes_in parts = before_all parts.linked parts.others

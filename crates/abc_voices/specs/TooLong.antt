@@ -1,12 +1,14 @@
 -- What makes a tune too long. Our own.
-use Rattle.std.specs.Prelude.{◌≡◌, ◌↔◌, ◌<◌, true, List, length}
+use Rattle.std.specs.Prelude.{◌≡◌, ◌↔◌, ◌<◌, ◌≤◌, true, All, List, length}
+use Rattle.abc_music.specs.Item.{IsItem}
 use Rattle.abc_music.specs.declared.item.Item.{Item}
 use Rattle.abc_music.specs.declared.item.TheConstants.{MOST_VOICES}
 use Rattle.abc_repeat.specs.declared.order.TheConstants.{MOST_SECTIONS}
 use Rattle.abc_repeat.specs.declared.play.TheConstants.{MOST_PLACES}
 use Rattle.abc_time.specs.Grains.{grains_of_the_latest_end}
 use Rattle.abc_voices.specs.declared.limits.TheConstants.{LONGEST_TITLE}
-use Rattle.abc_voices.specs.Arrange.{end_of, is_too_long, places_played, sections_played}
+use Rattle.abc_voices.specs.Arrange.{end_of, is_too_long, places_played, score_of, sections_played}
+use Rattle.abc_voices.specs.Limits.{is_within_limits}
 use Rattle.abc_voices.specs.Opening.{title_of}
 use Rattle.abc_voices.specs.Track.{tracks}
 
@@ -18,6 +20,17 @@ pub data PassesALimit {A : Type 0} (item_of : A → Item) (tune : List A) : Type
   of_time : grains_of_the_latest_end < end_of item_of tune → PassesALimit item_of tune
   of_voices : MOST_VOICES < length (tracks item_of tune) → PassesALimit item_of tune
   of_title : LONGEST_TITLE < length (title_of item_of tune) → PassesALimit item_of tune
+
+-- The score of each tune that plays no more places than may be, ends in time, has no more voices than may have a
+-- track, and a title that fits a line, is within the limits of a file.
+abbrev pub EachShortTuneFits : Type 0
+EachShortTuneFits =
+    (tune : List Item) → All IsItem tune
+    → places_played (λ item. item) tune ≤ MOST_PLACES
+    → end_of (λ item. item) tune ≤ grains_of_the_latest_end
+    → length (tracks (λ item. item) tune) ≤ MOST_VOICES
+    → length (title_of (λ item. item) tune) ≤ LONGEST_TITLE
+    → is_within_limits (score_of (λ item. item) tune) ≡ true
 
 -- A tune is too long exactly where it passes a limit.
 abbrev pub IsTooLongByALimit : Type 0

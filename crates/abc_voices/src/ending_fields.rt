@@ -1,7 +1,8 @@
 //! The order in which a voice's items are played in a section.
 
 ghost use Rattle.std.specs.Prelude.{◌≡◌, ◌++◌, [], IfOk, OnOk};
-ghost use Rattle.abc_voices.specs.EndingFields.{waits, past_bar, past, region_past, set_down, with_fields_in_endings};
+ghost use Rattle.abc_voices.specs.declared.ending_fields.Region.TheVariants as regions;
+ghost use Rattle.abc_voices.specs.EndingFields.{waits, past_bar, past, region_past, nothing_waits, set_down, with_fields_in_endings};
 
 use crate::step::{is_field, mark_of};
 use abc_music::Item;
@@ -54,6 +55,20 @@ impl Region {
     }
 }
 
+/// Whether none of the items of a voice in a section waits for an ending's sign.
+fn nothing_waits(part: &[&Item]) -> bool
+    ensures { result ≡ nothing_waits (λ step. step.now) regions.Common part.now }
+{
+    let mut region = Region::Common;
+    for item in part {
+        if region.waits(item) {
+            return false;
+        }
+        region = region.past(mark_of(item));
+    }
+    true
+}
+
 /// Puts an item with those that have waited: an ending's sign before them, anything else behind.
 fn set_down<'a>(
     out: &mut Vec<&'a Item>,
@@ -79,11 +94,8 @@ fn set_down<'a>(
     Ok(())
 }
 
-/// The items of a voice in a section, fields behind an ending's bar moved behind the next ending's sign.
-pub(crate) fn with_fields_in_endings<'a>(
-    alloc: Global,
-    part: &[&'a Item],
-) -> Result<Vec<&'a Item>, AllocError>
+/// The items of a voice in a section, each that waits put behind the next ending's sign.
+fn moved<'a>(alloc: Global, part: &[&'a Item]) -> Result<Vec<&'a Item>, AllocError>
     ensures { IfOk result (λ steps. steps.items ≡ with_fields_in_endings (λ step. step.now) part.now) }
 {
     let mut steps = Vec::with_capacity(alloc, part.len())?;
@@ -99,4 +111,18 @@ pub(crate) fn with_fields_in_endings<'a>(
     }
     steps.extend_from_slice(&held)?;
     Ok(steps)
+}
+
+/// The items of a voice in a section, fields behind an ending's bar moved behind the next ending's sign.
+pub(crate) fn with_fields_in_endings<'a>(
+    alloc: Global,
+    part: Vec<&'a Item>,
+) -> Result<Vec<&'a Item>, AllocError>
+    ensures { IfOk result (λ steps. steps.items ≡ with_fields_in_endings (λ step. step.now) part.entry.items) }
+{
+    // In most music nothing waits, and then the items stay in the list that they came in.
+    if nothing_waits(&part) {
+        return Ok(part);
+    }
+    moved(alloc, &part)
 }

@@ -20,7 +20,7 @@ fn put_tones(notes: &mut NotesInOne, at: Grains, tones: &Tones) -> Result<(), Al
     ensures { OnOk result (notes_in notes.new ≡ before at.0 (Some tones.now) (notes_in notes.old)) }
 {
     match tones.lent() {
-        LentTones::One(tone) => notes.put_token(at, &[tone]),
+        LentTones::One(tone) => notes.put_tone(at, &tone),
         LentTones::List(tones) => notes.put_token(at, tones),
     }
 }
@@ -52,7 +52,8 @@ pub(crate) fn put_notes(
     ensures { OnOk result (notes_in notes.new
         ≡ notes_from (λ step. step.now) (end.0 - duration (λ step. step.now) steps.now) steps.now (notes_in notes.old)) }
 {
-    notes.reserve(steps.len())?;
+    // A chord has more notes than one: there is room for some, so that a list of many notes is seldom moved.
+    notes.reserve(steps.len().saturating_add(steps.len() / 8))?;
     let mut at = end;
     let mut left = steps.len();
     while left > 0 {

@@ -98,7 +98,7 @@ pub(crate) fn played<'a>(
     if are_straight(&part) {
         return played_once(part, room);
     }
-    let steps = with_fields_in_endings(alloc, &part)?;
+    let steps = with_fields_in_endings(alloc, part)?;
     let marks = marks_of(alloc, &steps)?;
     let places = expand_within(alloc, &marks, room)?;
     let items = chosen(alloc, &steps, &places)?;

@@ -4,7 +4,7 @@ ghost use Rattle.std.specs.Prelude.{◌≡◌, ◌==◌, ◌≤◌, ◌<◌, ◌
 ghost use Rattle.abc_music.specs.Item.{IsTone};
 ghost use Rattle.abc_time.specs.Grains.{grains_of_the_latest_end};
 ghost use Rattle.abc_voices.specs.Arrange.{all_notes};
-ghost use Rattle.abc_voices.specs.TiedNotes.{before, next_place, notes_in, with_key};
+ghost use Rattle.abc_voices.specs.TiedNotes.{before, next_place, notes_in, with_key, with_token_begun};
 
 use crate::score::Sounding;
 use abc_music::Tone;
@@ -80,7 +80,9 @@ impl NotesInOne {
         next_place(tied, key, &self.notes[self.next..self.begun])
     }
 
-    /// Takes out the note at a place, of those that begin at the next time token.
+    /// Takes out the note at a place, of those that begin at the next time token. Few tones are tied: by itself it leaves
+    /// the way of the others short.
+    #[inline(never)]
     fn take_next(&mut self, place: usize) -> Sounding
         requires { place < length self.old.linked.next }
         ensures value { result ≡ slice_index_or self.old.linked.next place result }
@@ -124,10 +126,7 @@ impl NotesInOne {
 
     /// Begins a time token in front of the first one.
     fn begin_token(&mut self)
-        ensures { self.new ≡ record {
-          linked = record { begun = []; next = self.old.linked.begun };
-          others = self.old.others ++ self.old.linked.next;
-        } }
+        ensures { self.new ≡ with_token_begun self.old }
     {
         self.next = self.begun;
         self.begun = self.notes.len();
@@ -144,6 +143,16 @@ impl NotesInOne {
             self.begin_note(at, tone)?;
         }
         Ok(())
+    }
+
+    /// Puts a time token of one tone before a play.
+    pub(crate) fn put_tone(&mut self, at: Grains, tone: &Tone) -> Result<(), AllocError>
+        requires at { at.0 ≤ grains_of_the_latest_end }
+        requires tone { IsTone tone.now }
+        ensures { OnOk result (notes_in self.new ≡ before at.0 (Some (tone.now ∷ [])) (notes_in self.old)) }
+    {
+        self.begin_token();
+        self.begin_note(at, tone)
     }
 
     /// All of them.

@@ -12,10 +12,8 @@ use abc_time::{Grains, LATEST_END};
 /// How long stages are one after another, unless that is later than a tune may end.
 #[tactic(auto, unfolding(abc_time::specs::Grains::grains_of_a_whole_note, abc_time::specs::Grains::grains_of_the_latest_end))]
 pub(crate) fn length_along(turns: &[Turn]) -> Option<Grains>
-    ensures { MatchOption result
-        (grains_of_the_latest_end < length_along (stages_in turns.now))
-        (λ grains. (grains.0 ≡ length_along (stages_in turns.now))
-        × (grains.0 ≤ grains_of_the_latest_end)) }
+    ensures { let along = length_along (stages_in turns.now) in
+        MatchOption result (grains_of_the_latest_end < along) (λ grains. (grains.0 ≡ along) × (grains.0 ≤ grains_of_the_latest_end)) }
 {
     let mut sum: u64 = 0;
     for turn in turns {

@@ -1,0 +1,35 @@
+-- Where nothing waits for an ending's sign, nothing is moved.
+use Rattle.std.proofs.Common.{◌≡◌, Bool, true, false, not, ◌&&◌, cond, List, [], ◌∷◌, ◌++◌, refl, sym, ap, ◌∙◌}
+use Rattle.std.proofs.lemmas.Bool.{not-true}
+use Rattle.abc_music.specs.declared.item.Item.{Item}
+use Rattle.abc_repeat.specs.Mark.{is_ending}
+use Rattle.abc_voices.specs.declared.ending_fields.Region.{Region}
+use Rattle.abc_voices.specs.EndingFields.{waits, region_past, nothing_waits, set_down, with_fields_in_endings_from}
+use Rattle.abc_voices.specs.Step.{mark_of}
+
+first_of : (a b : Bool) → (a && b) ≡ true → a ≡ true
+first_of true b h = refl
+first_of false b h = h
+
+rest_of : (a b : Bool) → (a && b) ≡ true → b ≡ true
+rest_of true b h = h
+rest_of false b h = cc
+
+-- what nothing waits in front of is set down as it stands
+alone : {A : Type 0} (item_of : A → Item) (step : A) → set_down item_of [] step ≡ step ∷ []
+alone item_of step = elim (is_ending (mark_of (item_of step))) as (λ b. cond b (step ∷ []) (step ∷ []) ≡ step ∷ []) [
+  | true ↦ refl
+  | false ↦ refl
+]
+
+pub nothing_moves : {A : Type 0} (item_of : A → Item) (region : Region) (steps : List A)
+    → nothing_waits item_of region steps ≡ true → with_fields_in_endings_from item_of region [] steps ≡ steps
+nothing_moves item_of region [] h = refl
+nothing_moves item_of region (step ∷ steps) h =
+    let item = item_of step in
+    let behind = region_past region (mark_of item) in
+    let stays : waits region item ≡ false = not-true (waits region item) (first_of (not (waits region item)) (nothing_waits item_of behind steps) h) in
+    let others = nothing_moves item_of behind steps (rest_of (not (waits region item)) (nothing_waits item_of behind steps) h) in
+    ap (λ b. cond b (with_fields_in_endings_from item_of region (step ∷ []) steps) (set_down item_of [] step ++ with_fields_in_endings_from item_of behind [] steps)) stays
+    ∙ ap (λ l. l ++ with_fields_in_endings_from item_of behind [] steps) (alone item_of step)
+    ∙ ap (λ l. step ∷ l) others
