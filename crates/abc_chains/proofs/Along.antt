@@ -10,7 +10,8 @@ use Rattle.abc_fold.proofs.Alike.{alike_states, equal_items}
 use Rattle.abc_rework.specs.Origins.{Origin}
 use Rattle.abc_chains.specs.Holding.{IsCarried, IsChain, IsFolded, IsHeldAt, cells_at, cells_in, cells_over}
 use Rattle.abc_chains.specs.Rows.{CarriedRow}
-use Rattle.abc_chains.specs.Taking.{GoesAlong, HasItemsOf, are_alike_both, continues, first_source, is_along, is_origin}
+use Rattle.abc_chains.specs.Taking.{GoesAlong, are_alike_both, continues, first_source, is_along, is_origin}
+use Rattle.abc_rework.specs.Folded.{HasItemsOf}
 
 -- Where there are more cells than there should be.
 pub too_far : {Cell : Type 0} (source count place : ℕ) (rows : List (CarriedRow Cell)) → count < place → is_along source count place rows ≡ false

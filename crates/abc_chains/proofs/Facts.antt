@@ -18,10 +18,11 @@ use Rattle.abc_tunebook.specs.Rules.{Rules}
 use Rattle.abc_chains.specs.Holding.{IsCarried, IsChain, LiesWithin, cells_in, class_in, rows_in, steps_taken}
 use Rattle.abc_chains.specs.Keeping.{AreChains, behind_chain, places_of}
 use Rattle.abc_chains.specs.Placing.{placed_from}
-use Rattle.abc_chains.specs.Renewing.{IsRenewed, IsSpan, chains_after, tunes_after}
+use Rattle.abc_chains.specs.Renewing.{IsRenewed, IsSpan, chains_after, new_parts, tunes_after}
 use Rattle.abc_chains.specs.Rows.{CarriedRow, bare}
-use Rattle.abc_chains.specs.Standing.{Keeping, LiesAmid, LiesBefore, LiesBehind, Stands, kept_numbers}
-use Rattle.abc_chains.specs.Taking.{GoesAlong, HasItemsOf}
+use Rattle.abc_chains.specs.Standing.{Keeping, LiesAmid, LiesBefore, LiesBehind, Stands, kept_numbers, parts_of, taken_after}
+use Rattle.abc_chains.specs.Taking.{GoesAlong, KnowsAlong}
+use Rattle.abc_rework.specs.Folded.{HasItemsOf}
 use Rattle.abc_chains.specs.declared.stretch.Span.{Span}
 use Rattle.abc_chains.specs.declared.stretch.Stretch.{Stretch}
 use Rattle.abc_chains.proofs.Edits.{edit_of, fresh_row}
@@ -54,8 +55,8 @@ sums_moved steps own old a rows b n (t ∷ tunes) e within =
 
 -- The same of what goes along old tunes.
 pub along_moved : {State Cell Items : Type 0} (steps : Steps State Cell Items) (own : State) (old : List (Chained State Cell Items)) (a rows b : List (CarriedRow Cell)) (n : ℕ) (tunes : List Block) (taken : List (Option ℕ)) → n ≡ length a → All (LiesWithin (length rows)) tunes
-    → AllZip (λ tune one. GoesAlong steps old own (rows_in rows tune) → IsSome one) tunes taken
-    → AllZip (λ tune one. GoesAlong steps old own (rows_in (a ++ (rows ++ b)) tune) → IsSome one) (map (moved n) tunes) taken
+    → KnowsAlong steps old own rows tunes taken
+    → KnowsAlong steps old own (a ++ (rows ++ b)) (map (moved n) tunes) taken
 along_moved steps own old a rows b n [] [] e within all = tt
 along_moved steps own old a rows b n [] (one ∷ taken) e within all = absurd all
 along_moved steps own old a rows b n (t ∷ tunes) [] e within all = absurd all
@@ -66,8 +67,8 @@ along_moved steps own old a rows b n (t ∷ tunes) (one ∷ taken) e within all 
 
 -- Which tunes take old ones over, all of them.
 pub taken_all : {State Cell Items : Type 0} (steps : Steps State Cell Items) (own : State) (old : List (Chained State Cell Items)) (all : List (CarriedRow Cell)) (front mid back : List Block) (f b count : ℕ) (taken : List (Option ℕ)) → length front ≡ f → length back ≡ count - b
-    → AllZip (λ tune one. GoesAlong steps old own (rows_in all tune) → IsSome one) mid taken
-    → AllZip (λ tune one. GoesAlong steps old own (rows_in all tune) → IsSome one) (front ++ (mid ++ back)) (kept_numbers 0 f ++ (taken ++ kept_numbers b (count - b)))
+    → KnowsAlong steps old own all mid taken
+    → KnowsAlong steps old own all (front ++ (mid ++ back)) (kept_numbers 0 f ++ (taken ++ kept_numbers b (count - b)))
 taken_all steps own old all front mid back f b count taken e g own_all =
     let R : Block → Option ℕ → Type 0 = λ tune one. GoesAlong steps old own (rows_in all tune) → IsSome one in
     zip_both R front (mid ++ back) (kept_numbers 0 f) (taken ++ kept_numbers b (count - b)) (kept_some R 0 front f (λ x k goes. refl) e)
@@ -120,7 +121,7 @@ rest_count : (text : List Block) (b : ℕ) → length (drop b text) ≡ length t
 rest_count text b = length-drop b text
 
 module _ {C State Cell Items Defaults : Type 0} (steps : Steps State Cell Items) (rules : Rules State Cell Items Defaults) (on : Keeping C State Cell Items) (s : Splice) (span : Span)
-    (laws : IsResumable steps) (lawful : AreLawful steps rules) (stands : Stands steps rules on.lines.text on.rows.items on.header on.tunes on.chains.items) (inside : s.at + s.removed ≤ length on.lines.text)
+    (laws : IsResumable steps) (lawful : AreLawful steps rules) (stands : Stands steps rules on.lines.text (parts_of on)) (inside : s.at + s.removed ≤ length on.lines.text)
     (is : IsSpan on.tunes (length on.lines.text) s.at s.removed span) (run : List (CarriedRow Cell)) (runs : run ≡ stretch_rows rules s span.from (old_run rules on.lines.text s on.rows.items span)) where
   abbrev pub all_rows : List (CarriedRow Cell)
   all_rows = edit_of rules s (placed_from (map bare on.rows.items) 0 0 (places_of (blocks_in rules on.lines.text)))
@@ -172,8 +173,8 @@ module _ {C State Cell Items Defaults : Type 0} (steps : Steps State Cell Items)
   pub narrow_renewed : (own : State) (first : Chained State Cell Items) (tunes : List Block) (made : List (Chained State Cell Items)) (taken : List (Option ℕ))
       → first ≡ get_or on.chains.items 0 first → own ≡ rules.tune (behind_chain on.header first) → tunes ≡ tunes_in (blocks_of (map class_in run))
       → AllZip (IsChain steps own run) made tunes → AllZip (HasItemsOf (drop 1 on.chains.items)) made taken
-      → ((begun : State) → AllZip (IsChain steps begun run) made tunes → AllZip (λ tune one. GoesAlong steps on.chains.items begun (rows_in run tune) → IsSome one) tunes taken)
-      → IsRenewed steps rules on s span_stretch on.header None tunes made taken
+      → ((begun : State) → AllZip (IsChain steps begun run) made tunes → KnowsAlong steps on.chains.items begun run tunes taken)
+      → IsRenewed steps rules on s (new_parts span_stretch on.header None tunes made taken)
   narrow_renewed own first tunes made taken there e m chains items along =
       let facts = narrow_facts in
       let text = on.lines.text in
@@ -189,7 +190,7 @@ module _ {C State Cell Items Defaults : Type 0} (steps : Steps State Cell Items)
       let now = opening_of steps.next rules new (blocks_in rules new) in
       let placed = subst (λ r. AllZip (IsChain steps own r) made (map (moved span.from) tunes)) (sym run_parts) (zips_moved steps own facts.parts.before run facts.parts.behind span.from made tunes facts.parts.count within chains) in
       let begun : AllZip (IsChain steps now run) made tunes = zip_same (IsChain steps own run) (IsChain steps now run) (LiesWithin (length run)) made tunes (λ chain block known own_chain. record { folds = folds_alike steps own now chain laws alike own_chain.folds; cells = own_chain.cells }) within chains in
-      let goes = subst (λ r. AllZip (λ tune one. GoesAlong steps on.chains.items now (rows_in r tune) → IsSome one) (map (moved span.from) tunes) taken) (sym run_parts) (along_moved steps now on.chains.items facts.parts.before run facts.parts.behind span.from tunes taken facts.parts.count within (along now begun)) in
+      let goes = subst (λ r. KnowsAlong steps on.chains.items now r (map (moved span.from) tunes) taken) (sym run_parts) (along_moved steps now on.chains.items facts.parts.before run facts.parts.behind span.from tunes taken facts.parts.count within (along now begun)) in
       let front_count : length (take span.front on.tunes) ≡ span.front = length-take-le span.front on.tunes (omega (arith, is.order, is.most)) in
       let back_count : length (map (shifted (span.to - span.from) (length run)) (drop span.behind on.tunes)) ≡ length on.tunes - span.behind = length-over (shifted (span.to - span.from) (length run)) (drop span.behind on.tunes) ∙ length-drop span.behind on.tunes in
       let whole = taken_all steps now on.chains.items all_rows (take span.front on.tunes) (map (moved span.from) tunes) (map (shifted (span.to - span.from) (length run)) (drop span.behind on.tunes)) span.front span.behind (length on.tunes) taken front_count back_count goes in
@@ -221,6 +222,6 @@ module _ {C State Cell Items Defaults : Type 0} (steps : Steps State Cell Items)
         lines_before = there_before;
         lines_behind = there_behind ∙ ap (λ n. drop n text) sum;
         items = items;
-        untouched = takes_untouched steps rules text s on.chains.items all_rows (kept_numbers 0 span.front ++ (taken ++ kept_numbers span.behind (length on.tunes - span.behind))) laws lawful inside stands.chains_are all_renewed.read all_renewed.from
-            (subst (λ (t : List Block). AllZip (λ tune one. GoesAlong steps on.chains.items now (rows_in all_rows tune) → IsSome one) t (kept_numbers 0 span.front ++ (taken ++ kept_numbers span.behind (length on.tunes - span.behind)))) (sym all) whole);
+        untouched = takes_untouched steps rules text s on.chains.items all_rows (taken_after span_stretch (length on.tunes) taken) laws lawful inside stands.chains_are all_renewed.read all_renewed.from
+            (subst (λ (t : List Block). KnowsAlong steps on.chains.items now all_rows t (taken_after span_stretch (length on.tunes) taken)) (sym all) whole);
       }

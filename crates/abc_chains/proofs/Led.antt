@@ -1,5 +1,5 @@
 -- What an edit of the first lines of a text makes anew.
-use Rattle.std.proofs.Common.{◌≡◌, ◌⊎◌, ℕ, zero, suc, ◌+◌, ◌-◌, ◌≤◌, List, [], ◌∷◌, ◌++◌, map, Option, Some, None, All, IfSome, IsSome, IfOk, Result, Ok, Err, length, take, drop, refl, sym, ◌∙◌, ap, subst, arith, length-drop, ⊎_elim, inr}
+use Rattle.std.proofs.Common.{◌≡◌, ◌⊎◌, ℕ, zero, suc, ◌+◌, ◌-◌, ◌≤◌, List, [], ◌∷◌, ◌++◌, map, Option, Some, None, All, IfSome, IfOk, Result, Ok, Err, length, take, drop, refl, sym, ◌∙◌, ap, subst, arith, length-drop, ⊎_elim, inr}
 use Rattle.std.proofs.lemmas.List.Elements.{All-nil}
 use Rattle.std.specs.List.{AllZip, sum_by}
 use Rattle.abc_book.specs.Block.{blocks_of}
@@ -14,14 +14,15 @@ use Rattle.abc_lines.specs.Text.{Splice, Text, spliced}
 use Rattle.abc_rework.specs.Fresh.{fresh_after}
 use Rattle.abc_tunebook.specs.Book.{blocks_in, header_in, opening_of, tunes_in}
 use Rattle.abc_tunebook.specs.Rules.{Rules}
-use Rattle.abc_chains.specs.Holding.{IsCarried, IsChain, LiesWithin, class_in, rows_in, steps_taken}
-use Rattle.abc_chains.specs.Keeping.{AreChains, IsChainOf, IsHeader, behind_chain, header_place, header_steps, places_of}
+use Rattle.abc_chains.specs.Holding.{IsCarried, IsChain, LiesWithin, class_in, steps_taken}
+use Rattle.abc_chains.specs.Keeping.{AreChains, IsHeader, behind_chain, header_place, header_steps, places_of}
+use Rattle.abc_rework.specs.Folded.{HasItemsOf, IsChainOf}
 use Rattle.abc_chains.specs.Leading.{BeginAlike, IsOpened, MayGoOn, lead_rows, lead_stretch, led_rows}
 use Rattle.abc_chains.specs.Placing.{BlocksRise, placed_from, placed_until}
-use Rattle.abc_chains.specs.Renewing.{IsLead, IsRenewed, splice_at, start_of}
+use Rattle.abc_chains.specs.Renewing.{IsLead, IsRenewed, new_parts, splice_at, start_of}
 use Rattle.abc_chains.specs.Rows.{CarriedRow, Row, bare, new_row}
-use Rattle.abc_chains.specs.Standing.{Keeping, LiesAmid, LiesBefore, LiesBehind, MayEndBy, Stands, kept_numbers}
-use Rattle.abc_chains.specs.Taking.{GoesAlong, HasItemsOf}
+use Rattle.abc_chains.specs.Standing.{Keeping, LiesAmid, LiesBefore, LiesBehind, MayEndBy, Stands, parts_of, taken_after}
+use Rattle.abc_chains.specs.Taking.{KnowsAlong}
 use Rattle.abc_chains.specs.declared.stretch.Lead.{Lead}
 use Rattle.abc_chains.specs.declared.stretch.Stretch.{Stretch}
 use Rattle.abc_chains.proofs.Costs.{raised_both, raised_up}
@@ -95,7 +96,7 @@ pub record IsNow {State Cell Items Defaults : Type 0} (steps : Steps State Cell 
   pub begins : opening ≡ rules.tune (behind_chain (header_in blocks) first)
 
 module _ {C State Cell Items Defaults : Type 0} (steps : Steps State Cell Items) (rules : Rules State Cell Items Defaults) (on : Keeping C State Cell Items) (at removed : ℕ) (lines : Text)
-    (laws : IsResumable steps) (lawful : AreLawful steps rules) (stands : Stands steps rules on.lines.text on.rows.items on.header on.tunes on.chains.items) (inside : at + removed ≤ length on.lines.text) where
+    (laws : IsResumable steps) (lawful : AreLawful steps rules) (stands : Stands steps rules on.lines.text (parts_of on)) (inside : at + removed ≤ length on.lines.text) where
   abbrev pub edit : Splice
   edit = splice_at at removed lines
 
@@ -261,8 +262,8 @@ module _ {C State Cell Items Defaults : Type 0} (steps : Steps State Cell Items)
       pub led_renewed : (own : State) (header : Option Block) (first : Chained State Cell Items) (tunes : List Block) (made : List (Chained State Cell Items)) (taken : List (Option ℕ))
           → IsNow steps rules all_rows now_blocks header first own → MayGoOn steps rules on lead.behind own
           → tunes ≡ tunes_in (blocks_of (map class_in run)) → AllZip (IsChain steps own run) made tunes → AllZip (HasItemsOf (drop 1 on.chains.items)) made taken
-          → ((begun : State) → AllZip (IsChain steps begun run) made tunes → AllZip (λ tune one. GoesAlong steps on.chains.items begun (rows_in run tune) → IsSome one) tunes taken)
-          → IsRenewed steps rules on edit (lead_stretch lead (length run)) header (Some first) tunes made taken
+          → ((begun : State) → AllZip (IsChain steps begun run) made tunes → KnowsAlong steps on.chains.items begun run tunes taken)
+          → IsRenewed steps rules on edit (new_parts (lead_stretch lead (length run)) header (Some first) tunes made taken)
       led_renewed own header first tunes made taken opened goes_on m chains items along =
           let facts = led_facts in
           let h = opened.header_is in
@@ -279,7 +280,7 @@ module _ {C State Cell Items Defaults : Type 0} (steps : Steps State Cell Items)
           let now = opening_of steps.next rules new now_blocks in
           let placed = subst (λ r. AllZip (IsChain steps own r) made (map (moved 0) tunes)) (sym run_parts) (zips_moved steps own facts.parts.before run facts.parts.behind 0 made tunes facts.parts.count here chains) in
           let begun : AllZip (IsChain steps now run) made tunes = zip_same (IsChain steps own run) (IsChain steps now run) (LiesWithin (length run)) made tunes (λ chain block known own_chain. record { folds = folds_alike steps own now chain laws alike own_chain.folds; cells = own_chain.cells }) here chains in
-          let goes = subst (λ r. AllZip (λ tune one. GoesAlong steps on.chains.items now (rows_in r tune) → IsSome one) (map (moved 0) tunes) taken) (sym run_parts) (along_moved steps now on.chains.items facts.parts.before run facts.parts.behind 0 tunes taken facts.parts.count here (along now begun)) in
+          let goes = subst (λ r. KnowsAlong steps on.chains.items now r (map (moved 0) tunes) taken) (sym run_parts) (along_moved steps now on.chains.items facts.parts.before run facts.parts.behind 0 tunes taken facts.parts.count here (along now begun)) in
           let back_count : length (map moved_on (drop lead.behind on.tunes)) ≡ length on.tunes - lead.behind = length-over moved_on (drop lead.behind on.tunes) ∙ length-drop lead.behind on.tunes in
           let whole = taken_all steps now on.chains.items all_rows [] (map (moved 0) tunes) (map moved_on (drop lead.behind on.tunes)) 0 lead.behind (length on.tunes) taken refl back_count goes in
           let same = stands.tunes_are in
@@ -321,20 +322,20 @@ module _ {C State Cell Items Defaults : Type 0} (steps : Steps State Cell Items)
             lines_before = refl;
             lines_behind = behind_lines ∙ ap (λ n. drop n text) lines_sum;
             items = items;
-            untouched = takes_untouched steps rules text edit on.chains.items all_rows (kept_numbers 0 0 ++ (taken ++ kept_numbers lead.behind (length on.tunes - lead.behind))) laws lawful inside stands.chains_are all_renewed.read all_renewed.from
-                (subst (λ (t : List Block). AllZip (λ tune one. GoesAlong steps on.chains.items now (rows_in all_rows tune) → IsSome one) t (kept_numbers 0 0 ++ (taken ++ kept_numbers lead.behind (length on.tunes - lead.behind)))) (sym all) whole);
+            untouched = takes_untouched steps rules text edit on.chains.items all_rows (taken_after stretch (length on.tunes) taken) laws lawful inside stands.chains_are all_renewed.read all_renewed.from
+                (subst (λ (t : List Block). KnowsAlong steps on.chains.items now all_rows t (taken_after stretch (length on.tunes) taken)) (sym all) whole);
           }
 
       pub led_done : (own : State) (header : Option Block) (first : Chained State Cell Items) (stretch : Stretch) (head : Option Block) (own_first : Option (Chained State Cell Items)) (tunes : List Block) (made : List (Chained State Cell Items)) (taken : List (Option ℕ))
           → IsNow steps rules all_rows now_blocks header first own → MayGoOn steps rules on lead.behind own
           → stretch ≡ lead_stretch lead (length run) → head ≡ header → own_first ≡ Some first
           → tunes ≡ tunes_in (blocks_of (map class_in run)) → AllZip (IsChain steps own run) made tunes → AllZip (HasItemsOf (drop 1 on.chains.items)) made taken
-          → ((begun : State) → AllZip (IsChain steps begun run) made tunes → AllZip (λ tune one. GoesAlong steps on.chains.items begun (rows_in run tune) → IsSome one) tunes taken)
-          → IsRenewed steps rules on edit stretch head own_first tunes made taken
+          → ((begun : State) → AllZip (IsChain steps begun run) made tunes → KnowsAlong steps on.chains.items begun run tunes taken)
+          → IsRenewed steps rules on edit (new_parts stretch head own_first tunes made taken)
       led_done own header first stretch head own_first tunes made taken opened goes_on s h f m chains items along =
-          subst (λ (x : Stretch). IsRenewed steps rules on edit x head own_first tunes made taken) (sym s)
-          (subst (λ (x : Option Block). IsRenewed steps rules on edit (lead_stretch lead (length run)) x own_first tunes made taken) (sym h)
-          (subst (λ x. IsRenewed steps rules on edit (lead_stretch lead (length run)) header x tunes made taken) (sym f)
+          subst (λ (x : Stretch). IsRenewed steps rules on edit (new_parts x head own_first tunes made taken)) (sym s)
+          (subst (λ (x : Option Block). IsRenewed steps rules on edit (new_parts (lead_stretch lead (length run)) x own_first tunes made taken)) (sym h)
+          (subst (λ x. IsRenewed steps rules on edit (new_parts (lead_stretch lead (length run)) header x tunes made taken)) (sym f)
           (led_renewed own header first tunes made taken opened goes_on m chains items along)))
 
 -- What holds of an answer, by seven things that do.

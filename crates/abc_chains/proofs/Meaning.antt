@@ -8,7 +8,7 @@ use Rattle.abc_fold.specs.Chain.{Chained}
 use Rattle.abc_fold.specs.Steps.{Steps, IsAlike, IsResumable, states_from}
 use Rattle.abc_lines.specs.Text.{Splice, Text, spliced}
 use Rattle.abc_rework.specs.Fresh.{fresh_after}
-use Rattle.abc_rework.specs.Kept.{AreKept, Held, held_at, steps_over, states_over, states_of}
+use Rattle.abc_rework.specs.Kept.{AreKept, Held, held_at, steps_over, states_of}
 use Rattle.abc_rework.specs.Kept.{cells_of as chain_cells}
 use Rattle.abc_rework.specs.Laid.{Chain, Laid, LiesInOrder, chain_at, header_chain, laid_in, tune_chains}
 use Rattle.abc_rework.specs.Origins.{Origin, addresses, address_of, addresses_beside, numbered, origins}
@@ -23,7 +23,8 @@ use Rattle.abc_tunebook.specs.Book.{blocks_in, header_in, opening_of, tunes_in}
 use Rattle.abc_tunebook.specs.Rules.{Rules}
 use Rattle.abc_tunebook.specs.Tune.{lines_in}
 use Rattle.abc_chains.specs.Holding.{cells_in, cells_over, entries_at, helds_over, origin_in, steps_taken}
-use Rattle.abc_chains.specs.Keeping.{AreChains, AreRead, IsChainOf, IsHeaderOf, header_steps}
+use Rattle.abc_chains.specs.Keeping.{AreChains, AreRead, IsHeaderOf, header_steps}
+use Rattle.abc_rework.specs.Folded.{IsChainOf}
 use Rattle.abc_chains.specs.Rows.{CarriedRow}
 
 pub length-over : {A B : Type 0} (g : A → B) (xs : List A) → length (map g xs) ≡ length xs
@@ -162,17 +163,11 @@ all_steps steps read laid s old rows first own opening (Some block) blocks laws 
 
 -- what the old chains keep
 
-states_same : {State Cell Items : Type 0} (steps : Steps State Cell Items) (state : State) (cells : List Cell) → states_from steps state cells ≡ states_over steps.next state cells
-states_same steps state [] = refl
-states_same steps state (cell ∷ cells) = ap (λ l. state ∷ l) (states_same steps (steps.next state cell) cells)
-
 kept_here : {State Cell Items : Type 0} (steps : Steps State Cell Items) (read : List ℕ → List Cell) (opening : State) (text : Text) (chain : Chained State Cell Items) (source : ℕ) (block : Block)
     → IsChainOf steps read opening text chain block
     → AllZip (IsAlike steps) chain.entries (states_of steps read text (chain_at source opening block))
 kept_here steps read opening text chain source block own =
-    subst (AllZip (IsAlike steps) chain.entries)
-    (states_same steps opening chain.cells ∙ ap (states_over steps.next opening) own.cells)
-    own.folds.entries
+    subst (AllZip (IsAlike steps) chain.entries) (ap (states_from steps opening) own.cells) own.folds.entries
 
 kept_among : {State Cell Items : Type 0} (steps : Steps State Cell Items) (read : List ℕ → List Cell) (opening : State) (text : Text) (source : ℕ) (chains : List (Chained State Cell Items)) (blocks : List Block) (was : Chain State) (i : ℕ)
     → AllZip (IsChainOf steps read opening text) chains blocks

@@ -13,7 +13,7 @@ use Rattle.abc_chains.specs.Holding.{IsCarried, LiesWithin, class_in}
 use Rattle.abc_chains.specs.Placing.{BlocksRise, placed_until}
 use Rattle.abc_chains.specs.Renewing.{IsSpan, splice_at}
 use Rattle.abc_chains.specs.Rows.{CarriedRow, Row, bare, new_row, row_class}
-use Rattle.abc_chains.specs.Standing.{Keeping, Stands}
+use Rattle.abc_chains.specs.Standing.{Keeping, Stands, parts_of}
 use Rattle.abc_chains.specs.declared.stretch.Span.{Span}
 use Rattle.abc_chains.proofs.Edits.{all_both, fresh_row}
 use Rattle.abc_chains.proofs.Meaning.{length-over, map-over}
@@ -33,21 +33,21 @@ edited_carried chains old new at end all =
     all_both (IsCarried chains) (take at old) (map bare new ++ drop end old) (All-take (IsCarried chains) at old all)
     (all_both (IsCarried chains) (map bare new) (drop end old) (bare_carried chains new) (All-drop (IsCarried chains) end old all))
 
-pub rows_count : {State Cell Items Defaults : Type 0} (steps : Steps State Cell Items) (rules : Rules State Cell Items Defaults) {C : Type 0} (on : Keeping C State Cell Items) → Stands steps rules on.lines.text on.rows.items on.header on.tunes on.chains.items → length on.rows.items ≡ length on.lines.text
+pub rows_count : {State Cell Items Defaults : Type 0} (steps : Steps State Cell Items) (rules : Rules State Cell Items Defaults) {C : Type 0} (on : Keeping C State Cell Items) → Stands steps rules on.lines.text (parts_of on) → length on.rows.items ≡ length on.lines.text
 rows_count steps rules on stands = sym (length-over row_class on.rows.items) ∙ (ap length stands.read.classes ∙ length-over rules.class on.lines.text)
 
-pub tunes_inside : {State Cell Items Defaults : Type 0} (steps : Steps State Cell Items) (rules : Rules State Cell Items Defaults) {C : Type 0} (on : Keeping C State Cell Items) → Stands steps rules on.lines.text on.rows.items on.header on.tunes on.chains.items → All (LiesWithin (length on.lines.text)) on.tunes
+pub tunes_inside : {State Cell Items Defaults : Type 0} (steps : Steps State Cell Items) (rules : Rules State Cell Items Defaults) {C : Type 0} (on : Keeping C State Cell Items) → Stands steps rules on.lines.text (parts_of on) → All (LiesWithin (length on.lines.text)) on.tunes
 tunes_inside steps rules on stands =
     let read = bare_read rules on.lines.text on.rows.items stands.read in
     let same : blocks_in rules on.lines.text ≡ blocks_of (map class_in (map bare on.rows.items)) = ap blocks_of (sym read.classes) in
     subst (λ n. All (LiesWithin n) on.tunes) (length-over bare on.rows.items ∙ rows_count steps rules on stands)
     (subst (All (LiesWithin (length (map bare on.rows.items)))) (sym stands.tunes_are) (tunes_within (map bare on.rows.items) (blocks_in rules on.lines.text) same))
 
-pub chain_total : {State Cell Items Defaults : Type 0} (steps : Steps State Cell Items) (rules : Rules State Cell Items Defaults) {C : Type 0} (on : Keeping C State Cell Items) → Stands steps rules on.lines.text on.rows.items on.header on.tunes on.chains.items → length on.chains.items ≡ length on.tunes + 1
+pub chain_total : {State Cell Items Defaults : Type 0} (steps : Steps State Cell Items) (rules : Rules State Cell Items Defaults) {C : Type 0} (on : Keeping C State Cell Items) → Stands steps rules on.lines.text (parts_of on) → length on.chains.items ≡ length on.tunes + 1
 chain_total steps rules on stands = chains_count steps rules on.lines.text on.chains.items stands.chains_are ∙ ap (λ (t : List Block). length t + 1) (sym stands.tunes_are)
 
 module _ {C State Cell Items Defaults : Type 0} (steps : Steps State Cell Items) (rules : Rules State Cell Items Defaults) (on : Keeping C State Cell Items) (at removed : ℕ) (span : Span)
-    (stands : Stands steps rules on.lines.text on.rows.items on.header on.tunes on.chains.items) (is : IsSpan on.tunes (length on.lines.text) at removed span) where
+    (stands : Stands steps rules on.lines.text (parts_of on)) (is : IsSpan on.tunes (length on.lines.text) at removed span) where
   facts_of : (lines : Text) → IsNarrow rules on.lines.text (splice_at at removed lines) on.rows.items span
   facts_of lines = narrow rules on.lines.text (splice_at at removed lines) on.rows.items span stands.read (subst (λ (t : List Block). IsSpan t (length on.lines.text) at removed span) stands.tunes_are is) (renewed steps rules on.lines.text (splice_at at removed lines) on.rows.items on.chains.items stands.read stands.chains_are).read
 

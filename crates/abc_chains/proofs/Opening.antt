@@ -15,7 +15,8 @@ use Rattle.abc_tunebook.specs.Placed.{Placed, state_along, things}
 use Rattle.abc_tunebook.specs.Rules.{Rules}
 use Rattle.abc_tunebook.specs.Tune.{cells_in as placed_in}
 use Rattle.abc_chains.specs.Holding.{IsChain, cells_in, class_in}
-use Rattle.abc_chains.specs.Keeping.{AreChains, AreRead, IsChainOf, IsHeader, IsHeaderOf, behind_chain}
+use Rattle.abc_chains.specs.Keeping.{AreChains, AreRead, IsHeader, IsHeaderOf, behind_chain}
+use Rattle.abc_rework.specs.Folded.{IsChainOf}
 use Rattle.abc_chains.specs.Rows.{CarriedRow}
 use Rattle.abc_chains.proofs.Meaning.{block_cells}
 

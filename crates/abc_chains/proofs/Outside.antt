@@ -14,7 +14,8 @@ use Rattle.abc_tunebook.specs.Book.{behind_header, blocks_in, header_in, opening
 use Rattle.abc_tunebook.specs.Placed.{cells_from, state_along}
 use Rattle.abc_tunebook.specs.Rules.{Rules}
 use Rattle.abc_chains.specs.Holding.{IsChain, cells_in, steps_taken}
-use Rattle.abc_chains.specs.Keeping.{AreChains, IsChainOf, IsHeaderOf}
+use Rattle.abc_chains.specs.Keeping.{AreChains, IsHeaderOf}
+use Rattle.abc_rework.specs.Folded.{IsChainOf}
 use Rattle.abc_chains.specs.Rows.{CarriedRow}
 use Rattle.abc_chains.specs.Standing.{kept_numbers}
 use Rattle.abc_chains.proofs.Costs.{raised_up}

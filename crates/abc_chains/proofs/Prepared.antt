@@ -9,9 +9,9 @@ use Rattle.abc_lines.specs.Text.{Splice, Text, spliced}
 use Rattle.abc_tunebook.specs.Rules.{Rules}
 use Rattle.abc_chains.specs.Holding.{LiesWithin}
 use Rattle.abc_chains.specs.Keeping.{AreChains}
-use Rattle.abc_chains.specs.Renewing.{IsAnew, IsRenewed, MayBeAnew, Stays, chains_after, tunes_after}
+use Rattle.abc_chains.specs.Renewing.{IsAnew, IsRenewed, MayBeAnew, Stays, chains_after, new_parts, tunes_after}
 use Rattle.abc_chains.specs.Rows.{Row}
-use Rattle.abc_chains.specs.Standing.{AreRows, Edited, IsStretch, Keeping, LiesAmong, Stands, moved_on}
+use Rattle.abc_chains.specs.Standing.{AreRows, Edited, IsStretch, Keeping, LiesAmong, Stands, moved_on, parts, parts_of}
 use Rattle.abc_chains.specs.declared.stretch.Stretch.{Stretch}
 use Rattle.std.proofs.lemmas.List.{length-take-le}
 use Rattle.abc_chains.proofs.Edits.{spliced_is}
@@ -37,7 +37,7 @@ first_same steps rules text None stretch (chain ∷ tunes) made own none = refl
 first_same steps rules text (Some new) stretch (chain ∷ tunes) made own none = absurd (cc)
 
 module _ {C State Cell Items Defaults : Type 0} (steps : Steps State Cell Items) (rules : Rules State Cell Items Defaults) (on : Keeping C State Cell Items) (s : Splice) (stretch : Stretch) (header : Option Block) (first : Option (Chained State Cell Items)) (tunes : List Block) (made : List (Chained State Cell Items)) (taken : List (Option ℕ))
-    (stands : Stands steps rules on.lines.text on.rows.items on.header on.tunes on.chains.items) (renewed : IsRenewed steps rules on s stretch header first tunes made taken) where
+    (stands : Stands steps rules on.lines.text (parts_of on)) (renewed : IsRenewed steps rules on s (new_parts stretch header first tunes made taken)) where
   -- A new file header comes with the first tunes.
   pub may_be_anew : MayBeAnew first stretch
   may_be_anew = by_first first renewed.keeps
@@ -52,7 +52,7 @@ module _ {C State Cell Items Defaults : Type 0} (steps : Steps State Cell Items)
 
   -- What is kept of the new text.
   pub new_stands : (rows : List (Row Cell)) (all : List Block) (chains : List (Chained State Cell Items)) → AreRows rules (spliced on.lines.text s) rows → all ≡ tunes_after stretch on.tunes tunes → chains ≡ chains_after first stretch on.chains.items made
-      → Stands steps rules (spliced on.lines.text s) rows header all chains
+      → Stands steps rules (spliced on.lines.text s) (parts rows header all chains)
   new_stands rows all chains read t c = record {
     read = read;
     header_is = renewed.header_is;

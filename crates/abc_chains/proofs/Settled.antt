@@ -12,7 +12,8 @@ use Rattle.abc_rework.specs.Origins.{no_origins, origin_at, origins_along, origi
 use Rattle.abc_tunebook.specs.Book.{blocks_in, header_in, opening_of, tunes_in}
 use Rattle.abc_tunebook.specs.Rules.{Rules}
 use Rattle.abc_chains.specs.Holding.{IsCarried, cells_at, cells_in, cells_over, origin_in}
-use Rattle.abc_chains.specs.Keeping.{AreChains, IsChainOf, IsHeaderOf, header_place, places_of}
+use Rattle.abc_chains.specs.Keeping.{AreChains, IsHeaderOf, header_place, places_of}
+use Rattle.abc_rework.specs.Folded.{IsChainOf}
 use Rattle.abc_chains.specs.Placing.{BlocksRise, between, placed_along, placed_from}
 use Rattle.abc_chains.specs.Rows.{CarriedRow, placed}
 use Rattle.abc_chains.proofs.Edits.{all_both}

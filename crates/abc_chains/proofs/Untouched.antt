@@ -31,9 +31,10 @@ use Rattle.abc_scan.specs.declared.class.LineClass.TheVariants.{Blank, Comment, 
 use Rattle.abc_tunebook.specs.Book.{blocks_in, is_tune, opening_of, tunes_in}
 use Rattle.abc_tunebook.specs.Rules.{Rules}
 use Rattle.abc_chains.specs.Holding.{cells_in, cells_over, entries_at, helds_of, helds_over, origin_in, rows_in}
-use Rattle.abc_chains.specs.Keeping.{AreChains, AreRead, IsChainOf}
+use Rattle.abc_chains.specs.Keeping.{AreChains, AreRead}
+use Rattle.abc_rework.specs.Folded.{IsChainOf, TakesUntouched}
 use Rattle.abc_chains.specs.Rows.{CarriedRow}
-use Rattle.abc_chains.specs.Taking.{GoesAlong, TakesUntouched, continues, first_source, is_along, is_origin}
+use Rattle.abc_chains.specs.Taking.{GoesAlong, KnowsAlong, continues, first_source, is_along, is_origin}
 use Rattle.abc_chains.proofs.Meaning.{addresses_are, are_kept, beside_whole, block_steps, length-addresses, length-over, read_drop}
 
 -- So many cells of a chain, one after another.
@@ -362,7 +363,7 @@ first_cells steps rules rows text (block ∷ blocks) first last lawful cells beg
 all_untouched : {State Cell Items Defaults : Type 0} (steps : Steps State Cell Items) (rules : Rules State Cell Items Defaults) (text : Text) (s : Splice) (header : Chained State Cell Items) (tunes : List (Chained State Cell Items)) (rows : List (CarriedRow Cell)) (opening : State) (source : ℕ) (blocks : List Block) (taken : List (Option ℕ))
     → IsResumable steps → s.at + s.removed ≤ length text → AreChains steps rules text (header ∷ tunes) → map cells_in rows ≡ map rules.cells (spliced text s)
     → map origin_in rows ≡ origins rules.cells (laid_in steps rules text) s → All (FirstCell rows) blocks
-    → AllZip (λ tune one. GoesAlong steps (header ∷ tunes) opening (rows_in rows tune) → IsSome one) blocks taken
+    → KnowsAlong steps (header ∷ tunes) opening rows blocks taken
     → AllZip (λ tune one. is_untouched steps rules.cells (laid_in steps rules text) s (entered_of steps rules.cells (spliced text s) tune) ≡ true → IsSome one) (tune_chains source opening blocks) taken
 all_untouched steps rules text s header tunes rows opening source [] [] laws inside chains read from first along = tt
 all_untouched steps rules text s header tunes rows opening source [] (one ∷ taken) laws inside chains read from first along = absurd along
@@ -377,7 +378,7 @@ all_untouched steps rules text s header tunes rows opening source (block ∷ blo
 pub takes_untouched : {State Cell Items Defaults : Type 0} (steps : Steps State Cell Items) (rules : Rules State Cell Items Defaults) (text : Text) (s : Splice) (old : List (Chained State Cell Items)) (rows : List (CarriedRow Cell)) (taken : List (Option ℕ))
     → IsResumable steps → AreLawful steps rules → s.at + s.removed ≤ length text → AreChains steps rules text old → AreRead rules (spliced text s) rows
     → map origin_in rows ≡ origins rules.cells (laid_in steps rules text) s
-    → AllZip (λ tune one. GoesAlong steps old (opening_of steps.next rules (spliced text s) (blocks_in rules (spliced text s))) (rows_in rows tune) → IsSome one) (tunes_in (blocks_in rules (spliced text s))) taken
+    → KnowsAlong steps old (opening_of steps.next rules (spliced text s) (blocks_in rules (spliced text s))) rows (tunes_in (blocks_in rules (spliced text s))) taken
     → TakesUntouched steps rules text s taken
 takes_untouched steps rules text s [] rows taken laws lawful inside chains read from along = absurd chains
 takes_untouched steps rules text s (header ∷ tunes) rows taken laws lawful inside chains read from along =

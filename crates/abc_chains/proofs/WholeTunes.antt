@@ -8,7 +8,8 @@ use Rattle.abc_lines.specs.Text.{Text}
 use Rattle.abc_tunebook.specs.Book.{blocks_in, opening_of, tunes_in}
 use Rattle.abc_tunebook.specs.Rules.{Rules}
 use Rattle.abc_chains.specs.Holding.{IsChain, cells_in}
-use Rattle.abc_chains.specs.Keeping.{AreChains, AreRead, IsChainOf}
+use Rattle.abc_chains.specs.Keeping.{AreChains, AreRead}
+use Rattle.abc_rework.specs.Folded.{IsChainOf}
 use Rattle.abc_chains.specs.Rows.{CarriedRow}
 use Rattle.abc_chains.proofs.Meaning.{block_cells}
 

@@ -1,17 +1,18 @@
 -- What an edit costs, and the text with no lines.
-use Rattle.std.proofs.Common.{◌≡◌, ℕ, ◌≤◌, List, [], ◌∷◌, Option, None, ap, refl, sym, ◌∙◌, subst, arith}
+use Rattle.std.proofs.Common.{◌∙◌, ◌∷◌, ◌≡◌, ◌≤◌, Bool, List, None, Option, [], ap, arith, refl, subst, sym, ℕ}
 use Rattle.abc_book.specs.declared.block.Block.{Block}
 use Rattle.abc_book.proofs.OnePass.{one_pass}
 use Rattle.abc_fold.specs.Chain.{Chained, no_cells}
-use Rattle.abc_fold.specs.Steps.{Steps}
+use Rattle.abc_fold.specs.Steps.{Steps, steps_of}
 use Rattle.abc_fold.specs.Work.{Counters, IsRaisedUpTo, raised}
 use Rattle.abc_fold.proofs.Raised.{raised-least}
 use Rattle.abc_lines.specs.Text.{Text}
 use Rattle.abc_tunebook.specs.Book.{blocks_in, header_in, opening_of, tunes_in}
 use Rattle.abc_tunebook.specs.Rules.{Rules}
-use Rattle.abc_chains.specs.Keeping.{IsChainOf, IsHeaderOf}
+use Rattle.abc_chains.specs.Keeping.{IsHeaderOf}
+use Rattle.abc_rework.specs.Folded.{IsChainOf}
 use Rattle.abc_chains.specs.Rows.{IsScannedUpTo, Row}
-use Rattle.abc_chains.specs.Standing.{IsWorkUpTo, Stands}
+use Rattle.abc_chains.specs.Standing.{IsWorkUpTo, Keeping, Stands, parts, parts_of}
 use Rattle.std.specs.List.{AllZip}
 
 pub no_work : (lines steps : ℕ) (before : Counters) → IsWorkUpTo lines steps before before
@@ -50,13 +51,20 @@ empty_chains steps rules (block ∷ blocks) e = absurd (cc)
 
 -- What is kept of the text with no lines.
 pub empty_stands : {State Cell Items Defaults : Type 0} (steps : Steps State Cell Items) (rules : Rules State Cell Items Defaults) (text : Text) (rows : List (Row Cell)) (header : Option Block) (tunes : List Block) (chains : List (Chained State Cell Items))
-    → text ≡ [] → rows ≡ [] → header ≡ None → tunes ≡ [] → chains ≡ no_cells ∷ [] → Stands steps rules text rows header tunes chains
+    → text ≡ [] → rows ≡ [] → header ≡ None → tunes ≡ [] → chains ≡ no_cells ∷ [] → Stands steps rules text (parts rows header tunes chains)
 empty_stands {State = State} {Cell = Cell} {Items = Items} steps rules text rows header tunes chains t r h b c =
     let none : blocks_in rules [] ≡ [] = one_pass [] in
-    let all : Stands steps rules [] [] None [] (no_cells ∷ []) = record {
+    let all : Stands steps rules [] (parts [] None [] (no_cells ∷ [])) = record {
       read = record { classes = refl; cells = refl };
       header_is = sym (ap header_in none);
       tunes_are = sym (ap tunes_in none);
       chains_are = empty_chains steps rules (blocks_in rules []) none;
     } in
     rw (t, r, h, b, c) all
+
+-- What is kept of a text stands, seen as it is now.
+pub stands_now : {C State Cell Items Defaults : Type 0} (next : C → State → Cell → State) (gives : C → State → Cell → Items) (alike : C → State → State → Bool) (rules : C → Rules State Cell Items Defaults) {was now : Keeping C State Cell Items} → was ≡ now
+    → Stands (steps_of (next was.compiler) (gives was.compiler) (alike was.compiler)) (rules was.compiler) was.lines.text (parts_of was)
+    → Stands (steps_of (next now.compiler) (gives now.compiler) (alike now.compiler)) (rules now.compiler) now.lines.text (parts_of now)
+stands_now {C = C} {State = State} {Cell = Cell} {Items = Items} next gives alike rules same stands =
+    subst (λ (k : Keeping C State Cell Items). Stands (steps_of (next k.compiler) (gives k.compiler) (alike k.compiler)) (rules k.compiler) k.lines.text (parts_of k)) same stands

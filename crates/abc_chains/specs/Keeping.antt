@@ -1,16 +1,16 @@
 -- What is kept of a text: its rows, and the chains of its file header and its tunes. Our own.
 use Rattle.std.specs.Prelude.{◌≡◌, ℕ, List, [], ◌∷◌, map, length, slice_get, Option, Some, None}
-use Rattle.std.specs.List.{AllZip, flat_map}
+use Rattle.std.specs.List.{AllZip}
 use Rattle.abc_book.specs.declared.block.Block.{Block}
 use Rattle.abc_book.specs.declared.block.BlockKind.TheVariants.{Free}
-use Rattle.abc_fold.specs.Chain.{Chained, Folds, no_cells}
+use Rattle.abc_fold.specs.Chain.{Chained, no_cells}
 use Rattle.abc_fold.specs.Steps.{Steps}
 use Rattle.abc_lines.specs.Text.{Text}
 use Rattle.abc_tunebook.specs.Book.{blocks_in, header_in, opening_of, tunes_in}
 use Rattle.abc_tunebook.specs.Rules.{Rules}
-use Rattle.abc_tunebook.specs.Tune.{lines_in}
 use Rattle.abc_chains.specs.Holding.{IsChain, cells_in, class_in, steps_taken}
 use Rattle.abc_chains.specs.Rows.{CarriedRow}
+use Rattle.abc_rework.specs.Folded.{IsChainOf}
 
 -- Rows have the classes and the cells of the lines of a text.
 pub record AreRead {State Cell Items Defaults : Type 0} (rules : Rules State Cell Items Defaults) (text : Text) (rows : List (CarriedRow Cell)) : Type 0 where
@@ -31,11 +31,6 @@ header_steps steps first old rows (Some block) = steps_taken steps first old row
 abbrev pub behind_chain : {State Cell Items : Type 0} → Option Block → Chained State Cell Items → Option State
 behind_chain None chain = None
 behind_chain (Some block) chain = slice_get chain.entries (length chain.cells)
-
--- A chain is the fold over the cells of the lines of a block, from an opening.
-pub record IsChainOf {State Cell Items : Type 0} (steps : Steps State Cell Items) (read : List ℕ → List Cell) (opening : State) (text : Text) (chain : Chained State Cell Items) (block : Block) : Type 0 where
-  pub folds : Folds steps opening chain
-  pub cells : chain.cells ≡ flat_map read (lines_in text block)
 
 -- The chain of a file header, by the lines of its text.
 abbrev pub IsHeaderOf : {State Cell Items Defaults : Type 0} → Steps State Cell Items → Rules State Cell Items Defaults → Text → Chained State Cell Items → Option Block → Type 0

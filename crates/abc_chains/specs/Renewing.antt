@@ -11,8 +11,8 @@ use Rattle.abc_tunebook.specs.Rules.{Rules}
 use Rattle.abc_chains.specs.Holding.{LiesWithin}
 use Rattle.abc_chains.specs.Keeping.{AreChains}
 use Rattle.abc_chains.specs.Rows.{CarriedRow, Row, bare}
-use Rattle.abc_chains.specs.Standing.{Keeping, LiesAmid, LiesBefore, LiesBehind, MayEndBy, MayLieBefore, gone, kept_numbers, moved_on}
-use Rattle.abc_chains.specs.Taking.{HasItemsOf, TakesUntouched}
+use Rattle.abc_chains.specs.Standing.{Keeping, LiesAmid, LiesBefore, LiesBehind, MayEndBy, MayLieBefore, gone, moved_on, taken_after}
+use Rattle.abc_rework.specs.Folded.{HasItemsOf, TakesUntouched}
 use Rattle.abc_chains.specs.declared.stretch.Stretch.{Stretch}
 use Rattle.abc_chains.specs.declared.stretch.Lead.{Lead}
 use Rattle.abc_chains.specs.declared.stretch.Span.{Span}
@@ -73,27 +73,40 @@ pub record IsAnew {State Cell Items : Type 0} (first : Option (Chained State Cel
   pub goes : MayEndBy stretch.to was
   pub comes : MayEndBy stretch.came header
 
+-- What an edit makes anew: the file header, its chain where that may change, the tunes of the stretch, counted from its
+-- first line, their chains, and which old ones have their items.
+pub record NewParts (State Cell Items : Type 0) : Type 0 where
+  pub stretch : Stretch
+  pub header : Option Block
+  pub first : Option (Chained State Cell Items)
+  pub tunes : List Block
+  pub made : List (Chained State Cell Items)
+  pub taken : List (Option ℕ)
+
+abbrev pub new_parts : {State Cell Items : Type 0} → Stretch → Option Block → Option (Chained State Cell Items) → List Block → List (Chained State Cell Items) → List (Option ℕ) → NewParts State Cell Items
+new_parts stretch header first tunes made taken = record { stretch = stretch; header = header; first = first; tunes = tunes; made = made; taken = taken }
+
 -- What is made anew is that of the new text.
-pub record IsRenewed {C State Cell Items Defaults : Type 0} (steps : Steps State Cell Items) (rules : Rules State Cell Items Defaults) (on : Keeping C State Cell Items) (s : Splice) (stretch : Stretch) (header : Option Block) (first : Option (Chained State Cell Items)) (tunes : List Block) (made : List (Chained State Cell Items)) (taken : List (Option ℕ)) : Type 0 where
-  pub order : stretch.front ≤ stretch.behind
-  pub most : stretch.behind ≤ length on.tunes
-  pub begins : stretch.from ≤ s.at
-  pub ends : s.at + s.removed ≤ stretch.to
-  pub inside : stretch.to ≤ length on.lines.text
-  pub came : stretch.came ≡ gone stretch - s.removed + length s.lines
-  pub header_is : header ≡ header_in (blocks_in rules (spliced on.lines.text s))
-  pub tunes_are : tunes_in (blocks_in rules (spliced on.lines.text s)) ≡ tunes_after stretch on.tunes tunes
-  pub chains_are : AreChains steps rules (spliced on.lines.text s) (chains_after first stretch on.chains.items made)
-  pub count : length made ≡ length tunes
-  pub before : All (LiesBefore stretch) (take stretch.front on.tunes)
-  pub beyond : All (LiesBehind stretch) (drop stretch.behind on.tunes)
-  pub among : All (LiesWithin stretch.came) tunes
-  pub amid : All (LiesAmid stretch) (take (stretch.behind - stretch.front) (drop stretch.front on.tunes))
-  pub keeps : Stays first header on.header stretch ⊎ IsAnew first header on.header stretch
-  pub lines_before : take stretch.from (spliced on.lines.text s) ≡ take stretch.from on.lines.text
-  pub lines_behind : drop (stretch.from + stretch.came) (spliced on.lines.text s) ≡ drop stretch.to on.lines.text
-  pub items : AllZip (HasItemsOf (drop 1 on.chains.items)) made taken
-  pub untouched : TakesUntouched steps rules on.lines.text s (kept_numbers 0 stretch.front ++ (taken ++ kept_numbers stretch.behind (length on.tunes - stretch.behind)))
+pub record IsRenewed {C State Cell Items Defaults : Type 0} (steps : Steps State Cell Items) (rules : Rules State Cell Items Defaults) (on : Keeping C State Cell Items) (s : Splice) (new : NewParts State Cell Items) : Type 0 where
+  pub order : new.stretch.front ≤ new.stretch.behind
+  pub most : new.stretch.behind ≤ length on.tunes
+  pub begins : new.stretch.from ≤ s.at
+  pub ends : s.at + s.removed ≤ new.stretch.to
+  pub inside : new.stretch.to ≤ length on.lines.text
+  pub came : new.stretch.came ≡ gone new.stretch - s.removed + length s.lines
+  pub header_is : new.header ≡ header_in (blocks_in rules (spliced on.lines.text s))
+  pub tunes_are : tunes_in (blocks_in rules (spliced on.lines.text s)) ≡ tunes_after new.stretch on.tunes new.tunes
+  pub chains_are : AreChains steps rules (spliced on.lines.text s) (chains_after new.first new.stretch on.chains.items new.made)
+  pub count : length new.made ≡ length new.tunes
+  pub before : All (LiesBefore new.stretch) (take new.stretch.front on.tunes)
+  pub beyond : All (LiesBehind new.stretch) (drop new.stretch.behind on.tunes)
+  pub among : All (LiesWithin new.stretch.came) new.tunes
+  pub amid : All (LiesAmid new.stretch) (take (new.stretch.behind - new.stretch.front) (drop new.stretch.front on.tunes))
+  pub keeps : Stays new.first new.header on.header new.stretch ⊎ IsAnew new.first new.header on.header new.stretch
+  pub lines_before : take new.stretch.from (spliced on.lines.text s) ≡ take new.stretch.from on.lines.text
+  pub lines_behind : drop (new.stretch.from + new.stretch.came) (spliced on.lines.text s) ≡ drop new.stretch.to on.lines.text
+  pub items : AllZip (HasItemsOf (drop 1 on.chains.items)) new.made new.taken
+  pub untouched : TakesUntouched steps rules on.lines.text s (taken_after new.stretch (length on.tunes) new.taken)
 
 -- A new chain of the file header comes with the first tunes.
 abbrev pub MayBeAnew : {A : Type 0} → Option A → Stretch → Type 0

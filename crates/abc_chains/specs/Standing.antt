@@ -20,14 +20,24 @@ pub record AreRows {State Cell Items Defaults : Type 0} (rules : Rules State Cel
   pub classes : map row_class rows ≡ map rules.class text
   pub cells : map row_cells rows ≡ map rules.cells text
 
--- The rows, the file header, the tunes and the chains are those of a text: the rows have the classes and the cells of
--- its lines; the chains, that of the file header first, are the folds over their blocks from the states in which these
--- begin.
-pub record Stands {State Cell Items Defaults : Type 0} (steps : Steps State Cell Items) (rules : Rules State Cell Items Defaults) (text : Text) (rows : List (Row Cell)) (header : Option Block) (tunes : List Block) (chains : List (Chained State Cell Items)) : Type 0 where
-  pub read : AreRows rules text rows
-  pub header_is : header ≡ header_in (blocks_in rules text)
-  pub tunes_are : tunes ≡ tunes_in (blocks_in rules text)
-  pub chains_are : AreChains steps rules text chains
+-- What is kept of a text beside its lines: its rows, where its file header and its tunes lie, and their chains, that of
+-- the file header first.
+pub record Parts (State Cell Items : Type 0) : Type 0 where
+  pub rows : List (Row Cell)
+  pub header : Option Block
+  pub tunes : List Block
+  pub chains : List (Chained State Cell Items)
+
+abbrev pub parts : {State Cell Items : Type 0} → List (Row Cell) → Option Block → List Block → List (Chained State Cell Items) → Parts State Cell Items
+parts rows header tunes chains = record { rows = rows; header = header; tunes = tunes; chains = chains }
+
+-- The parts are those of a text: the rows have the classes and the cells of its lines; the chains are the folds over
+-- their blocks from the states in which these begin.
+pub record Stands {State Cell Items Defaults : Type 0} (steps : Steps State Cell Items) (rules : Rules State Cell Items Defaults) (text : Text) (kept : Parts State Cell Items) : Type 0 where
+  pub read : AreRows rules text kept.rows
+  pub header_is : kept.header ≡ header_in (blocks_in rules text)
+  pub tunes_are : kept.tunes ≡ tunes_in (blocks_in rules text)
+  pub chains_are : AreChains steps rules text kept.chains
 
 -- A compiler, a text with its room, and what is kept of the text: its rows, where its file header and its tunes lie, and
 -- their chains.
@@ -38,6 +48,9 @@ pub record Keeping (C State Cell Items : Type 0) : Type 0 where
   pub header : Option Block
   pub tunes : List Block
   pub chains : Gapped (Chained State Cell Items)
+
+abbrev pub parts_of : {C State Cell Items : Type 0} → Keeping C State Cell Items → Parts State Cell Items
+parts_of on = parts on.rows.items on.header on.tunes on.chains.items
 
 -- A kept text, the text that is to take its place, what would be kept of that, and the stretch of lines outside which all
 -- stays: the chains and the places of its tunes, and which of these have the items of old ones.
@@ -53,12 +66,27 @@ pub record Edited (C State Cell Items : Type 0) : Type 0 where
   pub places : List Block
   pub taken : List (Option ℕ)
 
--- A prepared edit belongs to a kept text, and what it would put there is what is kept of the new text.
-pub record IsPatch {C State Cell Items Defaults : Type 0} (steps : Steps State Cell Items) (rules : Rules State Cell Items Defaults) (on : Keeping C State Cell Items) (lines : Prepared) (rows : Patched (Row Cell)) (header : Option Block) (tunes : List Block) (chains : Patched (Chained State Cell Items)) : Type 0 where
-  pub lines_on : lines.on ≡ on.lines
-  pub rows_on : rows.on ≡ on.rows
-  pub chains_on : chains.on ≡ on.chains
-  pub stands : Stands steps rules lines.after rows.after.items header tunes chains.after.items
+-- What would be kept of the new text.
+abbrev pub parts_after : {C State Cell Items : Type 0} → Edited C State Cell Items → Parts State Cell Items
+parts_after patch = parts patch.rows patch.header patch.tunes patch.chains
+
+-- What a prepared edit puts in the place of the lines of a text and of what is kept of them.
+pub record Puts (State Cell Items : Type 0) : Type 0 where
+  pub lines : Prepared
+  pub rows : Patched (Row Cell)
+  pub header : Option Block
+  pub tunes : List Block
+  pub chains : Patched (Chained State Cell Items)
+
+abbrev pub puts : {State Cell Items : Type 0} → Prepared → Patched (Row Cell) → Option Block → List Block → Patched (Chained State Cell Items) → Puts State Cell Items
+puts lines rows header tunes chains = record { lines = lines; rows = rows; header = header; tunes = tunes; chains = chains }
+
+-- It belongs to a kept text, and puts there what is kept of the new text.
+pub record IsPatch {C State Cell Items Defaults : Type 0} (steps : Steps State Cell Items) (rules : Rules State Cell Items Defaults) (on : Keeping C State Cell Items) (new : Puts State Cell Items) : Type 0 where
+  pub lines_on : new.lines.on ≡ on.lines
+  pub rows_on : new.rows.on ≡ on.rows
+  pub chains_on : new.chains.on ≡ on.chains
+  pub stands : Stands steps rules new.lines.after (parts new.rows.after.items new.header new.tunes new.chains.after.items)
 
 -- The chains of the tunes: the file header's stands before them.
 abbrev pub old_tunes : {C State Cell Items : Type 0} → Edited C State Cell Items → List (Chained State Cell Items)
@@ -130,9 +158,13 @@ abbrev pub kept_numbers : ℕ → ℕ → List (Option ℕ)
 kept_numbers first zero = []
 kept_numbers first (suc count) = Some first ∷ kept_numbers (first + 1) count
 
--- For each tune of the new text the old one that has its items, if one is known: those outside the stretch stay.
+-- For each tune of the text behind an edit the old one that has its items, if one is known: those outside the stretch
+-- stay, of so many that were there.
+abbrev pub taken_after : Stretch → ℕ → List (Option ℕ) → List (Option ℕ)
+taken_after stretch tunes taken = kept_numbers 0 stretch.front ++ (taken ++ kept_numbers stretch.behind (tunes - stretch.behind))
+
 abbrev pub all_taken : {C State Cell Items : Type 0} → Edited C State Cell Items → List (Option ℕ)
-all_taken patch = kept_numbers 0 patch.stretch.front ++ (patch.taken ++ kept_numbers patch.stretch.behind (length patch.on.tunes - patch.stretch.behind))
+all_taken patch = taken_after patch.stretch (length patch.on.tunes) patch.taken
 
 -- The lines scanned have risen by so many at most, and the steps folded by so many; no tune has been built.
 pub record IsWorkUpTo (lines steps : ℕ) (before after : Counters) : Type 0 where

@@ -1,25 +1,13 @@
 -- Which tunes of an edited text have the items of old ones. Our own.
-use Rattle.std.specs.Prelude.{◌≡◌, ℕ, suc, ◌+◌, ◌==◌, ◌&&◌, if◌then◌else◌, Bool, true, false, List, [], ◌∷◌, length, Option, Some, None, IfSome, IsSome, slice_get}
-use Rattle.std.specs.List.{AllZip}
+use Rattle.std.specs.Prelude.{◌&&◌, ◌+◌, ◌==◌, ◌∷◌, ◌≡◌, Bool, IsSome, List, None, Option, Some, [], false, if◌then◌else◌, length, slice_get, suc, true, ℕ}
 use Rattle.std.specs.Option.{option_map}
 use Rattle.abc_fold.specs.Chain.{Chained}
 use Rattle.abc_fold.specs.Steps.{IsAlike, Steps}
-use Rattle.abc_lines.specs.Text.{Splice, Text, spliced}
-use Rattle.abc_rework.specs.Entered.{entered_of}
-use Rattle.abc_rework.specs.Fresh.{is_untouched}
-use Rattle.abc_rework.specs.Laid.{laid_in, tune_chains}
 use Rattle.abc_rework.specs.Origins.{Origin}
-use Rattle.abc_tunebook.specs.Rules.{Rules}
 use Rattle.abc_chains.specs.Rows.{CarriedRow}
-
--- An old chain of this number has the items of a chain.
-abbrev pub HasItemsOf : {State Cell Items : Type 0} → List (Chained State Cell Items) → Chained State Cell Items → Option ℕ → Type 0
-HasItemsOf {State = State} {Cell = Cell} {Items = Items} olds chain taken = IfSome taken (λ old. (was : Chained State Cell Items) × (slice_get olds old ≡ Some was) × (was.items ≡ chain.items))
-
--- Each untouched tune of the text behind a splice has the items of an old one.
-abbrev pub TakesUntouched : {State Cell Items Defaults : Type 0} → Steps State Cell Items → Rules State Cell Items Defaults → Text → Splice → List (Option ℕ) → Type 0
-TakesUntouched steps rules text s taken =
-    AllZip (λ tune old. is_untouched steps rules.cells (laid_in steps rules text) s (entered_of steps rules.cells (spliced text s) tune) ≡ true → IsSome old) (tune_chains 1 (laid_in steps rules (spliced text s)).opening (laid_in steps rules (spliced text s)).tunes) taken
+use Rattle.std.specs.List.{AllZip}
+use Rattle.abc_book.specs.declared.block.Block.{Block}
+use Rattle.abc_chains.specs.Holding.{rows_in}
 
 abbrev pub is_origin : ℕ → ℕ → Option Origin → Bool
 is_origin source place None = false
@@ -56,3 +44,7 @@ pub record GoesAlong {State Cell Items : Type 0} (steps : Steps State Cell Items
   pub begun : State
   pub entry : slice_get was.entries 0 ≡ Some begun
   pub alike : IsAlike steps begun opening
+
+-- Each of these tunes that goes along an old one is known to have the items of one.
+abbrev pub KnowsAlong : {State Cell Items : Type 0} → Steps State Cell Items → List (Chained State Cell Items) → State → List (CarriedRow Cell) → List Block → List (Option ℕ) → Type 0
+KnowsAlong steps old opening rows tunes taken = AllZip (λ tune one. GoesAlong steps old opening (rows_in rows tune) → IsSome one) tunes taken

@@ -1,18 +1,12 @@
 //! The chains of the file header and the tunes of a text.
 
-ghost use Rattle.std.specs.Prelude.{◌≡◌, ◌+◌, ◌≤◌, All, IfOk, IfSome, length, map};
+ghost use Rattle.std.specs.Prelude.{◌≡◌, All, IfOk, IfSome, length};
 ghost use Rattle.std.specs.List.{AllZip, sum_by};
-ghost use Rattle.abc_book.specs.Block.{blocks_of};
-ghost use Rattle.abc_chains.specs.Holding.{IsCarried, IsChain, IsFolded, LiesWithin, class_in, origin_in, steps_taken};
-ghost use Rattle.abc_chains.specs.Keeping.{AreChains, AreRead, IsHeader, behind_chain, header_steps};
+ghost use Rattle.abc_chains.specs.Holding.{IsCarried, IsChain, IsFolded, LiesWithin, steps_taken};
+ghost use Rattle.abc_chains.specs.Keeping.{IsHeader, behind_chain, header_steps};
 ghost use Rattle.abc_fold.specs.Chain.{no_cells};
 ghost use Rattle.abc_fold.specs.Steps.{steps_of};
 ghost use Rattle.abc_fold.specs.Work.{IsRaisedUpTo};
-ghost use Rattle.abc_lines.specs.Text.{Splice, Text, spliced};
-ghost use Rattle.abc_rework.specs.Fresh.{fresh_after};
-ghost use Rattle.abc_rework.specs.Laid.{laid_in};
-ghost use Rattle.abc_rework.specs.Origins.{origins};
-ghost use Rattle.abc_tunebook.specs.Book.{blocks_in};
 
 use crate::blocks::{header_in, tunes_in};
 use crate::carried::CarriedRow;

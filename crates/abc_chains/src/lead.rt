@@ -1,14 +1,15 @@
 //! What an edit makes anew where no tune begins before it.
 
-ghost use Rattle.std.specs.Prelude.{◌≡◌, ◌⊎◌, ◌+◌, ◌≤◌, true, All, IfOk, IsSome, Some, drop, get_or, length, map};
+ghost use Rattle.std.specs.Prelude.{◌≡◌, ◌+◌, ◌≤◌, true, All, IfOk, Some, drop, length, map};
 ghost use Rattle.std.specs.List.{AllZip, sum_by};
 ghost use Rattle.abc_book.specs.Block.{blocks_of};
-ghost use Rattle.abc_chains.specs.Holding.{IsCarried, IsChain, class_in, rows_in, steps_taken};
+ghost use Rattle.abc_chains.specs.Holding.{IsCarried, IsChain, class_in, steps_taken};
 ghost use Rattle.abc_chains.specs.Keeping.{header_steps};
 ghost use Rattle.abc_chains.specs.Leading.{IsOpened, MayGoOn, lead_rows, lead_stretch};
-ghost use Rattle.abc_chains.specs.Renewing.{IsLead, IsRenewed, splice_at};
+ghost use Rattle.abc_chains.specs.Renewing.{IsLead, IsRenewed, new_parts, splice_at};
 ghost use Rattle.abc_chains.specs.Rows.{new_row};
-ghost use Rattle.abc_chains.specs.Taking.{GoesAlong, HasItemsOf};
+ghost use Rattle.abc_chains.specs.Taking.{KnowsAlong};
+ghost use Rattle.abc_rework.specs.Folded.{HasItemsOf};
 ghost use Rattle.abc_fold.specs.Steps.{steps_of};
 ghost use Rattle.abc_fold.specs.Work.{IsRaisedUpTo};
 ghost use Rattle.abc_lines.specs.Text.{Text};
@@ -112,7 +113,7 @@ impl<C: Compiler> KeptText<C> {
         ensures items { IfOk result (λ r. AllZip (HasItemsOf (drop 1 self.now.chains.items)) r.folded.made.items r.folded.taken.items) }
         ensures along { let c = self.now.compiler in (begun : C.State) →
             IfOk result (λ r. AllZip (IsChain (steps_of (C.next c) (C.gives c) (C.alike c)) begun rows.now) r.folded.made.items r.folded.tunes.items
-            → AllZip (λ tune one. GoesAlong (steps_of (C.next c) (C.gives c) (C.alike c)) self.now.chains.items begun (rows_in rows.now tune) → IsSome one) r.folded.tunes.items r.folded.taken.items) }
+            → KnowsAlong (steps_of (C.next c) (C.gives c) (C.alike c)) self.now.chains.items begun rows.now r.folded.tunes.items r.folded.taken.items) }
         ensures counted { let c = self.now.compiler in
             IsRaisedUpTo (sum_by (steps_taken (steps_of (C.next c) (C.gives c) (C.alike c)) opened.opening self.now.chains.items rows.now) (tunes_in (blocks_of (map class_in rows.now)))) (C.Work.counts work.old) (C.Work.counts work.new) }
     {
@@ -149,7 +150,7 @@ impl<C: Compiler> KeptText<C> {
     ) -> Result<Renewed<C>, AllocError>
         requires { at + removed ≤ length self.now.lines.text }
         ensures renewed { let c = self.now.compiler in (lines : Text) → new.now ≡ map (new_row (C.rules c)) lines →
-            IfOk result (λ r. IsRenewed (steps_of (C.next c) (C.gives c) (C.alike c)) (C.rules c) self.now (splice_at at removed lines) r.stretch r.header r.first r.folded.tunes.items r.folded.made.items r.folded.taken.items) }
+            IfOk result (λ r. IsRenewed (steps_of (C.next c) (C.gives c) (C.alike c)) (C.rules c) self.now (splice_at at removed lines) (new_parts r.stretch r.header r.first r.folded.tunes.items r.folded.made.items r.folded.taken.items)) }
         ensures counted { let c = self.now.compiler in (lines : Text) → new.now ≡ map (new_row (C.rules c)) lines →
             IsRaisedUpTo (fresh_after (steps_of (C.next c) (C.gives c) (C.alike c)) (C.rules c) self.now.lines.text (splice_at at removed lines)) (C.Work.counts work.old) (C.Work.counts work.new) }
     {

@@ -1,8 +1,7 @@
 //! What an edit makes anew of a kept text.
 
 ghost use Rattle.std.specs.Prelude.{◌≡◌, ◌+◌, ◌-◌, ◌≤◌, ◌++◌, IfOk, OnOk, drop, length, map, take};
-ghost use Rattle.abc_book.specs.Laws.{moved};
-ghost use Rattle.abc_chains.specs.Renewing.{IsRenewed, IsSpan, chains_after, edited_rows, splice_at, tunes_after};
+ghost use Rattle.abc_chains.specs.Renewing.{IsRenewed, IsSpan, edited_rows, new_parts, splice_at};
 ghost use Rattle.abc_chains.specs.Rows.{bare, new_row};
 ghost use Rattle.abc_fold.specs.Steps.{steps_of};
 ghost use Rattle.abc_fold.specs.Work.{IsRaisedUpTo};
@@ -91,7 +90,7 @@ impl<C: Compiler> KeptText<C> {
         requires span { IsSpan self.now.tunes (length self.now.lines.text) at removed span }
         requires inside { at + removed ≤ length self.now.lines.text }
         ensures renewed { let c = self.now.compiler in (lines : Text) → new.now ≡ map (new_row (C.rules c)) lines →
-            IfOk result (λ r. IsRenewed (steps_of (C.next c) (C.gives c) (C.alike c)) (C.rules c) self.now (splice_at at removed lines) r.stretch r.header r.first r.folded.tunes.items r.folded.made.items r.folded.taken.items) }
+            IfOk result (λ r. IsRenewed (steps_of (C.next c) (C.gives c) (C.alike c)) (C.rules c) self.now (splice_at at removed lines) (new_parts r.stretch r.header r.first r.folded.tunes.items r.folded.made.items r.folded.taken.items)) }
         ensures counted { let c = self.now.compiler in (lines : Text) → new.now ≡ map (new_row (C.rules c)) lines →
             IsRaisedUpTo (fresh_after (steps_of (C.next c) (C.gives c) (C.alike c)) (C.rules c) self.now.lines.text (splice_at at removed lines)) (C.Work.counts work.old) (C.Work.counts work.new) }
     {
@@ -135,7 +134,7 @@ impl<C: Compiler> KeptText<C> {
     ) -> Result<Renewed<C>, AllocError>
         requires { at + removed ≤ length self.now.lines.text }
         ensures renewed { let c = self.now.compiler in (lines : Text) → new.now ≡ map (new_row (C.rules c)) lines →
-            IfOk result (λ r. IsRenewed (steps_of (C.next c) (C.gives c) (C.alike c)) (C.rules c) self.now (splice_at at removed lines) r.stretch r.header r.first r.folded.tunes.items r.folded.made.items r.folded.taken.items) }
+            IfOk result (λ r. IsRenewed (steps_of (C.next c) (C.gives c) (C.alike c)) (C.rules c) self.now (splice_at at removed lines) (new_parts r.stretch r.header r.first r.folded.tunes.items r.folded.made.items r.folded.taken.items)) }
         ensures counted { let c = self.now.compiler in (lines : Text) → new.now ≡ map (new_row (C.rules c)) lines →
             IsRaisedUpTo (fresh_after (steps_of (C.next c) (C.gives c) (C.alike c)) (C.rules c) self.now.lines.text (splice_at at removed lines)) (C.Work.counts work.old) (C.Work.counts work.new) }
     {

@@ -1,11 +1,11 @@
 //! What is put in the place of what is kept of a text.
 
-ghost use Rattle.std.specs.Prelude.{◌≡◌, ◌+◌, ◌-◌, ◌≤◌, ◌++◌, All, IfOk, IfSome, OnOk, drop, length, map, take};
+ghost use Rattle.std.specs.Prelude.{◌≡◌, ◌+◌, ◌-◌, ◌≤◌, ◌++◌, All, IfOk, OnOk, drop, length, map};
 ghost use Rattle.abc_book.specs.Laws.{moved};
 ghost use Rattle.abc_chains.specs.Holding.{LiesWithin};
 ghost use Rattle.abc_chains.specs.Renewing.{MayBeAnew, chains_after, tunes_after};
 ghost use Rattle.abc_chains.specs.Putting.{MayBePut, tunes_put};
-ghost use Rattle.abc_chains.specs.Standing.{LiesBehind, gone};
+ghost use Rattle.abc_chains.specs.Standing.{LiesBehind};
 ghost use Rattle.abc_lines.specs.GapList.{replaced_run};
 ghost use Rattle.abc_lines.specs.declared.limits.TheConstants.{MOST_LINES};
 

@@ -1,10 +1,11 @@
 //! The tunes of a stretch, folded.
 
-ghost use Rattle.std.specs.Prelude.{◌≡◌, All, IfOk, IsSome, drop, length, map};
+ghost use Rattle.std.specs.Prelude.{◌≡◌, All, IfOk, drop, map};
 ghost use Rattle.std.specs.List.{AllZip, sum_by};
 ghost use Rattle.abc_book.specs.Block.{blocks_of};
-ghost use Rattle.abc_chains.specs.Holding.{IsCarried, IsChain, IsFolded, class_in, rows_in, steps_taken};
-ghost use Rattle.abc_chains.specs.Taking.{GoesAlong, HasItemsOf};
+ghost use Rattle.abc_chains.specs.Holding.{IsCarried, IsChain, IsFolded, class_in, steps_taken};
+ghost use Rattle.abc_chains.specs.Taking.{KnowsAlong};
+ghost use Rattle.abc_rework.specs.Folded.{HasItemsOf};
 ghost use Rattle.abc_fold.specs.Steps.{steps_of};
 ghost use Rattle.abc_fold.specs.Work.{IsRaisedUpTo};
 ghost use Rattle.abc_tunebook.specs.Book.{tunes_in};
@@ -42,7 +43,7 @@ pub(crate) fn folded_tunes<F: Resumable>(
     ensures chains { IfOk result (λ folded. AllZip (IsChain (steps_of (F.next fold.now) (F.gives fold.now) (F.alike fold.now)) opening.now rows.now) folded.made.items folded.tunes.items) }
     ensures items { IfOk result (λ folded. AllZip (HasItemsOf (drop 1 old.now.items)) folded.made.items folded.taken.items) }
     ensures along { (begun : F.State) → IfOk result (λ folded. AllZip (IsChain (steps_of (F.next fold.now) (F.gives fold.now) (F.alike fold.now)) begun rows.now) folded.made.items folded.tunes.items
-        → AllZip (λ tune one. GoesAlong (steps_of (F.next fold.now) (F.gives fold.now) (F.alike fold.now)) old.now.items begun (rows_in rows.now tune) → IsSome one) folded.tunes.items folded.taken.items) }
+        → KnowsAlong (steps_of (F.next fold.now) (F.gives fold.now) (F.alike fold.now)) old.now.items begun rows.now folded.tunes.items folded.taken.items) }
     ensures counted { IsRaisedUpTo (sum_by (steps_taken (steps_of (F.next fold.now) (F.gives fold.now) (F.alike fold.now)) opening.now old.now.items rows.now) (tunes_in blocks.now)) (F.Work.counts work.old) (F.Work.counts work.new) }
 {
     let alloc = old.allocator();

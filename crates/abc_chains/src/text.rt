@@ -3,11 +3,11 @@
 
 ghost use Rattle.std.specs.Prelude.{◌≡◌, ◌≢◌, ◌+◌, ◌≤◌, [], ◌∷◌, IfOk, IfErr, Ok, None, drop, length, map, option_copied, slice_get};
 ghost use Rattle.std.specs.List.{AllZip};
-ghost use Rattle.abc_chains.specs.Standing.{AreRows, IsStretch, IsWorkUpTo, Stands, all_taken};
+ghost use Rattle.abc_chains.specs.Standing.{AreRows, IsStretch, IsWorkUpTo, Stands, all_taken, parts_after, parts_of};
 ghost use Rattle.abc_book.specs.Laws.{moved};
 ghost use Rattle.abc_chains.specs.Putting.{MayBePut, tunes_put};
-ghost use Rattle.abc_chains.specs.Renewing.{IsRenewed, chains_after, tunes_after};
-ghost use Rattle.abc_chains.specs.Taking.{HasItemsOf, TakesUntouched};
+ghost use Rattle.abc_chains.specs.Renewing.{IsRenewed, chains_after, new_parts, tunes_after};
+ghost use Rattle.abc_rework.specs.Folded.{HasItemsOf, TakesUntouched};
 ghost use Rattle.abc_fold.specs.Chain.{no_cells};
 ghost use Rattle.abc_fold.specs.Steps.{steps_of};
 ghost use Rattle.abc_lines.specs.Edits.{Refuses, replaced};
@@ -41,14 +41,14 @@ pub struct KeptText<C: Compiler> {
 }
 
 impl<C: Compiler> Model for KeptText<C> {
-    ghost use Rattle.abc_chains.specs.Standing.{Keeping, Stands};
+    ghost use Rattle.abc_chains.specs.Standing.{Keeping, Stands, parts};
     ghost use Rattle.abc_fold.specs.Steps.{steps_of};
 
     ghost Value = { Keeping C C.State C.Cell C.Items };
 
     ghost view = { λ t. record { compiler = t.compiler; lines = t.lines; rows = t.rows; header = t.header; tunes = t.tunes.items; chains = t.chains } };
 
-    ghost invariant = { λ t. Stands (steps_of (C.next t.compiler) (C.gives t.compiler) (C.alike t.compiler)) (C.rules t.compiler) t.lines.text t.rows.items t.header t.tunes.items t.chains.items };
+    ghost invariant = { λ t. Stands (steps_of (C.next t.compiler) (C.gives t.compiler) (C.alike t.compiler)) (C.rules t.compiler) t.lines.text (parts t.rows.items t.header t.tunes.items t.chains.items) };
 }
 
 /// An edit of a text that has been prepared. It must be spent, by `commit` of its text or by `drop_patch`. Contracts see
@@ -68,14 +68,14 @@ pub struct KeptPatch<C: Compiler> {
 
 impl<C: Compiler> Model for KeptPatch<C> {
     ghost use Rattle.abc_chains.specs.Putting.{MayBePut, tunes_put};
-    ghost use Rattle.abc_chains.specs.Standing.{Edited, IsPatch};
+    ghost use Rattle.abc_chains.specs.Standing.{Edited, IsPatch, puts};
     ghost use Rattle.abc_fold.specs.Steps.{steps_of};
 
     ghost Value = { Edited C C.State C.Cell C.Items };
 
     ghost view = { λ p. record { on = p.on.value; text = p.lines.after; rows = p.rows.after.items; header = p.header; tunes = tunes_put p.tunes p.stretch p.on.value.tunes p.places.items; chains = p.chains.after.items; stretch = p.stretch; made = p.made.items; places = p.places.items; taken = p.taken.items } };
 
-    ghost invariant = { λ p. IsPatch (steps_of (C.next p.on.value.compiler) (C.gives p.on.value.compiler) (C.alike p.on.value.compiler)) (C.rules p.on.value.compiler) p.on.value p.lines p.rows p.header (tunes_put p.tunes p.stretch p.on.value.tunes p.places.items) p.chains × MayBePut p.tunes p.stretch p.on.value.tunes p.places.items };
+    ghost invariant = { λ p. IsPatch (steps_of (C.next p.on.value.compiler) (C.gives p.on.value.compiler) (C.alike p.on.value.compiler)) (C.rules p.on.value.compiler) p.on.value (puts p.lines p.rows p.header (tunes_put p.tunes p.stretch p.on.value.tunes p.places.items) p.chains) × MayBePut p.tunes p.stretch p.on.value.tunes p.places.items };
 }
 
 /// What an edit makes anew, and what it puts in place.
@@ -118,7 +118,7 @@ impl<C: Compiler> KeptText<C> {
     /// The lines. All that is kept is that of the text.
     pub fn lines(&self) -> &LineBuffer
         ensures lines { result.now ≡ self.now.lines }
-        ensures stands { Stands (steps_of (C.next self.now.compiler) (C.gives self.now.compiler) (C.alike self.now.compiler)) (C.rules self.now.compiler) self.now.lines.text self.now.rows.items self.now.header self.now.tunes self.now.chains.items }
+        ensures stands { Stands (steps_of (C.next self.now.compiler) (C.gives self.now.compiler) (C.alike self.now.compiler)) (C.rules self.now.compiler) self.now.lines.text (parts_of self.now) }
     {
         &self.lines
     }
@@ -128,13 +128,6 @@ impl<C: Compiler> KeptText<C> {
         ensures { result ≡ self.now.header }
     {
         self.header
-    }
-
-    /// Where the tunes lie.
-    pub fn tunes(&self) -> &[Block]
-        ensures { result.now ≡ self.now.tunes }
-    {
-        &self.tunes
     }
 
     /// The chain of this number: 0 is that of the file header, which has no states where there is none, and the tunes are
@@ -157,7 +150,7 @@ impl<C: Compiler> KeptText<C> {
         requires inside { at + removed ≤ length self.now.lines.text }
         requires limits { IsText (spliced self.now.lines.text (splice_from at removed lines.now)) }
         ensures renewed { let c = self.now.compiler in
-            IfOk result (λ made. IsRenewed (steps_of (C.next c) (C.gives c) (C.alike c)) (C.rules c) self.now (splice_from at removed lines.now) made.renewed.stretch made.renewed.header made.renewed.first made.renewed.folded.tunes.items made.renewed.folded.made.items made.renewed.folded.taken.items) }
+            IfOk result (λ made. IsRenewed (steps_of (C.next c) (C.gives c) (C.alike c)) (C.rules c) self.now (splice_from at removed lines.now) (new_parts made.renewed.stretch made.renewed.header made.renewed.first made.renewed.folded.tunes.items made.renewed.folded.made.items made.renewed.folded.taken.items)) }
         ensures rows_on { IfOk result (λ made. made.placed.rows.on ≡ self.now.rows) }
         ensures rows { let c = self.now.compiler in
             IfOk result (λ made. AreRows (C.rules c) (spliced self.now.lines.text (splice_from at removed lines.now)) made.placed.rows.after.items) }
@@ -189,7 +182,7 @@ impl<C: Compiler> KeptText<C> {
         ensures on { IfOk result (λ patch. patch.on ≡ self.now) }
         ensures text { IfOk result (λ patch. replaced self.now.lines.text (splice_from at removed lines.now) ≡ Ok patch.text) }
         ensures stands { let c = self.now.compiler in
-            IfOk result (λ patch. Stands (steps_of (C.next c) (C.gives c) (C.alike c)) (C.rules c) patch.text patch.rows patch.header patch.tunes patch.chains) }
+            IfOk result (λ patch. Stands (steps_of (C.next c) (C.gives c) (C.alike c)) (C.rules c) patch.text (parts_after patch)) }
         ensures stretch { IfOk result (λ patch. IsStretch (splice_from at removed lines.now) patch) }
         ensures items { IfOk result (λ patch. AllZip (HasItemsOf (drop 1 self.now.chains.items)) patch.made patch.taken) }
         ensures limits { IfOk result (λ patch. IsText patch.text) }

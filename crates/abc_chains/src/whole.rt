@@ -2,8 +2,9 @@
 
 ghost use Rattle.std.specs.Prelude.{◌≡◌, ◌+◌, All, IfOk, IfSome, IsSome, Some, drop, length, slice_get};
 ghost use Rattle.std.specs.List.{AllZip, flat_map};
-ghost use Rattle.abc_chains.specs.Holding.{IsCarried, IsChain, IsFolded, LiesWithin, cells_in, rows_in};
-ghost use Rattle.abc_chains.specs.Taking.{GoesAlong, HasItemsOf, are_alike_both, continues, first_source, is_along};
+ghost use Rattle.abc_chains.specs.Holding.{IsCarried, IsChain, IsFolded, LiesWithin, cells_in};
+ghost use Rattle.abc_chains.specs.Taking.{GoesAlong, KnowsAlong, are_alike_both, continues, first_source, is_along};
+ghost use Rattle.abc_rework.specs.Folded.{HasItemsOf};
 ghost use Rattle.abc_fold.specs.Chain.{Folds};
 ghost use Rattle.abc_fold.specs.Steps.{steps_of};
 
@@ -150,7 +151,7 @@ pub(crate) fn tunes_taken<F: Resumable>(
     ensures items { (opening : F.State) → AllZip (IsChain (steps_of (F.next fold.now) (F.gives fold.now) (F.alike fold.now)) opening rows.now) chains.now tunes.now
         → IfOk result (λ taken. AllZip (HasItemsOf (drop 1 old.now.items)) chains.now taken.items) }
     ensures along { (opening : F.State) → AllZip (IsChain (steps_of (F.next fold.now) (F.gives fold.now) (F.alike fold.now)) opening rows.now) chains.now tunes.now
-        → IfOk result (λ taken. AllZip (λ tune one. GoesAlong (steps_of (F.next fold.now) (F.gives fold.now) (F.alike fold.now)) old.now.items opening (rows_in rows.now tune) → IsSome one) tunes.now taken.items) }
+        → IfOk result (λ taken. KnowsAlong (steps_of (F.next fold.now) (F.gives fold.now) (F.alike fold.now)) old.now.items opening rows.now tunes.now taken.items) }
 {
     let mut taken = Vec::new(alloc);
     for (place, chain) in chains.iter().enumerate() {

@@ -1,31 +1,32 @@
 -- Tunes and outputs that give the same.
-use Rattle.std.proofs.Common.{◌≡◌, ℕ, List, [], ◌∷◌, map, Option, refl, ap, ◌∙◌}
+use Rattle.std.proofs.Common.{◌≡◌, List, [], ◌∷◌, refl, ◌∙◌}
 use Rattle.std.specs.List.{AllZip}
-use Rattle.abc_kept_book.specs.Laws.{FilesFollow, Gives, TitlesFollow}
-use Rattle.abc_kept_book.specs.Outputs.{files_behind, title_by}
+use Rattle.abc_kept_book.specs.Laws.{FilesFollow, TitlesFollow}
+use Rattle.abc_kept_book.specs.Outputs.{title_by}
+use Rattle.abc_outputs.specs.Tunes.{OutputTells}
 use Rattle.abc_outputs.specs.declared.output.Output.{Output}
 use Rattle.abc_tunebook.specs.Book.{title_of}
-use Rattle.abc_tunebook.specs.Files.{Files, files_from, owned}
-use Rattle.abc_tunebook.specs.declared.title.Title.{Title}
+use Rattle.abc_tunebook.specs.Files.{Files, files_by, files_from, owned}
 use Rattle.abc_tunebook.specs.declared.tune.Tune.{Tune}
 
-files_on : (files : Files) (tunes : List Tune) (outputs : List Output) → AllZip Gives tunes outputs → files_from files tunes ≡ files_behind files outputs
+files_on : (files : Files) (outputs : List Output) (tunes : List Tune) → AllZip OutputTells outputs tunes
+    → files_by (λ (o : Output). o.number) (λ (o : Output). o.built.bytes) files outputs ≡ files_from files tunes
 files_on files [] [] all = refl
-files_on files [] (output ∷ outputs) all = absurd all
-files_on files (tune ∷ tunes) [] all = absurd all
-files_on files (tune ∷ tunes) (output ∷ outputs) all =
-    ap (λ n. files_from (owned files n tune.bytes) tunes) all.0.number ∙ ap (λ (b : Option (List ℕ)). files_from (owned files output.number b) tunes) all.0.bytes
-    ∙ files_on (owned files output.number output.built.bytes) tunes outputs all.1
+files_on files [] (tune ∷ tunes) all = absurd all
+files_on files (output ∷ outputs) [] all = absurd all
+files_on files (output ∷ outputs) (tune ∷ tunes) all =
+    files_on (owned files output.number output.built.bytes) outputs tunes all.1
+    ∙ (λ i. files_from (owned files (all.0.number i) (all.0.bytes i)) tunes)
 
 pub files_follow : FilesFollow
-files_follow tunes outputs all = files_on [] tunes outputs all
+files_follow outputs tunes all = files_on [] outputs tunes all
 
-one_title : (tune : Tune) (output : Output) → Gives tune output → title_of tune ≡ title_by output
-one_title tune output gives = λ i. record { number = gives.number i; text = gives.title i }
+one_title : (output : Output) (tune : Tune) → OutputTells output tune → title_by output ≡ title_of tune
+one_title output tune tells = λ i. record { number = tells.number i; text = tells.title i }
 
 pub titles_follow : TitlesFollow
 titles_follow [] [] all = refl
-titles_follow [] (output ∷ outputs) all = absurd all
-titles_follow (tune ∷ tunes) [] all = absurd all
-titles_follow (tune ∷ tunes) (output ∷ outputs) all =
-    ap (λ (t : Title). t ∷ map title_of tunes) (one_title tune output all.0) ∙ ap (λ (l : List Title). title_by output ∷ l) (titles_follow tunes outputs all.1)
+titles_follow [] (tune ∷ tunes) all = absurd all
+titles_follow (output ∷ outputs) [] all = absurd all
+titles_follow (output ∷ outputs) (tune ∷ tunes) all =
+    λ i. one_title output tune all.0 i ∷ titles_follow outputs tunes all.1 i

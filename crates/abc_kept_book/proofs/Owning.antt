@@ -9,10 +9,10 @@ use Rattle.std.specs.Map.{keys_of}
 use Rattle.std.specs.Ordering.{match_ordering, nat_cmp}
 use Rattle.std.specs.declared.cmp.Ordering.{Ordering}
 use Rattle.std.specs.declared.cmp.Ordering.TheVariants.{Less, Equal, Greater}
-use Rattle.abc_kept_book.specs.Outputs.{files_behind, files_of}
+use Rattle.abc_kept_book.specs.Outputs.{files_of}
 use Rattle.abc_kept_book.specs.Owners.{Owners, bytes_at, claim_of, claimed, claims_of, owned_by, owner_at, owners_behind, owners_of}
 use Rattle.abc_outputs.specs.declared.output.Output.{Output}
-use Rattle.abc_tunebook.specs.Files.{Files, file_at, owned}
+use Rattle.abc_tunebook.specs.Files.{Files, file_at, files_by, owned}
 
 module _ (whole : List Output) where
   -- the tune at a place has a number and gives a file
@@ -90,7 +90,7 @@ module _ (whole : List Output) where
       (ap (slice_get whole) zeroth ∙ sym (get_behind place whole 0) ∙ ap (λ l. slice_get l 0) is, sym (drop-drop 1 place whole) ∙ ap (drop 1) is)
 
   backed_on : (rest : List Output) (place : ℕ) (owners : Owners) (files : Files) → drop place whole ≡ rest → AllZip IsBacked owners files
-      → AllZip IsBacked (owners_behind owners place (claims_of rest)) (files_behind files rest)
+      → AllZip IsBacked (owners_behind owners place (claims_of rest)) (files_by (λ (o : Output). o.number) (λ (o : Output). o.built.bytes) files rest)
   backed_on [] place owners files is all = all
   backed_on (output ∷ rest) place owners files is all =
       let first = first_on rest place output is in

@@ -3,6 +3,7 @@ use Rattle.std.specs.Prelude.{◌≡◌, ℕ, ◌+◌, ◌<◌, ◌≤◌, List,
 use Rattle.std.specs.List.{AllZip}
 use Rattle.abc_kept_book.specs.Faults.{fault_shifted, faults_after}
 use Rattle.abc_kept_book.specs.Outputs.{files_of, titles_of}
+use Rattle.abc_outputs.specs.Tunes.{OutputTells}
 use Rattle.abc_outputs.specs.declared.output.Output.{Output}
 use Rattle.abc_tunebook.specs.Book.{title_of}
 use Rattle.abc_tunebook.specs.Fault.{fault_cmp}
@@ -11,19 +12,13 @@ use Rattle.abc_tunebook.specs.Sorted.{sorted_once}
 use Rattle.abc_tunebook.specs.declared.fault.Fault.{Fault}
 use Rattle.abc_tunebook.specs.declared.tune.Tune.{Tune}
 
--- A tune gives what an output says, whatever its faults are.
-pub record Gives (tune : Tune) (output : Output) : Type 0 where
-  pub number : tune.number ≡ output.number
-  pub title : tune.title ≡ output.title
-  pub bytes : tune.bytes ≡ output.built.bytes
-
 -- The files of tunes are those of their outputs.
 abbrev pub FilesFollow : Type 0
-FilesFollow = (tunes : List Tune) (outputs : List Output) → AllZip Gives tunes outputs → files_from [] tunes ≡ files_of outputs
+FilesFollow = (outputs : List Output) (tunes : List Tune) → AllZip OutputTells outputs tunes → files_of outputs ≡ files_from [] tunes
 
 -- The titles of tunes are those of their outputs.
 abbrev pub TitlesFollow : Type 0
-TitlesFollow = (tunes : List Tune) (outputs : List Output) → AllZip Gives tunes outputs → map title_of tunes ≡ titles_of outputs
+TitlesFollow = (outputs : List Output) (tunes : List Tune) → AllZip OutputTells outputs tunes → titles_of outputs ≡ map title_of tunes
 
 -- A fault stands in one of the first so many lines.
 abbrev pub StandsBefore : ℕ → Fault → Type 0

@@ -12,7 +12,7 @@ use Rattle.abc_chains.specs.Standing.{Edited, HoldsHeader, KeepsHeader, gone, mo
 use Rattle.abc_fold.specs.Chain.{Chained}
 use Rattle.abc_fold.specs.Steps.{Steps, IsAlike, IsResumable}
 use Rattle.abc_kept_book.specs.Faults.{fault_shifted, faults_after}
-use Rattle.abc_kept_book.specs.Laws.{Gives, StandsAmong, StandsBefore, StandsBehind}
+use Rattle.abc_kept_book.specs.Laws.{StandsAmong, StandsBefore, StandsBehind}
 use Rattle.abc_kept_book.proofs.Following.{files_follow, titles_follow}
 use Rattle.abc_kept_book.proofs.Meeting.{faults_meet}
 use Rattle.abc_lines.specs.Text.{Splice, Text}
@@ -20,10 +20,10 @@ use Rattle.abc_live.specs.Prepared.{IsBook, IsPrepared, header_faults_there}
 use Rattle.abc_live.proofs.Alike.{tunes_alike}
 use Rattle.abc_live.proofs.Found.{header_stands, same_behind, same_header_faults, same_tunes, shifted_tunes, tunes_stand}
 use Rattle.abc_live.proofs.Lying.{LiesIn, header_lies}
-use Rattle.abc_live.proofs.Parts.{fold_of, folds_of, gives_of, tune_chains}
+use Rattle.abc_live.proofs.Parts.{tells_of, tune_chains}
 use Rattle.abc_live.proofs.Stretches.{first_is, made_chains, old_lie, old_stretch, parts_lie, places_lie, still_alike}
 use Rattle.abc_outputs.specs.Output.{output_in}
-use Rattle.abc_outputs.specs.Tunes.{LiesAmong, cell_faults_by, counts_among, faults_by, faults_of_tunes}
+use Rattle.abc_outputs.specs.Tunes.{LiesAmong, OutputTells, cell_faults_by, counts_among, faults_by, faults_of_tunes}
 use Rattle.abc_outputs.specs.declared.output.Output.{Output}
 use Rattle.abc_outputs.proofs.Following.{faults_follow, header_follows}
 use Rattle.abc_tunebook.specs.Book.{behind_header, blocks_in, book_of, header_faults, header_in, opening_of, tunes_in}
@@ -78,10 +78,10 @@ module _ {State Cell Items Defaults : Type 0} (steps : Steps State Cell Items) (
     unfolding book_of
     book_is chains outputs found are outputs_are found_is =
         let tunes = map (tune_of steps.next steps.gives rules (opening_of steps.next rules text (blocks_in rules text)) text) (tunes_in (blocks_in rules text)) in
-        let gives = subst (AllZip Gives tunes) (sym outputs_are) (gives_of steps rules text (opening_of steps.next rules text (blocks_in rules text)) (drop 1 chains) (tunes_in (blocks_in rules text)) (tune_chains steps rules text chains are)) in
+        let tells = subst (λ (given : List Output). AllZip OutputTells given tunes) (sym outputs_are) (tells_of steps rules text (opening_of steps.next rules text (blocks_in rules text)) (drop 1 chains) (tunes_in (blocks_in rules text)) (tune_chains steps rules text chains are)) in
         record {
-          files = sym (files_follow tunes outputs gives);
-          titles = sym (titles_follow tunes outputs gives);
+          files = files_follow outputs tunes tells;
+          titles = titles_follow outputs tunes tells;
           faults = found_is;
         }
 
@@ -107,7 +107,7 @@ module _ {State Cell Items Defaults : Type 0} (steps : Steps State Cell Items) (
       let most = ends block refl in
       let there : LiesAmong from came block = record { behind = omega (arith, none); order = omega (arith, some); within = omega (arith, none, most) } in
       if_below from block.to (cell_faults_by rules from (counts_among rules.cells text from came) first block) [] (omega (arith, none, some))
-      ∙ header_follows steps rules text from came first block (fold_of steps rules.cells rules.header text first block is) there
+      ∙ header_follows steps rules text from came first block is there
 
   -- and of one that lies before them
   header_before : (from : ℕ) (counts : List ℕ) (first : Chained State Cell Items) (header : Option Block) → ((block : Block) → header ≡ Some block → block.to ≤ from) → header_faults_there rules from counts first header ≡ []
@@ -123,7 +123,7 @@ module _ {State Cell Items Defaults : Type 0} (steps : Steps State Cell Items) (
     own_faults =
         let start = opening_of steps.next rules patch.text (blocks_in rules patch.text) in
         faults_follow steps rules start patch.text patch.stretch.from patch.stretch.came patch.made patch.places
-        (folds_of steps rules.cells start patch.text patch.made patch.places (made_chains steps rules s patch is)) (places_lie steps rules s patch is)
+        (made_chains steps rules s patch is) (places_lie steps rules s patch is)
 
     own_stand : All (StandsAmong patch.stretch.from patch.stretch.came) (tune_faults (opening_of steps.next rules patch.text (blocks_in rules patch.text)) patch.text patch.places)
     own_stand =

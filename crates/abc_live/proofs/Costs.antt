@@ -2,7 +2,7 @@
 use Rattle.std.proofs.Common.{◌≡◌, ℕ, zero, suc, ◌+◌, ◌-◌, ◌≤◌, List, ◌++◌, length, Option, Some, None, Err, refl, sym, ap, subst, arith}
 use Rattle.std.proofs.lemmas.List.Sums.{sum_by-append, sum_by-cons}
 use Rattle.abc_chains.specs.Standing.{Edited, IsWorkUpTo, all_taken, kept_numbers}
-use Rattle.abc_chains.specs.Taking.{TakesUntouched}
+use Rattle.abc_rework.specs.Folded.{TakesUntouched}
 use Rattle.abc_fold.specs.Steps.{Steps}
 use Rattle.abc_fold.specs.Work.{Counters, raised}
 use Rattle.abc_fold.proofs.Raised.{raised-least, raised-mono}

@@ -1,31 +1,21 @@
 -- The chains of a text as those of its file header and its tunes, and how many cells its lines have.
-use Rattle.std.proofs.Common.{◌≡◌, ℕ, ◌≤◌, List, [], ◌∷◌, length, drop, map, Some, slice_get, sym, ap, ◌∙◌, refl, subst, arith}
+use Rattle.std.proofs.Common.{◌≡◌, ℕ, ◌≤◌, List, [], ◌∷◌, length, drop, map, Some, slice_get, ap, ◌∙◌, refl, subst, arith}
 use Rattle.std.specs.List.{AllZip}
 use Rattle.abc_book.specs.declared.block.Block.{Block}
-use Rattle.abc_chains.specs.Keeping.{AreChains, IsChainOf, IsHeaderOf}
+use Rattle.abc_chains.specs.Keeping.{AreChains, IsHeaderOf}
+use Rattle.abc_rework.specs.Folded.{IsChainOf}
 use Rattle.abc_chains.specs.Rows.{Row, row_cells}
 use Rattle.abc_chains.specs.Standing.{AreRows}
 use Rattle.abc_fold.specs.Chain.{Chained}
 use Rattle.abc_fold.specs.Steps.{Steps}
-use Rattle.abc_kept_book.specs.Laws.{Gives}
 use Rattle.abc_live.specs.Prepared.{count_in}
 use Rattle.abc_lines.specs.Text.{Text}
 use Rattle.abc_outputs.specs.Output.{counts_of, output_in}
-use Rattle.abc_outputs.specs.Tunes.{IsFoldOf}
+use Rattle.abc_outputs.specs.Tunes.{OutputTells}
 use Rattle.abc_outputs.proofs.Following.{output_follows}
 use Rattle.abc_tunebook.specs.Book.{blocks_in, header_in, opening_of, tunes_in}
 use Rattle.abc_tunebook.specs.Rules.{Rules}
 use Rattle.abc_tunebook.specs.Tune.{tune_of}
-
-module _ {State Cell Items : Type 0} (steps : Steps State Cell Items) (read : List ℕ → List Cell) (opening : State) (text : Text) where
-  pub fold_of : (chain : Chained State Cell Items) (block : Block) → IsChainOf steps read opening text chain block → IsFoldOf steps read opening text chain block
-  fold_of chain block is = record { folds = is.folds; cells = is.cells }
-
-  pub folds_of : (chains : List (Chained State Cell Items)) (blocks : List Block) → AllZip (IsChainOf steps read opening text) chains blocks → AllZip (IsFoldOf steps read opening text) chains blocks
-  folds_of [] [] all = tt
-  folds_of [] (block ∷ blocks) all = absurd all
-  folds_of (chain ∷ chains) [] all = absurd all
-  folds_of (chain ∷ chains) (block ∷ blocks) all = (fold_of chain block all.0, folds_of chains blocks all.1)
 
 module _ {State Cell Items Defaults : Type 0} (steps : Steps State Cell Items) (rules : Rules State Cell Items Defaults) (text : Text) where
   -- there is a chain of the file header
@@ -46,14 +36,13 @@ module _ {State Cell Items Defaults : Type 0} (steps : Steps State Cell Items) (
   tune_chains (chain ∷ chains) are = are.1
 
   -- which give their tunes
-  pub gives_of : (opening : State) (chains : List (Chained State Cell Items)) (blocks : List Block) → AllZip (IsChainOf steps rules.cells opening text) chains blocks
-      → AllZip Gives (map (tune_of steps.next steps.gives rules opening text) blocks) (map (output_in rules) chains)
-  gives_of opening [] [] all = tt
-  gives_of opening [] (block ∷ blocks) all = absurd all
-  gives_of opening (chain ∷ chains) [] all = absurd all
-  gives_of opening (chain ∷ chains) (block ∷ blocks) all =
-      let tells = output_follows steps rules opening text chain block (fold_of steps rules.cells opening text chain block all.0) in
-      (record { number = sym tells.number; title = sym tells.title; bytes = sym tells.bytes }, gives_of opening chains blocks all.1)
+  pub tells_of : (opening : State) (chains : List (Chained State Cell Items)) (blocks : List Block) → AllZip (IsChainOf steps rules.cells opening text) chains blocks
+      → AllZip OutputTells (map (output_in rules) chains) (map (tune_of steps.next steps.gives rules opening text) blocks)
+  tells_of opening [] [] all = tt
+  tells_of opening [] (block ∷ blocks) all = absurd all
+  tells_of opening (chain ∷ chains) [] all = absurd all
+  tells_of opening (chain ∷ chains) (block ∷ blocks) all =
+      (output_follows steps rules opening text chain block all.0, tells_of opening chains blocks all.1)
 
 module _ {Cell : Type 0} where
   row_counts : (rows : List (Row Cell)) → map count_in rows ≡ map length (map row_cells rows)

@@ -2,8 +2,8 @@
 use Rattle.std.proofs.Common.{◌≡◌, Bool, true, false, if◌then◌else◌, drop, not, length, nat_le, Result, Ok, Err, refl, sym, subst, ◌∙◌, ap}
 use Rattle.std.specs.List.{AllZip, list_all}
 use Rattle.std.specs.Prelude.{IfOk}
-use Rattle.abc_chains.specs.Standing.{Edited, IsStretch, Keeping, Stands}
-use Rattle.abc_chains.specs.Taking.{HasItemsOf}
+use Rattle.abc_chains.specs.Standing.{Edited, IsStretch, Keeping, Stands, parts_after, parts_of}
+use Rattle.abc_rework.specs.Folded.{HasItemsOf}
 use Rattle.abc_fold.specs.Steps.{Steps}
 use Rattle.abc_lines.specs.Edits.{replaced}
 use Rattle.abc_lines.specs.Text.{IsText, Splice, Text, is_line, spliced}
@@ -31,14 +31,14 @@ splice_makes text s new is =
     subst (λ (r : Result Text EditError). IfOk r (λ t. t ≡ spliced text s)) is own
 
 pub is_prepared : {C State Cell Items Defaults : Type 0} (steps : Steps State Cell Items) (rules : Rules State Cell Items Defaults) (s : Splice) (patch : Edited C State Cell Items) (text : Keeping C State Cell Items)
-    → patch.on ≡ text → Stands steps rules text.lines.text text.rows.items text.header text.tunes text.chains.items
-    → replaced text.lines.text s ≡ Ok patch.text → IsText patch.text → Stands steps rules patch.text patch.rows patch.header patch.tunes patch.chains → IsStretch s patch → AllZip (HasItemsOf (drop 1 text.chains.items)) patch.made patch.taken
+    → patch.on ≡ text → Stands steps rules text.lines.text (parts_of text)
+    → replaced text.lines.text s ≡ Ok patch.text → IsText patch.text → Stands steps rules patch.text (parts_after patch) → IsStretch s patch → AllZip (HasItemsOf (drop 1 text.chains.items)) patch.made patch.taken
     → IsPrepared steps rules s patch
 is_prepared {C = C} {State = State} {Cell = Cell} {Items = Items} steps rules s patch text on stood made limits stands narrow items =
     record {
       makes = splice_makes text.lines.text s patch.text made ∙ ap (λ (k : Keeping C State Cell Items). spliced k.lines.text s) (sym on);
       limits = limits;
-      stood = subst (λ (k : Keeping C State Cell Items). Stands steps rules k.lines.text k.rows.items k.header k.tunes k.chains.items) (sym on) stood;
+      stood = subst (λ (k : Keeping C State Cell Items). Stands steps rules k.lines.text (parts_of k)) (sym on) stood;
       stands = stands;
       narrow = narrow;
       own_items = subst (λ (k : Keeping C State Cell Items). AllZip (HasItemsOf (drop 1 k.chains.items)) patch.made patch.taken) (sym on) items;

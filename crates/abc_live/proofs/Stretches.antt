@@ -5,7 +5,8 @@ use Rattle.std.specs.Prelude.{All, IfSome, ◌⊎◌}
 use Rattle.std.proofs.lemmas.List.{drop-map, length-map, take-map, map-append}
 use Rattle.std.proofs.lemmas.List.Elements.{All-head, All-tail}
 use Rattle.abc_book.specs.declared.block.Block.{Block}
-use Rattle.abc_chains.specs.Keeping.{IsChainOf, IsHeaderOf, behind_chain}
+use Rattle.abc_chains.specs.Keeping.{IsHeaderOf, behind_chain}
+use Rattle.abc_rework.specs.Folded.{IsChainOf}
 use Rattle.abc_chains.specs.Standing.{Edited, HoldsHeader, KeepsHeader, moved_on, old_tunes}
 use Rattle.abc_chains.proofs.Opening.{opening_alike}
 use Rattle.abc_compiler.specs.Lawful.{AreLawful}
@@ -17,10 +18,10 @@ use Rattle.abc_lines.proofs.Splices.{length-spliced}
 use Rattle.abc_live.specs.Prepared.{HeaderCells, IsPrepared, count_in}
 use Rattle.abc_live.proofs.Alike.{chains_alike}
 use Rattle.abc_live.proofs.Lying.{LiesIn, all_first, all_second, header_lies, tunes_lie}
-use Rattle.abc_live.proofs.Parts.{counts_are, fold_of, folds_of, header_chain, some_chain, tune_chains}
+use Rattle.abc_live.proofs.Parts.{counts_are, header_chain, some_chain, tune_chains}
 use Rattle.abc_live.proofs.Zips.{zip_behind, zip_fronts, zip_middle, zip_rest}
 use Rattle.abc_outputs.specs.Output.{TakesOver, counts_of, output_in}
-use Rattle.abc_outputs.specs.Tunes.{HasCells, IsTuneAt, LiesAmong, counts_among, lowered}
+use Rattle.abc_outputs.specs.Tunes.{HasCells, IsTuneAt, LiesAmong, counts_among, line_run, lowered}
 use Rattle.abc_outputs.proofs.Following.{has_cells, zipped_cells}
 use Rattle.abc_outputs.proofs.Keys.{all_dropped, all_taken}
 use Rattle.abc_outputs.proofs.Lists.{zipped_count}
@@ -42,7 +43,7 @@ lies_among from came count places there own =
 -- a tune of a stretch gives the items that its key has
 tune_at : {State Cell Items Defaults : Type 0} (steps : Steps State Cell Items) (rules : Rules State Cell Items Defaults) (laws : IsResumable steps) (opening : State) (left : Option State) (from came : ℕ) (text : Text) (chain : Chained State Cell Items) (place : Block)
     → IsAlike steps (rules.tune left) opening → from + came ≤ length text → LiesAmong from came place → IsChainOf steps rules.cells opening text chain place
-    → IsTuneAt steps rules left from (take came (drop from text)) chain place
+    → IsTuneAt steps rules (line_run left from (take came (drop from text))) chain place
 tune_at steps rules laws opening left from came text chain place alike inside lies is =
     let many = among_inside text from came inside in
     let within = lies.within in
@@ -55,7 +56,7 @@ tune_at steps rules laws opening left from came text chain place alike inside li
 
 tunes_at : {State Cell Items Defaults : Type 0} (steps : Steps State Cell Items) (rules : Rules State Cell Items Defaults) (laws : IsResumable steps) (opening : State) (left : Option State) (from came : ℕ) (text : Text) (chains : List (Chained State Cell Items)) (places : List Block)
     → IsAlike steps (rules.tune left) opening → from + came ≤ length text → All (LiesAmong from came) places → AllZip (IsChainOf steps rules.cells opening text) chains places
-    → AllZip (IsTuneAt steps rules left from (take came (drop from text))) chains places
+    → AllZip (IsTuneAt steps rules (line_run left from (take came (drop from text)))) chains places
 tunes_at steps rules laws opening left from came text [] [] alike inside lie all = tt
 tunes_at steps rules laws opening left from came text [] (place ∷ places) alike inside lie all = absurd all
 tunes_at steps rules laws opening left from came text (chain ∷ chains) [] alike inside lie all = absurd all
@@ -77,7 +78,7 @@ header_cells steps rules text from came first (Some block) inside lies is held =
     let most = all.1 in
     let some = lies.some in
     let there : LiesAmong from came block = record { behind = omega (arith, none); order = omega (arith, some); within = omega (arith, none, most) } in
-    has_cells steps rules.cells rules.header text first block (fold_of steps rules.cells rules.header text first block is) from came there inside
+    has_cells steps rules.cells rules.header text first block is from came there inside
 
 module _ {C State Cell Items Defaults : Type 0} (steps : Steps State Cell Items) (rules : Rules State Cell Items Defaults) (s : Splice) (patch : Edited C State Cell Items) (is : IsPrepared steps rules s patch) where
   pub change_inside : s.at + s.removed ≤ length patch.on.lines.text
@@ -174,7 +175,7 @@ module _ {C State Cell Items Defaults : Type 0} (steps : Steps State Cell Items)
   pub made_cells : AllZip (HasCells patch.stretch.from (counts_among rules.cells patch.text patch.stretch.from patch.stretch.came)) patch.made patch.places
   made_cells =
       zipped_cells steps rules (opening_of steps.next rules patch.text (blocks_in rules patch.text)) patch.text patch.stretch.from patch.stretch.came patch.made patch.places
-      (folds_of steps rules.cells (opening_of steps.next rules patch.text (blocks_in rules patch.text)) patch.text patch.made patch.places made_chains) places_lie stretch_inside
+      made_chains places_lie stretch_inside
 
   pub chain_there : 1 ≤ length patch.chains
   chain_there = some_chain steps rules patch.text patch.chains is.stands.chains_are
@@ -190,7 +191,7 @@ module _ {C State Cell Items Defaults : Type 0} (steps : Steps State Cell Items)
 
     -- the tunes of the stretch begin in a state alike to that which it leaves
     pub made_tunes : IsResumable steps → AreLawful steps rules
-        → AllZip (IsTuneAt steps rules (behind_chain patch.header first) patch.stretch.from (take patch.stretch.came (drop patch.stretch.from patch.text))) patch.made patch.places
+        → AllZip (IsTuneAt steps rules (line_run (behind_chain patch.header first) patch.stretch.from (take patch.stretch.came (drop patch.stretch.from patch.text)))) patch.made patch.places
     made_tunes laws lawful =
         let own = opening_of steps.next rules patch.text (blocks_in rules patch.text) in
         let alike : IsAlike steps (rules.tune (behind_chain patch.header first)) own =

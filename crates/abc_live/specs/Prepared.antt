@@ -3,8 +3,8 @@ use Rattle.std.specs.Prelude.{◌≡◌, ℕ, ◌<◌, List, [], if◌then◌els
 use Rattle.std.specs.List.{AllZip}
 use Rattle.abc_book.specs.declared.block.Block.{Block}
 use Rattle.abc_chains.specs.Rows.{Row}
-use Rattle.abc_chains.specs.Standing.{Edited, IsStretch, Stands, old_tunes}
-use Rattle.abc_chains.specs.Taking.{HasItemsOf}
+use Rattle.abc_chains.specs.Standing.{Edited, IsStretch, Stands, old_tunes, parts_after, parts_of}
+use Rattle.abc_rework.specs.Folded.{HasItemsOf}
 use Rattle.abc_fold.specs.Chain.{Chained}
 use Rattle.abc_fold.specs.Steps.{Steps}
 use Rattle.abc_kept_book.specs.Outputs.{files_of, titles_of}
@@ -28,8 +28,8 @@ count_in row = length row.cells
 pub record IsPrepared {C State Cell Items Defaults : Type 0} (steps : Steps State Cell Items) (rules : Rules State Cell Items Defaults) (s : Splice) (patch : Edited C State Cell Items) : Type 0 where
   pub makes : patch.text ≡ spliced patch.on.lines.text s
   pub limits : IsText patch.text
-  pub stood : Stands steps rules patch.on.lines.text patch.on.rows.items patch.on.header patch.on.tunes patch.on.chains.items
-  pub stands : Stands steps rules patch.text patch.rows patch.header patch.tunes patch.chains
+  pub stood : Stands steps rules patch.on.lines.text (parts_of patch.on)
+  pub stands : Stands steps rules patch.text (parts_after patch)
   pub narrow : IsStretch s patch
   pub own_items : AllZip (HasItemsOf (old_tunes patch)) patch.made patch.taken
 

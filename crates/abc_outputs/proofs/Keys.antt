@@ -18,7 +18,7 @@ use Rattle.abc_tunebook.specs.Rules.{Rules}
 use Rattle.abc_tunebook.specs.Tune.{lines_in}
 use Rattle.abc_outputs.specs.Key.{key_by}
 use Rattle.abc_outputs.specs.Output.{TakesOver, output_in, output_of}
-use Rattle.abc_outputs.specs.Tunes.{IsTuneAt, LiesAmong, lowered}
+use Rattle.abc_outputs.specs.Tunes.{IsTuneAt, LiesAmong, line_run, lowered}
 use Rattle.abc_outputs.specs.declared.output.Output.{Output}
 use Rattle.abc_outputs.proofs.Lists.{some_at, zipped_at, zipped_count}
 use Rattle.abc_outputs.proofs.Taking.{mapped_at}
@@ -53,7 +53,7 @@ module _ {State Cell Items Defaults : Type 0} (steps : Steps State Cell Items) (
   same_items (Some state) cells = refl
 
   module _ (left : Option State) (before : ℕ) (lines : Text) where
-    items_of_key : (chain : Chained State Cell Items) (place : Block) → list_all is_line lines ≡ true → IsTuneAt steps rules left before lines chain place
+    items_of_key : (chain : Chained State Cell Items) (place : Block) → list_all is_line lines ≡ true → IsTuneAt steps rules (line_run left before lines) chain place
         → AreItemsOf steps rules (key_by rules left lines (lowered before place)) chain.items
     items_of_key chain place limits is =
         let there = lowered before place in
@@ -66,14 +66,14 @@ module _ {State Cell Items Defaults : Type 0} (steps : Steps State Cell Items) (
           own_items = is.items ∙ same_items left (flat_map rules.cells (lines_in lines there));
         }
 
-    module _ (chains : List (Chained State Cell Items)) (places : List Block) (all : AllZip (IsTuneAt steps rules left before lines) chains places) where
+    module _ (chains : List (Chained State Cell Items)) (places : List Block) (all : AllZip (IsTuneAt steps rules (line_run left before lines)) chains places) where
       -- each chain has its place
       pub as_many : (at : ℕ) → at < length chains → at < length places
-      as_many at inside = subst (λ n. at < n) (zipped_count (IsTuneAt steps rules left before lines) chains places all) inside
+      as_many at inside = subst (λ n. at < n) (zipped_count (IsTuneAt steps rules (line_run left before lines)) chains places all) inside
 
-      tune_there : (at : ℕ) (other : Block) (chain : Chained State Cell Items) → at < length chains → slice_get chains at ≡ Some chain → IsTuneAt steps rules left before lines chain (get_or places at other)
+      tune_there : (at : ℕ) (other : Block) (chain : Chained State Cell Items) → at < length chains → slice_get chains at ≡ Some chain → IsTuneAt steps rules (line_run left before lines) chain (get_or places at other)
       tune_there at other chain inside is =
-          zipped_at (IsTuneAt steps rules left before lines) chains places at chain (get_or places at other) all is (slice_get-get_or places at other (as_many at inside))
+          zipped_at (IsTuneAt steps rules (line_run left before lines)) chains places at chain (get_or places at other) all is (slice_get-get_or places at other (as_many at inside))
 
       -- which lies among the lines
       pub lies_there : (at : ℕ) (other : Block) → at < length chains → LiesAmong before (length lines) (get_or places at other)

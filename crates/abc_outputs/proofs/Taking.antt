@@ -1,18 +1,17 @@
 -- Which tunes take over what an old one gives, and how many are built.
-use Rattle.std.proofs.Common.{◌≡◌, ℕ, zero, suc, ◌≤◌, Bool, true, false, not, cond, List, [], ◌∷◌, map, count_by, Option, Some, None, IsSome, slice_get, option_map, refl, ap, ◌∙◌, subst, arith}
+use Rattle.std.proofs.Common.{◌≡◌, ℕ, ◌≤◌, Bool, true, false, not, cond, List, [], ◌∷◌, map, count_by, Option, Some, None, IsSome, slice_get, option_map, refl, ap, ◌∙◌, subst, arith}
 use Rattle.std.specs.List.{AllZip}
 use Rattle.std.proofs.lemmas.List.Sums.{sum_by-cons}
+use Rattle.std.proofs.lemmas.Option.{slice_get-map}
 use Rattle.abc_fold.specs.Chain.{Chained}
 use Rattle.abc_outputs.specs.Built.{made_at, made_of}
 use Rattle.abc_outputs.specs.Output.{TakesOver, output_in, output_of}
-use Rattle.abc_outputs.specs.Taken.{HasItemsOf}
+use Rattle.abc_rework.specs.Folded.{HasItemsOf}
 use Rattle.abc_tunebook.specs.Rules.{Rules}
 
 -- the one at a place of mapped values
 pub mapped_at : {A B : Type 0} (f : A → B) (xs : List A) (i : ℕ) (x : A) → slice_get xs i ≡ Some x → slice_get (map f xs) i ≡ Some (f x)
-mapped_at f [] i x is = absurd (subst (λ o. elim o as (λ _. Type 0) [ None ↦ Unit {0} | Some y ↦ ⊥ ]) is tt)
-mapped_at f (y ∷ xs) zero x is = ap (option_map f) is
-mapped_at f (y ∷ xs) (suc i) x is = mapped_at f xs i x is
+mapped_at f xs i x is = slice_get-map f xs i ∙ ap (option_map f) is
 
 module _ {State Cell Items Defaults : Type 0} (rules : Rules State Cell Items Defaults) (olds : List (Chained State Cell Items)) where
   takes_over : (chain : Chained State Cell Items) (taken : Option ℕ) → HasItemsOf olds chain taken → TakesOver rules (map (output_in rules) olds) chain taken

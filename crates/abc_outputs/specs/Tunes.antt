@@ -2,11 +2,12 @@
 use Rattle.std.specs.Prelude.{◌≡◌, ℕ, ◌+◌, ◌-◌, ◌≤◌, List, [], ◌∷◌, ◌++◌, map, take, drop, length, All, Option, Some}
 use Rattle.std.specs.List.{AllZip, flat_map, sum_by}
 use Rattle.abc_book.specs.declared.block.Block.{Block}
-use Rattle.abc_fold.specs.Chain.{Chained, Folds}
+use Rattle.abc_fold.specs.Chain.{Chained}
 use Rattle.abc_fold.specs.Steps.{Steps, items_from}
 use Rattle.abc_lines.specs.Text.{Text}
 use Rattle.abc_outputs.specs.declared.output.Output.{Output}
 use Rattle.abc_outputs.specs.Output.{counts_of, output_in, placed_from}
+use Rattle.abc_rework.specs.Folded.{IsChainOf}
 use Rattle.abc_tunebook.specs.Book.{header_faults}
 use Rattle.abc_tunebook.specs.Rules.{Rules}
 use Rattle.abc_tunebook.specs.Tune.{fault_of_tune, faults_along, lines_in, tune_of}
@@ -23,11 +24,20 @@ pub record LiesAmong (before count : ℕ) (place : Block) : Type 0 where
   pub order : place.from ≤ place.to
   pub within : place.to ≤ before + count
 
--- A chain gives what the definitions give along the lines of a place, begun behind a file header that leaves its last cell
--- in this state, if there is one: the place lies among lines that have so many before them.
-pub record IsTuneAt {State Cell Items Defaults : Type 0} (steps : Steps State Cell Items) (rules : Rules State Cell Items Defaults) (left : Option State) (before : ℕ) (lines : Text) (chain : Chained State Cell Items) (place : Block) : Type 0 where
-  pub lies : LiesAmong before (length lines) place
-  pub items : chain.items ≡ items_from steps (rules.tune left) (flat_map rules.cells (lines_in lines (lowered before place)))
+-- Lines of a text that follow one another, how many stand before them, and the state in which the file header leaves its
+-- last cell, if there is one.
+pub record LineRun (State : Type 0) : Type 0 where
+  pub left : Option State
+  pub before : ℕ
+  pub lines : Text
+
+abbrev pub line_run : {State : Type 0} → Option State → ℕ → Text → LineRun State
+line_run left before lines = record { left = left; before = before; lines = lines }
+
+-- A chain gives what the definitions give along the lines of a place, which lies among these, begun behind the file header.
+pub record IsTuneAt {State Cell Items Defaults : Type 0} (steps : Steps State Cell Items) (rules : Rules State Cell Items Defaults) (run : LineRun State) (chain : Chained State Cell Items) (place : Block) : Type 0 where
+  pub lies : LiesAmong run.before (length run.lines) place
+  pub items : chain.items ≡ items_from steps (rules.tune run.left) (flat_map rules.cells (lines_in run.lines (lowered run.before place)))
 
 -- How many cells each line of a place has.
 abbrev pub counts_in : ℕ → List ℕ → Block → List ℕ
@@ -55,11 +65,6 @@ faults_by rules before counts [] places = []
 faults_by rules before counts (chain ∷ chains) [] = []
 faults_by rules before counts (chain ∷ chains) (place ∷ places) = tune_faults_by rules before counts chain place ++ faults_by rules before counts chains places
 
--- A chain is the fold over the cells of the lines of a place.
-pub record IsFoldOf {State Cell Items : Type 0} (steps : Steps State Cell Items) (read : List ℕ → List Cell) (opening : State) (text : Text) (chain : Chained State Cell Items) (place : Block) : Type 0 where
-  pub folds : Folds steps opening chain
-  pub cells : chain.cells ≡ flat_map read (lines_in text place)
-
 -- How many cells each of so many lines of a text has that have so many before them.
 abbrev pub counts_among : {Cell : Type 0} → (List ℕ → List Cell) → Text → ℕ → ℕ → List ℕ
 counts_among read text before count = take count (drop before (counts_of read text))
@@ -72,7 +77,7 @@ faults_of_tunes tunes = flat_map (λ tune. tune.faults) tunes
 abbrev pub CellsFollow : Type 0 → Type 0 → Type 0 → Type 0
 CellsFollow State Cell Items =
     (steps : Steps State Cell Items) (read : List ℕ → List Cell) (opening : State) (text : Text) (before count : ℕ) (chain : Chained State Cell Items) (place : Block)
-    → IsFoldOf steps read opening text chain place → LiesAmong before count place → before + count ≤ length text
+    → IsChainOf steps read opening text chain place → LiesAmong before count place → before + count ≤ length text
     → HasCells before (counts_among read text before count) chain place
 
 -- What it gives, wherever the lines stand, is what the definition's tune of the place has.
@@ -84,19 +89,19 @@ pub record OutputTells (output : Output) (tune : Tune) : Type 0 where
 abbrev pub OutputFollows : Type 0 → Type 0 → Type 0 → Type 0 → Type 0
 OutputFollows State Cell Items Defaults =
     (steps : Steps State Cell Items) (rules : Rules State Cell Items Defaults) (opening : State) (text : Text) (chain : Chained State Cell Items) (place : Block)
-    → IsFoldOf steps rules.cells opening text chain place
+    → IsChainOf steps rules.cells opening text chain place
     → OutputTells (output_in rules chain) (tune_of steps.next steps.gives rules opening text place)
 
 -- The faults of chains are those of their tunes by definition.
 abbrev pub FaultsFollow : Type 0 → Type 0 → Type 0 → Type 0 → Type 0
 FaultsFollow State Cell Items Defaults =
     (steps : Steps State Cell Items) (rules : Rules State Cell Items Defaults) (opening : State) (text : Text) (before count : ℕ) (chains : List (Chained State Cell Items)) (places : List Block)
-    → AllZip (IsFoldOf steps rules.cells opening text) chains places → All (LiesAmong before count) places
+    → AllZip (IsChainOf steps rules.cells opening text) chains places → All (LiesAmong before count) places
     → faults_by rules before (counts_among rules.cells text before count) chains places ≡ faults_of_tunes (map (tune_of steps.next steps.gives rules opening text) places)
 
 -- The faults of a file header's chain are those of the file header by definition.
 abbrev pub HeaderFollows : Type 0 → Type 0 → Type 0 → Type 0 → Type 0
 HeaderFollows State Cell Items Defaults =
     (steps : Steps State Cell Items) (rules : Rules State Cell Items Defaults) (text : Text) (before count : ℕ) (chain : Chained State Cell Items) (place : Block)
-    → IsFoldOf steps rules.cells rules.header text chain place → LiesAmong before count place
+    → IsChainOf steps rules.cells rules.header text chain place → LiesAmong before count place
     → cell_faults_by rules before (counts_among rules.cells text before count) chain place ≡ header_faults steps.next steps.gives rules text (Some place)

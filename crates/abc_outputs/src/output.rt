@@ -1,6 +1,6 @@
 //! What a tune gives, wherever its lines stand.
 
-ghost use Rattle.std.specs.Prelude.{◌≡◌, [], IfOk, option_copied};
+ghost use Rattle.std.specs.Prelude.{◌≡◌, [], IfOk};
 ghost use Rattle.abc_outputs.specs.Output.{has_faults, output_of};
 ghost use Rattle.abc_tunebook.specs.Tune.{first_of};
 

@@ -7,7 +7,7 @@ ghost use Rattle.abc_lines.specs.Text.{is_line, seen_lines};
 ghost use Rattle.abc_memo.specs.Memo.{Remembers};
 ghost use Rattle.abc_outputs.specs.Built.{IsBuiltUpTo, made_of};
 ghost use Rattle.abc_outputs.specs.Output.{TakesOver, output_in};
-ghost use Rattle.abc_outputs.specs.Tunes.{IsTuneAt};
+ghost use Rattle.abc_outputs.specs.Tunes.{IsTuneAt, line_run};
 
 use crate::key::key_of;
 use crate::output::{Output, copied_items};
@@ -45,7 +45,7 @@ fn output_at<C: Compiler>(
 ) -> Result<Shared<Output>, AllocError>
     requires limits { list_all is_line (seen_lines stretch.now.lines.now) ≡ true }
     requires tunes { let c = compiler.now in
-        AllZip (IsTuneAt (steps_of (C.next c) (C.gives c) (C.alike c)) (C.rules c) (option_copied stretch.now.left) stretch.now.before (seen_lines stretch.now.lines.now)) stretch.now.chains.now stretch.now.places.now }
+        AllZip (IsTuneAt (steps_of (C.next c) (C.gives c) (C.alike c)) (C.rules c) (line_run (option_copied stretch.now.left) stretch.now.before (seen_lines stretch.now.lines.now))) stretch.now.chains.now stretch.now.places.now }
     requires place { place < length stretch.now.chains.now }
     requires remembers { Remembers (steps_of (C.next compiler.now) (C.gives compiler.now) (C.alike compiler.now)) (C.rules compiler.now) memo.old }
     ensures value { IfOk result (λ output. slice_get (map (output_in (C.rules compiler.now)) stretch.now.chains.now) place ≡ Some output) }
@@ -71,7 +71,7 @@ pub fn outputs_of<C: Compiler>(
 ) -> Result<Vec<Shared<Output>>, AllocError>
     requires limits { list_all is_line (seen_lines stretch.now.lines.now) ≡ true }
     requires tunes { let c = compiler.now in
-        AllZip (IsTuneAt (steps_of (C.next c) (C.gives c) (C.alike c)) (C.rules c) (option_copied stretch.now.left) stretch.now.before (seen_lines stretch.now.lines.now)) stretch.now.chains.now stretch.now.places.now }
+        AllZip (IsTuneAt (steps_of (C.next c) (C.gives c) (C.alike c)) (C.rules c) (line_run (option_copied stretch.now.left) stretch.now.before (seen_lines stretch.now.lines.now))) stretch.now.chains.now stretch.now.places.now }
     requires taken { AllZip (TakesOver (C.rules compiler.now) old.now.outputs.now.items) stretch.now.chains.now old.now.taken.now }
     requires remembers { Remembers (steps_of (C.next compiler.now) (C.gives compiler.now) (C.alike compiler.now)) (C.rules compiler.now) memo.old }
     ensures values { IfOk result (λ made. made.items ≡ map (output_in (C.rules compiler.now)) stretch.now.chains.now) }

@@ -9,14 +9,14 @@ use Rattle.abc_rework.proofs.Words.{chains_lie}
 use Rattle.abc_rework.proofs.Counting.{edits_count, fresh_of_chain}
 use Rattle.std.proofs.lemmas.Bool.{cases_Bool}
 use Rattle.abc_lines.specs.Text.{Text, Splice, spliced}
-use Rattle.abc_fold.specs.Steps.{Steps, IsAlike, IsResumable}
+use Rattle.abc_fold.specs.Steps.{Steps, IsAlike, IsResumable, states_from}
 use Rattle.abc_rework.specs.Laid.{laid_in, Laid, Chain, chains_of, LiesInOrder}
 use Rattle.abc_rework.specs.Entered.{Spot, entered_of}
 use Rattle.abc_rework.specs.Fresh.{carried, is_fresh_after}
 use Rattle.abc_rework.specs.Pasts.{fresh_of, Past, rows_of, pasts, past_at, first_past, rest}
 use Rattle.abc_rework.specs.Pieces.{pieces_of}
 use Rattle.abc_rework.specs.Origins.{address_of}
-use Rattle.abc_rework.specs.Kept.{steps_over, held_over, cells_of, states_over, states_of, Held, entry_of, behind, made_over, StandsFor, StandFor, both_held, held_at, AreKept}
+use Rattle.abc_rework.specs.Kept.{steps_over, held_over, cells_of, states_of, Held, entry_of, behind, made_over, StandsFor, StandFor, both_held, held_at, AreKept}
 use Rattle.abc_rework.specs.EditLaws.{KeptEdits, HeldsStand, KeptSteps, KeptAgain}
 use Rattle.abc_rework.proofs.Same.{cell_at, cells_of_chain}
 use Rattle.abc_rework.proofs.Origins.{pasts_held, some_through}
@@ -86,7 +86,7 @@ goes_on steps a b cell (Some held) (Some past) one h m = ⊎_elim
     (λ (e : steps.alike held.entry a ≡ false). simp e (one.alike_states a b cell h))
     (cases_Bool (steps.alike held.entry a))
 
-made_alike : {State Cell Items : Type 0} (steps : Steps State Cell Items) (a b : State) (cells : List Cell) (helds : List (Option (Held State))) (pieces : List (Option (Past State))) → IsResumable steps → IsTrue (steps.alike a b) → StandFor steps cells helds pieces → AllZip (λ a b. IsTrue (steps.alike a b)) (made_over steps a cells helds) (states_over steps.next b cells)
+made_alike : {State Cell Items : Type 0} (steps : Steps State Cell Items) (a b : State) (cells : List Cell) (helds : List (Option (Held State))) (pieces : List (Option (Past State))) → IsResumable steps → IsTrue (steps.alike a b) → StandFor steps cells helds pieces → AllZip (λ a b. IsTrue (steps.alike a b)) (made_over steps a cells helds) (states_from steps b cells)
 made_alike steps a b [] helds pieces one h k = (h, tt)
 made_alike steps a b (cell ∷ cells) helds pieces one h k =
     (h, made_alike steps (cond (is_fresh_after steps.alike a (entry_of (first_past helds))) (steps.next a cell) (behind a (first_past helds))) (steps.next b cell) cells (rest helds) (rest pieces) one (goes_on steps a b cell (first_past helds) (first_past pieces) one h k.0) k.1)

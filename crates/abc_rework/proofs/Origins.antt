@@ -4,13 +4,13 @@ use Rattle.std.proofs.lemmas.List.{map-append, length-map, length-take, length-a
 use Rattle.std.proofs.lemmas.Option.{slice_get-map}
 use Rattle.abc_lines.specs.Text.{Text, spliced}
 use Rattle.abc_tunebook.specs.Tune.{lines_in}
-use Rattle.abc_fold.specs.Steps.{Steps}
+use Rattle.abc_fold.specs.Steps.{Steps, states_from}
 use Rattle.abc_rework.specs.Laid.{Chain, chains_of, ChainsRise}
 use Rattle.abc_rework.specs.Entered.{Spot, state_behind, entered_in_line, entered_along, entered_of}
 use Rattle.abc_rework.specs.Fresh.{carried}
 use Rattle.abc_rework.specs.Pasts.{Past, past_of, pasts_in_line, no_pasts, pasts_along, lines_between, rows_from, rows_of, row_at, past_at}
 use Rattle.abc_rework.specs.Origins.{Origin, no_origins, origins_along, origins_from, origins_of, origins, numbered, addresses, addresses_beside, address_of}
-use Rattle.abc_rework.specs.Kept.{cells_of, states_of, states_over}
+use Rattle.abc_rework.specs.Kept.{cells_of, states_of}
 use Rattle.abc_rework.specs.Laws.{OriginsStand, PastsHeld}
 use Rattle.abc_rework.proofs.Rows.{carried_rows}
 use Rattle.abc_rework.proofs.Same.{cell_at, cells_of_chain, carried_line}
@@ -136,14 +136,16 @@ states_lines {State = State} steps read line state (bytes ∷ lines) =
     ∙ (ap (λ l. map (λ (spot : Spot State). spot.entered) (entered_in_line steps.next line 0 state cells) ++ l) (states_lines steps read (line + 1) (state_behind steps.next state cells) lines)
     ∙ states_line steps.next line 0 state cells (flat_map read lines))
 
-at_cell : {State Cell : Type 0} (next : State → Cell → State) (state : State) (cells : List Cell) (i : ℕ) (e : State) (c : Cell) → slice_get (entered_over next state cells) i ≡ Some e → slice_get cells i ≡ Some c → (slice_get (states_over next state cells) i ≡ Some e) × (slice_get (states_over next state cells) (i + 1) ≡ Some (next e c))
-at_cell next state [] i e c h k = absurd (cc)
-at_cell next state (cell ∷ []) zero e c h k = let a : state ≡ e = cc in let b : cell ≡ c = cc in (h, λ i. Some (next (a i) (b i)))
-at_cell next state (cell ∷ (other ∷ cells)) zero e c h k = let a : state ≡ e = cc in let b : cell ≡ c = cc in (h, λ i. Some (next (a i) (b i)))
-at_cell next state (cell ∷ cells) (suc i) e c h k =
-    let more = at_cell next (next state cell) cells i e c h k in
+at_cell : {State Cell Items : Type 0} (steps : Steps State Cell Items) (state : State) (cells : List Cell) (i : ℕ) (e : State) (c : Cell)
+    → slice_get (entered_over steps.next state cells) i ≡ Some e → slice_get cells i ≡ Some c
+    → (slice_get (states_from steps state cells) i ≡ Some e) × (slice_get (states_from steps state cells) (i + 1) ≡ Some (steps.next e c))
+at_cell steps state [] i e c h k = absurd (cc)
+at_cell steps state (cell ∷ []) zero e c h k = let a : state ≡ e = cc in let b : cell ≡ c = cc in (h, λ i. Some (steps.next (a i) (b i)))
+at_cell steps state (cell ∷ (other ∷ cells)) zero e c h k = let a : state ≡ e = cc in let b : cell ≡ c = cc in (h, λ i. Some (steps.next (a i) (b i)))
+at_cell steps state (cell ∷ cells) (suc i) e c h k =
+    let more = at_cell steps (steps.next state cell) cells i e c h k in
     let here : suc i + 1 ≡ suc (i + 1) = omega arith in
-    (more.0, ap (slice_get (states_over next state (cell ∷ cells))) here ∙ more.1)
+    (more.0, ap (slice_get (states_from steps state (cell ∷ cells))) here ∙ more.1)
 
 some_some : {A : Type 0} (o : Option A) (a : A) → option_map (λ x. Some x) o ≡ Some (Some a) → o ≡ Some a
 some_some None a h = absurd (cc)
@@ -169,7 +171,7 @@ held_by {State = State} {Cell = Cell} steps read text bytes m nth past was cell 
     ∙ (ap (λ l. slice_get l past.place) (sym (cells_of_chain steps read text was))
     ∙ (slice_get-map (cell_at steps read text) spots past.place
     ∙ (ap (option_map (cell_at steps read text)) name.spot ∙ ap (λ y. Some y) own))) in
-    at_cell steps.next was.opening cells past.place past.entered cell entered (some_some (slice_get cells past.place) cell got)
+    at_cell steps was.opening cells past.place past.entered cell entered (some_some (slice_get cells past.place) cell got)
 
 pub pasts_held : {State Cell Items : Type 0} → PastsHeld State Cell Items
 pasts_held steps read old s line nth past was cell h inside member source e c =

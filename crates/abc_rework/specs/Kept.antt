@@ -10,7 +10,7 @@ use Rattle.abc_rework.specs.Fresh.{is_fresh_after}
 use Rattle.abc_rework.specs.Laid.{Chain, Laid, chains_of}
 use Rattle.abc_rework.specs.Origins.{address_of}
 use Rattle.abc_rework.specs.Pasts.{Past, first_past, rest}
-use Rattle.abc_fold.specs.Steps.{IsAlike, Steps}
+use Rattle.abc_fold.specs.Steps.{IsAlike, Steps, states_from}
 
 -- The cells of a chain.
 abbrev pub cells_of : {State Cell : Type 0} → (List ℕ → List Cell) → Text → Chain State → List Cell
@@ -20,14 +20,9 @@ cells_of read text chain = flat_map read (lines_in text chain.block)
 abbrev pub items_of : {State Cell Items : Type 0} → Steps State Cell Items → (List ℕ → List Cell) → Text → Chain State → List (Placed Items)
 items_of steps read text chain = items_along steps.next steps.gives chain.opening (cells_from read (chain.block.from + 1) (lines_in text chain.block))
 
--- The states before each of these cells and behind the last, from scratch.
-abbrev pub states_over : {State Cell : Type 0} → (State → Cell → State) → State → List Cell → List State
-states_over next state [] = state ∷ []
-states_over next state (cell ∷ cells) = state ∷ states_over next (next state cell) cells
-
--- Those of a chain.
+-- The states of a chain, from scratch.
 abbrev pub states_of : {State Cell Items : Type 0} → Steps State Cell Items → (List ℕ → List Cell) → Text → Chain State → List State
-states_of steps read text chain = states_over steps.next chain.opening (cells_of read text chain)
+states_of steps read text chain = states_from steps chain.opening (cells_of read text chain)
 
 -- The kept states before and behind a cell of an old chain.
 pub record Held (State : Type 0) : Type 0 where

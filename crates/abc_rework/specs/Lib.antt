@@ -5,6 +5,7 @@ pub mod Pasts
 pub mod Pieces
 pub mod Origins
 pub mod Kept
+pub mod Folded
 pub mod Laws
 pub mod EditLaws
 pub mod WorkedEdits

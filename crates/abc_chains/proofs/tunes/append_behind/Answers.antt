@@ -1,4 +1,3 @@
-use Rattle.std.proofs.Common.{arith}
 use Rattle.abc_chains.specs.Standing.{LiesBehind, moved_on}
 use Rattle.abc_chains.proofs.Placing.{between_next, beyond_at, get_same}
 use Rattle.abc_chains.proofs.tunes.append_behind.Goals as goal

@@ -1,7 +1,7 @@
-use Rattle.std.proofs.Common.{◌≡◌, ◌<◌, length, ◌∙◌, sym, ap, arith, refl, rules, slice_set}
+use Rattle.std.proofs.Common.{◌<◌, length, ◌∙◌, ap, arith, refl, rules, slice_set}
 use Rattle.abc_lines.specs.declared.limits.TheConstants.{MOST_LINES}
 use Rattle.abc_chains.specs.Holding.{LiesWithin}
-use Rattle.abc_chains.specs.Standing.{LiesBehind, gone, moved_on}
+use Rattle.abc_chains.specs.Standing.{LiesBehind, moved_on}
 use Rattle.abc_chains.proofs.Putting.{move_more, none_moves, one_behind, rest_behind}
 use Rattle.abc_chains.proofs.tunes.move_behind.Goals as goal
 

@@ -1,4 +1,4 @@
-use Rattle.std.proofs.Common.{◌≡◌, ◌≤◌, ◌++◌, All, drop, length, map, take}
+use Rattle.std.proofs.Common.{◌≡◌, ◌++◌, All, drop, length, map, take}
 use Rattle.abc_lines.specs.declared.limits.TheConstants.{MOST_LINES}
 use Rattle.abc_chains.specs.Holding.{LiesWithin}
 use Rattle.abc_chains.specs.Standing.{LiesBehind, moved_on}

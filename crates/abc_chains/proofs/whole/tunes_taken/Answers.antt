@@ -3,7 +3,8 @@ use Rattle.abc_book.specs.declared.block.BlockKind.TheVariants.{FileHeader}
 use Rattle.abc_fold.specs.Chain.{Chained, Folds}
 use Rattle.abc_fold.specs.Steps.{steps_of}
 use Rattle.abc_chains.specs.Holding.{IsChain, rows_in}
-use Rattle.abc_chains.specs.Taking.{GoesAlong, HasItemsOf}
+use Rattle.abc_chains.specs.Taking.{GoesAlong}
+use Rattle.abc_rework.specs.Folded.{HasItemsOf}
 use Rattle.abc_chains.proofs.Along.{zip_at, zip_more}
 use Rattle.abc_chains.proofs.Placing.{get_same}
 use Rattle.abc_chains.proofs.whole.tunes_taken.Goals as goal

@@ -3,10 +3,11 @@ use Rattle.abc_book.specs.declared.block.Block.{Block}
 use Rattle.abc_fold.specs.Steps.{steps_of}
 use Rattle.abc_fold.specs.Work.{IsRaisedUpTo}
 use Rattle.abc_fold.proofs.Raised.{raised-none}
-use Rattle.abc_chains.specs.Renewing.{IsLead, IsRenewed, splice_at}
-use Rattle.abc_chains.specs.Standing.{Keeping, Stands}
+use Rattle.abc_chains.specs.Renewing.{IsLead, IsRenewed, new_parts, splice_at}
+use Rattle.abc_chains.specs.Standing.{Keeping}
 use Rattle.abc_chains.specs.declared.stretch.Lead.{Lead}
 use Rattle.abc_chains.proofs.Led.{early_head, led_cost, led_done, led_now, led_steps, made_carried, ok_led, whole_lead}
+use Rattle.abc_chains.proofs.Working.{stands_now}
 use Rattle.abc_chains.proofs.text.KeptText.early.Goals as goal
 
 pub returns-in_err-rows-clause-counted : goal.returns-in_err-rows-clause-counted
@@ -20,7 +21,7 @@ opened-requires g c =
     let rules' = g.C.Compiler.rules now.compiler in
     let laws = g.met.C.Resumable.resumable now.compiler in
     let lawful = g.met.C.Compiler.lawful now.compiler in
-    let stands = subst (λ (k : Keeping g.row.C.Denot g.row.C-State.Denot g.row.C-Cell.Denot g.row.C-Items.Denot). Stands (steps_of (g.C.Fold.next k.compiler) (g.C.Fold.gives k.compiler) (g.C.Resumable.alike k.compiler)) (g.C.Compiler.rules k.compiler) k.lines.text k.rows.items k.header k.tunes k.chains.items) c.self.view_is c.self.invariant in
+    let stands = stands_now g.C.Fold.next g.C.Fold.gives g.C.Resumable.alike g.C.Compiler.rules c.self.view_is c.self.invariant in
     let lead = c.lead_of-lead.result in
     let own_tunes : c.deref.result.now ≡ now.tunes = c.deref.ensures.value ∙ ap (λ (k : Keeping g.row.C.Denot g.row.C-State.Denot g.row.C-Cell.Denot g.row.C-Items.Denot). k.tunes) c.self.view_is in
     let own_count : c.len-count.result ≡ length now.lines.text = c.len-count.ensures.count ∙ ap (λ (k : Keeping g.row.C.Denot g.row.C-State.Denot g.row.C-Cell.Denot g.row.C-Items.Denot). length k.lines.text) c.self.view_is in
@@ -37,7 +38,7 @@ returns-in_err-opened-clause-counted g c =
     let rules' = g.C.Compiler.rules now.compiler in
     let laws = g.met.C.Resumable.resumable now.compiler in
     let lawful = g.met.C.Compiler.lawful now.compiler in
-    let stands = subst (λ (k : Keeping g.row.C.Denot g.row.C-State.Denot g.row.C-Cell.Denot g.row.C-Items.Denot). Stands (steps_of (g.C.Fold.next k.compiler) (g.C.Fold.gives k.compiler) (g.C.Resumable.alike k.compiler)) (g.C.Compiler.rules k.compiler) k.lines.text k.rows.items k.header k.tunes k.chains.items) c.self.view_is c.self.invariant in
+    let stands = stands_now g.C.Fold.next g.C.Fold.gives g.C.Resumable.alike g.C.Compiler.rules c.self.view_is c.self.invariant in
     let lead = c.lead_of-lead.result in
     let own_tunes : c.deref.result.now ≡ now.tunes = c.deref.ensures.value ∙ ap (λ (k : Keeping g.row.C.Denot g.row.C-State.Denot g.row.C-Cell.Denot g.row.C-Items.Denot). k.tunes) c.self.view_is in
     let own_count : c.len-count.result ≡ length now.lines.text = c.len-count.ensures.count ∙ ap (λ (k : Keeping g.row.C.Denot g.row.C-State.Denot g.row.C-Cell.Denot g.row.C-Items.Denot). length k.lines.text) c.self.view_is in
@@ -54,7 +55,7 @@ led-requires g c =
     let rules' = g.C.Compiler.rules now.compiler in
     let laws = g.met.C.Resumable.resumable now.compiler in
     let lawful = g.met.C.Compiler.lawful now.compiler in
-    let stands = subst (λ (k : Keeping g.row.C.Denot g.row.C-State.Denot g.row.C-Cell.Denot g.row.C-Items.Denot). Stands (steps_of (g.C.Fold.next k.compiler) (g.C.Fold.gives k.compiler) (g.C.Resumable.alike k.compiler)) (g.C.Compiler.rules k.compiler) k.lines.text k.rows.items k.header k.tunes k.chains.items) c.self.view_is c.self.invariant in
+    let stands = stands_now g.C.Fold.next g.C.Fold.gives g.C.Resumable.alike g.C.Compiler.rules c.self.view_is c.self.invariant in
     let lead = c.lead_of-lead.result in
     let own_tunes : c.deref.result.now ≡ now.tunes = c.deref.ensures.value ∙ ap (λ (k : Keeping g.row.C.Denot g.row.C-State.Denot g.row.C-Cell.Denot g.row.C-Items.Denot). k.tunes) c.self.view_is in
     let own_count : c.len-count.result ≡ length now.lines.text = c.len-count.ensures.count ∙ ap (λ (k : Keeping g.row.C.Denot g.row.C-State.Denot g.row.C-Cell.Denot g.row.C-Items.Denot). length k.lines.text) c.self.view_is in
@@ -72,7 +73,7 @@ returns-then-may_go_on-clause-renewed g c =
     let rules' = g.C.Compiler.rules now.compiler in
     let laws = g.met.C.Resumable.resumable now.compiler in
     let lawful = g.met.C.Compiler.lawful now.compiler in
-    let stands = subst (λ (k : Keeping g.row.C.Denot g.row.C-State.Denot g.row.C-Cell.Denot g.row.C-Items.Denot). Stands (steps_of (g.C.Fold.next k.compiler) (g.C.Fold.gives k.compiler) (g.C.Resumable.alike k.compiler)) (g.C.Compiler.rules k.compiler) k.lines.text k.rows.items k.header k.tunes k.chains.items) c.self.view_is c.self.invariant in
+    let stands = stands_now g.C.Fold.next g.C.Fold.gives g.C.Resumable.alike g.C.Compiler.rules c.self.view_is c.self.invariant in
     let lead = c.lead_of-lead.result in
     let own_tunes : c.deref.result.now ≡ now.tunes = c.deref.ensures.value ∙ ap (λ (k : Keeping g.row.C.Denot g.row.C-State.Denot g.row.C-Cell.Denot g.row.C-Items.Denot). k.tunes) c.self.view_is in
     let own_count : c.len-count.result ≡ length now.lines.text = c.len-count.ensures.count ∙ ap (λ (k : Keeping g.row.C.Denot g.row.C-State.Denot g.row.C-Cell.Denot g.row.C-Items.Denot). length k.lines.text) c.self.view_is in
@@ -82,7 +83,7 @@ returns-then-may_go_on-clause-renewed g c =
     let rows_led = c.deref-then-may_go_on.ensures.value ∙ c.in_ok-rows.ensures in
     let opened = led_now steps rules' now c.args.at c.args.removed lines laws lawful stands c.requires lead is c.args.new.now c.deref-2.result.now new rows c.in_ok-opened.opened.header c.in_ok-opened.opened.first c.in_ok-opened.opened.opening c.in_ok-opened.ensures.opened in
     let goes = c.may_go_on.ensures c.if-may_go_on.true in
-    ok_led c.led.result _ _ _ _ _ _ (λ r. IsRenewed steps rules' now (splice_at c.args.at c.args.removed lines) r.stretch r.header r.first r.folded.tunes.items r.folded.made.items r.folded.taken.items) _
+    ok_led c.led.result _ _ _ _ _ _ (λ r. IsRenewed steps rules' now (splice_at c.args.at c.args.removed lines) (new_parts r.stretch r.header r.first r.folded.tunes.items r.folded.made.items r.folded.taken.items)) _
     (λ r s h f t m i a. led_done steps rules' now c.args.at c.args.removed lines laws lawful stands c.requires lead is c.args.new.now c.deref-then-may_go_on.result.now new rows_led c.in_ok-opened.opened.opening c.in_ok-opened.opened.header c.in_ok-opened.opened.first r.stretch r.header r.first r.folded.tunes.items r.folded.made.items r.folded.taken.items opened goes s h f t m i a)
     c.led.ensures.stretch c.led.ensures.header c.led.ensures.first c.led.ensures.tunes c.led.ensures.chains c.led.ensures.items c.led.ensures.along
 
@@ -94,7 +95,7 @@ returns-then-may_go_on-clause-counted g c =
     let rules' = g.C.Compiler.rules now.compiler in
     let laws = g.met.C.Resumable.resumable now.compiler in
     let lawful = g.met.C.Compiler.lawful now.compiler in
-    let stands = subst (λ (k : Keeping g.row.C.Denot g.row.C-State.Denot g.row.C-Cell.Denot g.row.C-Items.Denot). Stands (steps_of (g.C.Fold.next k.compiler) (g.C.Fold.gives k.compiler) (g.C.Resumable.alike k.compiler)) (g.C.Compiler.rules k.compiler) k.lines.text k.rows.items k.header k.tunes k.chains.items) c.self.view_is c.self.invariant in
+    let stands = stands_now g.C.Fold.next g.C.Fold.gives g.C.Resumable.alike g.C.Compiler.rules c.self.view_is c.self.invariant in
     let lead = c.lead_of-lead.result in
     let own_tunes : c.deref.result.now ≡ now.tunes = c.deref.ensures.value ∙ ap (λ (k : Keeping g.row.C.Denot g.row.C-State.Denot g.row.C-Cell.Denot g.row.C-Items.Denot). k.tunes) c.self.view_is in
     let own_count : c.len-count.result ≡ length now.lines.text = c.len-count.ensures.count ∙ ap (λ (k : Keeping g.row.C.Denot g.row.C-State.Denot g.row.C-Cell.Denot g.row.C-Items.Denot). length k.lines.text) c.self.view_is in
@@ -114,7 +115,7 @@ returns-in_err-rows-2-clause-counted g c =
     let rules' = g.C.Compiler.rules now.compiler in
     let laws = g.met.C.Resumable.resumable now.compiler in
     let lawful = g.met.C.Compiler.lawful now.compiler in
-    let stands = subst (λ (k : Keeping g.row.C.Denot g.row.C-State.Denot g.row.C-Cell.Denot g.row.C-Items.Denot). Stands (steps_of (g.C.Fold.next k.compiler) (g.C.Fold.gives k.compiler) (g.C.Resumable.alike k.compiler)) (g.C.Compiler.rules k.compiler) k.lines.text k.rows.items k.header k.tunes k.chains.items) c.self.view_is c.self.invariant in
+    let stands = stands_now g.C.Fold.next g.C.Fold.gives g.C.Resumable.alike g.C.Compiler.rules c.self.view_is c.self.invariant in
     let lead = c.lead_of-lead.result in
     let own_tunes : c.deref.result.now ≡ now.tunes = c.deref.ensures.value ∙ ap (λ (k : Keeping g.row.C.Denot g.row.C-State.Denot g.row.C-Cell.Denot g.row.C-Items.Denot). k.tunes) c.self.view_is in
     let own_count : c.len-count.result ≡ length now.lines.text = c.len-count.ensures.count ∙ ap (λ (k : Keeping g.row.C.Denot g.row.C-State.Denot g.row.C-Cell.Denot g.row.C-Items.Denot). length k.lines.text) c.self.view_is in
@@ -131,7 +132,7 @@ led-requires-2 g c =
     let rules' = g.C.Compiler.rules now.compiler in
     let laws = g.met.C.Resumable.resumable now.compiler in
     let lawful = g.met.C.Compiler.lawful now.compiler in
-    let stands = subst (λ (k : Keeping g.row.C.Denot g.row.C-State.Denot g.row.C-Cell.Denot g.row.C-Items.Denot). Stands (steps_of (g.C.Fold.next k.compiler) (g.C.Fold.gives k.compiler) (g.C.Resumable.alike k.compiler)) (g.C.Compiler.rules k.compiler) k.lines.text k.rows.items k.header k.tunes k.chains.items) c.self.view_is c.self.invariant in
+    let stands = stands_now g.C.Fold.next g.C.Fold.gives g.C.Resumable.alike g.C.Compiler.rules c.self.view_is c.self.invariant in
     let lead = c.lead_of-lead.result in
     let own_tunes : c.deref.result.now ≡ now.tunes = c.deref.ensures.value ∙ ap (λ (k : Keeping g.row.C.Denot g.row.C-State.Denot g.row.C-Cell.Denot g.row.C-Items.Denot). k.tunes) c.self.view_is in
     let own_count : c.len-count.result ≡ length now.lines.text = c.len-count.ensures.count ∙ ap (λ (k : Keeping g.row.C.Denot g.row.C-State.Denot g.row.C-Cell.Denot g.row.C-Items.Denot). length k.lines.text) c.self.view_is in
@@ -153,7 +154,7 @@ returns-clause-renewed g c =
     let rules' = g.C.Compiler.rules now.compiler in
     let laws = g.met.C.Resumable.resumable now.compiler in
     let lawful = g.met.C.Compiler.lawful now.compiler in
-    let stands = subst (λ (k : Keeping g.row.C.Denot g.row.C-State.Denot g.row.C-Cell.Denot g.row.C-Items.Denot). Stands (steps_of (g.C.Fold.next k.compiler) (g.C.Fold.gives k.compiler) (g.C.Resumable.alike k.compiler)) (g.C.Compiler.rules k.compiler) k.lines.text k.rows.items k.header k.tunes k.chains.items) c.self.view_is c.self.invariant in
+    let stands = stands_now g.C.Fold.next g.C.Fold.gives g.C.Resumable.alike g.C.Compiler.rules c.self.view_is c.self.invariant in
     let lead = c.lead_of-lead.result in
     let own_tunes : c.deref.result.now ≡ now.tunes = c.deref.ensures.value ∙ ap (λ (k : Keeping g.row.C.Denot g.row.C-State.Denot g.row.C-Cell.Denot g.row.C-Items.Denot). k.tunes) c.self.view_is in
     let own_count : c.len-count.result ≡ length now.lines.text = c.len-count.ensures.count ∙ ap (λ (k : Keeping g.row.C.Denot g.row.C-State.Denot g.row.C-Cell.Denot g.row.C-Items.Denot). length k.lines.text) c.self.view_is in
@@ -167,7 +168,7 @@ returns-clause-renewed g c =
     let rows_whole = c.deref-3.ensures.value ∙ c.in_ok-rows-2.ensures in
     let opened = led_now steps rules' now c.args.at c.args.removed lines laws lawful stands c.requires lead is c.args.new.now c.deref-2.result.now new rows c.in_ok-opened.opened.header c.in_ok-opened.opened.first c.in_ok-opened.opened.opening c.in_ok-opened.ensures.opened in
     let all : length now.tunes ≤ c.len.result = omega (arith, behind) in
-    ok_led c.led-2.result _ _ _ _ _ _ (λ r. IsRenewed steps rules' now (splice_at c.args.at c.args.removed lines) r.stretch r.header r.first r.folded.tunes.items r.folded.made.items r.folded.taken.items) _
+    ok_led c.led-2.result _ _ _ _ _ _ (λ r. IsRenewed steps rules' now (splice_at c.args.at c.args.removed lines) (new_parts r.stretch r.header r.first r.folded.tunes.items r.folded.made.items r.folded.taken.items)) _
     (λ r s h f t m i a. led_done steps rules' now c.args.at c.args.removed lines laws lawful stands c.requires whole is_whole c.args.new.now c.deref-3.result.now new rows_whole c.in_ok-opened.opened.opening c.in_ok-opened.opened.header c.in_ok-opened.opened.first r.stretch r.header r.first r.folded.tunes.items r.folded.made.items r.folded.taken.items opened (inl all) s h f t m i a)
     c.led-2.ensures.stretch c.led-2.ensures.header c.led-2.ensures.first c.led-2.ensures.tunes c.led-2.ensures.chains c.led-2.ensures.items c.led-2.ensures.along
 
@@ -179,7 +180,7 @@ returns-clause-counted g c =
     let rules' = g.C.Compiler.rules now.compiler in
     let laws = g.met.C.Resumable.resumable now.compiler in
     let lawful = g.met.C.Compiler.lawful now.compiler in
-    let stands = subst (λ (k : Keeping g.row.C.Denot g.row.C-State.Denot g.row.C-Cell.Denot g.row.C-Items.Denot). Stands (steps_of (g.C.Fold.next k.compiler) (g.C.Fold.gives k.compiler) (g.C.Resumable.alike k.compiler)) (g.C.Compiler.rules k.compiler) k.lines.text k.rows.items k.header k.tunes k.chains.items) c.self.view_is c.self.invariant in
+    let stands = stands_now g.C.Fold.next g.C.Fold.gives g.C.Resumable.alike g.C.Compiler.rules c.self.view_is c.self.invariant in
     let lead = c.lead_of-lead.result in
     let own_tunes : c.deref.result.now ≡ now.tunes = c.deref.ensures.value ∙ ap (λ (k : Keeping g.row.C.Denot g.row.C-State.Denot g.row.C-Cell.Denot g.row.C-Items.Denot). k.tunes) c.self.view_is in
     let own_count : c.len-count.result ≡ length now.lines.text = c.len-count.ensures.count ∙ ap (λ (k : Keeping g.row.C.Denot g.row.C-State.Denot g.row.C-Cell.Denot g.row.C-Items.Denot). length k.lines.text) c.self.view_is in

@@ -1,10 +1,10 @@
-use Rattle.std.proofs.Common.{IsSome, subst}
+use Rattle.std.proofs.Common.{subst}
 use Rattle.std.specs.List.{AllZip}
 use Rattle.abc_fold.specs.Steps.{steps_of}
 use Rattle.abc_fold.proofs.Raised.{raised-none}
-use Rattle.abc_chains.specs.Holding.{IsChain, rows_in}
+use Rattle.abc_chains.specs.Holding.{IsChain}
 use Rattle.abc_chains.specs.Standing.{Keeping}
-use Rattle.abc_chains.specs.Taking.{GoesAlong}
+use Rattle.abc_chains.specs.Taking.{KnowsAlong}
 use Rattle.abc_chains.proofs.Edits.{are_folded}
 use Rattle.abc_chains.proofs.text.KeptText.led.Goals as goal
 
@@ -18,5 +18,5 @@ folded_tunes-requires-clause-folded g c =
 
 pub returns-clause-along : goal.returns-clause-along
 returns-clause-along g c =
-    subst (λ (k : Keeping g.row.C.Denot g.row.C-State.Denot g.row.C-Cell.Denot g.row.C-Items.Denot). (begun : g.row.C-State.Denot) → AllZip (IsChain (steps_of (g.C.Fold.next k.compiler) (g.C.Fold.gives k.compiler) (g.C.Resumable.alike k.compiler)) begun c.args.rows.now) c.in_ok-folded.folded.made.items c.in_ok-folded.folded.tunes.items → AllZip (λ tune one. GoesAlong (steps_of (g.C.Fold.next k.compiler) (g.C.Fold.gives k.compiler) (g.C.Resumable.alike k.compiler)) k.chains.items begun (rows_in c.args.rows.now tune) → IsSome one) c.in_ok-folded.folded.tunes.items c.in_ok-folded.folded.taken.items) c.self.view_is
+    subst (λ (k : Keeping g.row.C.Denot g.row.C-State.Denot g.row.C-Cell.Denot g.row.C-Items.Denot). (begun : g.row.C-State.Denot) → AllZip (IsChain (steps_of (g.C.Fold.next k.compiler) (g.C.Fold.gives k.compiler) (g.C.Resumable.alike k.compiler)) begun c.args.rows.now) c.in_ok-folded.folded.made.items c.in_ok-folded.folded.tunes.items → KnowsAlong (steps_of (g.C.Fold.next k.compiler) (g.C.Fold.gives k.compiler) (g.C.Resumable.alike k.compiler)) k.chains.items begun c.args.rows.now c.in_ok-folded.folded.tunes.items c.in_ok-folded.folded.taken.items) c.self.view_is
     c.in_ok-folded.ensures.along

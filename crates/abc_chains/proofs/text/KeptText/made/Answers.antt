@@ -3,10 +3,10 @@ use Rattle.abc_fold.specs.Steps.{steps_of}
 use Rattle.abc_lines.specs.Text.{lines_of, splice_from, spliced}
 use Rattle.abc_lines.specs.declared.limits.TheConstants.{MOST_LINES}
 use Rattle.abc_chains.specs.Rows.{new_row}
-use Rattle.abc_chains.specs.Standing.{AreRows, Keeping, Stands, gone}
+use Rattle.abc_chains.specs.Standing.{AreRows, Keeping, gone}
 use Rattle.abc_chains.proofs.Prepared.{came_small, may_be_anew}
 use Rattle.abc_chains.proofs.Replaced.{rows_after}
-use Rattle.abc_chains.proofs.Working.{early_work}
+use Rattle.abc_chains.proofs.Working.{early_work, stands_now}
 use Rattle.abc_chains.proofs.text.KeptText.made.Goals as goal
 
 pub returns-in_err-new-clause-counted : goal.returns-in_err-new-clause-counted
@@ -14,11 +14,10 @@ returns-in_err-new-clause-counted g c = early_work _ _ _ _ c.read.ensures.counte
 
 pub place-requires-clause-anew : goal.place-requires-clause-anew
 place-requires-clause-anew g c =
-    let on : Keeping g.row.C.Denot g.row.C-State.Denot g.row.C-Cell.Denot g.row.C-Items.Denot = record { compiler = c.self.inside.compiler; lines = c.self.inside.lines; rows = c.self.inside.rows; header = c.self.inside.header; tunes = c.self.inside.tunes.items; chains = c.self.inside.chains } in
     let now = c.args.self.now in
     let steps = steps_of (g.C.Fold.next now.compiler) (g.C.Fold.gives now.compiler) (g.C.Resumable.alike now.compiler) in
     let rules' = g.C.Compiler.rules now.compiler in
-    let stands = subst (λ (k : Keeping g.row.C.Denot g.row.C-State.Denot g.row.C-Cell.Denot g.row.C-Items.Denot). Stands (steps_of (g.C.Fold.next k.compiler) (g.C.Fold.gives k.compiler) (g.C.Resumable.alike k.compiler)) (g.C.Compiler.rules k.compiler) k.lines.text k.rows.items k.header k.tunes k.chains.items) c.self.view_is c.self.invariant in
+    let stands = stands_now g.C.Fold.next g.C.Fold.gives g.C.Resumable.alike g.C.Compiler.rules c.self.view_is c.self.invariant in
     let lines = lines_of c.args.lines.now in
     let s = splice_from c.args.at c.args.removed c.args.lines.now in
     let read : c.in_ok-new.new.items ≡ map (new_row rules') lines = c.in_ok-new.ensures.rows ∙ ap (λ (k : Keeping g.row.C.Denot g.row.C-State.Denot g.row.C-Cell.Denot g.row.C-Items.Denot). map (new_row (g.C.Compiler.rules k.compiler)) lines) c.self.view_is in
@@ -28,11 +27,10 @@ place-requires-clause-anew g c =
 
 pub place-requires-clause-numbers : goal.place-requires-clause-numbers
 place-requires-clause-numbers g c =
-    let on : Keeping g.row.C.Denot g.row.C-State.Denot g.row.C-Cell.Denot g.row.C-Items.Denot = record { compiler = c.self.inside.compiler; lines = c.self.inside.lines; rows = c.self.inside.rows; header = c.self.inside.header; tunes = c.self.inside.tunes.items; chains = c.self.inside.chains } in
     let now = c.args.self.now in
     let steps = steps_of (g.C.Fold.next now.compiler) (g.C.Fold.gives now.compiler) (g.C.Resumable.alike now.compiler) in
     let rules' = g.C.Compiler.rules now.compiler in
-    let stands = subst (λ (k : Keeping g.row.C.Denot g.row.C-State.Denot g.row.C-Cell.Denot g.row.C-Items.Denot). Stands (steps_of (g.C.Fold.next k.compiler) (g.C.Fold.gives k.compiler) (g.C.Resumable.alike k.compiler)) (g.C.Compiler.rules k.compiler) k.lines.text k.rows.items k.header k.tunes k.chains.items) c.self.view_is c.self.invariant in
+    let stands = stands_now g.C.Fold.next g.C.Fold.gives g.C.Resumable.alike g.C.Compiler.rules c.self.view_is c.self.invariant in
     let lines = lines_of c.args.lines.now in
     let s = splice_from c.args.at c.args.removed c.args.lines.now in
     let read : c.in_ok-new.new.items ≡ map (new_row rules') lines = c.in_ok-new.ensures.rows ∙ ap (λ (k : Keeping g.row.C.Denot g.row.C-State.Denot g.row.C-Cell.Denot g.row.C-Items.Denot). map (new_row (g.C.Compiler.rules k.compiler)) lines) c.self.view_is in
@@ -45,11 +43,10 @@ place-requires-clause-numbers g c =
 
 pub returns-clause-rows : goal.returns-clause-rows
 returns-clause-rows g c =
-    let on : Keeping g.row.C.Denot g.row.C-State.Denot g.row.C-Cell.Denot g.row.C-Items.Denot = record { compiler = c.self.inside.compiler; lines = c.self.inside.lines; rows = c.self.inside.rows; header = c.self.inside.header; tunes = c.self.inside.tunes.items; chains = c.self.inside.chains } in
     let now = c.args.self.now in
     let steps = steps_of (g.C.Fold.next now.compiler) (g.C.Fold.gives now.compiler) (g.C.Resumable.alike now.compiler) in
     let rules' = g.C.Compiler.rules now.compiler in
-    let stands = subst (λ (k : Keeping g.row.C.Denot g.row.C-State.Denot g.row.C-Cell.Denot g.row.C-Items.Denot). Stands (steps_of (g.C.Fold.next k.compiler) (g.C.Fold.gives k.compiler) (g.C.Resumable.alike k.compiler)) (g.C.Compiler.rules k.compiler) k.lines.text k.rows.items k.header k.tunes k.chains.items) c.self.view_is c.self.invariant in
+    let stands = stands_now g.C.Fold.next g.C.Fold.gives g.C.Resumable.alike g.C.Compiler.rules c.self.view_is c.self.invariant in
     let lines = lines_of c.args.lines.now in
     let s = splice_from c.args.at c.args.removed c.args.lines.now in
     let read : c.in_ok-new.new.items ≡ map (new_row rules') lines = c.in_ok-new.ensures.rows ∙ ap (λ (k : Keeping g.row.C.Denot g.row.C-State.Denot g.row.C-Cell.Denot g.row.C-Items.Denot). map (new_row (g.C.Compiler.rules k.compiler)) lines) c.self.view_is in

@@ -11,7 +11,7 @@ use Rattle.abc_tunebook.specs.Book.{tunes_in}
 use Rattle.abc_chains.specs.Holding.{IsCarried, class_in, steps_taken}
 use Rattle.abc_chains.specs.Keeping.{behind_chain}
 use Rattle.abc_chains.specs.Placing.{BlocksRise, placed_until}
-use Rattle.abc_chains.specs.Renewing.{IsRenewed, IsSpan, splice_at}
+use Rattle.abc_chains.specs.Renewing.{IsRenewed, IsSpan, new_parts, splice_at}
 use Rattle.abc_chains.specs.Rows.{CarriedRow, bare, new_row}
 use Rattle.abc_chains.specs.Standing.{Keeping}
 use Rattle.abc_chains.proofs.Edits.{are_folded}
@@ -112,10 +112,10 @@ returns-clause-renewed g c = λ lines new.
     let runs = run_is steps rules' on c.args.at c.args.removed c.args.span c.self.invariant is lines c.args.new.now c.deref-4.result.now c.deref-2.result.now fresh old rows in
     let folded = c.in_ok-folded.folded in
     let came : length c.deref-4.result.now ≡ c.len-came.result = c.deref-4.ensures.len ∙ sym c.len-came.ensures in
-    let made : IsRenewed steps rules' on (splice_at c.args.at c.args.removed lines) (record { front = c.args.span.front; behind = c.args.span.behind; from = c.args.span.from; to = c.args.span.to; came = length c.deref-4.result.now }) c.self.inside.header None folded.tunes.items folded.made.items folded.taken.items =
+    let made : IsRenewed steps rules' on (splice_at c.args.at c.args.removed lines) (new_parts (record { front = c.args.span.front; behind = c.args.span.behind; from = c.args.span.from; to = c.args.span.to; came = length c.deref-4.result.now }) c.self.inside.header None folded.tunes.items folded.made.items folded.taken.items) =
     narrow_renewed steps rules' on (splice_at c.args.at c.args.removed lines) c.args.span laws lawful c.self.invariant inside is c.deref-4.result.now runs own first folded.tunes.items folded.made.items folded.taken.items c.item_at.ensures begun (c.in_ok-folded.ensures.tunes ∙ ap tunes_in blocks) c.in_ok-folded.ensures.chains c.in_ok-folded.ensures.items c.in_ok-folded.ensures.along in
-    subst (λ (k : Keeping g.row.C.Denot g.row.C-State.Denot g.row.C-Cell.Denot g.row.C-Items.Denot). IsRenewed (steps_of (g.C.Fold.next k.compiler) (g.C.Fold.gives k.compiler) (g.C.Resumable.alike k.compiler)) (g.C.Compiler.rules k.compiler) k (splice_at c.args.at c.args.removed lines) (record { front = c.args.span.front; behind = c.args.span.behind; from = c.args.span.from; to = c.args.span.to; came = c.len-came.result }) c.self.inside.header None folded.tunes.items folded.made.items folded.taken.items) c.self.view_is
-    (subst (λ n. IsRenewed steps rules' on (splice_at c.args.at c.args.removed lines) (record { front = c.args.span.front; behind = c.args.span.behind; from = c.args.span.from; to = c.args.span.to; came = n }) c.self.inside.header None folded.tunes.items folded.made.items folded.taken.items) came made)
+    subst (λ (k : Keeping g.row.C.Denot g.row.C-State.Denot g.row.C-Cell.Denot g.row.C-Items.Denot). IsRenewed (steps_of (g.C.Fold.next k.compiler) (g.C.Fold.gives k.compiler) (g.C.Resumable.alike k.compiler)) (g.C.Compiler.rules k.compiler) k (splice_at c.args.at c.args.removed lines) (new_parts (record { front = c.args.span.front; behind = c.args.span.behind; from = c.args.span.from; to = c.args.span.to; came = c.len-came.result }) c.self.inside.header None folded.tunes.items folded.made.items folded.taken.items)) c.self.view_is
+    (subst (λ n. IsRenewed steps rules' on (splice_at c.args.at c.args.removed lines) (new_parts (record { front = c.args.span.front; behind = c.args.span.behind; from = c.args.span.from; to = c.args.span.to; came = n }) c.self.inside.header None folded.tunes.items folded.made.items folded.taken.items)) came made)
 
 pub returns-clause-counted : goal.returns-clause-counted
 returns-clause-counted g c = λ lines new.
