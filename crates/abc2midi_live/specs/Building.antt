@@ -7,7 +7,7 @@ use Rattle.abc_publish.specs.declared.slot.Stored.TheVariants.{Unknown}
 use Rattle.abc_tunebook.specs.Files.{Files, file_at}
 use Rattle.abc2midi_live.specs.Answer.{end_line, failed_line, stored_line}
 use Rattle.abc2midi_live.specs.Book.{files_of}
-use Rattle.abc2midi_live.specs.Storing.{StoreAnswer, Done, Fault}
+use Rattle.abc2midi_live.specs.Storing.{StoreAnswer, StoreSeen, Follows, Done, Fault}
 use Rattle.abc2midi_live.specs.Told.{Answered, answered_by, holding, line_before}
 
 -- so many numbers, rising, the first of which is this one
@@ -49,6 +49,11 @@ abbrev pub entry_behind : StoreAnswer → Option (List ℕ) → Option Stored
 entry_behind Done bytes = stored_as bytes
 entry_behind Fault bytes = Some Unknown
 
+-- A store gave one answer to the file of a number, and what the directory is known to hold is then what that leaves.
+abbrev pub StoresOne : StoreSeen → StoreSeen → StoreAnswer → ℕ → Option (List ℕ) → Type 0
+StoresOne old new answer number bytes =
+    (directory : Directory) → Follows old new (answer ∷ []) directory (with_entry directory number (entry_behind answer bytes))
+
 -- no job is under way
 abbrev pub IsIdle : Publishing → Type 0
 IsIdle p = (n : ℕ) → p.jobs n ≡ None
@@ -77,3 +82,12 @@ abbrev pub Builds : Text → Directory → List StoreAnswer → List ℕ → Dir
 Builds text before now told after =
     (later : List StoreAnswer)
     → storing text before (pending_numbers before (files_of text)) (now ++ later) ≡ Some (answered_by told (holding text after) later)
+
+-- What a store answered led from one stage of a build to another, and such a text was told of it.
+abbrev pub StoresBy : Text → Stage → Stage → (List ℕ → Type 0) → StoreSeen → StoreSeen → Type 0
+StoresBy text before after Tells old new =
+    (now : List StoreAnswer) × (told : List ℕ) × Tells told × Stores text before now told after × Follows old new now before.directory after.directory
+
+-- What a store answered brought the directory up to date, and this was told of it.
+abbrev pub BuildsBy : Text → Directory → Directory → List ℕ → StoreSeen → StoreSeen → Type 0
+BuildsBy text before after told old new = (now : List StoreAnswer) × Builds text before now told after × Follows old new now before after

@@ -4,7 +4,8 @@ use Rattle.abc_lines.specs.Text.{Text}
 use Rattle.abc_lines.specs.Edits.{edited}
 use Rattle.abc2midi_live.specs.Command.{line_count, command_of}
 use Rattle.abc2midi_live.specs.Machine.{Future, Telling, telling}
-use Rattle.abc2midi_live.specs.Storing.{StoreAnswer}
+use Rattle.abc_publish.specs.Publisher.{Directory}
+use Rattle.abc2midi_live.specs.Storing.{StoreAnswer, StoreSeen, Follows}
 use Rattle.abc2midi_live.specs.Told.{Holding, answered_by, behind, nothing_more}
 use Rattle.abc2midi_live.specs.Transcript.{Request, Edits, ListsFaults, ListsTitles, Shows, Builds, Misspelled, CutOff, Ends, request_of, requests, book_requests, answers, answered, at_first, goes_on}
 use Rattle.abc2midi_live.specs.declared.command.Command.{Command}
@@ -58,13 +59,21 @@ abbrev pub request_with : Option Begun → List ℕ → Request
 request_with None line = request_of (command_of line) []
 request_with (Some begun) line = request_of begun.command (begun.lines ++ line ∷ [])
 
--- What is to be told to a command with the first of its lines and those that come is the reply, and then what is
--- to be told to the lines behind it.
-abbrev pub Proceeds : Holding → Begun → Holding → Option Begun → List StoreAnswer → Reply → Type 0
-Proceeds old first new begun now reply = Says (telling (awaited old (Some first)) (awaited new begun) new.directory) now reply
+-- What is told to the lines that come before and behind a step of a command that has the first of its lines.
+abbrev pub proceeding : Holding → Begun → Holding → Option Begun → Telling (List ℕ)
+proceeding old first new begun = telling (awaited old (Some first)) (awaited new begun) new.directory
 
 -- What is told to a tune book is this text, and then what is told to the lines that come behind it.
 abbrev pub Opens : Option (List ℕ) → List ℕ → Holding → Option Begun → Type 0
 Opens book text h begun =
     (ended : Bool) (lines : List (List ℕ)) (stored : List StoreAnswer)
     → answers ended at_first (book_requests book ++ requests 0 lines) stored ≡ behind text (awaited h begun ended lines stored)
+
+-- What is told to the lines that come is this reply, for what a store answered, and then what is told behind it.
+abbrev pub SaysBy : Telling (List ℕ) → Directory → Reply → StoreSeen → StoreSeen → Type 0
+SaysBy t before reply old new = (stored : List StoreAnswer) × Says t stored reply × Follows old new stored before t.directory
+
+-- A whole request is replied to, for what a store answered.
+abbrev pub RespondsBy : Holding → Holding → Request → Reply → StoreSeen → StoreSeen → Type 0
+RespondsBy before after request reply old new =
+    (stored : List StoreAnswer) × Responds before after request stored reply × Follows old new stored before.directory after.directory

@@ -13,3 +13,4 @@ pub mod Storing
 pub mod Streams
 pub mod Told
 pub mod Transcript
+pub mod Waiting

@@ -1,10 +1,10 @@
 //! Bringing the files of a store up to date with a session.
 
-ghost use Rattle.std.specs.Prelude.{◌≡◌, string_bytes, ℕ, ◌<◌, ◌^◌, ◌++◌, ◌∷◌, [], List, None, Some, IfOk, IfSome, OnErr, is_ok, option_copied};
+ghost use Rattle.std.specs.Prelude.{◌≡◌, string_bytes, ◌<◌, ◌^◌, ◌++◌, ◌∷◌, [], None, Some, IfOk, IfSome, OnErr, is_ok, option_copied};
 ghost use Rattle.abc_publish.specs.Publisher.{ended, maps_of, with_entry, Directory};
 ghost use Rattle.abc_publish.specs.declared.slot.Stored.TheVariants.{Unknown};
-ghost use Rattle.abc2midi_live.specs.Building.{answer_line, answer_of, entry_behind, stage, Builds, IsIdle, Stores};
-ghost use Rattle.abc2midi_live.specs.Storing.{file_name, Follows, IsAsked, StoreAnswer};
+ghost use Rattle.abc2midi_live.specs.Building.{answer_line, answer_of, entry_behind, stage, BuildsBy, IsIdle, StoresBy, StoresOne};
+ghost use Rattle.abc2midi_live.specs.Storing.{file_name, Follows, IsAsked};
 
 use crate::answer::{put_failed, put_stored};
 use crate::streams::{Store, StoreFault};
@@ -28,9 +28,7 @@ fn put_or_remove<S: Store>(
     bytes: Option<&[u8]>,
 ) -> Result<(), StoreFault>
     requires { name.now ≡ file_name number }
-    ensures { (directory : Directory)
-        → Follows (S.seen store.old) (S.seen store.new)
-        (answer_of (is_ok result) ∷ []) directory (with_entry directory number (entry_behind (answer_of (is_ok result)) (option_copied bytes.entry))) }
+    ensures { StoresOne (S.seen store.old) (S.seen store.new) (answer_of (is_ok result)) number (option_copied bytes.entry) }
 {
     match bytes {
         Some(bytes) => store.put(name, bytes),
@@ -46,9 +44,7 @@ fn store_file<S: Store>(
     text: &mut Vec<u8>,
 ) -> Result<bool, AllocError>
     ensures text { IfOk result (λ stored. text.new.items ≡ text.old.items ++ answer_line (answer_of stored) job.now.number job.now.bytes) }
-    ensures store { IfOk result (λ stored. (directory : Directory)
-        → Follows (S.seen store.old) (S.seen store.new)
-        (answer_of stored ∷ []) directory (with_entry directory job.now.number (entry_behind (answer_of stored) job.now.bytes))) }
+    ensures store { IfOk result (λ stored. StoresOne (S.seen store.old) (S.seen store.new) (answer_of stored) job.now.number job.now.bytes) }
     ensures asked { OnErr result ((directory : Directory) → IsAsked (S.seen store.old) (S.seen store.new) directory) }
 {
     let number = job.number();
@@ -100,9 +96,8 @@ fn store_next<S: Store>(
     text: &mut Vec<u8>,
 ) -> Result<Option<u32>, AllocError>
     requires { IsIdle (maps_of publisher.old) }
-    ensures stored { let before = (maps_of publisher.old).directory in let after = (maps_of publisher.new).directory in IfOk result (λ next. (now : List StoreAnswer) × (told : List ℕ)
-        × (text.new.items ≡ text.old.items ++ told) × Stores session.now.text (stage before (Some from)) now told (stage after next)
-        × Follows (S.seen store.old) (S.seen store.new) now before after) }
+    ensures stored { let before = stage (maps_of publisher.old).directory (Some from) in let after = (maps_of publisher.new).directory in
+        IfOk result (λ next. StoresBy session.now.text before (stage after next) (λ told. text.new.items ≡ text.old.items ++ told) (S.seen store.old) (S.seen store.new)) }
     ensures asked { OnErr result (IsAsked (S.seen store.old) (S.seen store.new) (maps_of publisher.old).directory) }
     ensures onward { IfOk result (λ next. IfSome next (λ n. (from < n) × (n < 2 ^ 32))) }
     ensures idle { IsIdle (maps_of publisher.new) }
@@ -127,8 +122,8 @@ pub fn build<S: Store>(
     store: &mut S,
 ) -> Result<Vec<u8>, AllocError>
     requires { IsIdle (maps_of publisher.old) }
-    ensures answer { let before = (maps_of publisher.old).directory in let after = (maps_of publisher.new).directory in IfOk result (λ text. (now : List StoreAnswer)
-        × Builds session.now.text before now text.items after × Follows (S.seen store.old) (S.seen store.new) now before after) }
+    ensures answer { let before = (maps_of publisher.old).directory in let after = (maps_of publisher.new).directory in
+        IfOk result (λ text. BuildsBy session.now.text before after text.items (S.seen store.old) (S.seen store.new)) }
     ensures asked { OnErr result (IsAsked (S.seen store.old) (S.seen store.new) (maps_of publisher.old).directory) }
     ensures idle { IsIdle (maps_of publisher.new) }
 {

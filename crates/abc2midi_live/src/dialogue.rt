@@ -1,6 +1,6 @@
 //! Commands, each with the lines that belong to it, carried out on a session and on the store of its files.
 
-ghost use Rattle.std.specs.Prelude.{◌≡◌, ◌<◌, ◌≤◌, nat_le, false, ℕ, Bool, List, Option, None, [], length, IfOk, IsErr, OnErr, OnOk};
+ghost use Rattle.std.specs.Prelude.{◌≡◌, ◌<◌, ◌≤◌, nat_le, false, ℕ, Bool, Option, None, [], length, IfOk, IsErr, OnErr, OnOk};
 ghost use Rattle.std.specs.Result.{result_unwrap_or};
 ghost use Rattle.abc2midi_live.specs.Command.{line_count};
 ghost use Rattle.abc_lines.specs.Text.{text_of};
@@ -8,10 +8,10 @@ ghost use Rattle.abc_lines.specs.Edits.{edited, insertion};
 ghost use Rattle.abc_live.specs.Edit.{splice_of};
 ghost use Rattle.abc_publish.specs.Publisher.{maps_of};
 ghost use Rattle.abc2midi_live.specs.Building.{IsIdle};
-ghost use Rattle.abc2midi_live.specs.Storing.{Follows, IsAsked, StoreAnswer};
+ghost use Rattle.abc2midi_live.specs.Storing.{IsAsked};
 ghost use Rattle.abc2midi_live.specs.Told.{holding};
 ghost use Rattle.abc2midi_live.specs.Transcript.{book_lines, edit_answer, no_directory, request_of};
-ghost use Rattle.abc2midi_live.specs.Dialogue.{Responds, Proceeds, begun_with, is_taken};
+ghost use Rattle.abc2midi_live.specs.Dialogue.{RespondsBy, SaysBy, begun_with, is_taken, proceeding};
 
 use crate::answer::{fault_list, hex_line, refusal, report_line, title_list};
 use crate::book_lines::book_lines;
@@ -93,9 +93,9 @@ impl Dialogue {
         work: &mut Work,
     ) -> Result<Reply, AllocError>
         requires { length lines.items ≡ line_count command }
-        ensures reply { let before = (maps_of self.old.publisher).directory in let after = (maps_of self.new.publisher).directory in IfOk result (λ reply. (stored : List StoreAnswer)
-            × Responds (holding self.old.session.text before) (holding self.new.session.text after) (request_of command (text_of lines)) stored reply
-            × Follows (S.seen store.old) (S.seen store.new) stored before after) }
+        ensures reply { let before = holding self.old.session.text (maps_of self.old.publisher).directory in
+            let after = holding self.new.session.text (maps_of self.new.publisher).directory in
+            IfOk result (λ reply. RespondsBy before after (request_of command (text_of lines)) reply (S.seen store.old) (S.seen store.new)) }
         ensures asked { OnErr result (IsAsked (S.seen store.old) (S.seen store.new) (maps_of self.old.publisher).directory) }
         ensures gathering { self.new.gathering ≡ self.old.gathering }
         ensures uncounted { OnOk result (is_taken self.old.session.text (request_of command (text_of lines)) ≡ false → work.new ≡ work.old) }
@@ -148,9 +148,9 @@ impl Dialogue {
         requires idle { self.old.gathering ≡ None }
         requires few { length lines.items ≤ line_count command }
         ensures asked { OnErr result (IsAsked (S.seen store.old) (S.seen store.new) (maps_of self.old.publisher).directory) }
-        ensures reply { let before = (maps_of self.old.publisher).directory in let after = (maps_of self.new.publisher).directory in IfOk result (λ reply. (stored : List StoreAnswer)
-            × Proceeds (holding self.old.session.text before) (begun_with command (text_of lines)) (holding self.new.session.text after) (begun_of self.new.gathering) stored reply
-            × Follows (S.seen store.old) (S.seen store.new) stored before after) }
+        ensures reply { let before = holding self.old.session.text (maps_of self.old.publisher).directory in
+            let after = holding self.new.session.text (maps_of self.new.publisher).directory in
+            IfOk result (λ reply. SaysBy (proceeding before (begun_with command (text_of lines)) after (begun_of self.new.gathering)) before.directory reply (S.seen store.old) (S.seen store.new)) }
         ensures uncounted { OnOk result (is_taken self.old.session.text (request_of command (text_of lines)) ≡ false → work.new ≡ work.old) }
     {
         if lines.len() < command.line_count() {
@@ -163,7 +163,8 @@ impl Dialogue {
 
 impl Machine for Dialogue {
     ghost use Rattle.abc2midi_live.specs.Dialogue.{awaited, request_with};
-    ghost use Rattle.abc2midi_live.specs.Gathering.{begun_of, dialogue_waits};
+    ghost use Rattle.abc2midi_live.specs.Gathering.{begun_of};
+    ghost use Rattle.abc2midi_live.specs.Waiting.{dialogue_waits};
 
     ghost future = { λ d. awaited (holding d.session.text (maps_of d.publisher).directory) (begun_of d.gathering) };
 

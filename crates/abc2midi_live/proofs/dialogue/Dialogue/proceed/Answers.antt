@@ -4,7 +4,7 @@ use Rattle.std.proofs.lemmas.List.{length-map}
 use Rattle.abc_lines.specs.Text.{text_of}
 use Rattle.abc_publish.specs.Publisher.{maps_of}
 use Rattle.abc2midi_live.specs.Command.{line_count}
-use Rattle.abc2midi_live.specs.Dialogue.{Proceeds, begun_with}
+use Rattle.abc2midi_live.specs.Dialogue.{Says, begun_with, proceeding}
 use Rattle.abc2midi_live.specs.Gathering.{begun_of}
 use Rattle.abc2midi_live.specs.Told.{holding}
 use Rattle.abc2midi_live.proofs.Requests.{says_whole}
@@ -24,5 +24,5 @@ returns-clause-reply g c =
     let new = holding c.respond.new.self.session.text (maps_of c.respond.new.self.publisher).directory in
     let whole : length lines ≡ line_count c.args.command = length-map c.args.lines.items (λ line. line.items) ∙ (omega (arith, c.args.lines.ok.0)) in
     IfOk-weaker c.respond.result _ _
-    (λ reply h. (h.0, subst (λ o. Proceeds old (begun_with c.args.command lines) new (begun_of o) h.0 reply) (sym (c.respond.ensures.gathering ∙ c.requires.idle)) (says_whole old new c.args.command lines h.0 reply whole h.1), h.2))
+    (λ reply h. (h.0, subst (λ o. Says (proceeding old (begun_with c.args.command lines) new (begun_of o)) h.0 reply) (sym (c.respond.ensures.gathering ∙ c.requires.idle)) (says_whole old new c.args.command lines h.0 reply whole h.1), h.2))
     c.respond.ensures.reply

@@ -2,7 +2,8 @@ use Rattle.std.proofs.Common.{true, [], ◌∙◌, ap}
 use Rattle.abc_publish.specs.Publisher.{maps_of}
 use Rattle.abc2midi_live.specs.Answer.{truncated_line}
 use Rattle.abc2midi_live.specs.Dialogue.{awaited}
-use Rattle.abc2midi_live.specs.Gathering.{begun_of, request_of-gathering}
+use Rattle.abc2midi_live.specs.Gathering.{begun_of}
+use Rattle.abc2midi_live.specs.Waiting.{request_of-gathering}
 use Rattle.abc2midi_live.specs.Told.{holding}
 use Rattle.abc2midi_live.proofs.Requests.{last_cut, last_none}
 use Rattle.abc2midi_live.proofs.dialogue.DialogueMachine.last_words.Goals as goal

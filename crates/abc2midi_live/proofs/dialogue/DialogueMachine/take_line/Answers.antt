@@ -8,7 +8,8 @@ use Rattle.abc2midi_live.specs.Machine.{Replies, telling}
 use Rattle.abc2midi_live.specs.Told.{holding}
 use Rattle.abc2midi_live.specs.Transcript.{request_of}
 use Rattle.abc2midi_live.specs.Dialogue.{awaited, is_taken, request_with, Says}
-use Rattle.abc2midi_live.specs.Gathering.{begun_of, gathering_few}
+use Rattle.abc2midi_live.specs.Gathering.{begun_of}
+use Rattle.abc2midi_live.specs.Waiting.{gathering_few}
 use Rattle.abc2midi_live.proofs.Requests.{replies, awaited_line, awaited_command, text_of-push, few_lines}
 use Rattle.abc2midi_live.proofs.Storing.{asked_none, on_err}
 use Rattle.abc2midi_live.proofs.dialogue.DialogueMachine.take_line.Goals as goal
