@@ -2,7 +2,7 @@
 use Rattle.std.proofs.Common.{◌≡◌, ◌∙◌, ℕ, suc, ◌+◌, Bool, true, false, cond, List, [], ◌∷◌, ◌++◌, length, take, Option, Some, None, refl, sym, ap, append-nil, append_assoc, add-one, drop, length-append}
 use Rattle.std.specs.Prelude.{is_none}
 use Rattle.abc_fields.specs.declared.fault.FaultCode.{FaultCode}
-use Rattle.abc_fields.specs.declared.fault.FaultCode.TheVariants.{BadByte, BadProgram, LooseTie}
+use Rattle.abc_fields.specs.declared.fault.FaultCode.TheVariants.{BadProgram, LooseTie}
 use Rattle.abc_scan.specs.declared.directive.Directive.{Directive}
 use Rattle.abc_scan.specs.declared.directive.Directive.TheVariants as directives
 use Rattle.abc_scan.specs.declared.spanned.Spanned.{Spanned}
