@@ -214,6 +214,7 @@ module _ (place : CellPlace) (kind : TokenKind) (no_tie : is_tie_token kind ≡ 
               ap (λ (given : Given). length given.items.items) last.1
               ∙ as-many last.0 start (body-at place) place.from kind [] place.ahead (last.3 ∙ sym split.3)
               ∙ ap length g.1 ∙ length-append start.items.items (g.0 ∷ []) ∙ ap (λ n. n + 1) split.3;
+          none = refl;
         },
         g.2,
       )

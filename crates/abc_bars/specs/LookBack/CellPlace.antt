@@ -59,13 +59,14 @@ abbrev pub items_of : CellPlace → List (Spanned TokenKind) → List Item
 items_of place cell = (given_in_body place.values place.fields place.key place.before cell).items
 
 -- The one item that a token of this kind gives at a place. Among those of its cell it stands behind exactly as many as the
--- tokens in front of it give without it, and with it they give one more.
+-- tokens in front of it give without it, and with it they give one more. No tokens give none.
 pub record IsItemOf (place : CellPlace) (kind : TokenKind) (item : Item) : Type 0 where
   pub others : List Item
   pub more : List Item
   pub split : items_of place (cell_with place kind) ≡ others ++ item ∷ more
   pub behind : length others ≡ length (items_of place place.front)
   pub one : length (items_of place (cell_of place kind [])) ≡ length (items_of place place.front) + 1
+  pub none : items_of place [] ≡ []
 
 -- Of the item that a token of this kind gives at a place this holds.
 abbrev pub GivesItem : CellPlace → TokenKind → (Item → Type 0) → Type 0
