@@ -2,6 +2,7 @@ pub mod Accidentals
 pub mod Along
 pub mod ByName
 pub mod ByPlace
+pub mod CellPlace
 pub mod Cells
 pub mod Heard
 pub mod Held

@@ -2,6 +2,7 @@ pub mod After
 pub mod AfterBody
 pub mod Along
 pub mod ByName
+pub mod CellPlace
 pub mod Cells
 pub mod Defaults
 pub mod Element

@@ -46,8 +46,8 @@ fn may_be_tied(kind: &TokenKind) -> bool
     matches!(token_role(kind), TokenRole::Sound { .. })
 }
 
-/// Factors with which a chord gives what it gives with those of the marks round it. One without notes takes no time: for it
-/// nothing is read of what stands behind it, so that many of them side by side cost no more than each alone.
+/// Factors with which a chord gives what it gives with those of the marks round it. One without notes takes no time, and for
+/// it no token ahead is read.
 #[tactic(auto, using(crate::proofs::SilentChords::silent_same))]
 fn chord_factors(behind: Behind, chord: &Chord, ahead: &[Token]) -> BrokenFactors
     ensures { (settings : Settings) (tied : Bool) (from : ℕ) →

@@ -2,7 +2,8 @@
 
 ghost use Rattle.abc_scan.specs.declared.note.Note.{Note};
 ghost use Rattle.std.specs.Prelude.{List};
-ghost use Rattle.abc_bars.specs.LookBack.Keys.{ChordsHaveKeys, IsAlteredAt, NotesHaveKeys, Standing};
+ghost use Rattle.abc_bars.specs.LookBack.CellPlace.{Standing};
+ghost use Rattle.abc_bars.specs.LookBack.Keys.{ChordsHaveKeys, IsAlteredAt, NotesHaveKeys};
 
 /// What alters a note at a place of its voice: its own accidental; else the last one that reaches it among the notes of
 /// its chord before it; else the last one that reaches it since the voice's last bar line, K: or accepted P:; else what
@@ -12,9 +13,10 @@ pub fn alterations_of_notes()
     ensures { (at : Standing) (earlier : List Note) (note : Note) → IsAlteredAt at earlier note }
 {}
 
-/// What a cell of music gives, wherever it stands: each of its notes sounds the key of its pitch, altered so by what
-/// stands before it in its voice, and shifted by what was last said of its voice; the first sixteen of a chord likewise,
-/// each behind those before it. A tone is tied where a tie directly follows its note or its chord.
+/// What a cell of music gives, wherever it stands: for each of its notes one item, behind those of the tokens in front of
+/// it, which sounds the key of the note's pitch, altered so by what stands before it in its voice, and shifted by what was
+/// last said of its voice; for a chord likewise one of its first sixteen notes, each behind those before it. A tone is
+/// tied where a tie directly follows its note or its chord.
 pub fn keys_at_places()
     ensures notes { NotesHaveKeys }
     ensures chords { ChordsHaveKeys }

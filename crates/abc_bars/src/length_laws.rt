@@ -2,9 +2,9 @@
 
 ghost use Rattle.abc_bars.specs.LookBack.Lengths.{ChordsLastThere, NotesLastThere, RestsLastThere};
 
-/// What a cell of music gives, wherever it stands: each of its notes and rests lasts as `lengths_of_notes` says, by the
-/// unit and the tuplet that looking back finds for its voice there and by the marks of broken rhythm that act on it in
-/// its cell; and a chord as `notes_of_chords` says.
+/// What a cell of music gives, wherever it stands: for each of its notes and rests one item, behind those of the tokens
+/// in front of it, which lasts as `lengths_of_notes` says, by the unit and the tuplet that looking back finds for its
+/// voice there and by the marks of broken rhythm that act on it in its cell; and for a chord one as `notes_of_chords` says.
 pub fn lengths_at_places()
     ensures notes { NotesLastThere }
     ensures rests { RestsLastThere }

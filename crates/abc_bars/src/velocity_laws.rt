@@ -2,9 +2,9 @@
 
 ghost use Rattle.abc_bars.specs.LookBack.Velocities.{ChordsHaveVelocities, NotesHaveVelocities};
 
-/// What a cell of music gives, wherever it stands: each of its notes and all notes of its chords sound with the velocity
-/// of the last dynamic that stands before them in their voice, as it is written, and with 80 where none does. A dynamic
-/// of another voice and one inside a chord is not counted.
+/// What a cell of music gives, wherever it stands: for each of its notes and chords one item, behind those of the tokens
+/// in front of it, whose tones have the velocity of the last dynamic that stands before it in its voice, as it is written,
+/// and 80 where none does. A dynamic of another voice and one inside a chord is not counted.
 pub fn velocities_at_places()
     ensures notes { NotesHaveVelocities }
     ensures chords { ChordsHaveVelocities }

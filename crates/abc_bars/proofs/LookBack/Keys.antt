@@ -1,34 +1,22 @@
 -- What alters a note at a place is what looking back finds, and its key is that of its pitch as it is altered so.
 use Rattle.std.proofs.Common.{◌≡◌, ◌∙◌, ℕ, suc, zero, ◌+◌, ℤ, Bool, true, false, ◌||◌, cond, List, [], ◌∷◌, ◌++◌, length, map, take, Option, Some, None, refl, sym, ap, subst, append-nil, append_assoc}
-use Rattle.std.specs.Prelude.{All, is_none}
+use Rattle.std.specs.Prelude.{All}
 use Rattle.std.specs.Option.{option_or}
 use Rattle.std.proofs.lemmas.List.{map-append}
 use Rattle.std.proofs.lemmas.List.Elements.{All-cons, All-head, All-map, All-nil, All-same, All-tail}
-use Rattle.abc_fields.specs.declared.fault.FaultCode.{FaultCode}
-use Rattle.abc_fields.specs.declared.fault.FaultCode.TheVariants.{BadByte, BadProgram, BigChord, LooseTie}
-use Rattle.abc_fields.specs.declared.key.Key.{Key}
+use Rattle.abc_fields.specs.declared.fault.FaultCode.TheVariants.{BadByte, BigChord, LooseTie}
 use Rattle.abc_fields.specs.Signature.{alteration as signature_alteration}
 use Rattle.abc_scan.specs.declared.chord.Chord.{Chord}
-use Rattle.abc_scan.specs.declared.directive.Directive.{Directive}
-use Rattle.abc_scan.specs.declared.directive.Directive.TheVariants as directives
 use Rattle.abc_scan.specs.declared.directive.Reach.{Reach}
 use Rattle.abc_scan.specs.declared.note.Note.{Note}
 use Rattle.abc_scan.specs.declared.parts.ChordPartKind.{ChordPartKind}
 use Rattle.abc_scan.specs.declared.parts.ChordPartKind.TheVariants as parts
 use Rattle.abc_scan.specs.declared.spanned.Spanned.{Spanned}
-use Rattle.abc_scan.specs.declared.token.TokenKind.{TokenKind}
 use Rattle.abc_scan.specs.declared.token.TokenKind.TheVariants as kinds
 use Rattle.abc_time.specs.declared.ratio.Ratio.{Ratio}
-use Rattle.abc_bars.specs.HeaderLine.{HeaderLine}
 use Rattle.abc_bars.specs.declared.body.Body.{Body}
-use Rattle.abc_bars.specs.declared.body.Current.{Current}
-use Rattle.abc_bars.specs.declared.body.Current.TheVariants.{Unnamed, At}
-use Rattle.abc_bars.specs.declared.cell.Given.{Given}
-use Rattle.abc_bars.specs.declared.defaults.Defaults.{Defaults}
 use Rattle.abc_music.specs.declared.accidentals.Accidentals.{Accidentals}
 use Rattle.abc_music.specs.declared.chords.Outside.{Outside}
-use Rattle.abc_music.specs.declared.item.Item.{Item}
-use Rattle.abc_music.specs.declared.item.Item.TheVariants as items
 use Rattle.abc_music.specs.declared.item.TheConstants.{MOST_CHORD_NOTES}
 use Rattle.abc_music.specs.declared.settings.Settings.{Settings}
 use Rattle.abc_music.specs.declared.sound.Inside.{Inside}
@@ -38,25 +26,21 @@ use Rattle.abc_music.specs.Alteration.{alteration_of, with_own}
 use Rattle.abc_music.specs.Broken.{factors_of, is_time_token}
 use Rattle.abc_music.specs.Chords.{around_part, inside_from, inside_of, tie_follows, with_dropped, with_fault as with_part_fault}
 use Rattle.abc_music.specs.Column.{column_of}
-use Rattle.abc_music.specs.Program.{program_of}
 use Rattle.abc_music.specs.NoteKeys.{IsAltered, IsSame}
 use Rattle.abc_music.specs.Pitch.{midi_key, pitch_of}
 use Rattle.abc_music.specs.Sound.{no_notes, with_note as with_sounding}
-use Rattle.abc_music.specs.TimeTokens.{chord_by, first_length}
+use Rattle.abc_music.specs.TimeTokens.{first_length}
 use Rattle.abc_music.specs.TokenRole.{has_note}
 use Rattle.abc_music.proofs.NoteKeys.{altered_by}
-use Rattle.abc_bars.specs.Body.{here, mentioned}
-use Rattle.abc_bars.specs.BodyFields.{field_given}
-use Rattle.abc_bars.specs.Cell.{is_tie_token, mentioned_by_chord, nothing_given, tie_ahead, with_directive, with_ending, with_fault, with_fault_if, with_item, with_kind, with_some_fault, with_token}
-use Rattle.abc_bars.specs.LookBack.Cells.{behind_tokens, looked_back}
+use Rattle.abc_bars.specs.Body.{here}
+use Rattle.abc_bars.specs.Cell.{mentioned_by_chord, tie_ahead}
+use Rattle.abc_bars.specs.LookBack.CellPlace.{Standing, standing_at}
 use Rattle.abc_bars.specs.LookBack.Element.{Element}
-use Rattle.abc_bars.specs.LookBack.Held.{held_at}
-use Rattle.abc_bars.specs.LookBack.Keys.{AreWrittenAlike, ChordsHaveKeys, GivesTones, IsAlteredAt, IsLastAmong, IsNoneAmong, NotesHaveKeys, Standing, heard_of, key_at, keys_from, standing}
-use Rattle.abc_bars.specs.LookBack.Place.{opening_at}
+use Rattle.abc_bars.specs.LookBack.Keys.{AreWrittenAlike, ChordsHaveKeys, IsAlteredAt, IsLastAmong, IsNoneAmong, NotesHaveKeys, SoundsKeys, heard_of, key_at, keys_from}
 use Rattle.abc_bars.specs.LookBack.Ties.{IsTimeBefore, tied_notes}
 use Rattle.abc_bars.specs.LookBack.Voice.{accidentals_at, accidentals_of, alteration_at, counted_notes, newest_written, notes_among, notes_of_bar, settings_at, shift_at, signature_at, tied_at, written_by}
-use Rattle.abc_bars.proofs.LookBack.Held.{here_found}
 use Rattle.abc_bars.proofs.LookBack.Accidentals.{newest_heard}
+use Rattle.abc_bars.proofs.LookBack.CellPlace.{between, body-at, chord-items, here-in-chord, here-is}
 use Rattle.abc_bars.proofs.LookBack.Tied.{AreBehind, alteration-at, behind-none, either, no-room, one-more, room-left}
 use Rattle.abc_bars.proofs.LookBack.Ties.{Passed, altered, left-by, passed-over, tied-last}
 
@@ -233,148 +217,38 @@ note-key at note =
     ap (λ accidentals. midi_key (pitch_of (settings_at at.opening at.before).shift note (alteration_of (settings_at at.opening at.before) accidentals note))) (same-accidentals at.opening at.before)
     ∙ (λ i. midi_key (pitch_of (same-shift at.opening at.before i) note (alteration-at at.opening at.before (accidentals_at (reach_of at.opening.accidentals) at.before) [] note (behind-none at.opening at.before) i)))
 
--- What stands before a token that is no tie, whatever follows it.
-pub tie-next : (front ahead : List (Spanned TokenKind)) (token : Spanned TokenKind) → is_tie_token token.kind ≡ false → tie_ahead (front ++ token ∷ ahead) ≡ tie_ahead front
-tie-next [] ahead token e = e
-tie-next (first ∷ front) ahead token e = refl
-
-split-back : (opening : Body) (before : List Element) (given : Given) (front ahead : List (Spanned TokenKind)) (token : Spanned TokenKind) → is_tie_token token.kind ≡ false
-    → (start : Given) × (looked_back opening before given (front ++ token ∷ ahead) ≡ looked_back opening (behind_tokens front before) start (token ∷ ahead))
-split-back opening before given [] ahead token e = (given, refl)
-split-back opening before given (first ∷ front) ahead token e =
-    let next : Given = with_token (record given { body = held_at opening before }) first (front ++ token ∷ ahead) in
-    let follows : Bool = tie_ahead (front ++ token ∷ ahead) in
-    let rest = split-back opening (record { kind = first.kind; tied = follows } ∷ before) next front ahead token e in (
-      rest.0,
-      rest.1 ∙ ap (λ b. looked_back opening (behind_tokens front (record { kind = first.kind; tied = b } ∷ before)) rest.0 (token ∷ ahead)) (tie-next front ahead token e),
-    )
-
--- The items of a token come behind those before it.
-fault-items : (given : Given) (place : ℕ) (code : Option FaultCode) → (with_some_fault given place code).items.items ≡ given.items.items
-fault-items given place None = refl
-fault-items given place (Some code) = refl
-
-fault-if-items : (given : Given) (b : Bool) (place : ℕ) (code : FaultCode) → (with_fault_if given b place code).items.items ≡ given.items.items
-fault-if-items given true place code = refl
-fault-if-items given false place code = refl
-
-tie-items : (given : Given) (b : Bool) (place : ℕ) (code : FaultCode) → (cond b given (with_fault given place code)).items.items ≡ given.items.items
-tie-items given true place code = refl
-tie-items given false place code = refl
-
-ending-items : (given : Given) (place : ℕ) (passes : Option ℕ) → (more : List Item) × ((with_ending given place passes).items.items ≡ given.items.items ++ more)
-ending-items given place None = ([], sym (append-nil _))
-ending-items given place (Some passes) = (_, refl)
-
-directive-items : (given : Given) (place : ℕ) (directive : Directive) → (more : List Item) × ((with_directive given place directive).items.items ≡ given.items.items ++ more)
-directive-items given place (directives.Program written) = (_, fault-if-items (with_item given (items.Program false (program_of written))) (is_none (program_of written)) place BadProgram)
-directive-items given place (directives.Reach reaching) = ([], sym (append-nil _))
-
-adds : (given : Given) (place : ℕ) (kind : TokenKind) (ahead : List (Spanned TokenKind)) → (more : List Item) × ((with_kind given place kind ahead).items.items ≡ given.items.items ++ more)
-adds given place (kinds.Note note) ahead = (_, refl)
-adds given place (kinds.Rest length) ahead = (_, refl)
-adds given place (kinds.BarRest bars) ahead = (_, fault-items _ place _)
-adds given place (kinds.Chord chord) ahead = (_, refl)
-adds given place (kinds.InlineField field) ahead = ((field_given given.body field.letter field.value place).items, refl)
-adds given place (kinds.Field field) ahead = ((field_given given.body field.letter field.value place).items, refl)
-adds given place (kinds.Bar bar) ahead = (_, refl)
-adds given place (kinds.Tuplet mark) ahead = ([], fault-items _ place _ ∙ sym (append-nil _))
-adds given place (kinds.Ending passes) ahead = ending-items given place passes
-adds given place (kinds.Broken mark) ahead = ([], fault-if-items given _ place _ ∙ sym (append-nil _))
-adds given place kinds.Tie ahead = ([], tie-items given given.after_note place LooseTie ∙ sym (append-nil _))
-adds given place kinds.Blank ahead = ([], sym (append-nil _))
-adds given place kinds.NoEffect ahead = ([], sym (append-nil _))
-adds given place (kinds.Dynamic dynamic) ahead = ([], sym (append-nil _))
-adds given place (kinds.Directive directive) ahead = directive-items given place directive
-adds given place kinds.Unclosed ahead = ([], sym (append-nil _))
-adds given place kinds.BadByte ahead = ([], sym (append-nil _))
-
-pub goes-on : (opening : Body) (before : List Element) (given : Given) (cell : List (Spanned TokenKind))
-    → (more : List Item) × ((looked_back opening before given cell).items.items ≡ given.items.items ++ more)
-goes-on opening before given [] = ([], sym (append-nil _))
-goes-on opening before given (token ∷ ahead) =
-    let start : Given = record given { body = held_at opening before } in
-    let first = adds start token.from token.kind ahead in
-    let rest = goes-on opening (record { kind = token.kind; tied = tie_ahead ahead } ∷ before) (with_token start token ahead) ahead in
-    (first.0 ++ rest.0, rest.1 ∙ ap (λ l. l ++ rest.0) first.1 ∙ append_assoc given.items.items first.0 rest.0)
-
--- A token that gives tones gives them behind whatever stands before it.
-module _ (opening : Body) (before : List Element) (front ahead : List (Spanned TokenKind)) (token : Spanned TokenKind) (no_tie : is_tie_token token.kind ≡ false)
-    (keys : List (Option ℕ × Bool))
-    (gives : (start : Given) → GivesTones (with_kind (record start { body = held_at opening (behind_tokens front before) }) token.from token.kind ahead).items.items keys) where
-  between : GivesTones (looked_back opening before (nothing_given opening) (front ++ token ∷ ahead)).items.items keys
-  between =
-      let start = split-back opening before (nothing_given opening) front ahead token no_tie in
-      let g = gives start.0 in
-      let rest = goes-on opening (record { kind = token.kind; tied = tie_ahead ahead } ∷ behind_tokens front before)
-      (with_token (record start.0 { body = held_at opening (behind_tokens front before) }) token ahead) ahead in (
-        g.0,
-        g.1,
-        g.2,
-        g.3 ++ rest.0,
-        ap (λ (given : Given). given.items.items) start.1 ∙ rest.1 ∙ ap (λ l. l ++ rest.0) g.4 ∙ append_assoc g.0 _ rest.0,
-        g.5,
-      )
-
-mentioned-in : (body : Body) (current : Current) → here (mentioned (record body { current = current })) ≡ here (record body { current = current })
-mentioned-in body (Unnamed settings) = refl
-mentioned-in body (At place) = refl
-
--- What holds for the current voice where a token mentions it.
-pub here-is : (values : Defaults) (fields : List HeaderLine) (key : Key) (before : List Element)
-    → here (mentioned (held_at (opening_at values fields key) before)) ≡ settings_at (standing values fields key before).opening (standing values fields key before).before
-here-is values fields key before =
-    let body : Body = held_at (opening_at values fields key) before in
-    mentioned-in body body.current ∙ here_found values fields key before
-
-note-gives : (values : Defaults) (fields : List HeaderLine) (key : Key) (before : List Element) (start : Given) (place : ℕ) (note : Note) (ahead : List (Spanned TokenKind))
-    → GivesTones (with_kind (record start { body = held_at (opening_at values fields key) before }) place (kinds.Note note) ahead).items.items
-    ((key_at (standing values fields key before) [] note, tie_ahead ahead) ∷ [])
-note-gives values fields key before start place note ahead =
-    let at : Standing = standing values fields key before in
-    let outside : Outside = record { length = note.length; tied = tie_ahead ahead; from = place } in
-    let body : Body = mentioned (held_at (opening_at values fields key) before) in (
-      start.items.items,
-      _,
-      _,
-      [],
-      refl,
-      ap (λ (s : Settings). (midi_key (pitch_of s.shift note (alteration_of s s.accidentals note)), tie_ahead ahead) ∷ []) (here-is values fields key before)
-          ∙ ap (λ k. (k, tie_ahead ahead) ∷ []) (note-key at note),
-    )
-
-pub chord-items : (b : Bool) (settings : Settings) (place : ℕ) (inside : Inside) → b ≡ true
-    → (chord_by b settings place inside).items ≡ items.Tone inside.tones (first_length inside.tones) ∷ []
-chord-items true settings place inside e = refl
-chord-items false settings place inside e = cc
-
-chord-gives : (values : Defaults) (fields : List HeaderLine) (key : Key) (before : List Element) (start : Given) (place : ℕ) (chord : Chord) (ahead : List (Spanned TokenKind)) → has_note chord.parts ≡ true
-    → GivesTones (with_kind (record start { body = held_at (opening_at values fields key) before }) place (kinds.Chord chord) ahead).items.items
-    (keys_from (standing values fields key before) (tie_ahead ahead) [] (counted_notes chord))
-chord-gives values fields key before start place chord ahead e =
-    let at : Standing = standing values fields key before in
-    let outside : Outside = record { length = chord.length; tied = tie_ahead ahead; from = place } in
-    let held : Body = held_at (opening_at values fields key) before in
-    let body : Body = mentioned_by_chord (has_note chord.parts) held in
-    let broken : List Ratio = factors_of start.behind ahead in
-    let inside : Inside = inside_of (here body) broken outside chord.parts in (
-      start.items.items,
-      inside.tones,
-      first_length inside.tones,
-      [],
-      ap (λ l. start.items.items ++ l) (chord-items (has_note chord.parts) (here body) place inside e),
-      ap (λ (s : Settings). map heard_of (inside_of s broken outside chord.parts).tones) (ap (λ b. here (mentioned_by_chord b held)) e ∙ here-is values fields key before)
-          ∙ chord-sounds at broken outside chord,
-    )
-
 pub notes_have_keys : NotesHaveKeys
-notes_have_keys values fields key before front ahead note from to =
-    let opening : Body = opening_at values fields key in
-    between opening before front ahead (record { kind = kinds.Note note; from = from; to = to }) refl _
-    (λ start. note-gives values fields key (behind_tokens front before) start from note ahead)
+notes_have_keys place note =
+    let at : Standing = standing_at place in
+    between place (kinds.Note note) refl (SoundsKeys ((key_at at [] note, tie_ahead place.ahead) ∷ []))
+    (λ start factors. (
+      _,
+      refl,
+      (
+        _,
+        _,
+        refl,
+        ap (λ (s : Settings). (midi_key (pitch_of s.shift note (alteration_of s s.accidentals note)), tie_ahead place.ahead) ∷ []) (here-is place)
+            ∙ ap (λ k. (k, tie_ahead place.ahead) ∷ []) (note-key at note),
+      ),
+    ))
 
 pub chords_have_keys : ChordsHaveKeys
-chords_have_keys values fields key before front ahead chord from to some =
-    let opening : Body = opening_at values fields key in
-    between opening before front ahead (record { kind = kinds.Chord chord; from = from; to = to }) refl _
-    (λ start. chord-gives values fields key (behind_tokens front before) start from chord ahead some)
+chords_have_keys place chord some =
+    let at : Standing = standing_at place in
+    let outside : Outside = record { length = chord.length; tied = tie_ahead place.ahead; from = place.from } in
+    between place (kinds.Chord chord) refl (SoundsKeys (keys_from at (tie_ahead place.ahead) [] (counted_notes chord)))
+    (λ start factors.
+    let broken : List Ratio = factors_of start.behind place.ahead in
+    let body : Body = mentioned_by_chord (has_note chord.parts) (body-at place) in
+    let inside : Inside = inside_of (here body) broken outside chord.parts in (
+      _,
+      ap (λ l. start.items.items ++ l) (chord-items (has_note chord.parts) (here body) place.from inside some),
+      (
+        inside.tones,
+        first_length inside.tones,
+        refl,
+        ap (λ (s : Settings). map heard_of (inside_of s broken outside chord.parts).tones) (here-in-chord place (has_note chord.parts) some)
+            ∙ chord-sounds at broken outside chord,
+      ),
+    ))

@@ -9,7 +9,6 @@ use Rattle.abc_scan.specs.declared.parts.ChordPartKind.TheVariants as parts
 use Rattle.abc_scan.specs.declared.spanned.Spanned.{Spanned}
 use Rattle.abc_scan.specs.declared.token.TokenKind.TheVariants as kinds
 use Rattle.abc_time.specs.declared.ratio.Ratio.{Ratio}
-use Rattle.abc_bars.specs.declared.body.Body.{Body}
 use Rattle.abc_music.specs.declared.chords.Outside.{Outside}
 use Rattle.abc_music.specs.declared.item.TheConstants.{MOST_CHORD_NOTES}
 use Rattle.abc_music.specs.declared.item.Tone.{Tone}
@@ -24,15 +23,11 @@ use Rattle.abc_music.specs.TokenRole.{has_note}
 use Rattle.abc_music.specs.Velocity.{velocity_of}
 use Rattle.abc_bars.specs.Body.{here, mentioned}
 use Rattle.abc_bars.specs.Cell.{mentioned_by_chord, tie_ahead}
-use Rattle.abc_bars.specs.LookBack.Cells.{behind_tokens}
 use Rattle.abc_bars.specs.LookBack.Element.{Element}
-use Rattle.abc_bars.specs.LookBack.Held.{held_at}
-use Rattle.abc_bars.specs.LookBack.Keys.{Standing, standing}
-use Rattle.abc_bars.specs.LookBack.Place.{opening_at}
+use Rattle.abc_bars.specs.LookBack.CellPlace.{Standing, standing_at}
 use Rattle.abc_bars.specs.LookBack.Velocities.{ChordsHaveVelocities, IsVelocityAt, NotesHaveVelocities, SoundsWith}
 use Rattle.abc_bars.specs.LookBack.Voice.{dynamic_at, dynamic_said, settings_at}
-use Rattle.abc_bars.proofs.LookBack.Keys.{chord-items, here-is}
-use Rattle.abc_bars.proofs.LookBack.Lengths.{between}
+use Rattle.abc_bars.proofs.LookBack.CellPlace.{between, body-at, chord-items, here-in-chord, here-is}
 
 -- No dynamic.
 abbrev Silent : Element → Type 0
@@ -98,50 +93,45 @@ behind-found : (at : Standing) (tones : List Tone)
 behind-found at tones all = subst (λ (d : Option Dynamic). All (λ tone. tone.velocity ≡ velocity_of d) tones) (same-dynamic at.opening at.before) all
 
 pub notes_have_velocities : NotesHaveVelocities
-notes_have_velocities values fields key before front ahead note from to =
-    let opening : Body = opening_at values fields key in
-    let there : List Element = behind_tokens front before in
-    let at : Standing = standing values fields key there in
-    let body : Body = mentioned (held_at opening there) in (
+notes_have_velocities place note =
+    let at : Standing = standing_at place in
+    let settings : Settings = here (mentioned (body-at place)) in (
       velocity_of (dynamic_at at.before),
       found at.before,
-      between opening before front ahead (record { kind = kinds.Note note; from = from; to = to }) refl (SoundsWith (velocity_of (dynamic_at at.before)))
+      between place (kinds.Note note) refl (SoundsWith (velocity_of (dynamic_at at.before)))
           (λ start factors.
-          let tone : Tone = tone_in (here body) (here body).accidentals (factors_of start.behind ahead) None note (tie_ahead ahead) in (
+          let tone : Tone = tone_in settings settings.accidentals (factors_of start.behind place.ahead) None note (tie_ahead place.ahead) in (
             _,
             refl,
             (
               tone ∷ [],
               tone.length,
               refl,
-              behind-found at (tone ∷ []) (moved (here body) (settings_at at.opening at.before) (tone ∷ []) (here-is values fields key there)
-                  (All-cons (λ (t : Tone). t.velocity ≡ velocity_of (here body).dynamic) tone [] refl (All-nil (λ (t : Tone). t.velocity ≡ velocity_of (here body).dynamic)))),
+              behind-found at (tone ∷ []) (moved settings (settings_at at.opening at.before) (tone ∷ []) (here-is place)
+                  (All-cons (λ (t : Tone). t.velocity ≡ velocity_of settings.dynamic) tone [] refl (All-nil (λ (t : Tone). t.velocity ≡ velocity_of settings.dynamic)))),
             ),
           )),
     )
 
 pub chords_have_velocities : ChordsHaveVelocities
-chords_have_velocities values fields key before front ahead chord from to some =
-    let opening : Body = opening_at values fields key in
-    let there : List Element = behind_tokens front before in
-    let at : Standing = standing values fields key there in
-    let held : Body = held_at opening there in
-    let body : Body = mentioned_by_chord (has_note chord.parts) held in
-    let same : here body ≡ settings_at at.opening at.before = ap (λ b. here (mentioned_by_chord b held)) some ∙ here-is values fields key there in (
+chords_have_velocities place chord some =
+    let at : Standing = standing_at place in
+    let settings : Settings = here (mentioned_by_chord (has_note chord.parts) (body-at place)) in
+    let outside : Outside = record { length = chord.length; tied = tie_ahead place.ahead; from = place.from } in (
       velocity_of (dynamic_at at.before),
       found at.before,
-      between opening before front ahead (record { kind = kinds.Chord chord; from = from; to = to }) refl (SoundsWith (velocity_of (dynamic_at at.before)))
+      between place (kinds.Chord chord) refl (SoundsWith (velocity_of (dynamic_at at.before)))
           (λ start factors.
-          let outside : Outside = record { length = chord.length; tied = tie_ahead ahead; from = from } in
-          let inside : Inside = inside_of (here body) (factors_of start.behind ahead) outside chord.parts in (
+          let broken : List Ratio = factors_of start.behind place.ahead in
+          let inside : Inside = inside_of settings broken outside chord.parts in (
             _,
-            ap (λ l. start.items.items ++ l) (chord-items (has_note chord.parts) (here body) from inside some),
+            ap (λ l. start.items.items ++ l) (chord-items (has_note chord.parts) settings place.from inside some),
             (
               inside.tones,
               first_length inside.tones,
               refl,
-              behind-found at inside.tones (moved (here body) (settings_at at.opening at.before) inside.tones same
-                  (loud-from (here body) (factors_of start.behind ahead) outside chord.parts (no_notes (here body)) (All-nil (λ (t : Tone). t.velocity ≡ velocity_of (here body).dynamic)))),
+              behind-found at inside.tones (moved settings (settings_at at.opening at.before) inside.tones (here-in-chord place (has_note chord.parts) some)
+                  (loud-from settings broken outside chord.parts (no_notes settings) (All-nil (λ (t : Tone). t.velocity ≡ velocity_of settings.dynamic)))),
             ),
           )),
     )

@@ -1,47 +1,26 @@
 -- The keys of notes at the places of a tune, by what stands before them in their voice. ABC 2.1 sections 4.1, 4.2,
 -- 4.11 and 4.17.
 use Rattle.std.specs.Prelude.{◌≡◌, ℕ, ℤ, Bool, true, ◌||◌, List, [], ◌∷◌, ◌++◌, map, All, Option, Some, None}
-use Rattle.abc_fields.specs.declared.key.Key.{Key}
 use Rattle.abc_fields.specs.Signature.{alteration as signature_alteration}
 use Rattle.abc_scan.specs.declared.chord.Chord.{Chord}
 use Rattle.abc_scan.specs.declared.directive.Reach.{Reach}
 use Rattle.abc_scan.specs.declared.note.Note.{Note}
-use Rattle.abc_scan.specs.declared.spanned.Spanned.{Spanned}
-use Rattle.abc_scan.specs.declared.token.TokenKind.{TokenKind}
 use Rattle.abc_scan.specs.declared.token.TokenKind.TheVariants as kinds
 use Rattle.abc_text.specs.declared.accidental.Accidental.{Accidental}
 use Rattle.abc_text.specs.Accidental.{alteration as accidental_alteration}
 use Rattle.abc_text.specs.Letter.{capital}
 use Rattle.abc_time.specs.declared.grains.Grains.{Grains}
-use Rattle.abc_bars.specs.HeaderLine.{HeaderLine}
-use Rattle.abc_bars.specs.declared.defaults.Defaults.{Defaults}
 use Rattle.abc_music.specs.declared.item.Item.{Item}
 use Rattle.abc_music.specs.declared.item.Item.TheVariants as items
 use Rattle.abc_music.specs.declared.item.Tone.{Tone}
-use Rattle.abc_music.specs.declared.settings.Settings.{Settings}
 use Rattle.abc_music.specs.Accidentals.{reach_of}
 use Rattle.abc_music.specs.Pitch.{midi_key, pitch_of}
 use Rattle.abc_music.specs.TokenRole.{has_note}
 use Rattle.abc_bars.specs.Cell.{tie_ahead}
-use Rattle.abc_bars.specs.LookBack.ByName.{naming_at, opening_of, tokens_of}
-use Rattle.abc_bars.specs.LookBack.Cells.{behind_tokens}
+use Rattle.abc_bars.specs.LookBack.CellPlace.{CellPlace, GivesItem, Standing, standing_at}
 use Rattle.abc_bars.specs.LookBack.Element.{Element}
-use Rattle.abc_bars.specs.LookBack.Place.{given_in_body, opening_at}
 use Rattle.abc_bars.specs.LookBack.Ties.{IsTimeBefore, tied_notes}
 use Rattle.abc_bars.specs.LookBack.Voice.{alteration_at, counted_notes, notes_of_bar, shift_at, signature_at, tied_at, written_by}
-
--- Where a token of a voice stands: what held for the voice when the body began, and the tokens of the voice before it,
--- newest first.
-pub record Standing : Type 0 where
-  pub opening : Settings
-  pub before : List Element
-
--- Where a token of the current voice stands, by all that stands before it in the body.
-abbrev pub standing : Defaults → List HeaderLine → Key → List Element → Standing
-standing values fields key before =
-    let opening = opening_at values fields key in
-    let name = (naming_at opening before).current in
-    record { opening = opening_of opening name; before = tokens_of opening name before }
 
 -- By how many semitones a note is altered, where these notes of its chord stand before it, newest first.
 abbrev pub altered_at : Standing → List Note → Note → ℤ
@@ -102,25 +81,20 @@ keys_from at follows earlier (note ∷ later) = (key_at at earlier note.0, follo
 abbrev pub heard_of : Tone → Option ℕ × Bool
 heard_of tone = (tone.key, tone.tied)
 
--- A token of a cell gives tones of these keys, which are tied or not, between what the tokens round it give.
-abbrev pub GivesTones : List Item → List (Option ℕ × Bool) → Type 0
-GivesTones given keys =
-    (others : List Item) × (tones : List Tone) × (lasting : Grains) × (more : List Item)
-    × (given ≡ others ++ items.Tone tones lasting ∷ more)
-    × (map heard_of tones ≡ keys)
+-- An item is of tones of these keys, which are tied or not.
+abbrev pub SoundsKeys : List (Option ℕ × Bool) → Item → Type 0
+SoundsKeys keys item = (tones : List Tone) × (lasting : Grains) × (item ≡ items.Tone tones lasting) × (map heard_of tones ≡ keys)
 
 -- A note at any place of a tune sounds its key there, and is tied where a tie directly follows it.
 abbrev pub NotesHaveKeys : Type 0
 NotesHaveKeys =
-    (values : Defaults) (fields : List HeaderLine) (key : Key) (before : List Element) (front ahead : List (Spanned TokenKind)) (note : Note) (from to : ℕ)
-    → GivesTones (given_in_body values fields key before (front ++ record { kind = kinds.Note note; from = from; to = to } ∷ ahead)).items
-    ((key_at (standing values fields key (behind_tokens front before)) [] note, tie_ahead ahead) ∷ [])
+    (place : CellPlace) (note : Note)
+    → GivesItem place (kinds.Note note) (SoundsKeys ((key_at (standing_at place) [] note, tie_ahead place.ahead) ∷ []))
 
 -- The first sixteen notes of a chord at any place of a tune sound their keys there, and each is tied where a tie directly
 -- follows it or the chord.
 abbrev pub ChordsHaveKeys : Type 0
 ChordsHaveKeys =
-    (values : Defaults) (fields : List HeaderLine) (key : Key) (before : List Element) (front ahead : List (Spanned TokenKind)) (chord : Chord) (from to : ℕ)
+    (place : CellPlace) (chord : Chord)
     → has_note chord.parts ≡ true
-    → GivesTones (given_in_body values fields key before (front ++ record { kind = kinds.Chord chord; from = from; to = to } ∷ ahead)).items
-    (keys_from (standing values fields key (behind_tokens front before)) (tie_ahead ahead) [] (counted_notes chord))
+    → GivesItem place (kinds.Chord chord) (SoundsKeys (keys_from (standing_at place) (tie_ahead place.ahead) [] (counted_notes chord)))

@@ -1,26 +1,19 @@
 -- The velocities of notes and chords at the places of a tune, by the last dynamic that stands before them in their voice.
 -- ABC 2.1 section 4.14; the velocities are our own.
 use Rattle.std.specs.Prelude.{◌≡◌, ℕ, Bool, true, List, ◌∷◌, ◌++◌, All, None}
-use Rattle.abc_fields.specs.declared.key.Key.{Key}
 use Rattle.abc_scan.specs.declared.chord.Chord.{Chord}
 use Rattle.abc_scan.specs.declared.dynamic.Dynamic.{Dynamic}
 use Rattle.abc_scan.specs.declared.note.Note.{Note}
-use Rattle.abc_scan.specs.declared.spanned.Spanned.{Spanned}
 use Rattle.abc_scan.specs.declared.token.TokenKind.{TokenKind}
 use Rattle.abc_scan.specs.declared.token.TokenKind.TheVariants as kinds
 use Rattle.abc_scan.specs.Dynamic.{velocity_of as dynamic_velocity}
 use Rattle.abc_time.specs.declared.grains.Grains.{Grains}
-use Rattle.abc_bars.specs.HeaderLine.{HeaderLine}
-use Rattle.abc_bars.specs.declared.defaults.Defaults.{Defaults}
 use Rattle.abc_music.specs.declared.item.Item.{Item}
 use Rattle.abc_music.specs.declared.item.Item.TheVariants as items
 use Rattle.abc_music.specs.declared.item.Tone.{Tone}
 use Rattle.abc_music.specs.TokenRole.{has_note}
-use Rattle.abc_bars.specs.LookBack.Cells.{behind_tokens}
+use Rattle.abc_bars.specs.LookBack.CellPlace.{CellPlace, GivesItem, standing_at}
 use Rattle.abc_bars.specs.LookBack.Element.{Element}
-use Rattle.abc_bars.specs.LookBack.Keys.{standing}
-use Rattle.abc_bars.specs.LookBack.Lengths.{GivesItem, cell_with}
-use Rattle.abc_bars.specs.LookBack.Place.{given_in_body}
 use Rattle.abc_bars.specs.LookBack.Voice.{dynamic_said}
 
 -- No dynamic among a voice's tokens. One inside a chord is none.
@@ -45,21 +38,14 @@ abbrev pub SoundsWith : ℕ → Item → Type 0
 SoundsWith velocity item =
     (tones : List Tone) × (lasting : Grains) × (item ≡ items.Tone tones lasting) × All (λ tone. tone.velocity ≡ velocity) tones
 
--- A token of a cell sounds with the velocity behind these tokens of its voice.
-abbrev pub SoundsAsSaid : List Element → List Item → Type 0
-SoundsAsSaid before given = (velocity : ℕ) × IsVelocityAt before velocity × GivesItem given (SoundsWith velocity)
+-- A token of this kind at a place sounds with the velocity behind what stands before it in its voice.
+abbrev pub SoundsAsSaid : CellPlace → TokenKind → Type 0
+SoundsAsSaid place kind = (velocity : ℕ) × IsVelocityAt (standing_at place).before velocity × GivesItem place kind (SoundsWith velocity)
 
 -- So does a note at any place of a tune.
 abbrev pub NotesHaveVelocities : Type 0
-NotesHaveVelocities =
-    (values : Defaults) (fields : List HeaderLine) (key : Key) (before : List Element) (front ahead : List (Spanned TokenKind)) (note : Note) (from to : ℕ)
-    → SoundsAsSaid (standing values fields key (behind_tokens front before)).before
-    (given_in_body values fields key before (cell_with front (kinds.Note note) from to ahead)).items
+NotesHaveVelocities = (place : CellPlace) (note : Note) → SoundsAsSaid place (kinds.Note note)
 
 -- So does each note of a chord.
 abbrev pub ChordsHaveVelocities : Type 0
-ChordsHaveVelocities =
-    (values : Defaults) (fields : List HeaderLine) (key : Key) (before : List Element) (front ahead : List (Spanned TokenKind)) (chord : Chord) (from to : ℕ)
-    → has_note chord.parts ≡ true
-    → SoundsAsSaid (standing values fields key (behind_tokens front before)).before
-    (given_in_body values fields key before (cell_with front (kinds.Chord chord) from to ahead)).items
+ChordsHaveVelocities = (place : CellPlace) (chord : Chord) → has_note chord.parts ≡ true → SoundsAsSaid place (kinds.Chord chord)

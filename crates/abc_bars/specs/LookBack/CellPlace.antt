@@ -1,0 +1,73 @@
+-- Where a token stands in a cell of a tune's body, and which of the items of the cell it gives.
+use Rattle.std.specs.Prelude.{◌≡◌, ℕ, ◌+◌, List, [], ◌∷◌, ◌++◌, length}
+use Rattle.abc_fields.specs.declared.key.Key.{Key}
+use Rattle.abc_scan.specs.declared.spanned.Spanned.{Spanned}
+use Rattle.abc_scan.specs.declared.token.TokenKind.{TokenKind}
+use Rattle.abc_bars.specs.HeaderLine.{HeaderLine}
+use Rattle.abc_bars.specs.declared.defaults.Defaults.{Defaults}
+use Rattle.abc_music.specs.declared.item.Item.{Item}
+use Rattle.abc_music.specs.declared.settings.Settings.{Settings}
+use Rattle.abc_bars.specs.LookBack.ByName.{naming_at, opening_of, tokens_of}
+use Rattle.abc_bars.specs.LookBack.Cells.{behind_tokens}
+use Rattle.abc_bars.specs.LookBack.Element.{Element}
+use Rattle.abc_bars.specs.LookBack.Place.{given_in_body, opening_at}
+
+-- Where a token of a voice stands: what held for the voice when the body began, and the tokens of the voice before it,
+-- newest first.
+pub record Standing : Type 0 where
+  pub opening : Settings
+  pub before : List Element
+
+-- Where a token of the current voice stands, by all that stands before it in the body.
+abbrev pub standing : Defaults → List HeaderLine → Key → List Element → Standing
+standing values fields key before =
+    let opening = opening_at values fields key in
+    let name = (naming_at opening before).current in
+    record { opening = opening_of opening name; before = tokens_of opening name before }
+
+-- A place in a cell of a tune's body: the values, the lines and the key with which the body begins; what stands before the
+-- cell, newest first; the tokens of the cell in front of the place and those ahead of it; and from where to where on its
+-- line the token reaches that stands there.
+pub record CellPlace : Type 0 where
+  pub values : Defaults
+  pub fields : List HeaderLine
+  pub key : Key
+  pub before : List Element
+  pub front : List (Spanned TokenKind)
+  pub from : ℕ
+  pub to : ℕ
+  pub ahead : List (Spanned TokenKind)
+
+-- All that stands before a place in the body, newest first.
+abbrev pub before_place : CellPlace → List Element
+before_place place = behind_tokens place.front place.before
+
+-- Where a token of the current voice stands at a place.
+abbrev pub standing_at : CellPlace → Standing
+standing_at place = standing place.values place.fields place.key (before_place place)
+
+-- The tokens in front of a place, a token of this kind there, and these tokens ahead of it.
+abbrev pub cell_of : CellPlace → TokenKind → List (Spanned TokenKind) → List (Spanned TokenKind)
+cell_of place kind ahead = place.front ++ record { kind = kind; from = place.from; to = place.to } ∷ ahead
+
+-- The cell in which a token of this kind stands at a place.
+abbrev pub cell_with : CellPlace → TokenKind → List (Spanned TokenKind)
+cell_with place kind = cell_of place kind place.ahead
+
+-- The items of these tokens where they are the cell of a place.
+abbrev pub items_of : CellPlace → List (Spanned TokenKind) → List Item
+items_of place cell = (given_in_body place.values place.fields place.key place.before cell).items
+
+-- The one item that a token of this kind gives at a place. Among those of its cell it stands behind exactly as many as the
+-- tokens in front of it give without it, and with it they give one more. No tokens give none.
+pub record IsItemOf (place : CellPlace) (kind : TokenKind) (item : Item) : Type 0 where
+  pub others : List Item
+  pub more : List Item
+  pub split : items_of place (cell_with place kind) ≡ others ++ item ∷ more
+  pub behind : length others ≡ length (items_of place place.front)
+  pub one : length (items_of place (cell_of place kind [])) ≡ length (items_of place place.front) + 1
+  pub none : items_of place [] ≡ []
+
+-- Of the item that a token of this kind gives at a place this holds.
+abbrev pub GivesItem : CellPlace → TokenKind → (Item → Type 0) → Type 0
+GivesItem place kind Holds = (item : Item) × IsItemOf place kind item × Holds item
