@@ -5,6 +5,7 @@ pub mod Conductor
 pub mod EndingFields
 pub mod Endings
 pub mod Fields
+pub mod Items
 pub mod Limits
 pub mod OnTicks
 pub mod Opening

@@ -1,0 +1,17 @@
+-- What is done with steps is done with their items.
+use Rattle.std.proofs.Common.{◌≡◌, Bool, true, false, cond, List, [], ◌∷◌, refl, ap, ◌∙◌}
+use Rattle.std.specs.Borrow.{Bor}
+use Rattle.std.specs.Prelude.{filter}
+use Rattle.abc_music.specs.declared.item.Item.{Item}
+use Rattle.abc_voices.specs.Items.{items_of}
+
+-- either of two lists of steps
+either_of : (b : Bool) (xs ys : List (Bor Item)) → items_of (cond b xs ys) ≡ cond b (items_of xs) (items_of ys)
+either_of true xs ys = refl
+either_of false xs ys = refl
+
+pub filtered : (p : Item → Bool) (steps : List (Bor Item)) → items_of (filter (λ step. p step.now) steps) ≡ filter p (items_of steps)
+filtered p [] = refl
+filtered p (step ∷ steps) =
+    let rest = filter (λ (one : Bor Item). p one.now) steps in
+    either_of (p step.now) (step ∷ rest) rest ∙ ap (λ l. cond (p step.now) (step.now ∷ l) l) (filtered p steps)
