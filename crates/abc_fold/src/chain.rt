@@ -1,7 +1,7 @@
 //! Chains of cells that keep what a fold made of them, and chains that have been prepared.
 
 ghost use Rattle.std.specs.Prelude.{◌≡◌, ◌+◌, ◌-◌, ◌<◌, ◌≤◌, [], ◌++◌, All, IfOk, OnErr, OnOk, IsOk, length, take, drop, option_copied, slice_get};
-ghost use Rattle.abc_fold.specs.Chain.{Chained, Folds, IsKeptAt, no_cells};
+ghost use Rattle.abc_fold.specs.Chain.{Chained, Folds, HasKeptBehind, IsKeptAt, no_cells};
 ghost use Rattle.abc_fold.specs.Piece.{IsKept, cells_of, steps_needed};
 ghost use Rattle.abc_fold.specs.Steps.{Steps, IsResumable, steps_of};
 ghost use Rattle.abc_fold.specs.Work.{IsRaisedUpTo};
@@ -123,6 +123,7 @@ impl<F: Resumable> Chain<F> {
         requires order { from ≤ to }
         requires inside { to ≤ length self.now.cells }
         ensures cells { OnOk result (cells_of pieces.new.items ≡ cells_of pieces.old.items ++ take (to - from) (drop from self.now.cells)) }
+        ensures run { OnOk result (HasKeptBehind self.now from pieces.old.items pieces.new.items) }
         ensures resumable { (steps : Steps F.State F.Cell F.Items) (opening : F.State) → IsResumable steps → Folds steps opening self.now →
             All (IsKept steps) pieces.old.items → All (IsKept steps) pieces.new.items }
         ensures refused { OnErr result (pieces.new.items ≡ pieces.old.items) }
@@ -143,6 +144,7 @@ impl<F: Resumable> Chain<F> {
         requires order { from ≤ to }
         requires inside { to ≤ length self.now.cells }
         ensures cells { OnOk result (cells_of pieces.new.items ≡ cells_of pieces.old.items ++ take (to - from) (drop from self.now.cells)) }
+        ensures run { OnOk result (HasKeptBehind self.now from pieces.old.items pieces.new.items) }
         ensures resumable { (steps : Steps F.State F.Cell F.Items) (opening : F.State) → IsResumable steps → Folds steps opening self.now →
             All (IsKept steps) pieces.old.items → All (IsKept steps) pieces.new.items }
         ensures front { take (length pieces.old.items) pieces.new.items ≡ pieces.old.items }

@@ -31,8 +31,7 @@ pub(crate) fn cell_in<F: Resumable>(
     ensures { IfOk result (λ cell. cell ≡ cell_of piece.now) }
 {
     match piece {
-        Piece::New(cell) => fold.copy_cell(alloc, cell),
-        Piece::Kept { cell, .. } => fold.copy_cell(alloc, cell),
+        Piece::New(cell) | Piece::Kept { cell, .. } => fold.copy_cell(alloc, cell),
     }
 }
 

@@ -54,7 +54,7 @@ impl Publisher {
         self.take_from(session, 0)
     }
 
-    /// The same from a number on: a caller who goes on from the number of the last job passes over none twice.
+    /// The same from a number on, for a caller who goes on from the number of the last job.
     pub fn take_from<C: Compiler>(
         &mut self,
         session: &LiveSession<C>,

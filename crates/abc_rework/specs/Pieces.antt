@@ -1,7 +1,6 @@
 -- The pieces of a chain: of which cells of the old text it is made, and the test by them for an untouched tune. Our own.
 use Rattle.std.specs.Prelude.{ℕ, zero, suc, ◌+◌, ◌==◌, ◌&&◌, Bool, true, false, List, [], ◌∷◌, ◌++◌, drop, length, Option, Some, None}
 use Rattle.std.specs.List.{list_any}
-use Rattle.abc_book.specs.declared.block.Block.{Block}
 use Rattle.abc_lines.specs.Text.{Splice, Text}
 use Rattle.abc_tunebook.specs.Tune.{lines_in}
 use Rattle.abc_rework.specs.Entered.{Spot, entered_of}

@@ -3,9 +3,8 @@
 ghost use Rattle.std.specs.Prelude.{◌≡◌, ◌<◌, ℕ, List, IfSome, is_none, length, true};
 ghost use Rattle.abc_scan.specs.Closing.{place_of, Lacks, IsMissing};
 
-/// Which closing bytes are known not to stand in the rest of a text. With it a search that failed
-/// once is not made again, so that a line of opening bytes alone is read in linear time. A `"` or
-/// `!` that finds no other needs no memory: it is the last one.
+/// Which closing bytes are known not to stand in the rest of a text, so that a search that failed
+/// once is not made again. A `"` or `!` that finds no other needs no memory: it is the last one.
 #[derive(Clone, Copy)]
 pub(crate) struct Missing {
     pub(crate) brace: bool,
