@@ -16,6 +16,7 @@ pub mod Staged
 pub mod Steady
 pub mod Straight
 pub mod Ties
+pub mod Tracks
 pub mod TooLong
 pub mod Unmoved
 pub mod Voices

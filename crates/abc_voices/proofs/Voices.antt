@@ -10,7 +10,7 @@ abbrev is_letter : List ℕ × Item → Bool
 is_letter one = is_section one.1
 
 -- the first declared voice
-declared : (tune : List Item) → opening_voice tune ≡ unwrap_or (first_said declared_by tune) []
+pub declared : (tune : List Item) → opening_voice tune ≡ unwrap_or (first_said declared_by tune) []
 declared [] = refl
 declared (items.Number number ∷ tune) = declared tune
 declared (items.Tone tones length ∷ tune) = declared tune

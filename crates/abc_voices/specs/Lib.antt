@@ -21,5 +21,6 @@ pub mod TiedNotes
 pub mod Ties
 pub mod TooLong
 pub mod Track
+pub mod Tracks
 pub mod Turns
 pub mod Voices
