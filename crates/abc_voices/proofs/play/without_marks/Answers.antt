@@ -8,5 +8,5 @@ use Rattle.abc_voices.proofs.play.without_marks.Goals as goal
 
 pub returns : goal.returns
 returns c =
-    ap items_of (filter_same _ _ (λ step. is_play (mark_of step.now)) (λ x b f' k. search rules) _ _ c.retain.ensures.filtered)
+    ap items_of (filter_same _ (λ step. is_play (mark_of step.now)) _ (λ x b f' k. search rules) _ _ c.retain.ensures.filtered)
     ∙ filtered (λ item. is_play (mark_of item)) c.args.part.items
