@@ -38,7 +38,7 @@ play_said : {V : Type 0} (value_of : Item → Option V) (tick at : ℕ) (play : 
     → last_on tick (set_from value_of at play) ≡ last_played value_of tick at play
 play_said value_of tick at [] = refl
 play_said value_of tick at (item ∷ play) =
-    one_more tick at (value_of item) (set_from (λ one. one) value_of (at + length_of item) play)
+    one_more tick at (value_of item) (set_from value_of (at + length_of item) play)
     ∙ ap (λ last. or_said last (set_on tick at (value_of item))) (play_said value_of tick (at + length_of item) play)
 
 voices_said : {V : Type 0} (value_of : Item → Option V) (those : List (List ℕ)) (tick at : ℕ) (section : List ℕ × List Item)

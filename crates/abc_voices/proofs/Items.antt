@@ -1,7 +1,8 @@
 -- What is done with steps is done with their items.
-use Rattle.std.proofs.Common.{◌≡◌, Bool, true, false, cond, List, [], ◌∷◌, refl, ap, ◌∙◌}
+use Rattle.std.proofs.Common.{◌≡◌, Bool, true, false, cond, map, List, [], ◌∷◌, refl, ap, ◌∙◌}
 use Rattle.std.specs.Borrow.{Bor}
-use Rattle.std.specs.Prelude.{filter}
+use Rattle.std.proofs.lemmas.List.Elements.{All-nil, All-cons, All-head, All-tail}
+use Rattle.std.specs.Prelude.{All, filter}
 use Rattle.std.specs.List.{list_all}
 use Rattle.std.proofs.lemmas.List.Folds.{list_all-map}
 use Rattle.abc_music.specs.declared.item.Item.{Item}
@@ -20,3 +21,8 @@ filtered p (step ∷ steps) =
 
 pub all_items : (p : Item → Bool) (steps : List (Bor Item)) → list_all p (items_of steps) ≡ list_all (λ step. p step.now) steps
 all_items p steps = list_all-map p (λ (step : Bor Item). step.now) steps
+
+-- what holds of what each element gives
+pub of_map : {X Y : Type 0} (P : Y → Type 0) (f : X → Y) (xs : List X) → All P (map f xs) → All (λ x. P (f x)) xs
+of_map P f [] all = All-nil (λ x. P (f x))
+of_map P f (x ∷ xs) all = All-cons (λ y. P (f y)) x xs (All-head P (f x) (map f xs) all) (of_map P f xs (All-tail P (f x) (map f xs) all))

@@ -129,7 +129,7 @@ play_said : (tick at : ℕ) (play : List Item)
     → last_change tick (set_from program_of at play) ≡ last_said (set_on_tick tick) (at_moments at play)
 play_said tick at [] = refl
 play_said tick at (item ∷ play) =
-    one_more tick at (program_of item) (set_from (λ one. one) program_of (at + length_of item) play)
+    one_more tick at (program_of item) (set_from program_of (at + length_of item) play)
     ∙ ap (λ last. or_said last (on_tick tick at (program_of item))) (play_said tick (at + length_of item) play)
 
 sections_said : (tick : ℕ) (voices : List (List ℕ)) (voice : List ℕ) (at : ℕ) (sections : List (List ℕ × List Item))

@@ -28,7 +28,6 @@ fn is_change(item: &Item) -> bool
 }
 
 /// Whether none of a tune's fields changes its tempo, its meter, its key or a program while it is played.
-#[tactic(auto, using(crate::proofs::Items::all_items))]
 pub(crate) fn is_steady(given: &[&Item]) -> bool
     ensures { result ≡ is_steady (items_of given.now) }
 {
@@ -43,7 +42,6 @@ fn sets_program(item: &Item) -> bool
 }
 
 /// Whether none of a tune's fields sets a program while it is played.
-#[tactic(auto, using(crate::proofs::Items::all_items))]
 pub(crate) fn keeps_programs(given: &[&Item]) -> bool
     ensures { result ≡ keeps_programs (items_of given.now) }
 {

@@ -32,6 +32,7 @@ use Rattle.abc_voices.specs.Limits.{is_note_within, is_voice_within, is_change_w
 use Rattle.abc_voices.specs.Opening.{tempo_past, meter_past, key_past, program_past, past_all, title_of}
 use Rattle.abc_voices.specs.Ticks.{last_of_each_tick}
 use Rattle.abc_voices.specs.Track.{everyone, tracks}
+use Rattle.abc_voices.proofs.Items.{of_map}
 use Rattle.abc_voices.proofs.Fitting.Changes.{IsSetBy, settled_kept, settled_few, sections_set, past_kept}
 use Rattle.abc_voices.proofs.Fitting.Kept.{one_more, played_kept}
 use Rattle.abc_voices.proofs.Fitting.Notes.{Fits, AllFit}
@@ -48,10 +49,6 @@ and_yes {a} {b} here there = and_true a b here there
 
 both : {X : Type 0} (P Q R : X → Type 0) → ((x : X) → P x → Q x → R x) → (xs : List X) → All P xs → All Q xs → All R xs
 both P Q R f xs p q = λ k d within. f (slice_index_or xs k d) (p k d within) (q k d within)
-
-of_map : {X Y : Type 0} (P : Y → Type 0) (f : X → Y) (xs : List X) → All P (map f xs) → All (λ x. P (f x)) xs
-of_map P f [] all = All-nil (λ x. P (f x))
-of_map P f (x ∷ xs) all = All-cons (λ y. P (f y)) x xs (All-head P (f x) (map f xs) all) (of_map P f xs (All-tail P (f x) (map f xs) all))
 
 -- a note of a voice
 note_within : (end : Grains) (note : Sounding) → Fits 0 note → EndsBy end.0 note → is_note_within end note ≡ true

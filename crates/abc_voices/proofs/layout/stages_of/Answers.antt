@@ -1,6 +1,5 @@
 use Rattle.std.proofs.Common.{◌≡◌, ◌<◌, ◌≤◌, List, ℕ, map, Err, ap, ◌∙◌, arith}
 use Rattle.std.specs.Prelude.{IfOk, sum_by}
-use Rattle.std.specs.Borrow.{Bor}
 use Rattle.abc_music.specs.declared.item.Item.{Item}
 use Rattle.abc_repeat.specs.declared.play.TheConstants.{MOST_PLACES}
 use Rattle.abc_time.specs.Grains.{grains_of_the_latest_end}
