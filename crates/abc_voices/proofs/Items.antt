@@ -3,8 +3,6 @@ use Rattle.std.proofs.Common.{◌≡◌, Bool, true, false, cond, map, List, [],
 use Rattle.std.specs.Borrow.{Bor}
 use Rattle.std.proofs.lemmas.List.Elements.{All-nil, All-cons, All-head, All-tail}
 use Rattle.std.specs.Prelude.{All, filter}
-use Rattle.std.specs.List.{list_all}
-use Rattle.std.proofs.lemmas.List.Folds.{list_all-map}
 use Rattle.abc_music.specs.declared.item.Item.{Item}
 use Rattle.abc_voices.specs.Items.{items_of}
 
@@ -18,9 +16,6 @@ filtered p [] = refl
 filtered p (step ∷ steps) =
     let rest = filter (λ (one : Bor Item). p one.now) steps in
     either_of (p step.now) (step ∷ rest) rest ∙ ap (λ l. cond (p step.now) (step.now ∷ l) l) (filtered p steps)
-
-pub all_items : (p : Item → Bool) (steps : List (Bor Item)) → list_all p (items_of steps) ≡ list_all (λ step. p step.now) steps
-all_items p steps = list_all-map p (λ (step : Bor Item). step.now) steps
 
 -- what holds of what each element gives
 pub of_map : {X Y : Type 0} (P : Y → Type 0) (f : X → Y) (xs : List X) → All P (map f xs) → All (λ x. P (f x)) xs

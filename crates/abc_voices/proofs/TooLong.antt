@@ -1,12 +1,12 @@
 -- A tune is too long exactly where it passes a limit; one that passes none fits a file.
-use Rattle.std.proofs.Common.{◌≡◌, ◌⊎◌, ◌<◌, ◌≤◌, ◌^◌, ℕ, true, false, List, length, inl, inr, map, arith, ⊎_elim, sym, ap, subst, ◌∙◌, pos, negsuc, int_le}
+use Rattle.std.proofs.Common.{◌≡◌, ◌⊎◌, ◌<◌, ◌≤◌, ◌^◌, ℕ, true, false, List, length, inl, inr, arith, ⊎_elim, ap, subst, ◌∙◌, pos, negsuc, int_le}
 use Rattle.std.specs.Prelude.{◌&&◌, ◌||◌, ◌==◌, All, nat_le, nat_lt}
 use Rattle.std.specs.Bool.{Decides}
 use Rattle.std.specs.List.{list_all}
 use Rattle.std.proofs.lemmas.Bool.{and_cases, and_parts, eqb-true, false_from_ne_true, leb-false, leb-true, ltb-true}
 use Rattle.std.proofs.lemmas.Bool.Decides.{Decides-like, Decides-ltb, Decides-or}
 use Rattle.std.proofs.lemmas.List.{length-map}
-use Rattle.std.proofs.lemmas.List.Elements.{All-map, All-weaker}
+use Rattle.std.proofs.lemmas.List.Elements.{All-weaker}
 use Rattle.std.proofs.lemmas.List.Sums.{AllPass-from_list_all}
 use Rattle.abc_music.specs.Item.{IsItem}
 use Rattle.abc_music.specs.declared.item.Item.{Item}

@@ -31,7 +31,12 @@ fn is_change(item: &Item) -> bool
 pub(crate) fn is_steady(given: &[&Item]) -> bool
     ensures { result ≡ is_steady (items_of given.now) }
 {
-    given.iter().all(|item| !is_change(item))
+    for item in given {
+        if is_change(item) {
+            return false;
+        }
+    }
+    true
 }
 
 /// Whether it sets a program.
@@ -45,9 +50,12 @@ fn sets_program(item: &Item) -> bool
 pub(crate) fn keeps_programs(given: &[&Item]) -> bool
     ensures { result ≡ keeps_programs (items_of given.now) }
 {
-    given
-        .iter()
-        .all(|item| !(sets_program(item) && is_step(item)))
+    for item in given {
+        if sets_program(item) && is_step(item) {
+            return false;
+        }
+    }
+    true
 }
 
 /// The items of a tune that are no music. They are few, and they alone say what the tune opens with, which parts it
