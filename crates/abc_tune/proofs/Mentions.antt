@@ -12,11 +12,8 @@ use Rattle.abc_tune.specs.Lines.{HasFewVoices}
 use Rattle.abc_voices.specs.Section.{opening_voice}
 use Rattle.abc_voices.specs.Track.{everyone, names_from, nameless_plays, plays_first, tracks, with_name}
 
-abbrev own : Item → Item
-own item = item
-
 -- where one is the current one, only fields mention voices
-placed_from : (names : List (List ℕ)) (tune : List Item) → (behind_items (names, true) tune).0 ≡ names_from own names tune
+placed_from : (names : List (List ℕ)) (tune : List Item) → (behind_items (names, true) tune).0 ≡ names_from names tune
 placed_from names [] = refl
 placed_from names (items.Number number ∷ tune) = placed_from names tune
 placed_from names (items.Tone tones length ∷ tune) = placed_from names tune
@@ -42,7 +39,7 @@ with_named names name some =
     ap (λ b. cond (b || list_any (bytes_eq name) names) ([] ∷ names) (([] ∷ names) ++ name ∷ [])) some
     ∙ in_front (list_any (bytes_eq name) names) names name
 
-behind_nameless : (names : List (List ℕ)) (tune : List Item) → AreNamed tune → names_from own ([] ∷ names) tune ≡ [] ∷ names_from own names tune
+behind_nameless : (names : List (List ℕ)) (tune : List Item) → AreNamed tune → names_from ([] ∷ names) tune ≡ [] ∷ names_from names tune
 behind_nameless names [] named = refl
 behind_nameless names (items.Number number ∷ tune) named = behind_nameless names tune named.1
 behind_nameless names (items.Tone tones length ∷ tune) named = behind_nameless names tune named.1
@@ -54,14 +51,14 @@ behind_nameless names (items.Tempo opening micros out ∷ tune) named = behind_n
 behind_nameless names (items.Meter opening meter ∷ tune) named = behind_nameless names tune named.1
 behind_nameless names (items.Key opening key ∷ tune) named = behind_nameless names tune named.1
 behind_nameless names (items.Voice opening name ∷ tune) named =
-    ap (λ known. names_from own known tune) (with_named names name named.0) ∙ behind_nameless (with_name names name) tune named.1
+    ap (λ known. names_from known tune) (with_named names name named.0) ∙ behind_nameless (with_name names name) tune named.1
 behind_nameless names (items.Title text ∷ tune) named = behind_nameless names tune named.1
 behind_nameless names (items.Order text ∷ tune) named = behind_nameless names tune named.1
 behind_nameless names (items.Program opening number ∷ tune) named = behind_nameless names tune named.1
 
 -- where the voice without a name has a track, it is mentioned
-heard : (tune : List Item) → AreNamed tune → bytes_eq (opening_voice own tune) [] ≡ true → plays_first own tune ≡ true
-    → (behind_items ([], false) tune).0 ≡ names_from own ([] ∷ []) tune
+heard : (tune : List Item) → AreNamed tune → bytes_eq (opening_voice tune) [] ≡ true → plays_first tune ≡ true
+    → (behind_items ([], false) tune).0 ≡ names_from ([] ∷ []) tune
 heard [] named opens plays = absurd (cc)
 heard (items.Number number ∷ tune) named opens plays = heard tune named.1 opens plays
 heard (items.Tone tones length ∷ tune) named opens plays = placed_from ([] ∷ []) tune
@@ -79,7 +76,7 @@ heard (items.Order text ∷ tune) named opens plays = heard tune named.1 opens p
 heard (items.Program opening number ∷ tune) named opens plays = heard tune named.1 opens plays
 
 -- beside the voice without a name all others are mentioned
-others : (tune : List Item) → AreNamed tune → length (names_from own ([] ∷ []) tune) ≤ suc (length (behind_items ([], false) tune).0)
+others : (tune : List Item) → AreNamed tune → length (names_from ([] ∷ []) tune) ≤ suc (length (behind_items ([], false) tune).0)
 others [] named = omega arith
 others (items.Number number ∷ tune) named = others tune named.1
 others (items.Tone tones long ∷ tune) named = omega (arith, ap length (placed_from ([] ∷ []) tune))
@@ -91,7 +88,7 @@ others (items.Tempo opening micros out ∷ tune) named = others tune named.1
 others (items.Meter opening meter ∷ tune) named = others tune named.1
 others (items.Key opening key ∷ tune) named = others tune named.1
 others (items.Voice opening name ∷ tune) named =
-    omega (arith, ap length (ap (λ known. names_from own known tune) (with_named [] name named.0) ∙ behind_nameless (with_name [] name) tune named.1), ap length (placed_from (with_name [] name) tune))
+    omega (arith, ap length (ap (λ known. names_from known tune) (with_named [] name named.0) ∙ behind_nameless (with_name [] name) tune named.1), ap length (placed_from (with_name [] name) tune))
 others (items.Title text ∷ tune) named = others tune named.1
 others (items.Order text ∷ tune) named = others tune named.1
 others (items.Program opening number ∷ tune) named = others tune named.1
@@ -100,16 +97,16 @@ behind_first : {A : Type 0} (xs : List A) (n : ℕ) → length xs ≤ suc n → 
 behind_first [] n few = omega arith
 behind_first (x ∷ xs) n few = omega (arith, few)
 
-by_nameless : (tune : List Item) → AreNamed tune → (b : Bool) → nameless_plays own tune ≡ b
-    → length (cond b (everyone own tune) (drop 1 (everyone own tune))) ≤ length (behind_items ([], false) tune).0
+by_nameless : (tune : List Item) → AreNamed tune → (b : Bool) → nameless_plays tune ≡ b
+    → length (cond b (everyone tune) (drop 1 (everyone tune))) ≤ length (behind_items ([], false) tune).0
 by_nameless tune named true plays =
-    let both = and_parts (bytes_eq (opening_voice own tune) []) (plays_first own tune) plays in
+    let both = and_parts (bytes_eq (opening_voice tune) []) (plays_first tune) plays in
     omega (arith, ap length (heard tune named both.0 both.1))
-by_nameless tune named false plays = behind_first (everyone own tune) _ (others tune named)
+by_nameless tune named false plays = behind_first (everyone tune) _ (others tune named)
 
 -- no more voices have tracks than are mentioned
-tracks_few : (tune : List Item) → AreNamed tune → length (tracks own tune) ≤ length (behind_items ([], false) tune).0
-tracks_few tune named = by_nameless tune named (nameless_plays own tune) refl
+tracks_few : (tune : List Item) → AreNamed tune → length (tracks tune) ≤ length (behind_items ([], false) tune).0
+tracks_few tune named = by_nameless tune named (nameless_plays tune) refl
 
 -- no tune has more than may be
 pub few_voices : HasFewVoices

@@ -39,9 +39,6 @@ use Rattle.abc_voices.specs.Opening.{title_of}
 use Rattle.abc_voices.specs.TooLong.{PassesALimit, of_sections, of_places, of_time, of_voices, of_title}
 use Rattle.abc_voices.proofs.TooLong.{by_a_limit}
 
-abbrev own : Item → Item
-own item = item
-
 abbrev most : ℕ
 most = 65535
 
@@ -126,7 +123,7 @@ lines_short (line ∷ lines) are =
     (lines_short lines both.1)
 
 -- the title of a tune is the first of those that it says
-first_title : (tune : List Item) → All (λ title. length title ≤ most) (titles_said tune) → length (title_of own tune) ≤ most
+first_title : (tune : List Item) → All (λ title. length title ≤ most) (titles_said tune) → length (title_of tune) ≤ most
 first_title [] all = omega arith
 first_title (items.Number number ∷ tune) all = first_title tune all
 first_title (items.Tone tones long ∷ tune) all = first_title tune all
@@ -149,7 +146,7 @@ short_title opening lines are =
     (subst (All (λ title. length title ≤ most)) (sym (says_titles_of_header opening cells)) (titles_pass (λ title. length title ≤ most) cells (lines_short lines are)))
 
 -- so only the other limits are passed
-large : (opening : Defaults) (lines : List (List ℕ)) → list_all is_line lines ≡ true → PassesALimit own (items_of_lines opening lines)
+large : (opening : Defaults) (lines : List (List ℕ)) → list_all is_line lines ≡ true → PassesALimit (items_of_lines opening lines)
     → IsTooLarge (items_of_lines opening lines)
 large opening lines are (of_sections h) = by_sections h
 large opening lines are (of_places h) = by_places h
@@ -157,7 +154,7 @@ large opening lines are (of_time h) = by_time h
 large opening lines are (of_voices h) = let few = few_voices opening lines in absurd (omega (arith, h, few))
 large opening lines are (of_title h) = let short = short_title opening lines are in absurd (omega (arith, h, short))
 
-limited : (tune : List Item) → IsTooLarge tune → PassesALimit own tune
+limited : (tune : List Item) → IsTooLarge tune → PassesALimit tune
 limited tune (by_sections h) = of_sections h
 limited tune (by_places h) = of_places h
 limited tune (by_time h) = of_time h

@@ -23,20 +23,20 @@ pub lacks_key_in_cells : (cells : List Items) → lacks_key (items_in cells) ≡
 lacks_key_in_cells cells = ap not (any_in_cells is_opening_key cells)
 
 -- what holds behind items and more of them
-past_append : (out : Bool) (items more : List Item) → past_all (λ item. item) out_past out (items ++ more) ≡ past_all (λ item. item) out_past (past_all (λ item. item) out_past out items) more
+past_append : (out : Bool) (items more : List Item) → past_all out_past out (items ++ more) ≡ past_all out_past (past_all out_past out items) more
 past_append out [] more = refl
 past_append out (item ∷ items) more = past_append (out_past out item) items more
 
 -- one more cell
 pub out_more : (cells : List Items) (i : ℕ) (out behind : Bool) (cell : Items) (held : List Item) (whole : Bool) → i < length cells → cell ≡ get_or cells i cell
-    → held ≡ cell.items → behind ≡ past_all (λ item. item) out_past out held
-    → past_all (λ item. item) out_past out (items_in (drop i cells)) ≡ whole → past_all (λ item. item) out_past behind (items_in (drop (i + 1) cells)) ≡ whole
+    → held ≡ cell.items → behind ≡ past_all out_past out held
+    → past_all out_past out (items_in (drop i cells)) ≡ whole → past_all out_past behind (items_in (drop (i + 1) cells)) ≡ whole
 out_more cells i out behind cell held whole within is same after before =
     let rest = items_in (drop (i + 1) cells) in
     let front : drop i cells ≡ cell ∷ drop (i + 1) cells = drop_more cells i cell within ∙ ap (λ x. x ∷ drop (i + 1) cells) (sym is) in
-    ap (λ b. past_all (λ item. item) out_past b rest) (after ∙ ap (past_all (λ item. item) out_past out) same)
+    ap (λ b. past_all out_past b rest) (after ∙ ap (past_all out_past out) same)
     ∙ sym (past_append out cell.items rest)
-    ∙ sym (ap (λ those. past_all (λ item. item) out_past out (items_in those)) front)
+    ∙ sym (ap (λ those. past_all out_past out (items_in those)) front)
     ∙ before
 
 -- what rises from a number rises from a lower one

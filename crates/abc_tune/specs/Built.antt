@@ -10,11 +10,11 @@ use Rattle.smf_bytes.specs.File.{file_bytes}
 
 -- The layout of a tune.
 abbrev pub layout_of : List Item → Arranged
-layout_of tune = arranged_of (λ item. item) tune
+layout_of tune = arranged_of tune
 
 -- Whether a tune is too long for a file. Our own.
 abbrev pub is_long : List Item → Bool
-is_long tune = is_too_long (λ item. item) tune
+is_long tune = is_too_long tune
 
 -- Whether the order of the parts names one that the tune does not have, also where the tune is too long. Our own.
 abbrev pub names_unknown_part : List Item → Bool

@@ -23,18 +23,18 @@ items_of_lines opening lines = items_of_cells opening (flat_map cells_in lines)
 -- No tune of lines has more voices than may have a track.
 abbrev pub HasFewVoices : Type 0
 HasFewVoices = (opening : Defaults) (lines : List (List ℕ))
-    → length (tracks (λ item. item) (items_of_lines opening lines)) ≤ MOST_VOICES
+    → length (tracks (items_of_lines opening lines)) ≤ MOST_VOICES
 
 -- The title of a tune of lines is one that a score may have: it stands in one of them.
 abbrev pub HasShortTitle : Type 0
 HasShortTitle = (opening : Defaults) (lines : List (List ℕ)) → list_all is_line lines ≡ true
-    → length (title_of (λ item. item) (items_of_lines opening lines)) ≤ LONGEST_TITLE
+    → length (title_of (items_of_lines opening lines)) ≤ LONGEST_TITLE
 
 -- More sections or more places of a tune are played than may be, or it ends later than a tune may. Our own.
 pub data IsTooLarge (tune : List Item) : Type 0 where
-  by_sections : MOST_SECTIONS < sections_played (λ item. item) tune → IsTooLarge tune
-  by_places : MOST_PLACES < places_played (λ item. item) tune → IsTooLarge tune
-  by_time : grains_of_the_latest_end < end_of (λ item. item) tune → IsTooLarge tune
+  by_sections : MOST_SECTIONS < sections_played tune → IsTooLarge tune
+  by_places : MOST_PLACES < places_played tune → IsTooLarge tune
+  by_time : grains_of_the_latest_end < end_of tune → IsTooLarge tune
 
 -- A tune of lines is too long exactly where it is, never for its voices or its title.
 abbrev pub IsTooLongBySize : Type 0

@@ -24,7 +24,7 @@ out_past before _ = before
 
 -- Whether no tempo event can say the tempo with which a tune opens (SMF 1.0), by the last that its header sets.
 abbrev pub opens_out_of_range : List Item → Bool
-opens_out_of_range tune = past_all (λ item. item) out_past false tune
+opens_out_of_range tune = past_all out_past false tune
 
 -- A fault, if it is there.
 abbrev pub fault_if : Bool → FaultCode → List FaultCode

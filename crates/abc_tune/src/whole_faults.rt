@@ -46,7 +46,7 @@ fn lacks_key(cells: &[Shared<Items>]) -> bool
 
 /// Whether the tempo with which a tune opens is out of range behind the items of a cell.
 fn out_behind(before: bool, items: &[Item]) -> bool
-    ensures { result ≡ past_all (λ item. item) out_past before items.now }
+    ensures { result ≡ past_all out_past before items.now }
 {
     let mut out_of_range = before;
     for item in items {

@@ -35,30 +35,30 @@ one_more tick at None sets =
 one_more tick at (Some value) sets = refl
 
 play_said : {V : Type 0} (value_of : Item → Option V) (tick at : ℕ) (play : List Item)
-    → last_on tick (set_from (λ item. item) value_of at play) ≡ last_played value_of tick at play
+    → last_on tick (set_from value_of at play) ≡ last_played value_of tick at play
 play_said value_of tick at [] = refl
 play_said value_of tick at (item ∷ play) =
-    one_more tick at (value_of item) (set_from (λ one. one) value_of (at + length_of item) play)
+    one_more tick at (value_of item) (set_from value_of (at + length_of item) play)
     ∙ ap (λ last. or_said last (set_on tick at (value_of item))) (play_said value_of tick (at + length_of item) play)
 
 voices_said : {V : Type 0} (value_of : Item → Option V) (those : List (List ℕ)) (tick at : ℕ) (section : List ℕ × List Item)
-    → last_on tick (flat_map (λ voice. set_from (λ item. item) value_of at (play_in (λ item. item) section voice)) those)
+    → last_on tick (flat_map (λ voice. set_from value_of at (play_in section voice)) those)
     ≡ last_beside value_of those tick (at, section)
 voices_said value_of [] tick at section = refl
 voices_said value_of (voice ∷ those) tick at section =
-    let play : List Item = play_in (λ item. item) section voice in
-    last_append (set_if_on tick) (set_from (λ item. item) value_of at play)
-    (flat_map (λ one. set_from (λ item. item) value_of at (play_in (λ item. item) section one)) those)
+    let play : List Item = play_in section voice in
+    last_append (set_if_on tick) (set_from value_of at play)
+    (flat_map (λ one. set_from value_of at (play_in section one)) those)
     ∙ (λ i. or_said (voices_said value_of those tick at section i) (play_said value_of tick at play i))
 
 sections_said : {V : Type 0} (value_of : Item → Option V) (voices those : List (List ℕ)) (tick at : ℕ) (sections : List (List ℕ × List Item))
-    → last_on tick (set_in (λ item. item) value_of voices those at sections)
+    → last_on tick (set_in value_of voices those at sections)
     ≡ last_said (last_beside value_of those tick) (sections_at voices at sections)
 sections_said value_of voices those tick at [] = refl
 sections_said value_of voices those tick at (section ∷ rest) =
-    let next : ℕ = at + longest (λ item. item) voices section in
-    last_append (set_if_on tick) (flat_map (λ voice. set_from (λ item. item) value_of at (play_in (λ item. item) section voice)) those)
-    (set_in (λ item. item) value_of voices those next rest)
+    let next : ℕ = at + longest voices section in
+    last_append (set_if_on tick) (flat_map (λ voice. set_from value_of at (play_in section voice)) those)
+    (set_in value_of voices those next rest)
     ∙ (λ i. or_said (sections_said value_of voices those tick next rest i) (voices_said value_of those tick at section i))
 
 later_or : {X : Type 0} (last first : Option X) (value : X) → unwrap_or last (unwrap_or first value) ≡ unwrap_or (or_said last first) value
@@ -68,7 +68,7 @@ later_or (Some x) first value = refl
 -- what a tune opens with is what the last field of its header says
 all_past : {V : Type 0} (past : Option V → Item → Option V) (says : Item → Option (Option V))
     → ((value : Option V) (item : Item) → past value item ≡ unwrap_or (says item) value)
-    → (value : Option V) (tune : List Item) → past_all (λ item. item) past value tune ≡ unwrap_or (last_said says tune) value
+    → (value : Option V) (tune : List Item) → past_all past value tune ≡ unwrap_or (last_said says tune) value
 all_past past says one value [] = refl
 all_past past says one value (item ∷ tune) =
     all_past past says one (past value item) tune
@@ -81,7 +81,7 @@ or_usual usual (Some value) = refl
 
 opens : {V : Type 0} (past : Option V → Item → Option V) (says : Item → Option (Option V)) (usual : V)
     → ((value : Option V) (item : Item) → past value item ≡ unwrap_or (says item) value)
-    → (tune : List Item) → or_else usual (past_all (λ item. item) past None tune) ≡ opening_by says usual tune
+    → (tune : List Item) → or_else usual (past_all past None tune) ≡ opening_by says usual tune
 opens past says usual one tune =
     ap (or_else usual) (all_past past says one None tune) ∙ or_usual usual (unwrap_or (last_said says tune) None)
 
@@ -226,16 +226,16 @@ leads (voice ∷ voices) = refl
 -- the changes of a tune
 abbrev played_with : {V : Type 0} → (Item → Option V) → List (List ℕ) → V → List Item → List (Grains × V)
 played_with value_of those opening tune =
-    (record { 0 = 0 }, opening) ∷ set_in (λ item. item) value_of (everyone (λ item. item) tune) those 0 (played_sections (λ item. item) tune)
+    (record { 0 = 0 }, opening) ∷ set_in value_of (everyone tune) those 0 (played_sections tune)
 
 abbrev tempos_in : List Item → List (Grains × ℕ)
-tempos_in tune = played_with tempo_of (everyone (λ item. item) tune) (or_else usual_tempo (past_all (λ item. item) tempo_past None tune)) tune
+tempos_in tune = played_with tempo_of (everyone tune) (or_else usual_tempo (past_all tempo_past None tune)) tune
 
 abbrev meters_in : List Item → List (Grains × Meter)
-meters_in tune = played_with meter_of (first_of (tracks (λ item. item) tune)) (or_else meters.Free (past_all (λ item. item) meter_past None tune)) tune
+meters_in tune = played_with meter_of (first_of (tracks tune)) (or_else meters.Free (past_all meter_past None tune)) tune
 
 abbrev keys_in : List Item → List (Grains × (ℤ × Bool))
-keys_in tune = played_with key_of (first_of (tracks (λ item. item) tune)) (or_else (pos 0, false) (past_all (λ item. item) key_past None tune)) tune
+keys_in tune = played_with key_of (first_of (tracks tune)) (or_else (pos 0, false) (past_all key_past None tune)) tune
 
 -- what is set behind what a tune opens with
 behind_opening : {V : Type 0} (value_of : Item → Option V) (those same_voices : List (List ℕ)) (tune : List Item) (tick : ℕ) (given opening : V)
@@ -243,26 +243,26 @@ behind_opening : {V : Type 0} (value_of : Item → Option V) (those same_voices 
     → last_on tick (played_with value_of those given tune) ≡ set_or_opening value_of same_voices opening tune tick
 behind_opening value_of those same_voices tune tick given opening voices same =
     ap (λ last. or_said last (set_on tick 0 (Some given)))
-    (sections_said value_of (everyone (λ item. item) tune) those tick 0 (played_sections (λ item. item) tune))
+    (sections_said value_of (everyone tune) those tick 0 (played_sections tune))
     ∙ (λ i. or_said (last_set value_of (voices i) tune tick) (set_on tick 0 (Some (same i))))
 
 pub is_conducted : IsConductedOnTicks
 is_conducted tune tick =
-    let first : first_of (tracks (λ item. item) tune) ≡ leader tune = leads (tracks (λ item. item) tune) in
+    let first : first_of (tracks tune) ≡ leader tune = leads (tracks tune) in
     record {
       tempo = tempos_stand tick (tempos_in tune) (meters_in tune) (keys_in tune)
           ∙ ap (λ last. option_to_list (option_map tempo_change last))
-          (behind_opening tempo_of (everyone (λ item. item) tune) (everyone (λ item. item) tune) tune tick
-          (or_else usual_tempo (past_all (λ item. item) tempo_past None tune)) (opening_by opening_tempo_of usual_tempo tune) refl
+          (behind_opening tempo_of (everyone tune) (everyone tune) tune tick
+          (or_else usual_tempo (past_all tempo_past None tune)) (opening_by opening_tempo_of usual_tempo tune) refl
           (opens tempo_past opening_tempo_of usual_tempo tempo_said tune));
       meter = meters_stand tick (tempos_in tune) (meters_in tune) (keys_in tune)
           ∙ ap (λ last. option_to_list (option_and_then meter_change last))
-          (behind_opening meter_of (first_of (tracks (λ item. item) tune)) (leader tune) tune tick
-          (or_else meters.Free (past_all (λ item. item) meter_past None tune)) (opening_by opening_meter_of meters.Free tune) first
+          (behind_opening meter_of (first_of (tracks tune)) (leader tune) tune tick
+          (or_else meters.Free (past_all meter_past None tune)) (opening_by opening_meter_of meters.Free tune) first
           (opens meter_past opening_meter_of meters.Free meter_said tune));
       key = keys_stand tick (tempos_in tune) (meters_in tune) (keys_in tune)
           ∙ ap (λ last. option_to_list (option_map key_change last))
-          (behind_opening key_of (first_of (tracks (λ item. item) tune)) (leader tune) tune tick
-          (or_else (pos 0, false) (past_all (λ item. item) key_past None tune)) (opening_by opening_key_of (pos 0, false) tune) first
+          (behind_opening key_of (first_of (tracks tune)) (leader tune) tune tick
+          (or_else (pos 0, false) (past_all key_past None tune)) (opening_by opening_key_of (pos 0, false) tune) first
           (opens key_past opening_key_of (pos 0, false) key_said tune));
     }

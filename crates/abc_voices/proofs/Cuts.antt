@@ -1,7 +1,9 @@
 -- The sections of a tune, one item further.
 use Rattle.std.proofs.Common.{◌≡◌, ℕ, ◌+◌, ◌-◌, ◌<◌, ◌≤◌, true, false, cond, List, [], ◌∷◌, ◌++◌, length, take, drop, get_or, sym, ap, ◌∙◌, arith, append_assoc, length-drop}
-use Rattle.std.proofs.lemmas.List.{drop_more, take_more, get_or-drop}
+use Rattle.std.specs.Borrow.{Bor}
+use Rattle.std.proofs.lemmas.List.{map-append, drop_more, take_more, get_or-drop}
 use Rattle.abc_music.specs.declared.item.Item.{Item}
+use Rattle.abc_voices.specs.Items.{items_of}
 use Rattle.abc_voices.specs.Section.{is_section, voice_past, sections_from}
 
 -- what is left of a list, from an element on
@@ -19,33 +21,35 @@ held_more xs begin at x inside within is =
     ∙ ap (λ y. take (at - begin) (drop begin xs) ++ y ∷ []) (get_or-drop begin xs (at - begin) x ∙ ap (λ k. get_or xs k x) place ∙ sym is)
 
 -- a section ends in front of an item with a letter
-pub ends_more : {A : Type 0} (item_of : A → Item) (tune : List A) (seen : List (List ℕ × List A)) (opening voice : List ℕ) (begin at : ℕ) (x : A) (whole : List (List ℕ × List A))
-    → at < length tune → x ≡ get_or tune at x → is_section (item_of x) ≡ true
-    → seen ++ sections_from item_of opening (take (at - begin) (drop begin tune)) voice (drop at tune) ≡ whole
-    → (seen ++ (opening, take (at - begin) (drop begin tune)) ∷ []) ++ sections_from item_of voice (take (at + 1 - (at + 1)) (drop (at + 1) tune)) voice (drop (at + 1) tune) ≡ whole
-ends_more item_of tune seen opening voice begin at x whole within is known before =
-    let held = take (at - begin) (drop begin tune) in
+pub ends_more : (tune : List (Bor Item)) (seen : List (List ℕ × List Item)) (opening voice : List ℕ) (begin at : ℕ) (x : Bor Item) (whole : List (List ℕ × List Item))
+    → at < length tune → x ≡ get_or tune at x → is_section x.now ≡ true
+    → seen ++ sections_from opening (items_of (take (at - begin) (drop begin tune))) voice (items_of (drop at tune)) ≡ whole
+    → (seen ++ (opening, items_of (take (at - begin) (drop begin tune))) ∷ []) ++ sections_from voice (items_of (take (at + 1 - (at + 1)) (drop (at + 1) tune))) voice (items_of (drop (at + 1) tune)) ≡ whole
+ends_more tune seen opening voice begin at x whole within is known before =
+    let held = items_of (take (at - begin) (drop begin tune)) in
     let rest = drop (at + 1) tune in
     let none : at + 1 - (at + 1) ≡ 0 = omega arith in
-    let ends : sections_from item_of opening held voice (drop at tune) ≡ (opening, held) ∷ sections_from item_of voice [] voice rest =
-    ap (sections_from item_of opening held voice) (front tune at x within is)
-    ∙ ap (λ b. cond b ((opening, held) ∷ sections_from item_of voice [] voice rest) (sections_from item_of opening (held ++ x ∷ []) (voice_past voice (item_of x)) rest)) known in
-    append_assoc seen ((opening, held) ∷ []) (sections_from item_of voice (take (at + 1 - (at + 1)) rest) voice rest)
-    ∙ ap (λ k. seen ++ ((opening, held) ∷ sections_from item_of voice (take k rest) voice rest)) none
+    let ends : sections_from opening held voice (items_of (drop at tune)) ≡ (opening, held) ∷ sections_from voice [] voice (items_of rest) =
+    ap (λ steps. sections_from opening held voice (items_of steps)) (front tune at x within is)
+    ∙ ap (λ b. cond b ((opening, held) ∷ sections_from voice [] voice (items_of rest)) (sections_from opening (held ++ x.now ∷ []) (voice_past voice x.now) (items_of rest))) known in
+    append_assoc seen ((opening, held) ∷ []) (sections_from voice (items_of (take (at + 1 - (at + 1)) rest)) voice (items_of rest))
+    ∙ ap (λ k. seen ++ ((opening, held) ∷ sections_from voice (items_of (take k rest)) voice (items_of rest))) none
     ∙ ap (λ l. seen ++ l) (sym ends)
     ∙ before
 
 -- another item stands in the section that goes on
-pub goes_more : {A : Type 0} (item_of : A → Item) (tune : List A) (seen : List (List ℕ × List A)) (opening voice : List ℕ) (begin at : ℕ) (x : A) (whole : List (List ℕ × List A))
-    → begin ≤ at → at < length tune → x ≡ get_or tune at x → is_section (item_of x) ≡ false
-    → seen ++ sections_from item_of opening (take (at - begin) (drop begin tune)) voice (drop at tune) ≡ whole
-    → seen ++ sections_from item_of opening (take (at + 1 - begin) (drop begin tune)) (voice_past voice (item_of x)) (drop (at + 1) tune) ≡ whole
-goes_more item_of tune seen opening voice begin at x whole inside within is known before =
-    let held = take (at - begin) (drop begin tune) in
-    let rest = drop (at + 1) tune in
-    let goes : sections_from item_of opening held voice (drop at tune) ≡ sections_from item_of opening (held ++ x ∷ []) (voice_past voice (item_of x)) rest =
-    ap (sections_from item_of opening held voice) (front tune at x within is)
-    ∙ ap (λ b. cond b ((opening, held) ∷ sections_from item_of voice [] voice rest) (sections_from item_of opening (held ++ x ∷ []) (voice_past voice (item_of x)) rest)) known in
-    ap (λ h. seen ++ sections_from item_of opening h (voice_past voice (item_of x)) rest) (held_more tune begin at x inside within is)
+pub goes_more : (tune : List (Bor Item)) (seen : List (List ℕ × List Item)) (opening voice : List ℕ) (begin at : ℕ) (x : Bor Item) (whole : List (List ℕ × List Item))
+    → begin ≤ at → at < length tune → x ≡ get_or tune at x → is_section x.now ≡ false
+    → seen ++ sections_from opening (items_of (take (at - begin) (drop begin tune))) voice (items_of (drop at tune)) ≡ whole
+    → seen ++ sections_from opening (items_of (take (at + 1 - begin) (drop begin tune))) (voice_past voice x.now) (items_of (drop (at + 1) tune)) ≡ whole
+goes_more tune seen opening voice begin at x whole inside within is known before =
+    let open_part = take (at - begin) (drop begin tune) in
+    let held = items_of open_part in
+    let rest = items_of (drop (at + 1) tune) in
+    let goes : sections_from opening held voice (items_of (drop at tune)) ≡ sections_from opening (held ++ x.now ∷ []) (voice_past voice x.now) rest =
+    ap (λ steps. sections_from opening held voice (items_of steps)) (front tune at x within is)
+    ∙ ap (λ b. cond b ((opening, held) ∷ sections_from voice [] voice rest) (sections_from opening (held ++ x.now ∷ []) (voice_past voice x.now) rest)) known in
+    let longer = ap items_of (held_more tune begin at x inside within is) ∙ map-append (λ (step : Bor Item). step.now) open_part (x ∷ []) in
+    ap (λ h. seen ++ sections_from opening h (voice_past voice x.now) rest) longer
     ∙ ap (λ l. seen ++ l) (sym goes)
     ∙ before

@@ -18,12 +18,9 @@ use Rattle.abc_voices.specs.EndingFields.{with_fields_in_endings_from, set_down,
 use Rattle.abc_voices.specs.Play.{marks_of}
 use Rattle.abc_voices.specs.Step.{is_field, mark_of}
 
-abbrev own : Item → Item
-own item = item
-
 -- the marks of items without their fields
 abbrev marks_left : List Item → List Mark
-marks_left part = marks_of own (without_fields part)
+marks_left part = marks_of (without_fields part)
 
 -- what the strains say of marks that stand in a common part
 abbrev outside : Bool → List Mark → List Bool
@@ -163,10 +160,10 @@ and_true true = refl
 and_true false = refl
 
 left_field : (item : Item) (rest : List Item) → is_field item ≡ true → marks_left (item ∷ rest) ≡ marks_left rest
-left_field item rest e = ap (marks_of own) (cond-false (not (is_field item)) (item ∷ without_fields rest) (without_fields rest) (ap not e))
+left_field item rest e = ap marks_of (cond-false (not (is_field item)) (item ∷ without_fields rest) (without_fields rest) (ap not e))
 
 left_other : (item : Item) (rest : List Item) → is_field item ≡ false → marks_left (item ∷ rest) ≡ mark_of item ∷ marks_left rest
-left_other item rest e = ap (marks_of own) (cond-true (not (is_field item)) (item ∷ without_fields rest) (without_fields rest) (ap not e))
+left_other item rest e = ap marks_of (cond-true (not (is_field item)) (item ∷ without_fields rest) (without_fields rest) (ap not e))
 
 with_field : (between : Bool) (others : List Bool) (item : Item) (rest : List Item) → is_field item ≡ true → mark_of item ≡ marks.Play
     → with_waits between others (item ∷ rest) ≡ (between, item) ∷ with_waits between others rest
@@ -180,7 +177,7 @@ with_other between flag others more item rest e is =
     ap (λ b. (between && not (is_ending (mark_of item)), item) ∷ with_waits (cond b between (get_or others 0 false)) (cond b others (drop 1 others)) rest) e
     ∙ ap (λ l. (between && not (is_ending (mark_of item)), item) ∷ with_waits (get_or l 0 false) (drop 1 l) rest) is
 
-alone : (item : Item) → set_down own [] item ≡ item ∷ []
+alone : (item : Item) → set_down [] item ≡ item ∷ []
 alone item = elim (is_ending (mark_of item)) as (λ b. cond b (item ∷ []) (item ∷ []) ≡ item ∷ []) [
   | true ↦ refl
   | false ↦ refl
@@ -188,15 +185,15 @@ alone item = elim (is_ending (mark_of item)) as (λ b. cond b (item ∷ []) (ite
 
 -- the walk from a place on, and what the strains say of the rest
 record Walks (rest : List Item) : Type 0 where
-  pub common : (opened : Bool) → with_fields_in_endings_from own Common [] rest ≡ says false (outside opened (marks_left rest)) rest
-  pub within : (opened : Bool) → with_fields_in_endings_from own Inside [] rest ≡ says false (inside opened false (marks_left rest)) rest
+  pub common : (opened : Bool) → with_fields_in_endings_from Common [] rest ≡ says false (outside opened (marks_left rest)) rest
+  pub within : (opened : Bool) → with_fields_in_endings_from Inside [] rest ≡ says false (inside opened false (marks_left rest)) rest
   pub ahead : (opened : Bool) (held : List Item) → leads_to_ending (marks_left rest) ≡ true
-      → with_fields_in_endings_from own Behind held rest ≡ behind_signs held (with_waits true (inside opened true (marks_left rest)) rest)
+      → with_fields_in_endings_from Behind held rest ≡ behind_signs held (with_waits true (inside opened true (marks_left rest)) rest)
   pub astray : (opened : Bool) (held : List Item) → leads_to_ending (marks_left rest) ≡ false
-      → with_fields_in_endings_from own Behind held rest ≡ held ++ says false (outside opened (marks_left rest)) rest
+      → with_fields_in_endings_from Behind held rest ≡ held ++ says false (outside opened (marks_left rest)) rest
 
 waiting : (held : List Item) (item : Item) (rest : List Item) → waits Behind item ≡ true
-    → with_fields_in_endings_from own Behind held (item ∷ rest) ≡ with_fields_in_endings_from own Behind (held ++ item ∷ []) rest
+    → with_fields_in_endings_from Behind held (item ∷ rest) ≡ with_fields_in_endings_from Behind (held ++ item ∷ []) rest
 waiting held item rest e = cond-true (waits Behind item) _ _ e
 
 -- a field
@@ -212,13 +209,13 @@ field_step item rest e p w =
     let left : leads_to_ending (marks_left rest) ≡ leads_to_ending (marks_left (item ∷ rest)) = ap leads_to_ending (sym (left_field item rest e)) in
     record {
       common = λ opened.
-          ap (λ l. l ++ with_fields_in_endings_from own (region_past Common (mark_of item)) [] rest) (alone item)
-          ∙ ap (λ m. item ∷ with_fields_in_endings_from own (region_past Common m) [] rest) p
+          ap (λ l. l ++ with_fields_in_endings_from (region_past Common (mark_of item)) [] rest) (alone item)
+          ∙ ap (λ m. item ∷ with_fields_in_endings_from (region_past Common m) [] rest) p
           ∙ ap (λ l. item ∷ l) (w.common opened)
           ∙ sym (ap (behind_signs []) (field_flags (outside opened) false item rest e p));
       within = λ opened.
-          ap (λ l. l ++ with_fields_in_endings_from own (region_past Inside (mark_of item)) [] rest) (alone item)
-          ∙ ap (λ m. item ∷ with_fields_in_endings_from own (region_past Inside m) [] rest) p
+          ap (λ l. l ++ with_fields_in_endings_from (region_past Inside (mark_of item)) [] rest) (alone item)
+          ∙ ap (λ m. item ∷ with_fields_in_endings_from (region_past Inside m) [] rest) p
           ∙ ap (λ l. item ∷ l) (w.within opened)
           ∙ sym (ap (behind_signs []) (field_flags (inside opened false) false item rest e p));
       ahead = λ opened held h.
@@ -264,29 +261,29 @@ plain_flags between flag those more item rest e plain is =
     ∙ ap (λ b. (b, item) ∷ with_waits flag more rest) (and_true between)
 
 plain_common : (opened : Bool) (item : Item) (rest : List Item) → is_field item ≡ false → is_ending (mark_of item) ≡ false → Walks rest
-    → with_fields_in_endings_from own Common [] (item ∷ rest) ≡ says false (outside opened (marks_left (item ∷ rest))) (item ∷ rest)
+    → with_fields_in_endings_from Common [] (item ∷ rest) ≡ says false (outside opened (marks_left (item ∷ rest))) (item ∷ rest)
 plain_common opened item rest e plain w =
     let f = follows opened (mark_of item) (marks_left rest) plain in
-    ap (λ l. l ++ with_fields_in_endings_from own (region_past Common (mark_of item)) [] rest) (alone item)
-    ∙ ap (λ b. item ∷ with_fields_in_endings_from own (cond b Inside Common) [] rest) plain
+    ap (λ l. l ++ with_fields_in_endings_from (region_past Common (mark_of item)) [] rest) (alone item)
+    ∙ ap (λ b. item ∷ with_fields_in_endings_from (cond b Inside Common) [] rest) plain
     ∙ ap (λ l. item ∷ l) (w.common f.behind)
     ∙ sym (ap (behind_signs []) (plain_flags false false (outside opened) (outside f.behind (marks_left rest)) item rest e plain f.is))
 
 -- inside an ending, behind an item that is no sign
 plain_behind : (region : Region) (opened flag : Bool) (more : List Bool) (item : Item) (rest : List Item) → is_field item ≡ false → is_ending (mark_of item) ≡ false
     → past Inside (mark_of item) ≡ region → inside opened false (mark_of item ∷ marks_left rest) ≡ flag ∷ more
-    → with_fields_in_endings_from own region [] rest ≡ says flag more rest
-    → with_fields_in_endings_from own Inside [] (item ∷ rest) ≡ says false (inside opened false (marks_left (item ∷ rest))) (item ∷ rest)
+    → with_fields_in_endings_from region [] rest ≡ says flag more rest
+    → with_fields_in_endings_from Inside [] (item ∷ rest) ≡ says false (inside opened false (marks_left (item ∷ rest))) (item ∷ rest)
 plain_behind region opened flag more item rest e plain there is walk =
-    ap (λ l. l ++ with_fields_in_endings_from own (region_past Inside (mark_of item)) [] rest) (alone item)
-    ∙ ap (λ b. item ∷ with_fields_in_endings_from own (cond b Inside (past Inside (mark_of item))) [] rest) plain
-    ∙ ap (λ r. item ∷ with_fields_in_endings_from own r [] rest) there
+    ap (λ l. l ++ with_fields_in_endings_from (region_past Inside (mark_of item)) [] rest) (alone item)
+    ∙ ap (λ b. item ∷ with_fields_in_endings_from (cond b Inside (past Inside (mark_of item))) [] rest) plain
+    ∙ ap (λ r. item ∷ with_fields_in_endings_from r [] rest) there
     ∙ ap (λ l. item ∷ l) walk
     ∙ sym (ap (behind_signs []) (plain_flags false flag (inside opened false) more item rest e plain is))
 
 -- behind a bar that ends an ending
 bar_behind : (opened : Bool) (item : Item) (rest : List Item) → is_field item ≡ false → is_ending (mark_of item) ≡ false → closes_ending (mark_of item) ≡ true → Walks rest
-    → with_fields_in_endings_from own Inside [] (item ∷ rest) ≡ says false (inside opened false (marks_left (item ∷ rest))) (item ∷ rest)
+    → with_fields_in_endings_from Inside [] (item ∷ rest) ≡ says false (inside opened false (marks_left (item ∷ rest))) (item ∷ rest)
 bar_behind opened item rest e plain closes w =
     let m = mark_of item in
     let ms = marks_left rest in
@@ -310,7 +307,7 @@ bar_behind opened item rest e plain closes w =
     none false = refl
 
 plain_within : (opened : Bool) (item : Item) (rest : List Item) → is_field item ≡ false → is_ending (mark_of item) ≡ false → Walks rest
-    → with_fields_in_endings_from own Inside [] (item ∷ rest) ≡ says false (inside opened false (marks_left (item ∷ rest))) (item ∷ rest)
+    → with_fields_in_endings_from Inside [] (item ∷ rest) ≡ says false (inside opened false (marks_left (item ∷ rest))) (item ∷ rest)
 plain_within opened item rest e plain w = ⊎_elim
     (λ closes. bar_behind opened item rest e plain closes w)
     (λ unclosed. plain_behind Inside opened false (inside opened false (marks_left rest)) item rest e plain (ap (λ b. cond b (past_bar (mark_of item)) Inside) unclosed)
@@ -325,7 +322,7 @@ led_on item rest b e plain h =
 
 plain_ahead : (opened : Bool) (held : List Item) (item : Item) (rest : List Item) → is_field item ≡ false → is_ending (mark_of item) ≡ false → Walks rest
     → leads_to_ending (marks_left (item ∷ rest)) ≡ true
-    → with_fields_in_endings_from own Behind held (item ∷ rest) ≡ behind_signs held (with_waits true (inside opened true (marks_left (item ∷ rest))) (item ∷ rest))
+    → with_fields_in_endings_from Behind held (item ∷ rest) ≡ behind_signs held (with_waits true (inside opened true (marks_left (item ∷ rest))) (item ∷ rest))
 plain_ahead opened held item rest e plain w h =
     let both = and_parts (is_single (mark_of item)) (leads_to_ending (marks_left rest)) (led_on item rest true e plain h) in
     waiting held item rest (ap (λ b. b || is_single (mark_of item)) e ∙ both.0)
@@ -335,17 +332,17 @@ plain_ahead opened held item rest e plain w h =
 
 plain_astray : (opened : Bool) (held : List Item) (item : Item) (rest : List Item) → is_field item ≡ false → is_ending (mark_of item) ≡ false → Walks rest
     → leads_to_ending (marks_left (item ∷ rest)) ≡ false
-    → with_fields_in_endings_from own Behind held (item ∷ rest) ≡ held ++ says false (outside opened (marks_left (item ∷ rest))) (item ∷ rest)
+    → with_fields_in_endings_from Behind held (item ∷ rest) ≡ held ++ says false (outside opened (marks_left (item ∷ rest))) (item ∷ rest)
 plain_astray opened held item rest e plain w h =
     let f = follows opened (mark_of item) (marks_left rest) plain in
     let rest_says = says false (outside f.behind (marks_left rest)) rest in
-    let walked : with_fields_in_endings_from own Behind held (item ∷ rest) ≡ (held ++ item ∷ []) ++ rest_says = ⊎_elim
+    let walked : with_fields_in_endings_from Behind held (item ∷ rest) ≡ (held ++ item ∷ []) ++ rest_says = ⊎_elim
     (λ single.
     waiting held item rest (ap (λ b. b || is_single (mark_of item)) e ∙ single)
     ∙ w.astray f.behind (held ++ item ∷ []) (sym (ap (λ b. b && leads_to_ending (marks_left rest)) single) ∙ led_on item rest false e plain h))
     (λ other.
     cond-false (waits Behind item) _ _ (ap (λ b. b || is_single (mark_of item)) e ∙ other)
-    ∙ ap (λ b. cond b (item ∷ held) (held ++ item ∷ []) ++ with_fields_in_endings_from own (cond b Inside Common) [] rest) plain
+    ∙ ap (λ b. cond b (item ∷ held) (held ++ item ∷ []) ++ with_fields_in_endings_from (cond b Inside Common) [] rest) plain
     ∙ ap (λ l. (held ++ item ∷ []) ++ l) (w.common f.behind))
     (cases_Bool (is_single (mark_of item))) in
     walked

@@ -3,7 +3,6 @@ use Rattle.std.proofs.Common.{◌≡◌, ℕ, ◌-◌, Bool, true, false, cond, 
 use Rattle.std.proofs.lemmas.List.Elements.{All-filter}
 use Rattle.std.specs.Prelude.{not, ℤ, pos, All}
 use Rattle.std.specs.List.{cons_option}
-use Rattle.std.specs.Borrow.{Bor}
 use Rattle.abc_music.specs.declared.item.Item.{Item}
 use Rattle.abc_music.specs.declared.item.Item.TheVariants as items
 use Rattle.abc_music.specs.declared.item.Tone.{Tone}
@@ -19,11 +18,7 @@ use Rattle.abc_voices.specs.Opening.{tempo_past, meter_past, key_past, program_p
 use Rattle.abc_voices.specs.Section.{letter_of, letters, declared_or, opening_voice}
 use Rattle.abc_voices.specs.declared.stage.Stage.{Stage}
 use Rattle.abc_voices.specs.Track.{names_past, names_from, everyone}
-use Rattle.abc_voices.proofs.Mapped.{conductor_same, score_same}
-
--- an item behind a reference
-abbrev there : Bor Item → Item
-there step = step.now
+use Rattle.abc_voices.proofs.Alike.{conductor_same, score_same}
 
 -- what is alike at a note or chord, a rest, a bar line and the beginning of an ending is alike at all music
 pub of_music : {V : Type 0} (f : Item → V) (v : V) → ((tones : List Tone) (length : Grains) → f (items.Tone tones length) ≡ v)
@@ -36,108 +31,108 @@ of_music f v tone rest bar ending (items.Ending numbers) h = ending numbers
 of_music f v tone rest bar ending _ h = cc
 
 -- what is taken on from step to step, and stays where it is at music
-left_step : {A V W : Type 0} (item_of : A → Item) (f : V → List A → W) (past : V → Item → V)
-    → ((v : V) (step : A) (tune : List A) → f v (step ∷ tune) ≡ f (past v (item_of step)) tune)
+left_step : {V W : Type 0} (f : V → List Item → W) (past : V → Item → V)
+    → ((v : V) (step : Item) (tune : List Item) → f v (step ∷ tune) ≡ f (past v step) tune)
     → ((item : Item) → is_music item ≡ true → (v : V) → past v item ≡ v)
-    → (v : V) (step : A) (tune : List A) → ((w : V) → f w (fields item_of tune) ≡ f w tune)
-    → (music : Bool) → is_music (item_of step) ≡ music
-    → f v (cond (not music) (step ∷ fields item_of tune) (fields item_of tune)) ≡ f v (step ∷ tune)
-left_step item_of f past goes kept v step tune rest true music =
-    rest v ∙ sym (goes v step tune ∙ ap (λ w. f w tune) (kept (item_of step) music v))
-left_step item_of f past goes kept v step tune rest false music =
-    goes v step (fields item_of tune) ∙ rest (past v (item_of step)) ∙ sym (goes v step tune)
+    → (v : V) (step : Item) (tune : List Item) → ((w : V) → f w (fields tune) ≡ f w tune)
+    → (music : Bool) → is_music step ≡ music
+    → f v (cond (not music) (step ∷ fields tune) (fields tune)) ≡ f v (step ∷ tune)
+left_step f past goes kept v step tune rest true music =
+    rest v ∙ sym (goes v step tune ∙ ap (λ w. f w tune) (kept step music v))
+left_step f past goes kept v step tune rest false music =
+    goes v step (fields tune) ∙ rest (past v step) ∙ sym (goes v step tune)
 
-from_left : {A V W : Type 0} (item_of : A → Item) (f : V → List A → W) (past : V → Item → V)
-    → ((v : V) (step : A) (tune : List A) → f v (step ∷ tune) ≡ f (past v (item_of step)) tune)
+from_left : {V W : Type 0} (f : V → List Item → W) (past : V → Item → V)
+    → ((v : V) (step : Item) (tune : List Item) → f v (step ∷ tune) ≡ f (past v step) tune)
     → ((item : Item) → is_music item ≡ true → (v : V) → past v item ≡ v)
-    → (v : V) (tune : List A) → f v (fields item_of tune) ≡ f v tune
-from_left item_of f past goes kept v [] = refl
-from_left item_of f past goes kept v (step ∷ tune) =
-    left_step item_of f past goes kept v step tune (λ w. from_left item_of f past goes kept w tune) (is_music (item_of step)) refl
+    → (v : V) (tune : List Item) → f v (fields tune) ≡ f v tune
+from_left f past goes kept v [] = refl
+from_left f past goes kept v (step ∷ tune) =
+    left_step f past goes kept v step tune (λ w. from_left f past goes kept w tune) (is_music step) refl
 
 -- what is made from the last step to the first, and stays what it is at music
-right_step : {A V : Type 0} (item_of : A → Item) (f : List A → V) (before : V → Item → V)
-    → ((step : A) (tune : List A) → f (step ∷ tune) ≡ before (f tune) (item_of step))
+right_step : {V : Type 0} (f : List Item → V) (before : V → Item → V)
+    → ((step : Item) (tune : List Item) → f (step ∷ tune) ≡ before (f tune) step)
     → ((item : Item) → is_music item ≡ true → (v : V) → before v item ≡ v)
-    → (step : A) (tune : List A) → f (fields item_of tune) ≡ f tune → (music : Bool) → is_music (item_of step) ≡ music
-    → f (cond (not music) (step ∷ fields item_of tune) (fields item_of tune)) ≡ f (step ∷ tune)
-right_step item_of f before goes kept step tune rest true music =
-    rest ∙ sym (goes step tune ∙ kept (item_of step) music (f tune))
-right_step item_of f before goes kept step tune rest false music =
-    goes step (fields item_of tune) ∙ ap (λ v. before v (item_of step)) rest ∙ sym (goes step tune)
+    → (step : Item) (tune : List Item) → f (fields tune) ≡ f tune → (music : Bool) → is_music step ≡ music
+    → f (cond (not music) (step ∷ fields tune) (fields tune)) ≡ f (step ∷ tune)
+right_step f before goes kept step tune rest true music =
+    rest ∙ sym (goes step tune ∙ kept step music (f tune))
+right_step f before goes kept step tune rest false music =
+    goes step (fields tune) ∙ ap (λ v. before v step) rest ∙ sym (goes step tune)
 
-from_right : {A V : Type 0} (item_of : A → Item) (f : List A → V) (before : V → Item → V)
-    → ((step : A) (tune : List A) → f (step ∷ tune) ≡ before (f tune) (item_of step))
+from_right : {V : Type 0} (f : List Item → V) (before : V → Item → V)
+    → ((step : Item) (tune : List Item) → f (step ∷ tune) ≡ before (f tune) step)
     → ((item : Item) → is_music item ≡ true → (v : V) → before v item ≡ v)
-    → (tune : List A) → f (fields item_of tune) ≡ f tune
-from_right item_of f before goes kept [] = refl
-from_right item_of f before goes kept (step ∷ tune) =
-    right_step item_of f before goes kept step tune (from_right item_of f before goes kept tune) (is_music (item_of step)) refl
+    → (tune : List Item) → f (fields tune) ≡ f tune
+from_right f before goes kept [] = refl
+from_right f before goes kept (step ∷ tune) =
+    right_step f before goes kept step tune (from_right f before goes kept tune) (is_music step) refl
 
 -- the order of the parts
 order_kept : (item : Item) → is_music item ≡ true → (v : Option (List ℕ)) → order_past v item ≡ v
 order_kept item music v = of_music (order_past v) v (λ _ _. refl) (λ _ _. refl) (λ _. refl) (λ _. refl) item music
 
-order_given : (tune : List (Bor Item)) → past_all there order_past None (fields there tune) ≡ past_all there order_past None tune
-order_given tune = from_left there (past_all there order_past) order_past (λ _ _ _. refl) order_kept None tune
+order_given : (tune : List Item) → past_all order_past None (fields tune) ≡ past_all order_past None tune
+order_given tune = from_left (past_all order_past) order_past (λ _ _ _. refl) order_kept None tune
 
 -- the letters of the parts
 letter_kept : (item : Item) → is_music item ≡ true → (v : List ℕ) → cons_option (letter_of item) v ≡ v
 letter_kept item music v = of_music (λ i. cons_option (letter_of i) v) v (λ _ _. refl) (λ _ _. refl) (λ _. refl) (λ _. refl) item music
 
-letters_given : (tune : List (Bor Item)) → letters there (fields there tune) ≡ letters there tune
-letters_given tune = from_right there (letters there) (λ v item. cons_option (letter_of item) v) (λ _ _. refl) letter_kept tune
+letters_given : (tune : List Item) → letters (fields tune) ≡ letters tune
+letters_given tune = from_right (letters) (λ v item. cons_option (letter_of item) v) (λ _ _. refl) letter_kept tune
 
 -- the voices
 names_kept : (item : Item) → is_music item ≡ true → (v : List (List ℕ)) → names_past v item ≡ v
 names_kept item music v = of_music (names_past v) v (λ _ _. refl) (λ _ _. refl) (λ _. refl) (λ _. refl) item music
 
-pub everyone_given : (tune given : List (Bor Item)) → given ≡ fields there tune → everyone there given ≡ everyone there tune
+pub everyone_given : (tune given : List Item) → given ≡ fields tune → everyone given ≡ everyone tune
 everyone_given tune given is =
-    ap (everyone there) is ∙ from_left there (names_from there) names_past (λ _ _ _. refl) names_kept ([] ∷ []) tune
+    ap (everyone) is ∙ from_left (names_from) names_past (λ _ _ _. refl) names_kept ([] ∷ []) tune
 
 declared_kept : (item : Item) → is_music item ≡ true → (v : List ℕ) → declared_or v item ≡ v
 declared_kept item music v = of_music (declared_or v) v (λ _ _. refl) (λ _ _. refl) (λ _. refl) (λ _. refl) item music
 
-pub opening_given : (tune given : List (Bor Item)) → given ≡ fields there tune → opening_voice there given ≡ opening_voice there tune
+pub opening_given : (tune given : List Item) → given ≡ fields tune → opening_voice given ≡ opening_voice tune
 opening_given tune given is =
-    ap (opening_voice there) is ∙ from_right there (opening_voice there) declared_or (λ _ _. refl) declared_kept tune
+    ap (opening_voice) is ∙ from_right (opening_voice) declared_or (λ _ _. refl) declared_kept tune
 
 -- the tempo, the meter and the key with which a tune opens
 tempo_kept : (item : Item) → is_music item ≡ true → (v : Option ℕ) → tempo_past v item ≡ v
 tempo_kept item music v = of_music (tempo_past v) v (λ _ _. refl) (λ _ _. refl) (λ _. refl) (λ _. refl) item music
 
-tempo_given : (tune : List (Bor Item)) → past_all there tempo_past None (fields there tune) ≡ past_all there tempo_past None tune
-tempo_given tune = from_left there (past_all there tempo_past) tempo_past (λ _ _ _. refl) tempo_kept None tune
+tempo_given : (tune : List Item) → past_all tempo_past None (fields tune) ≡ past_all tempo_past None tune
+tempo_given tune = from_left (past_all tempo_past) tempo_past (λ _ _ _. refl) tempo_kept None tune
 
 meter_kept : (item : Item) → is_music item ≡ true → (v : Option Meter) → meter_past v item ≡ v
 meter_kept item music v = of_music (meter_past v) v (λ _ _. refl) (λ _ _. refl) (λ _. refl) (λ _. refl) item music
 
-meter_given : (tune : List (Bor Item)) → past_all there meter_past None (fields there tune) ≡ past_all there meter_past None tune
-meter_given tune = from_left there (past_all there meter_past) meter_past (λ _ _ _. refl) meter_kept None tune
+meter_given : (tune : List Item) → past_all meter_past None (fields tune) ≡ past_all meter_past None tune
+meter_given tune = from_left (past_all meter_past) meter_past (λ _ _ _. refl) meter_kept None tune
 
 key_kept : (item : Item) → is_music item ≡ true → (v : Option (ℤ × Bool)) → key_past v item ≡ v
 key_kept item music v = of_music (key_past v) v (λ _ _. refl) (λ _ _. refl) (λ _. refl) (λ _. refl) item music
 
-key_given : (tune : List (Bor Item)) → past_all there key_past None (fields there tune) ≡ past_all there key_past None tune
-key_given tune = from_left there (past_all there key_past) key_past (λ _ _ _. refl) key_kept None tune
+key_given : (tune : List Item) → past_all key_past None (fields tune) ≡ past_all key_past None tune
+key_given tune = from_left (past_all key_past) key_past (λ _ _ _. refl) key_kept None tune
 
 -- the program with which the tune opens
 program_kept : (item : Item) → is_music item ≡ true → (v : Option ℕ) → program_past v item ≡ v
 program_kept item music v = of_music (program_past v) v (λ _ _. refl) (λ _ _. refl) (λ _. refl) (λ _. refl) item music
 
-program_given : (tune : List (Bor Item)) → past_all there program_past None (fields there tune) ≡ past_all there program_past None tune
-program_given tune = from_left there (past_all there program_past) program_past (λ _ _ _. refl) program_kept None tune
+program_given : (tune : List Item) → past_all program_past None (fields tune) ≡ past_all program_past None tune
+program_given tune = from_left (past_all program_past) program_past (λ _ _ _. refl) program_kept None tune
 
 -- the title
 title_kept : (item : Item) → is_music item ≡ true → (v : List ℕ) → title_before v item ≡ v
 title_kept item music v = of_music (title_before v) v (λ _ _. refl) (λ _ _. refl) (λ _. refl) (λ _. refl) item music
 
-title_given : (tune : List (Bor Item)) → title_of there (fields there tune) ≡ title_of there tune
-title_given tune = from_right there (title_of there) title_before (λ _ _. refl) title_kept tune
+title_given : (tune : List Item) → title_of (fields tune) ≡ title_of tune
+title_given tune = from_right (title_of) title_before (λ _ _. refl) title_kept tune
 
 -- the score of stages
-score_fields : (tune : List (Bor Item)) (first count : ℕ) (stages : List Stage) → score_along (fields there tune) first count stages ≡ score_along tune first count stages
+score_fields : (tune : List Item) (first count : ℕ) (stages : List Stage) → score_along (fields tune) first count stages ≡ score_along tune first count stages
 score_fields tune first count stages =
     score_same _ _ _ _ _ _ _ _ _ _ (title_given tune) refl
     (conductor_same _ _ _ _ _ _
@@ -147,26 +142,26 @@ score_fields tune first count stages =
     refl
     (ap (λ v. programs_along v stages first (count - first)) (program_given tune))
 
-pub score_given : (tune given : List (Bor Item)) (first count : ℕ) (stages : List Stage) → given ≡ fields there tune
+pub score_given : (tune given : List Item) (first count : ℕ) (stages : List Stage) → given ≡ fields tune
     → score_along given first count stages ≡ score_along tune first count stages
 score_given tune given first count stages is =
     ap (λ g. score_along g first count stages) is ∙ score_fields tune first count stages
 
 -- the sections that are played, and whether the order has a letter without one
-pub played_given : (tune given : List (Bor Item)) → given ≡ fields there tune
-    → sections_of (past_all there order_past None given) (letters there given) ≡ sections_of (past_all there order_past None tune) (letters there tune)
+pub played_given : (tune given : List Item) → given ≡ fields tune
+    → sections_of (past_all order_past None given) (letters given) ≡ sections_of (past_all order_past None tune) (letters tune)
 played_given tune given is =
-    ap (λ g. sections_of (past_all there order_past None g) (letters there g)) is
-    ∙ ap (λ order. sections_of order (letters there (fields there tune))) (order_given tune)
-    ∙ ap (sections_of (past_all there order_past None tune)) (letters_given tune)
+    ap (λ g. sections_of (past_all order_past None g) (letters g)) is
+    ∙ ap (λ order. sections_of order (letters (fields tune))) (order_given tune)
+    ∙ ap (sections_of (past_all order_past None tune)) (letters_given tune)
 
-pub unknown_given : (tune given : List (Bor Item)) → given ≡ fields there tune
-    → has_unknown (past_all there order_past None given) (letters there given) ≡ has_unknown (past_all there order_past None tune) (letters there tune)
+pub unknown_given : (tune given : List Item) → given ≡ fields tune
+    → has_unknown (past_all order_past None given) (letters given) ≡ has_unknown (past_all order_past None tune) (letters tune)
 unknown_given tune given is =
-    ap (λ g. has_unknown (past_all there order_past None g) (letters there g)) is
-    ∙ ap (λ order. has_unknown order (letters there (fields there tune))) (order_given tune)
-    ∙ ap (has_unknown (past_all there order_past None tune)) (letters_given tune)
+    ap (λ g. has_unknown (past_all order_past None g) (letters g)) is
+    ∙ ap (λ order. has_unknown order (letters (fields tune))) (order_given tune)
+    ∙ ap (has_unknown (past_all order_past None tune)) (letters_given tune)
 
 -- each field is an item of the tune
-pub items_given : (P : Bor Item → Type 0) (tune given : List (Bor Item)) → given ≡ fields there tune → All P tune → All P given
-items_given P tune given is all = subst (All P) (sym is) (All-filter (λ step. not (is_music step.now)) P tune all)
+pub items_given : (P : Item → Type 0) (tune given : List Item) → given ≡ fields tune → All P tune → All P given
+items_given P tune given is all = subst (All P) (sym is) (All-filter (λ step. not (is_music step)) P tune all)

@@ -5,7 +5,6 @@ use Rattle.std.proofs.lemmas.List.{drop_more, length-map}
 use Rattle.std.proofs.lemmas.List.Folds.{flat_map-map}
 use Rattle.std.proofs.lemmas.List.Sums.{sum_by_from}
 use Rattle.std.proofs.lemmas.Option.{slice_get-map, slice_get-get_or, slice_get_past}
-use Rattle.std.specs.Borrow.{Bor}
 use Rattle.std.specs.Prelude.{◌||◌, pos, bytes_eq, All, slice_get, filter_map, sum_by, option_map}
 use Rattle.std.specs.List.{list_any, flat_map}
 use Rattle.abc_music.specs.declared.item.Item.{Item}
@@ -27,23 +26,19 @@ use Rattle.abc_voices.specs.Opening.{tempo_past, meter_past, key_past, program_p
 use Rattle.abc_voices.specs.Stage.{part_of, stage_of}
 use Rattle.abc_voices.specs.Track.{everyone, nameless_plays, names_from, names_past, tracks}
 use Rattle.abc_voices.proofs.Fitting.Kept.{played_kept}
-use Rattle.abc_voices.proofs.Mapped.{conductor_same, score_same, laid_same}
+use Rattle.abc_voices.proofs.Alike.{conductor_same, score_same, laid_same}
 use Rattle.abc_voices.proofs.Staged.{stages_are, total_within}
 
--- an item behind a reference
-abbrev there : Bor Item → Item
-there step = step.now
-
 abbrev Sectioned : Type 0
-Sectioned = List ℕ × List (Bor Item)
+Sectioned = List ℕ × List Item
 
 -- how long the stages of sections are
-pub total_of : (voices : List (List ℕ)) (played : List Sectioned) → length_along (map (stage_of voices) played) ≡ sum_by (longest there voices) played
+pub total_of : (voices : List (List ℕ)) (played : List Sectioned) → length_along (map (stage_of voices) played) ≡ sum_by (longest voices) played
 total_of voices [] = refl
 total_of voices (section ∷ played) =
-    sum_by_from (λ (stage : Stage). stage.longest.0) (0 + longest there voices section) (map (stage_of voices) played)
-    ∙ ap (λ n. (0 + longest there voices section) + n) (total_of voices played)
-    ∙ sym (sum_by_from (longest there voices) (0 + longest there voices section) played)
+    sum_by_from (λ (stage : Stage). stage.longest.0) (0 + longest voices section) (map (stage_of voices) played)
+    ∙ ap (λ n. (0 + longest voices section) + n) (total_of voices played)
+    ∙ sym (sum_by_from (longest voices) (0 + longest voices section) played)
 
 -- what stands at a place of a list, by what is left there
 record Front {X : Type 0} (xs : List X) (k : ℕ) (x : X) (rest : List X) : Type 0 where
@@ -59,16 +54,16 @@ front xs k x rest e =
 
 -- what the voice at a place plays of a stage
 steps_here : (section : Sectioned) (voices : List (List ℕ)) (k : ℕ) (voice : List ℕ) → slice_get voices k ≡ Some voice
-    → steps_of (slice_get (map (part_of section) voices) k) ≡ play_in there section voice
+    → steps_of (slice_get (map (part_of section) voices) k) ≡ play_in section voice
 steps_here section voices k voice e = ap steps_of (slice_get-map (part_of section) voices k ∙ ap (option_map (part_of section)) e)
 
 -- the notes of the voice at a place
 notes_here : (voices : List (List ℕ)) (k : ℕ) (voice : List ℕ) (at : ℕ) (played : List Sectioned) → slice_get voices k ≡ Some voice
-    → notes_along k at (map (stage_of voices) played) ≡ voice_notes there voices voice at played
+    → notes_along k at (map (stage_of voices) played) ≡ voice_notes voices voice at played
 notes_here voices k voice at [] e = refl
 notes_here voices k voice at (section ∷ played) e =
-    ap (λ steps. notes_from there at steps (notes_along k (at + longest there voices section) (map (stage_of voices) played))) (steps_here section voices k voice e)
-    ∙ ap (notes_from there at (play_in there section voice)) (notes_here voices k voice (at + longest there voices section) played e)
+    ap (λ steps. notes_from at steps (notes_along k (at + longest voices section) (map (stage_of voices) played))) (steps_here section voices k voice e)
+    ∙ ap (notes_from at (play_in section voice)) (notes_here voices k voice (at + longest voices section) played e)
 
 -- what there is for the voices from a place on, where it is known for each by what is left of them there
 voices_here : {X : Type 0} (one : ℕ → X) (own : List ℕ → X) (voices : List (List ℕ))
@@ -81,60 +76,60 @@ voices_here one own voices same k (voice ∷ rest) e =
 
 -- the notes of the voice at a place, by what is left of the voices there
 all_here_of : (voices : List (List ℕ)) (played : List Sectioned) (k : ℕ) (voice : List ℕ) (rest : List (List ℕ)) → drop k voices ≡ voice ∷ rest
-    → all_notes (notes_along k 0 (map (stage_of voices) played)) ≡ all_notes (voice_notes there voices voice 0 played)
+    → all_notes (notes_along k 0 (map (stage_of voices) played)) ≡ all_notes (voice_notes voices voice 0 played)
 all_here_of voices played k voice rest e = ap all_notes (notes_here voices k voice 0 played (front voices k voice rest e).found)
 
 -- what all voices set
 all_here : {V : Type 0} (value_of : Item → Option V) (voices : List (List ℕ)) (at : ℕ) (played : List Sectioned)
-    → set_by_all value_of at (map (stage_of voices) played) ≡ set_in there value_of voices voices at played
+    → set_by_all value_of at (map (stage_of voices) played) ≡ set_in value_of voices voices at played
 all_here value_of voices at [] = refl
 all_here value_of voices at (section ∷ played) =
-    ap (λ l. l ++ set_by_all value_of (at + longest there voices section) (map (stage_of voices) played))
-    (flat_map-map (λ (part : Part). set_from there value_of at part.steps) (part_of section) voices)
-    ∙ ap (λ l. flat_map (λ voice. set_from there value_of at (play_in there section voice)) voices ++ l)
-    (all_here value_of voices (at + longest there voices section) played)
+    ap (λ l. l ++ set_by_all value_of (at + longest voices section) (map (stage_of voices) played))
+    (flat_map-map (λ (part : Part). set_from value_of at part.steps) (part_of section) voices)
+    ∙ ap (λ l. flat_map (λ voice. set_from value_of at (play_in section voice)) voices ++ l)
+    (all_here value_of voices (at + longest voices section) played)
 
 -- what the voice at a place sets in a stage
 track_here : {V : Type 0} (value_of : Item → Option V) (section : Sectioned) (voices : List (List ℕ)) (k at : ℕ) (rest : List (List ℕ)) → drop k voices ≡ rest
-    → set_from there value_of at (steps_of (slice_get (map (part_of section) voices) k))
-    ≡ flat_map (λ voice. set_from there value_of at (play_in there section voice)) (first_of rest)
+    → set_from value_of at (steps_of (slice_get (map (part_of section) voices) k))
+    ≡ flat_map (λ voice. set_from value_of at (play_in section voice)) (first_of rest)
 track_here value_of section voices k at [] e =
     let past : length (map (part_of section) voices) ≤ k = omega (arith, length-map voices (part_of section), length-drop k voices, ap length e) in
-    ap (λ part. set_from there value_of at (steps_of part)) (slice_get_past (map (part_of section) voices) k past)
+    ap (λ part. set_from value_of at (steps_of part)) (slice_get_past (map (part_of section) voices) k past)
 track_here value_of section voices k at (voice ∷ rest) e =
     let here : Front voices k voice rest = front voices k voice rest e in
-    ap (set_from there value_of at) (steps_here section voices k voice here.found)
-    ∙ sym (append-nil (set_from there value_of at (play_in there section voice)))
+    ap (set_from value_of at) (steps_here section voices k voice here.found)
+    ∙ sym (append-nil (set_from value_of at (play_in section voice)))
 
 -- what the first track sets
 one_here : {V : Type 0} (value_of : Item → Option V) (voices : List (List ℕ)) (k at : ℕ) (played : List Sectioned)
-    → set_by_one value_of k at (map (stage_of voices) played) ≡ set_in there value_of voices (first_of (drop k voices)) at played
+    → set_by_one value_of k at (map (stage_of voices) played) ≡ set_in value_of voices (first_of (drop k voices)) at played
 one_here value_of voices k at [] = refl
 one_here value_of voices k at (section ∷ played) =
-    ap (λ l. l ++ set_by_one value_of k (at + longest there voices section) (map (stage_of voices) played))
+    ap (λ l. l ++ set_by_one value_of k (at + longest voices section) (map (stage_of voices) played))
     (track_here value_of section voices k at (drop k voices) refl)
-    ∙ ap (λ l. flat_map (λ voice. set_from there value_of at (play_in there section voice)) (first_of (drop k voices)) ++ l)
-    (one_here value_of voices k (at + longest there voices section) played)
+    ∙ ap (λ l. flat_map (λ voice. set_from value_of at (play_in section voice)) (first_of (drop k voices)) ++ l)
+    (one_here value_of voices k (at + longest voices section) played)
 
 -- the programs of the voice at a place, by what is left of the voices there
 programs_here : (opening : Option ℕ) (voices : List (List ℕ)) (played : List Sectioned) (k : ℕ) (voice : List ℕ) (rest : List (List ℕ)) → drop k voices ≡ voice ∷ rest
-    → programs_by opening (map (stage_of voices) played) k ≡ programs_in there opening voices played voice
+    → programs_by opening (map (stage_of voices) played) k ≡ programs_in opening voices played voice
 programs_here opening voices played k voice rest e =
     ap (λ sets. programs_that_stand (behind opening sets))
-    (one_here program_of voices k 0 played ∙ ap (λ those. set_in there program_of voices (first_of those) 0 played) e)
+    (one_here program_of voices k 0 played ∙ ap (λ those. set_in program_of voices (first_of those) 0 played) e)
 
 any_map : {X Y : Type 0} (p : Y → Bool) (q : X → Bool) (f : X → Y) → ((x : X) → p (f x) ≡ q x) → (xs : List X) → list_any p (map f xs) ≡ list_any q xs
 any_map p q f h [] = refl
 any_map p q f h (x ∷ xs) = ap (λ b. b || list_any p (map f xs)) (h x) ∙ ap (λ b. q x || b) (any_map p q f h xs)
 
 -- whether voices are uneven in the stage of a section, and in one of some
-uneven_here : (voices : List (List ℕ)) (section : Sectioned) → is_stage_uneven (stage_of voices section) ≡ is_uneven there voices section
+uneven_here : (voices : List (List ℕ)) (section : Sectioned) → is_stage_uneven (stage_of voices section) ≡ is_uneven voices section
 uneven_here voices section =
-    any_map (λ a. list_any (parts_differ a) (map (part_of section) voices)) (λ a. list_any (differ there section a) voices) (part_of section)
-    (λ a. any_map (parts_differ (part_of section a)) (differ there section a) (part_of section) (λ b. refl) voices) voices
+    any_map (λ a. list_any (parts_differ a) (map (part_of section) voices)) (λ a. list_any (differ section a) voices) (part_of section)
+    (λ a. any_map (parts_differ (part_of section a)) (differ section a) (part_of section) (λ b. refl) voices) voices
 
-pub uneven_of : (voices : List (List ℕ)) (played : List Sectioned) → list_any is_stage_uneven (map (stage_of voices) played) ≡ list_any (is_uneven there voices) played
-uneven_of voices played = any_map is_stage_uneven (is_uneven there voices) (stage_of voices) (uneven_here voices) played
+pub uneven_of : (voices : List (List ℕ)) (played : List Sectioned) → list_any is_stage_uneven (map (stage_of voices) played) ≡ list_any (is_uneven voices) played
+uneven_of voices played = any_map is_stage_uneven (is_uneven voices) (stage_of voices) (uneven_here voices) played
 
 -- the tracks, by the place of the first
 tracks_here : (b : Bool) (voices : List (List ℕ)) → drop (cond b 0 1) voices ≡ cond b voices (drop 1 voices)
@@ -150,126 +145,126 @@ name_past : (known : List (List ℕ)) (item : Item) → length known ≤ length 
 name_past known (items.Voice opening name) = names_more known name (list_any (bytes_eq name) known)
 name_past known _ = omega arith
 
-names_within : (known : List (List ℕ)) (tune : List (Bor Item)) → length known ≤ length (names_from there known tune)
+names_within : (known : List (List ℕ)) (tune : List Item) → length known ≤ length (names_from known tune)
 names_within known [] = omega arith
 names_within known (step ∷ tune) =
-    omega (arith, name_past known step.now, names_within (names_past known step.now) tune)
+    omega (arith, name_past known step, names_within (names_past known step) tune)
 
 first_fits : (b : Bool) (n : ℕ) → 1 ≤ n → cond b 0 1 ≤ n
 first_fits true n h = omega arith
 first_fits false n h = h
 
 -- the first track is one of the voices, or stands behind them
-pub first_within : (tune : List (Bor Item)) → first_place tune ≤ length (everyone there tune)
-first_within tune = first_fits (nameless_plays there tune) (length (everyone there tune)) (names_within ([] ∷ []) tune)
+pub first_within : (tune : List Item) → first_place tune ≤ length (everyone tune)
+first_within tune = first_fits (nameless_plays tune) (length (everyone tune)) (names_within ([] ∷ []) tune)
 
 -- what the tracks have
-tracks_of : {X : Type 0} (one : ℕ → X) (own : List ℕ → X) (tune : List (Bor Item))
-    → ((k : ℕ) (voice : List ℕ) (rest : List (List ℕ)) → drop k (everyone there tune) ≡ voice ∷ rest → one k ≡ own voice)
-    → for_voices one (first_place tune) (length (everyone there tune) - first_place tune) ≡ map own (tracks there tune)
+tracks_of : {X : Type 0} (one : ℕ → X) (own : List ℕ → X) (tune : List Item)
+    → ((k : ℕ) (voice : List ℕ) (rest : List (List ℕ)) → drop k (everyone tune) ≡ voice ∷ rest → one k ≡ own voice)
+    → for_voices one (first_place tune) (length (everyone tune) - first_place tune) ≡ map own (tracks tune)
 tracks_of one own tune same =
-    let voices = everyone there tune in
+    let voices = everyone tune in
     let first = first_place tune in
     ap (for_voices one first) (sym (length-drop first voices))
     ∙ voices_here one own voices same first (drop first voices) refl
-    ∙ ap (map own) (tracks_here (nameless_plays there tune) voices)
+    ∙ ap (map own) (tracks_here (nameless_plays tune) voices)
 
 -- their notes
-pub voices_of : (tune : List (Bor Item)) → voices_along (map (stage_of (everyone there tune)) (played_sections there tune)) (first_place tune) (length (everyone there tune) - first_place tune) ≡ voices_notes there tune
+pub voices_of : (tune : List Item) → voices_along (map (stage_of (everyone tune)) (played_sections tune)) (first_place tune) (length (everyone tune) - first_place tune) ≡ voices_notes tune
 voices_of tune =
-    let voices = everyone there tune in
-    let played = played_sections there tune in
-    tracks_of (λ one. all_notes (notes_along one 0 (map (stage_of voices) played))) (λ voice. all_notes (voice_notes there voices voice 0 played)) tune (all_here_of voices played)
+    let voices = everyone tune in
+    let played = played_sections tune in
+    tracks_of (λ one. all_notes (notes_along one 0 (map (stage_of voices) played))) (λ voice. all_notes (voice_notes voices voice 0 played)) tune (all_here_of voices played)
 
 -- their programs
-pub programs_are : (tune : List (Bor Item)) → programs_along (past_all there program_past None tune) (map (stage_of (everyone there tune)) (played_sections there tune)) (first_place tune) (length (everyone there tune) - first_place tune) ≡ programs_of there tune
+pub programs_are : (tune : List Item) → programs_along (past_all program_past None tune) (map (stage_of (everyone tune)) (played_sections tune)) (first_place tune) (length (everyone tune) - first_place tune) ≡ programs_of tune
 programs_are tune =
-    let opening = past_all there program_past None tune in
-    let voices = everyone there tune in
-    let played = played_sections there tune in
-    tracks_of (programs_by opening (map (stage_of voices) played)) (programs_in there opening voices played) tune (programs_here opening voices played)
+    let opening = past_all program_past None tune in
+    let voices = everyone tune in
+    let played = played_sections tune in
+    tracks_of (programs_by opening (map (stage_of voices) played)) (programs_in opening voices played) tune (programs_here opening voices played)
 
 -- when they end
-pub end_of_stages : (tune : List (Bor Item))
-    → end_along (map (stage_of (everyone there tune)) (played_sections there tune))
-    (voices_along (map (stage_of (everyone there tune)) (played_sections there tune)) (first_place tune) (length (everyone there tune) - first_place tune))
-    ≡ end_of there tune
+pub end_of_stages : (tune : List Item)
+    → end_along (map (stage_of (everyone tune)) (played_sections tune))
+    (voices_along (map (stage_of (everyone tune)) (played_sections tune)) (first_place tune) (length (everyone tune) - first_place tune))
+    ≡ end_of tune
 end_of_stages tune =
-    let stages = map (stage_of (everyone there tune)) (played_sections there tune) in
+    let stages = map (stage_of (everyone tune)) (played_sections tune) in
     ap (end_along stages) (voices_of tune)
-    ∙ ap (λ n. last_off n (flat_map (λ notes. notes) (voices_notes there tune))) (total_of (everyone there tune) (played_sections there tune))
+    ∙ ap (λ n. last_off n (flat_map (λ notes. notes) (voices_notes tune))) (total_of (everyone tune) (played_sections tune))
 
 -- the changes
-changes_here : (tune : List (Bor Item)) → changes_along tune (first_place tune) (map (stage_of (everyone there tune)) (played_sections there tune)) ≡ changes_of there tune
+changes_here : (tune : List Item) → changes_along tune (first_place tune) (map (stage_of (everyone tune)) (played_sections tune)) ≡ changes_of tune
 changes_here tune =
-    let voices = everyone there tune in
-    let played = played_sections there tune in
-    let first = ap first_of (tracks_here (nameless_plays there tune) voices) in
+    let voices = everyone tune in
+    let played = played_sections tune in
+    let first = ap first_of (tracks_here (nameless_plays tune) voices) in
     conductor_same _ _ _ _ _ _
-    (ap (λ sets. (record { 0 = 0 }, or_else usual_tempo (past_all there tempo_past None tune)) ∷ sets) (all_here tempo_of voices 0 played))
-    (ap (λ sets. (record { 0 = 0 }, or_else meters.Free (past_all there meter_past None tune)) ∷ sets)
-    (one_here meter_of voices (first_place tune) 0 played ∙ ap (λ those. set_in there meter_of voices those 0 played) first))
-    (ap (λ sets. (record { 0 = 0 }, or_else (pos 0, false) (past_all there key_past None tune)) ∷ sets)
-    (one_here key_of voices (first_place tune) 0 played ∙ ap (λ those. set_in there key_of voices those 0 played) first))
+    (ap (λ sets. (record { 0 = 0 }, or_else usual_tempo (past_all tempo_past None tune)) ∷ sets) (all_here tempo_of voices 0 played))
+    (ap (λ sets. (record { 0 = 0 }, or_else meters.Free (past_all meter_past None tune)) ∷ sets)
+    (one_here meter_of voices (first_place tune) 0 played ∙ ap (λ those. set_in meter_of voices those 0 played) first))
+    (ap (λ sets. (record { 0 = 0 }, or_else (pos 0, false) (past_all key_past None tune)) ∷ sets)
+    (one_here key_of voices (first_place tune) 0 played ∙ ap (λ those. set_in key_of voices those 0 played) first))
 
 -- the score of the stages that are played
-pub score_of_stages : (tune : List (Bor Item))
-    → score_along tune (first_place tune) (length (everyone there tune)) (map (stage_of (everyone there tune)) (played_sections there tune)) ≡ score_of there tune
+pub score_of_stages : (tune : List Item)
+    → score_along tune (first_place tune) (length (everyone tune)) (map (stage_of (everyone tune)) (played_sections tune)) ≡ score_of tune
 score_of_stages tune =
     score_same _ _ _ _ _ _ _ _ _ _ refl (end_of_stages tune) (changes_here tune) (voices_of tune) (programs_are tune)
 
 -- the stages of the sections that a tune plays
-abbrev pub AreOf : List (Bor Item) → List Stage → Type 0
-AreOf tune stages = stages ≡ map (stage_of (everyone there tune)) (played_sections there tune)
+abbrev pub AreOf : List Item → List Stage → Type 0
+AreOf tune stages = stages ≡ map (stage_of (everyone tune)) (played_sections tune)
 
-pub played_here : (tune : List (Bor Item)) (found : List Sectioned) (order : List ℕ) → found ≡ sections there tune
-    → order ≡ sections_of (past_all there order_past None tune) (letters there tune) → filter_map (slice_get found) order ≡ played_sections there tune
-played_here tune found order p q = ap (λ f. filter_map (slice_get f) order) p ∙ ap (filter_map (slice_get (sections there tune))) q
+pub played_here : (tune : List Item) (found : List Sectioned) (order : List ℕ) → found ≡ sections tune
+    → order ≡ sections_of (past_all order_past None tune) (letters tune) → filter_map (slice_get found) order ≡ played_sections tune
+played_here tune found order p q = ap (λ f. filter_map (slice_get f) order) p ∙ ap (filter_map (slice_get (sections tune))) q
 
 pub alike : {X Y : Type 0} (P : X → Y → Type 0) (a b : X) (u v : Y) → a ≡ b → u ≡ v → P a u → P b v
 alike P a b u v p q h = subst (P b) q (subst (λ x. P x u) p h)
 
-pub stages_hold : (tune : List (Bor Item)) (stages : List Stage) → AreOf tune stages → All (λ step. IsItem step.now) tune → All IsStage stages
+pub stages_hold : (tune : List Item) (stages : List Stage) → AreOf tune stages → All IsItem tune → All IsStage stages
 stages_hold tune stages is all =
     subst (All IsStage) (sym is)
-    (stages_are (everyone there tune) (played_sections there tune)
-    (played_kept there (λ step. IsItem step.now) tune all))
+    (stages_are (everyone tune) (played_sections tune)
+    (played_kept IsItem tune all))
 
-pub late_total : (tune : List (Bor Item)) (stages : List Stage) → AreOf tune stages → grains_of_the_latest_end < length_along stages → grains_of_the_latest_end < end_of there tune
+pub late_total : (tune : List Item) (stages : List Stage) → AreOf tune stages → grains_of_the_latest_end < length_along stages → grains_of_the_latest_end < end_of tune
 late_total tune stages is late =
-    omega (arith, ap length_along is, total_of (everyone there tune) (played_sections there tune), total_within there tune)
+    omega (arith, ap length_along is, total_of (everyone tune) (played_sections tune), total_within tune)
 
-pub end_is : (tune : List (Bor Item)) (stages : List Stage) (first count : ℕ) → AreOf tune stages → first ≡ first_place tune → count ≡ length (everyone there tune)
-    → end_along stages (voices_along stages first (count - first)) ≡ end_of there tune
+pub end_is : (tune : List Item) (stages : List Stage) (first count : ℕ) → AreOf tune stages → first ≡ first_place tune → count ≡ length (everyone tune)
+    → end_along stages (voices_along stages first (count - first)) ≡ end_of tune
 end_is tune stages first count is p q =
     ap (λ s. end_along s (voices_along s first (count - first))) is
-    ∙ ap (λ n. end_along (map (stage_of (everyone there tune)) (played_sections there tune)) (voices_along (map (stage_of (everyone there tune)) (played_sections there tune)) n (count - n))) p
-    ∙ ap (λ n. end_along (map (stage_of (everyone there tune)) (played_sections there tune)) (voices_along (map (stage_of (everyone there tune)) (played_sections there tune)) (first_place tune) (n - first_place tune))) q
+    ∙ ap (λ n. end_along (map (stage_of (everyone tune)) (played_sections tune)) (voices_along (map (stage_of (everyone tune)) (played_sections tune)) n (count - n))) p
+    ∙ ap (λ n. end_along (map (stage_of (everyone tune)) (played_sections tune)) (voices_along (map (stage_of (everyone tune)) (played_sections tune)) (first_place tune) (n - first_place tune))) q
     ∙ end_of_stages tune
 
-pub late_end : (tune : List (Bor Item)) (stages : List Stage) (first count : ℕ) → AreOf tune stages → first ≡ first_place tune → count ≡ length (everyone there tune)
-    → grains_of_the_latest_end < end_along stages (voices_along stages first (count - first)) → grains_of_the_latest_end < end_of there tune
+pub late_end : (tune : List Item) (stages : List Stage) (first count : ℕ) → AreOf tune stages → first ≡ first_place tune → count ≡ length (everyone tune)
+    → grains_of_the_latest_end < end_along stages (voices_along stages first (count - first)) → grains_of_the_latest_end < end_of tune
 late_end tune stages first count is p q late = omega (arith, end_is tune stages first count is p q)
 
-pub score_is : (tune : List (Bor Item)) (stages : List Stage) (first count : ℕ) → AreOf tune stages → first ≡ first_place tune → count ≡ length (everyone there tune)
-    → score_along tune first count stages ≡ score_of there tune
+pub score_is : (tune : List Item) (stages : List Stage) (first count : ℕ) → AreOf tune stages → first ≡ first_place tune → count ≡ length (everyone tune)
+    → score_along tune first count stages ≡ score_of tune
 score_is tune stages first count is p q =
     ap (score_along tune first count) is
-    ∙ ap (λ n. score_along tune n count (map (stage_of (everyone there tune)) (played_sections there tune))) p
-    ∙ ap (λ n. score_along tune (first_place tune) n (map (stage_of (everyone there tune)) (played_sections there tune))) q
+    ∙ ap (λ n. score_along tune n count (map (stage_of (everyone tune)) (played_sections tune))) p
+    ∙ ap (λ n. score_along tune (first_place tune) n (map (stage_of (everyone tune)) (played_sections tune))) q
     ∙ score_of_stages tune
 
-pub uneven_is : (tune : List (Bor Item)) (stages : List Stage) → AreOf tune stages
-    → list_any is_stage_uneven stages ≡ list_any (is_uneven there (everyone there tune)) (played_sections there tune)
-uneven_is tune stages is = ap (list_any is_stage_uneven) is ∙ uneven_of (everyone there tune) (played_sections there tune)
+pub uneven_is : (tune : List Item) (stages : List Stage) → AreOf tune stages
+    → list_any is_stage_uneven stages ≡ list_any (is_uneven (everyone tune)) (played_sections tune)
+uneven_is tune stages is = ap (list_any is_stage_uneven) is ∙ uneven_of (everyone tune) (played_sections tune)
 
-pub unknown_is : (tune : List (Bor Item)) → (arranged_of there tune).unknown ≡ has_unknown (past_all there order_past None tune) (letters there tune)
+pub unknown_is : (tune : List Item) → (arranged_of tune).unknown ≡ has_unknown (past_all order_past None tune) (letters tune)
 unfolding arranged_of
 unknown_is tune = refl
 
-pub arranged_is : (tune : List (Bor Item)) (score : Score) (uneven unknown : Bool) → score ≡ score_of there tune
-    → uneven ≡ list_any (is_uneven there (everyone there tune)) (played_sections there tune)
-    → unknown ≡ has_unknown (past_all there order_past None tune) (letters there tune)
-    → record { score = score; uneven = uneven; unknown = unknown } ≡ arranged_of there tune
+pub arranged_is : (tune : List Item) (score : Score) (uneven unknown : Bool) → score ≡ score_of tune
+    → uneven ≡ list_any (is_uneven (everyone tune)) (played_sections tune)
+    → unknown ≡ has_unknown (past_all order_past None tune) (letters tune)
+    → record { score = score; uneven = uneven; unknown = unknown } ≡ arranged_of tune
 unfolding arranged_of
 arranged_is tune score uneven unknown p q r = laid_same _ _ _ _ _ _ p q r

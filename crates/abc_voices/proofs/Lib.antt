@@ -1,3 +1,4 @@
+pub mod Alike
 pub mod Chains
 pub mod Conductor
 pub mod Cuts
@@ -5,9 +6,9 @@ pub mod Endings
 pub mod Fitting
 pub mod Given
 pub mod InOne
+pub mod Items
 pub mod Layouts
 pub mod Lengths
-pub mod Mapped
 pub mod OnTicks
 pub mod Owned
 pub mod Placed
@@ -15,6 +16,7 @@ pub mod Staged
 pub mod Steady
 pub mod Straight
 pub mod Ties
+pub mod Tracks
 pub mod TooLong
 pub mod Unmoved
 pub mod Voices

@@ -126,20 +126,20 @@ one_more tick at (Some number) sets =
     of_last (tick_at at == tick) (record { 0 = at }, number) (last_said (set_if_on tick) sets)
 
 play_said : (tick at : ℕ) (play : List Item)
-    → last_change tick (set_from (λ item. item) program_of at play) ≡ last_said (set_on_tick tick) (at_moments at play)
+    → last_change tick (set_from program_of at play) ≡ last_said (set_on_tick tick) (at_moments at play)
 play_said tick at [] = refl
 play_said tick at (item ∷ play) =
-    one_more tick at (program_of item) (set_from (λ one. one) program_of (at + length_of item) play)
+    one_more tick at (program_of item) (set_from program_of (at + length_of item) play)
     ∙ ap (λ last. or_said last (on_tick tick at (program_of item))) (play_said tick (at + length_of item) play)
 
 sections_said : (tick : ℕ) (voices : List (List ℕ)) (voice : List ℕ) (at : ℕ) (sections : List (List ℕ × List Item))
-    → last_change tick (set_in (λ item. item) program_of voices (voice ∷ []) at sections) ≡ last_said (set_on_tick tick) (moments_in voices voice at sections)
+    → last_change tick (set_in program_of voices (voice ∷ []) at sections) ≡ last_said (set_on_tick tick) (moments_in voices voice at sections)
 sections_said tick voices voice at [] = refl
 sections_said tick voices voice at (section ∷ rest) =
-    let play : List Item = play_in (λ item. item) section voice in
-    let next : ℕ = at + longest (λ item. item) voices section in
-    let own : List (Grains × ℕ) = set_from (λ item. item) program_of at play in
-    let others : List (Grains × ℕ) = set_in (λ item. item) program_of voices (voice ∷ []) next rest in
+    let play : List Item = play_in section voice in
+    let next : ℕ = at + longest voices section in
+    let own : List (Grains × ℕ) = set_from program_of at play in
+    let others : List (Grains × ℕ) = set_in program_of voices (voice ∷ []) next rest in
     ap (λ sets. last_change tick (sets ++ others)) (append-nil own)
     ∙ ap (option_map program_change) (last_append (set_if_on tick) own others)
     ∙ or_map program_change (last_said (set_if_on tick) others) (last_said (set_if_on tick) own)
@@ -151,28 +151,28 @@ one_past : (program : Option ℕ) (item : Item) → program_past program item �
 one_past program (items.Program true (Some number)) = refl
 one_past program _ = refl
 
-all_past : (program : Option ℕ) (tune : List Item) → past_all (λ item. item) program_past program tune ≡ or_said (last_said opening_program_of tune) program
+all_past : (program : Option ℕ) (tune : List Item) → past_all program_past program tune ≡ or_said (last_said opening_program_of tune) program
 all_past program [] = refl
 all_past program (item ∷ tune) =
     all_past (program_past program item) tune
     ∙ ap (or_said (last_said opening_program_of tune)) (one_past program item)
     ∙ sym (or_all (last_said opening_program_of tune) (opening_program_of item) program)
 
-opens : (tune : List Item) → past_all (λ item. item) program_past None tune ≡ last_said opening_program_of tune
+opens : (tune : List Item) → past_all program_past None tune ≡ last_said opening_program_of tune
 opens tune = all_past None tune ∙ sym (or_none (last_said opening_program_of tune))
 
 -- the program of a voice on a tick
 voice_on : (tune : List Item) (tick : ℕ) (voice : List ℕ)
-    → filter (is_there tick) (programs_in (λ item. item) (past_all (λ item. item) program_past None tune) (everyone (λ item. item) tune) (played_sections (λ item. item) tune) voice)
+    → filter (is_there tick) (programs_in (past_all program_past None tune) (everyone tune) (played_sections tune) voice)
     ≡ option_to_list (program_on tune tick voice)
 voice_on tune tick voice =
-    let opening : Option ℕ = past_all (λ item. item) program_past None tune in
-    let sets : List (Grains × ℕ) = set_in (λ item. item) program_of (everyone (λ item. item) tune) (voice ∷ []) 0 (played_sections (λ item. item) tune) in
+    let opening : Option ℕ = past_all program_past None tune in
+    let sets : List (Grains × ℕ) = set_in program_of (everyone tune) (voice ∷ []) 0 (played_sections tune) in
     those_there tick (last_of_each_tick (behind opening sets))
     ∙ ap (map program_change) (last_stands tick (behind opening sets))
     ∙ as_list program_change (last_said (set_if_on tick) (behind opening sets))
     ∙ ap option_to_list (one_more tick 0 opening sets
-    ∙ (λ i. or_said (sections_said tick (everyone (λ item. item) tune) voice 0 (played_sections (λ item. item) tune) i) (on_tick tick 0 (opens tune i))))
+    ∙ (λ i. or_said (sections_said tick (everyone tune) voice 0 (played_sections tune) i) (on_tick tick 0 (opens tune i))))
 
 voices_on : {X Y Z : Type 0} (f : Y → Z) (g : X → Y) (h : X → Z) → ((x : X) → f (g x) ≡ h x) → (xs : List X) → map f (map g xs) ≡ map h xs
 voices_on f g h same [] = refl
@@ -181,5 +181,5 @@ voices_on f g h same (x ∷ xs) = λ i. same x i ∷ voices_on f g h same xs i
 pub programs_on_ticks : HaveProgramsOnTicks
 programs_on_ticks tune tick =
     voices_on (filter (is_there tick))
-    (programs_in (λ item. item) (past_all (λ item. item) program_past None tune) (everyone (λ item. item) tune) (played_sections (λ item. item) tune))
-    (λ voice. option_to_list (program_on tune tick voice)) (voice_on tune tick) (tracks (λ item. item) tune)
+    (programs_in (past_all program_past None tune) (everyone tune) (played_sections tune))
+    (λ voice. option_to_list (program_on tune tick voice)) (voice_on tune tick) (tracks tune)

@@ -28,12 +28,12 @@ both true false = refl
 both false true = refl
 both false false = refl
 
-pub part_owned : {A : Type 0} (item_of : A → Item) (voice current : List ℕ) (steps : List A)
-    → own_from item_of voice (bytes_eq current voice) steps ≡ part_from item_of voice current steps
-part_owned item_of voice current [] = refl
-part_owned item_of voice current (step ∷ steps) =
-    let rest = own_from item_of voice (is_own_past voice (bytes_eq current voice) (item_of step)) steps in
-    let same : rest ≡ part_from item_of voice (voice_past current (item_of step)) steps =
-    ap (λ own. own_from item_of voice own steps) (own_is voice current (item_of step)) ∙ part_owned item_of voice (voice_past current (item_of step)) steps in
-    ap (λ b. if b then step ∷ rest else rest) (both (bytes_eq current voice) (is_step (item_of step)))
-    ∙ ap (λ l. if is_step (item_of step) && bytes_eq current voice then step ∷ l else l) same
+pub part_owned : (voice current : List ℕ) (steps : List Item)
+    → own_from voice (bytes_eq current voice) steps ≡ part_from voice current steps
+part_owned voice current [] = refl
+part_owned voice current (step ∷ steps) =
+    let rest = own_from voice (is_own_past voice (bytes_eq current voice) step) steps in
+    let same : rest ≡ part_from voice (voice_past current step) steps =
+    ap (λ own. own_from voice own steps) (own_is voice current step) ∙ part_owned voice (voice_past current step) steps in
+    ap (λ b. if b then step ∷ rest else rest) (both (bytes_eq current voice) (is_step step))
+    ∙ ap (λ l. if is_step step && bytes_eq current voice then step ∷ l else l) same

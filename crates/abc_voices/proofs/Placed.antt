@@ -6,7 +6,6 @@ use Rattle.std.specs.Result.{IsErr, IsErrAnd}
 use Rattle.std.proofs.lemmas.List.{get_or-set_same, get_or-set_other, get_or_past}
 use Rattle.std.proofs.lemmas.Option.{slice_get_cases, slice_get-map, slice_get_within}
 use Rattle.std.proofs.Common.{take}
-use Rattle.std.specs.Borrow.{Bor}
 use Rattle.std.specs.List.{cons_option}
 use Rattle.std.specs.Prelude.{Option, Some, None, Result, Ok, Err, All, sum_by, filter_map, slice_get, option_map}
 use Rattle.std.proofs.lemmas.List.{length-map}
@@ -44,7 +43,7 @@ put_nothing voices sections place table long are none =
     }
 
 pub nothing_size : (voices : List (List ℕ)) (sections : List Section) (place : ℕ) → slice_get sections place ≡ None → size_for voices sections place ≡ 0
-nothing_size voices sections place none = ap (number_of (λ section. sum_by (size_in (λ step. step.now) (content section)) voices)) none
+nothing_size voices sections place none = ap (number_of (λ section. sum_by (size_in (content section)) voices)) none
 
 -- a stage that stands in the table is passed again
 pub put_again : (voices : List (List ℕ)) (sections : List Section) (place : ℕ) (table : List (Option Stage)) (stage : Stage)
@@ -63,14 +62,14 @@ section_stage : (voices : List (List ℕ)) (sections : List Section) (place : �
 section_stage voices sections place section is = ap (option_map (λ one. stage_of voices (content one))) is
 
 pub section_size : (voices : List (List ℕ)) (sections : List Section) (place : ℕ) (section : Section)
-    → slice_get sections place ≡ Some section → size_for voices sections place ≡ sum_by (size_in (λ step. step.now) (content section)) voices
+    → slice_get sections place ≡ Some section → size_for voices sections place ≡ sum_by (size_in (content section)) voices
 section_size voices sections place section is =
-    ap (number_of (λ one. sum_by (size_in (λ step. step.now) (content one)) voices)) is
+    ap (number_of (λ one. sum_by (size_in (content one)) voices)) is
 
 pub section_longest : (voices : List (List ℕ)) (sections : List Section) (place : ℕ) (section : Section)
-    → slice_get sections place ≡ Some section → longest_for voices sections place ≡ longest (λ step. step.now) voices (content section)
+    → slice_get sections place ≡ Some section → longest_for voices sections place ≡ longest voices (content section)
 section_longest voices sections place section is =
-    ap (number_of (λ one. longest (λ step. step.now) voices (content one))) is
+    ap (number_of (λ one. longest voices (content one))) is
 
 -- what stands at a place of a table after a stage was put
 set_at : (table : List (Option Stage)) (place other : ℕ) (stage : Stage) (P : ℕ → Option Stage → Type 0)
@@ -93,8 +92,8 @@ pub put_first : (voices : List (List ℕ)) (sections : List Section) (place : �
 put_first voices sections place before after section are found within new =
     let stage : Stage = stage_of voices (content section) in
     let value : stage_for voices sections place ≡ Some stage = section_stage voices sections place section found in
-    let size : size_for voices sections place ≡ sum_by (size_in (λ step. step.now) (content section)) voices = section_size voices sections place section found in
-    let own : stage_size stage ≡ sum_by (size_in (λ step. step.now) (content section)) voices = new.size in
+    let size : size_for voices sections place ≡ sum_by (size_in (content section)) voices = section_size voices sections place section found in
+    let own : stage_size stage ≡ sum_by (size_in (content section)) voices = new.size in
     let is : IsStageAt voices sections place stage = record { value = value; size = own ∙ sym size; few = new.few } in
     let IsRight : ℕ → Option Stage → Type 0 = λ k one. (other : Stage) → one ≡ Some other → IsStageAt voices sections k other in
     let IsFor : ℕ → Option Stage → Type 0 = λ k one. one ≡ stage_for voices sections k in
@@ -146,7 +145,7 @@ put_more voices sections places i room left before after within long are put fit
       fits = omega (arith, fits, are.fits);
     }
 
-one_stage : (voices : List (List ℕ)) (one : Option Section) (rest : List (List ℕ × List (Bor Item)))
+one_stage : (voices : List (List ℕ)) (one : Option Section) (rest : List (List ℕ × List Item))
     → cons_option (option_map (λ section. stage_of voices (content section)) one) (map (stage_of voices) rest) ≡ map (stage_of voices) (cons_option (option_map content one) rest)
 one_stage voices None rest = refl
 one_stage voices (Some section) rest = refl
@@ -164,13 +163,13 @@ staged voices sections table (place ∷ places) h =
     ∙ one_stage voices (slice_get sections place) (sections_at sections places)
     ∙ ap (λ one. map (stage_of voices) (cons_option one (sections_at sections places))) (sym (slice_get-map content sections place))
 
-one_number : (number : List ℕ × List (Bor Item) → ℕ) (one : Option Section) (rest : List (List ℕ × List (Bor Item)))
+one_number : (number : List ℕ × List Item → ℕ) (one : Option Section) (rest : List (List ℕ × List Item))
     → number_of (λ section. number (content section)) one + sum_by number rest ≡ sum_by number (cons_option (option_map content one) rest)
 one_number number None rest = omega arith
 one_number number (Some section) rest = sym (sum_by-cons number (content section) rest)
 
 -- a sum over some places is that over the sections there
-pub numbers_at : (number : List ℕ × List (Bor Item) → ℕ) (sections : List Section) (places : List ℕ)
+pub numbers_at : (number : List ℕ × List Item → ℕ) (sections : List Section) (places : List ℕ)
     → sum_by (λ place. number_of (λ section. number (content section)) (slice_get sections place)) places ≡ sum_by number (sections_at sections places)
 numbers_at number sections [] = refl
 numbers_at number sections (place ∷ places) =
@@ -188,30 +187,30 @@ fault_is (Err e) fault h = ap Err h.1
 -- more places than there is room for
 pub too_many_at : (voices : List (List ℕ)) (sections : List Section) (places : List ℕ) (i room : ℕ) (table : List (Option Stage))
     → i < length places → ArePut voices sections (take i places) room table → room < size_for voices sections (get_or places i 0)
-    → MOST_PLACES < sum_by (λ section. sum_by (size_in (λ step. step.now) section) voices) (sections_at sections places)
+    → MOST_PLACES < sum_by (λ section. sum_by (size_in section) voices) (sections_at sections places)
 too_many_at voices sections places i room table within are full =
     let here : sum_by (size_for voices sections) (take i places) + size_for voices sections (get_or places i 0) ≤ sum_by (size_for voices sections) places = sum_by_more_le (size_for voices sections) places i 0 within in
-    let whole : sum_by (size_for voices sections) places ≡ sum_by (λ section. sum_by (size_in (λ step. step.now) section) voices) (sections_at sections places) =
-    numbers_at (λ section. sum_by (size_in (λ step. step.now) section) voices) sections places in
+    let whole : sum_by (size_for voices sections) places ≡ sum_by (λ section. sum_by (size_in section) voices) (sections_at sections places) =
+    numbers_at (λ section. sum_by (size_in section) voices) sections places in
     omega (arith, are.fits)
 
 -- a section that is too long
 pub too_late_at : (voices : List (List ℕ)) (sections : List Section) (places : List ℕ) (i : ℕ)
     → i < length places → grains_of_the_latest_end < longest_for voices sections (get_or places i 0)
-    → grains_of_the_latest_end < sum_by (longest (λ step. step.now) voices) (sections_at sections places)
+    → grains_of_the_latest_end < sum_by (longest voices) (sections_at sections places)
 too_late_at voices sections places i within late =
     let here : sum_by (longest_for voices sections) (take i places) + longest_for voices sections (get_or places i 0) ≤ sum_by (longest_for voices sections) places = sum_by_more_le (longest_for voices sections) places i 0 within in
-    let whole : sum_by (longest_for voices sections) places ≡ sum_by (longest (λ step. step.now) voices) (sections_at sections places) =
-    numbers_at (longest (λ step. step.now) voices) sections places in
+    let whole : sum_by (longest_for voices sections) places ≡ sum_by (longest voices) (sections_at sections places) =
+    numbers_at (longest voices) sections places in
     omega arith
 
 -- all that is played is within the room
 pub places_at : (voices : List (List ℕ)) (sections : List Section) (places : List ℕ) (room : ℕ) (table : List (Option Stage))
     → ArePut voices sections places room table
-    → sum_by (λ section. sum_by (size_in (λ step. step.now) section) voices) (sections_at sections places) ≤ MOST_PLACES
+    → sum_by (λ section. sum_by (size_in section) voices) (sections_at sections places) ≤ MOST_PLACES
 places_at voices sections places room table are =
-    let whole : sum_by (size_for voices sections) places ≡ sum_by (λ section. sum_by (size_in (λ step. step.now) section) voices) (sections_at sections places) =
-    numbers_at (λ section. sum_by (size_in (λ step. step.now) section) voices) sections places in
+    let whole : sum_by (size_for voices sections) places ≡ sum_by (λ section. sum_by (size_in section) voices) (sections_at sections places) =
+    numbers_at (λ section. sum_by (size_in section) voices) sections places in
     omega (arith, are.fits)
 
 -- a section's place is one of the table

@@ -1,6 +1,5 @@
 -- A tune whose fields change nothing while it is played goes on as it opens.
 use Rattle.std.proofs.Common.{◌≡◌, ℕ, zero, suc, ◌+◌, Bool, true, false, cond, List, [], ◌∷◌, ◌++◌, map, Option, Some, None, refl, sym, ap, subst, ◌∙◌}
-use Rattle.std.specs.Borrow.{Bor}
 use Rattle.std.specs.Prelude.{ℤ, pos, is_some, unwrap_or, not, ◌&&◌, bytes_eq, All, IfSome, slice_get}
 use Rattle.std.specs.List.{cons_option, flat_map, list_all}
 use Rattle.std.proofs.lemmas.List.Elements.{All-nil, All-cons, All-head, All-tail}
@@ -22,11 +21,7 @@ use Rattle.abc_voices.specs.Step.{is_field, length_of}
 use Rattle.abc_voices.specs.Track.{everyone}
 use Rattle.abc_voices.proofs.Fitting.Kept.{got, part_played, played_kept}
 use Rattle.abc_voices.proofs.Given.{of_music}
-use Rattle.abc_voices.proofs.Mapped.{conductor_same}
-
--- an item behind a reference
-abbrev there : Bor Item → Item
-there step = step.now
+use Rattle.abc_voices.proofs.Alike.{conductor_same}
 
 -- such a step sets nothing
 sets_no_tempo : (item : Item) → is_field item ≡ false → tempo_of item ≡ None
@@ -52,22 +47,22 @@ sets_no_key _ h = refl
 
 -- nor do steps, parts and stages of such steps
 module _ {V : Type 0} (value_of : Item → Option V) (kind : Item → Bool) (sets_none : (item : Item) → kind item ≡ false → value_of item ≡ None) where
-  abbrev SetsNone : Bor Item → Type 0
-  SetsNone step = kind step.now ≡ false
+  abbrev SetsNone : Item → Type 0
+  SetsNone step = kind step ≡ false
 
-  set_by_steps : (at : ℕ) (steps : List (Bor Item)) → All SetsNone steps → set_from there value_of at steps ≡ []
+  set_by_steps : (at : ℕ) (steps : List Item) → All SetsNone steps → set_from value_of at steps ≡ []
   set_by_steps at [] plain = refl
   set_by_steps at (step ∷ steps) plain =
-      ap (λ value. cons_option (at_moment at value) (set_from there value_of (at + length_of step.now) steps)) (sets_none step.now (All-head SetsNone step steps plain))
-      ∙ set_by_steps (at + length_of step.now) steps (All-tail SetsNone step steps plain)
+      ap (λ value. cons_option (at_moment at value) (set_from value_of (at + length_of step) steps)) (sets_none step (All-head SetsNone step steps plain))
+      ∙ set_by_steps (at + length_of step) steps (All-tail SetsNone step steps plain)
 
   abbrev SetsNonePart : Part → Type 0
   SetsNonePart part = All SetsNone part.steps
 
-  set_by_parts : (at : ℕ) (parts : List Part) → All SetsNonePart parts → flat_map (λ part. set_from there value_of at part.steps) parts ≡ []
+  set_by_parts : (at : ℕ) (parts : List Part) → All SetsNonePart parts → flat_map (λ part. set_from value_of at part.steps) parts ≡ []
   set_by_parts at [] plain = refl
   set_by_parts at (part ∷ parts) plain =
-      ap (λ sets. sets ++ flat_map (λ p. set_from there value_of at p.steps) parts) (set_by_steps at part.steps (All-head SetsNonePart part parts plain))
+      ap (λ sets. sets ++ flat_map (λ p. set_from value_of at p.steps) parts) (set_by_steps at part.steps (All-head SetsNonePart part parts plain))
       ∙ set_by_parts at parts (All-tail SetsNonePart part parts plain)
 
   all_set_nothing : (at : ℕ) (stages : List Stage) → All (PlaysNone kind) stages → set_by_all value_of at stages ≡ []
@@ -76,7 +71,7 @@ module _ {V : Type 0} (value_of : Item → Option V) (kind : Item → Bool) (set
       ap (λ sets. sets ++ set_by_all value_of (at + stage.longest.0) stages) (set_by_parts at stage.parts (All-head (PlaysNone kind) stage stages steady))
       ∙ all_set_nothing (at + stage.longest.0) stages (All-tail (PlaysNone kind) stage stages steady)
 
-  set_by_part : (at : ℕ) (part : Option Part) → IfSome part SetsNonePart → set_from there value_of at (steps_of part) ≡ []
+  set_by_part : (at : ℕ) (part : Option Part) → IfSome part SetsNonePart → set_from value_of at (steps_of part) ≡ []
   set_by_part at None plain = refl
   set_by_part at (Some part) plain = set_by_steps at part.steps plain
 
@@ -105,65 +100,65 @@ plain_step false takes h e = refl
 
 -- what is such at no music and at none of the fields of a tune that are played is such at nothing that is played
 module _ (kind : Item → Bool) (music_not : (item : Item) → is_music item ≡ true → (kind item && is_step item) ≡ false) where
-  abbrev IsPlain : Bor Item → Type 0
-  IsPlain step = kind step.now ≡ false
+  abbrev IsPlain : Item → Type 0
+  IsPlain step = kind step ≡ false
 
-  abbrev ChangesNothing : Bor Item → Type 0
-  ChangesNothing step = (kind step.now && is_step step.now) ≡ false
+  abbrev ChangesNothing : Item → Type 0
+  ChangesNothing step = (kind step && is_step step) ≡ false
 
-  abbrev none_of : List (Bor Item) → Bool
-  none_of steps = list_all (λ step. not (kind step.now && is_step step.now)) steps
+  abbrev none_of : List Item → Bool
+  none_of steps = list_all (λ step. not (kind step && is_step step)) steps
 
-  steady_step : (step : Bor Item) (tune : List (Bor Item)) (music : Bool) → is_music step.now ≡ music
-      → none_of (cond (not music) (step ∷ fields there tune) (fields there tune)) ≡ true
-      → ChangesNothing step × (none_of (fields there tune) ≡ true)
-  steady_step step tune true e steady = (music_not step.now e, steady)
+  steady_step : (step : Item) (tune : List Item) (music : Bool) → is_music step ≡ music
+      → none_of (cond (not music) (step ∷ fields tune) (fields tune)) ≡ true
+      → ChangesNothing step × (none_of (fields tune) ≡ true)
+  steady_step step tune true e steady = (music_not step e, steady)
   steady_step step tune false e steady = (
-    not_true (kind step.now && is_step step.now) (and_first (not (kind step.now && is_step step.now)) (none_of (fields there tune)) steady),
-    and_rest (not (kind step.now && is_step step.now)) (none_of (fields there tune)) steady,
+    not_true (kind step && is_step step) (and_first (not (kind step && is_step step)) (none_of (fields tune)) steady),
+    and_rest (not (kind step && is_step step)) (none_of (fields tune)) steady,
   )
 
-  steady_steps : (tune : List (Bor Item)) → none_of (fields there tune) ≡ true → All ChangesNothing tune
+  steady_steps : (tune : List Item) → none_of (fields tune) ≡ true → All ChangesNothing tune
   steady_steps [] steady = All-nil ChangesNothing
   steady_steps (step ∷ tune) steady =
-      let both = steady_step step tune (is_music step.now) refl steady in
+      let both = steady_step step tune (is_music step) refl steady in
       All-cons ChangesNothing step tune both.0 (steady_steps tune both.1)
 
-  plain_more : (voice current : List ℕ) (step : Bor Item) (rest : List (Bor Item)) → ChangesNothing step → All IsPlain rest
-      → (takes mine : Bool) → is_step step.now ≡ takes → All IsPlain (cond (takes && mine) (step ∷ rest) rest)
+  plain_more : (voice current : List ℕ) (step : Item) (rest : List Item) → ChangesNothing step → All IsPlain rest
+      → (takes mine : Bool) → is_step step ≡ takes → All IsPlain (cond (takes && mine) (step ∷ rest) rest)
   plain_more voice current step rest none plain false mine e = plain
   plain_more voice current step rest none plain true false e = plain
-  plain_more voice current step rest none plain true true e = All-cons IsPlain step rest (plain_step (kind step.now) (is_step step.now) none e) plain
+  plain_more voice current step rest none plain true true e = All-cons IsPlain step rest (plain_step (kind step) (is_step step) none e) plain
 
-  plain_part : (voice current : List ℕ) (steps : List (Bor Item)) → All ChangesNothing steps → All IsPlain (part_from there voice current steps)
+  plain_part : (voice current : List ℕ) (steps : List Item) → All ChangesNothing steps → All IsPlain (part_from voice current steps)
   plain_part voice current [] none = All-nil IsPlain
   plain_part voice current (step ∷ steps) none =
-      plain_more voice current step (part_from there voice (voice_past current step.now) steps) (All-head ChangesNothing step steps none)
-      (plain_part voice (voice_past current step.now) steps (All-tail ChangesNothing step steps none))
-      (is_step step.now) (bytes_eq current voice) refl
+      plain_more voice current step (part_from voice (voice_past current step) steps) (All-head ChangesNothing step steps none)
+      (plain_part voice (voice_past current step) steps (All-tail ChangesNothing step steps none))
+      (is_step step) (bytes_eq current voice) refl
 
-  plain_parts : (section : List ℕ × List (Bor Item)) (voices : List (List ℕ)) → All ChangesNothing section.1
+  plain_parts : (section : List ℕ × List Item) (voices : List (List ℕ)) → All ChangesNothing section.1
       → All (λ part. All IsPlain part.steps) (map (part_of section) voices)
   plain_parts section [] none = All-nil (λ (part : Part). All IsPlain part.steps)
   plain_parts (opening, steps) (voice ∷ voices) none =
       All-cons (λ (part : Part). All IsPlain part.steps) (part_of (opening, steps) voice) (map (part_of (opening, steps)) voices)
-      (part_played there IsPlain opening steps voice (plain_part voice opening steps none)) (plain_parts (opening, steps) voices none)
+      (part_played IsPlain opening steps voice (plain_part voice opening steps none)) (plain_parts (opening, steps) voices none)
 
-  steady_stages : (voices : List (List ℕ)) (played : List (List ℕ × List (Bor Item))) → All (λ section. All ChangesNothing section.1) played
+  steady_stages : (voices : List (List ℕ)) (played : List (List ℕ × List Item)) → All (λ section. All ChangesNothing section.1) played
       → All (PlaysNone kind) (map (stage_of voices) played)
   steady_stages voices [] none = All-nil (PlaysNone kind)
   steady_stages voices (section ∷ played) none =
-      let P : List ℕ × List (Bor Item) → Type 0 = λ one. All ChangesNothing one.1 in
+      let P : List ℕ × List Item → Type 0 = λ one. All ChangesNothing one.1 in
       All-cons (PlaysNone kind) (stage_of voices section) (map (stage_of voices) played) (plain_parts section voices (All-head P section played none))
       (steady_stages voices played (All-tail P section played none))
 
-  pub none_along : (tune given : List (Bor Item)) (stages : List Stage) → given ≡ fields there tune
-      → stages ≡ map (stage_of (everyone there tune)) (played_sections there tune)
+  pub none_along : (tune given : List Item) (stages : List Stage) → given ≡ fields tune
+      → stages ≡ map (stage_of (everyone tune)) (played_sections tune)
       → none_of given ≡ true → All (PlaysNone kind) stages
   none_along tune given stages is are steady =
       subst (All (PlaysNone kind)) (sym are)
-      (steady_stages (everyone there tune) (played_sections there tune)
-      (played_kept there ChangesNothing tune (steady_steps tune (sym (ap none_of is) ∙ steady))))
+      (steady_stages (everyone tune) (played_sections tune)
+      (played_kept ChangesNothing tune (steady_steps tune (sym (ap none_of is) ∙ steady))))
 
 -- music changes nothing
 music_plain : (item : Item) → is_music item ≡ true → is_change item ≡ false
@@ -172,14 +167,14 @@ music_plain item music = of_music is_change false (λ _ _. refl) (λ _ _. refl) 
 music_keeps : (item : Item) → is_music item ≡ true → (sets_program item && is_step item) ≡ false
 music_keeps item music = of_music (λ one. sets_program one && is_step one) false (λ _ _. refl) (λ _ _. refl) (λ _. refl) (λ _. refl) item music
 
-pub steady_along : (tune given : List (Bor Item)) (stages : List Stage) → given ≡ fields there tune
-    → stages ≡ map (stage_of (everyone there tune)) (played_sections there tune)
-    → is_steady there given ≡ true → All IsSteady stages
+pub steady_along : (tune given : List Item) (stages : List Stage) → given ≡ fields tune
+    → stages ≡ map (stage_of (everyone tune)) (played_sections tune)
+    → is_steady given ≡ true → All IsSteady stages
 steady_along = none_along is_field music_plain
 
-pub kept_along : (tune given : List (Bor Item)) (stages : List Stage) → given ≡ fields there tune
-    → stages ≡ map (stage_of (everyone there tune)) (played_sections there tune)
-    → keeps_programs there given ≡ true → All (PlaysNone sets_program) stages
+pub kept_along : (tune given : List Item) (stages : List Stage) → given ≡ fields tune
+    → stages ≡ map (stage_of (everyone tune)) (played_sections tune)
+    → keeps_programs given ≡ true → All (PlaysNone sets_program) stages
 kept_along = none_along sets_program music_keeps
 
 -- the changes of steady stages are those with which their tune opens
@@ -187,15 +182,15 @@ pub opening_is : {V : Type 0} (found last : Option V) (usual value : V) → valu
 opening_is None last usual value is same = is ∙ ap (or_else usual) same
 opening_is (Some other) last usual value is same = is ∙ ap (or_else usual) same
 
-pub steady_changes : (given : List (Bor Item)) (first : ℕ) (stages : List Stage) (tempo : ℕ) (meter : Meter) (key : ℤ × Bool) → All IsSteady stages
-    → tempo ≡ or_else usual_tempo (past_all there tempo_past None given) → meter ≡ or_else meters.Free (past_all there meter_past None given)
-    → key ≡ or_else (pos 0, false) (past_all there key_past None given)
+pub steady_changes : (given : List Item) (first : ℕ) (stages : List Stage) (tempo : ℕ) (meter : Meter) (key : ℤ × Bool) → All IsSteady stages
+    → tempo ≡ or_else usual_tempo (past_all tempo_past None given) → meter ≡ or_else meters.Free (past_all meter_past None given)
+    → key ≡ or_else (pos 0, false) (past_all key_past None given)
     → changes_that_stand ((record { 0 = 0 }, tempo) ∷ []) ((record { 0 = 0 }, meter) ∷ []) ((record { 0 = 0 }, key) ∷ []) ≡ changes_along given first stages
 steady_changes given first stages tempo meter key steady p q r =
     conductor_same _ _ _ _ _ _
-    (ap (λ v. (record { 0 = 0 }, v) ∷ []) p ∙ ap (λ l. (record { 0 = 0 }, or_else usual_tempo (past_all there tempo_past None given)) ∷ l) (sym (all_set_nothing tempo_of is_field sets_no_tempo 0 stages steady)))
-    (ap (λ v. (record { 0 = 0 }, v) ∷ []) q ∙ ap (λ l. (record { 0 = 0 }, or_else meters.Free (past_all there meter_past None given)) ∷ l) (sym (one_sets_nothing meter_of is_field sets_no_meter first 0 stages steady)))
-    (ap (λ v. (record { 0 = 0 }, v) ∷ []) r ∙ ap (λ l. (record { 0 = 0 }, or_else (pos 0, false) (past_all there key_past None given)) ∷ l) (sym (one_sets_nothing key_of is_field sets_no_key first 0 stages steady)))
+    (ap (λ v. (record { 0 = 0 }, v) ∷ []) p ∙ ap (λ l. (record { 0 = 0 }, or_else usual_tempo (past_all tempo_past None given)) ∷ l) (sym (all_set_nothing tempo_of is_field sets_no_tempo 0 stages steady)))
+    (ap (λ v. (record { 0 = 0 }, v) ∷ []) q ∙ ap (λ l. (record { 0 = 0 }, or_else meters.Free (past_all meter_past None given)) ∷ l) (sym (one_sets_nothing meter_of is_field sets_no_meter first 0 stages steady)))
+    (ap (λ v. (record { 0 = 0 }, v) ∷ []) r ∙ ap (λ l. (record { 0 = 0 }, or_else (pos 0, false) (past_all key_past None given)) ∷ l) (sym (one_sets_nothing key_of is_field sets_no_key first 0 stages steady)))
 
 -- the programs of stages that set none are those with which their tune opens
 no_program : (value : Option ℕ) → is_some value ≡ false → value ≡ None

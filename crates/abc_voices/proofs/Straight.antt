@@ -98,58 +98,58 @@ play_once ms h =
     ∙ strain_once ms h
 
 -- nothing is moved
-stays : {A : Type 0} (item_of : A → Item) (steps : List A) → are_straight (marks_of item_of steps) ≡ true → with_fields_in_endings item_of steps ≡ steps
-stays item_of [] h = refl
-stays item_of (step ∷ steps) h =
-    let m = mark_of (item_of step) in
-    let here : is_straight m ≡ true = and_first (is_straight m) (are_straight (marks_of item_of steps)) h in
-    let rest : are_straight (marks_of item_of steps) ≡ true = and_rest (is_straight m) (are_straight (marks_of item_of steps)) h in
-    ap (λ b. cond b (step ∷ []) (step ∷ []) ++ with_fields_in_endings_from item_of (region_past Common m) [] steps) (not_ending m here)
-    ∙ ap (λ region. step ∷ with_fields_in_endings_from item_of region [] steps) (common m here)
-    ∙ ap (λ l. step ∷ l) (stays item_of steps rest)
+stays : (steps : List Item) → are_straight (marks_of steps) ≡ true → with_fields_in_endings steps ≡ steps
+stays [] h = refl
+stays (step ∷ steps) h =
+    let m = mark_of step in
+    let here : is_straight m ≡ true = and_first (is_straight m) (are_straight (marks_of steps)) h in
+    let rest : are_straight (marks_of steps) ≡ true = and_rest (is_straight m) (are_straight (marks_of steps)) h in
+    ap (λ b. cond b (step ∷ []) (step ∷ []) ++ with_fields_in_endings_from (region_past Common m) [] steps) (not_ending m here)
+    ∙ ap (λ region. step ∷ with_fields_in_endings_from region [] steps) (common m here)
+    ∙ ap (λ l. step ∷ l) (stays steps rest)
   where
     common : (m : Mark) → is_straight m ≡ true → region_past Common m ≡ Common
     common m h = ap (λ b. cond b Rattle.abc_voices.specs.declared.ending_fields.Region.TheVariants.Inside Common) (not_ending m h)
 
 -- what stands at the places of what is played, behind what stands before
-found_from : {A : Type 0} (item_of : A → Item) (front steps : List A)
-    → filter_map (slice_get (front ++ steps)) (places_from (length front) (marks_of item_of steps)) ≡ without_marks item_of steps
-found_from item_of front [] = refl
-found_from item_of front (step ∷ steps) =
+found_from : (front steps : List Item)
+    → filter_map (slice_get (front ++ steps)) (places_from (length front) (marks_of steps)) ≡ without_marks steps
+found_from front [] = refl
+found_from front (step ∷ steps) =
     let whole = front ++ step ∷ steps in
-    let others = places_from (length front + 1) (marks_of item_of steps) in
+    let others = places_from (length front + 1) (marks_of steps) in
     let joined : (front ++ step ∷ []) ++ steps ≡ whole = append_assoc front (step ∷ []) steps in
     let longer : length (front ++ step ∷ []) ≡ length front + 1 = length-append front (step ∷ []) in
-    let rest : filter_map (slice_get whole) others ≡ without_marks item_of steps =
+    let rest : filter_map (slice_get whole) others ≡ without_marks steps =
     ap (λ l. filter_map (slice_get l) others) (sym joined)
-    ∙ ap (λ n. filter_map (slice_get ((front ++ step ∷ []) ++ steps)) (places_from n (marks_of item_of steps))) (sym longer)
-    ∙ found_from item_of (front ++ step ∷ []) steps in
+    ∙ ap (λ n. filter_map (slice_get ((front ++ step ∷ []) ++ steps)) (places_from n (marks_of steps))) (sym longer)
+    ∙ found_from (front ++ step ∷ []) steps in
     let within : length front < length whole = omega (arith, length-append front (step ∷ steps)) in
     let here : slice_get whole (length front) ≡ Some step =
     slice_get-get_or whole (length front) step within ∙ ap Some (get_or-append_seam front step steps step) in
-    elim (is_play (mark_of (item_of step))) as (λ b. filter_map (slice_get whole) (cond b (length front ∷ others) others) ≡ cond b (step ∷ without_marks item_of steps) (without_marks item_of steps)) [
+    elim (is_play (mark_of step)) as (λ b. filter_map (slice_get whole) (cond b (length front ∷ others) others) ≡ cond b (step ∷ without_marks steps) (without_marks steps)) [
       | true ↦ ap (λ one. cons_option one (filter_map (slice_get whole) others)) here ∙ ap (λ l. step ∷ l) rest
       | false ↦ rest
     ]
 
-places_within : {A : Type 0} (item_of : A → Item) (at : ℕ) (steps : List A) → length (places_from at (marks_of item_of steps)) ≡ length (without_marks item_of steps)
-places_within item_of at [] = refl
-places_within item_of at (step ∷ steps) =
-    let rest = places_within item_of (at + 1) steps in
-    elim (is_play (mark_of (item_of step))) as (λ b. length (cond b (at ∷ places_from (at + 1) (marks_of item_of steps)) (places_from (at + 1) (marks_of item_of steps))) ≡ length (cond b (step ∷ without_marks item_of steps) (without_marks item_of steps))) [
+places_within : (at : ℕ) (steps : List Item) → length (places_from at (marks_of steps)) ≡ length (without_marks steps)
+places_within at [] = refl
+places_within at (step ∷ steps) =
+    let rest = places_within (at + 1) steps in
+    elim (is_play (mark_of step)) as (λ b. length (cond b (at ∷ places_from (at + 1) (marks_of steps)) (places_from (at + 1) (marks_of steps))) ≡ length (cond b (step ∷ without_marks steps) (without_marks steps))) [
       | true ↦ ap suc rest
       | false ↦ rest
     ]
 
-pub played_straight : {A : Type 0} (item_of : A → Item) (part : List A) → are_straight (marks_of item_of part) ≡ true → played item_of part ≡ without_marks item_of part
-played_straight item_of part h =
-    ap (λ steps. filter_map (slice_get steps) (places_of item_of steps)) (stays item_of part h)
-    ∙ ap (filter_map (slice_get part)) (play_once (marks_of item_of part) h)
-    ∙ found_from item_of [] part
+pub played_straight : (part : List Item) → are_straight (marks_of part) ≡ true → played part ≡ without_marks part
+played_straight part h =
+    ap (λ steps. filter_map (slice_get steps) (places_of steps)) (stays part h)
+    ∙ ap (filter_map (slice_get part)) (play_once (marks_of part) h)
+    ∙ found_from [] part
 
-pub size_straight : {A : Type 0} (item_of : A → Item) (part : List A) → are_straight (marks_of item_of part) ≡ true
-    → length (places_of item_of (with_fields_in_endings item_of part)) ≡ length (without_marks item_of part)
-size_straight item_of part h =
-    ap (λ steps. length (places_of item_of steps)) (stays item_of part h)
-    ∙ ap length (play_once (marks_of item_of part) h)
-    ∙ places_within item_of 0 part
+pub size_straight : (part : List Item) → are_straight (marks_of part) ≡ true
+    → length (places_of (with_fields_in_endings part)) ≡ length (without_marks part)
+size_straight part h =
+    ap (λ steps. length (places_of steps)) (stays part h)
+    ∙ ap length (play_once (marks_of part) h)
+    ∙ places_within 0 part

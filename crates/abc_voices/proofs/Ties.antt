@@ -388,19 +388,19 @@ token_first : (at : ℕ) (tones : Option (List Tone)) (tokens : List TimeToken) 
 token_first at None tokens = refl
 token_first at (Some tones) tokens = refl
 
-played_tokens : (at : ℕ) (play : List Item) (tokens : List TimeToken) → notes_from (λ item. item) at play (by_tokens tokens) ≡ by_tokens (tokens_from at play tokens)
+played_tokens : (at : ℕ) (play : List Item) (tokens : List TimeToken) → notes_from at play (by_tokens tokens) ≡ by_tokens (tokens_from at play tokens)
 played_tokens at [] tokens = refl
 played_tokens at (item ∷ play) tokens =
     ap (before at (tones_of item)) (played_tokens (at + length_of item) play tokens)
     ∙ token_first at (tones_of item) (tokens_from (at + length_of item) play tokens)
 
 voice_tokens : (voices : List (List ℕ)) (voice : List ℕ) (at : ℕ) (sections : List (List ℕ × List Item))
-    → voice_notes (λ item. item) voices voice at sections ≡ by_tokens (tokens_in voices voice at sections)
+    → voice_notes voices voice at sections ≡ by_tokens (tokens_in voices voice at sections)
 voice_tokens voices voice at [] = refl
 voice_tokens voices voice at (section ∷ rest) =
-    let next : ℕ = at + longest (λ item. item) voices section in
-    ap (notes_from (λ item. item) at (play_in (λ item. item) section voice)) (voice_tokens voices voice next rest)
-    ∙ played_tokens at (play_in (λ item. item) section voice) (tokens_in voices voice next rest)
+    let next : ℕ = at + longest voices section in
+    ap (notes_from at (play_in section voice)) (voice_tokens voices voice next rest)
+    ∙ played_tokens at (play_in section voice) (tokens_in voices voice next rest)
 
 each_same : {X Y : Type 0} (f g : X → Y) → ((x : X) → f x ≡ g x) → (xs : List X) → map f xs ≡ map g xs
 each_same f g same [] = refl
@@ -411,7 +411,7 @@ plays_chains at play = ap all_notes (played_tokens at play []) ∙ heard_by (tok
 
 pub voices_play_chains : VoicesPlayChains
 voices_play_chains tune =
-    let voices : List (List ℕ) = everyone (λ item. item) tune in
-    let played : List (List ℕ × List Item) = played_sections (λ item. item) tune in
-    each_same (λ voice. all_notes (voice_notes (λ item. item) voices voice 0 played)) (λ voice. heard (tokens_in voices voice 0 played))
-    (λ voice. ap all_notes (voice_tokens voices voice 0 played) ∙ heard_by (tokens_in voices voice 0 played)) (tracks (λ item. item) tune)
+    let voices : List (List ℕ) = everyone tune in
+    let played : List (List ℕ × List Item) = played_sections tune in
+    each_same (λ voice. all_notes (voice_notes voices voice 0 played)) (λ voice. heard (tokens_in voices voice 0 played))
+    (λ voice. ap all_notes (voice_tokens voices voice 0 played) ∙ heard_by (tokens_in voices voice 0 played)) (tracks tune)

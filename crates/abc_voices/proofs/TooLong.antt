@@ -1,13 +1,12 @@
 -- A tune is too long exactly where it passes a limit; one that passes none fits a file.
-use Rattle.std.proofs.Common.{◌≡◌, ◌⊎◌, ◌<◌, ◌≤◌, ◌^◌, ℕ, true, false, List, length, inl, inr, map, arith, ⊎_elim, sym, ap, subst, ◌∙◌, pos, negsuc, int_le}
+use Rattle.std.proofs.Common.{◌≡◌, ◌⊎◌, ◌<◌, ◌≤◌, ◌^◌, ℕ, true, false, List, length, inl, inr, arith, ⊎_elim, ap, subst, ◌∙◌, pos, negsuc, int_le}
 use Rattle.std.specs.Prelude.{◌&&◌, ◌||◌, ◌==◌, All, nat_le, nat_lt}
 use Rattle.std.specs.Bool.{Decides}
-use Rattle.std.specs.Borrow.{Bor}
 use Rattle.std.specs.List.{list_all}
 use Rattle.std.proofs.lemmas.Bool.{and_cases, and_parts, eqb-true, false_from_ne_true, leb-false, leb-true, ltb-true}
 use Rattle.std.proofs.lemmas.Bool.Decides.{Decides-like, Decides-ltb, Decides-or}
 use Rattle.std.proofs.lemmas.List.{length-map}
-use Rattle.std.proofs.lemmas.List.Elements.{All-map, All-weaker}
+use Rattle.std.proofs.lemmas.List.Elements.{All-weaker}
 use Rattle.std.proofs.lemmas.List.Sums.{AllPass-from_list_all}
 use Rattle.abc_music.specs.Item.{IsItem}
 use Rattle.abc_music.specs.declared.item.Item.{Item}
@@ -30,26 +29,25 @@ use Rattle.abc_voices.specs.Opening.{title_of}
 use Rattle.abc_voices.specs.TooLong.{PassesALimit, of_sections, of_places, of_time, of_voices, of_title, IsTooLongByALimit}
 use Rattle.abc_voices.specs.Track.{tracks}
 use Rattle.abc_voices.proofs.Fitting.Whole.{fits_a_file}
-use Rattle.abc_voices.proofs.Mapped.{end_mapped, places_played_mapped, score_mapped, title_mapped, tracks_mapped}
 
 -- one limit of five
 abbrev Passed : ℕ → ℕ → ℕ → ℕ → ℕ → Type 0
 Passed sections places end voices title =
     ((((MOST_SECTIONS < sections) ⊎ (MOST_PLACES < places)) ⊎ (grains_of_the_latest_end < end)) ⊎ (MOST_VOICES < voices)) ⊎ (LONGEST_TITLE < title)
 
-abbrev Passes : {A : Type 0} → (A → Item) → List A → Type 0
-Passes item_of tune =
-    Passed (sections_played item_of tune) (places_played item_of tune) (end_of item_of tune) (length (tracks item_of tune)) (length (title_of item_of tune))
+abbrev Passes : List Item → Type 0
+Passes tune =
+    Passed (sections_played tune) (places_played tune) (end_of tune) (length (tracks tune)) (length (title_of tune))
 
-named : {A : Type 0} (item_of : A → Item) (tune : List A) → Passes item_of tune → PassesALimit item_of tune
-named item_of tune = ⊎_elim (⊎_elim (⊎_elim (⊎_elim of_sections of_places) of_time) of_voices) of_title
+named : (tune : List Item) → Passes tune → PassesALimit tune
+named tune = ⊎_elim (⊎_elim (⊎_elim (⊎_elim of_sections of_places) of_time) of_voices) of_title
 
-told : {A : Type 0} (item_of : A → Item) (tune : List A) → PassesALimit item_of tune → Passes item_of tune
-told item_of tune (of_sections h) = inl (inl (inl (inl h)))
-told item_of tune (of_places h) = inl (inl (inl (inr h)))
-told item_of tune (of_time h) = inl (inl (inr h))
-told item_of tune (of_voices h) = inl (inr h)
-told item_of tune (of_title h) = inr h
+told : (tune : List Item) → PassesALimit tune → Passes tune
+told tune (of_sections h) = inl (inl (inl (inl h)))
+told tune (of_places h) = inl (inl (inl (inr h)))
+told tune (of_time h) = inl (inl (inr h))
+told tune (of_voices h) = inl (inr h)
+told tune (of_title h) = inr h
 
 past : (a b c d e : ℕ) → Decides (nat_lt MOST_SECTIONS a || nat_lt MOST_PLACES b || nat_lt grains_of_the_latest_end c || nat_lt MOST_VOICES d || nat_lt LONGEST_TITLE e) (Passed a b c d e)
 past a b c d e =
@@ -65,36 +63,36 @@ past a b c d e =
     (Decides-ltb MOST_VOICES d))
     (Decides-ltb LONGEST_TITLE e)
 
-decides : {A : Type 0} (item_of : A → Item) (tune : List A) → Decides (is_too_long item_of tune) (PassesALimit item_of tune)
+decides : (tune : List Item) → Decides (is_too_long tune) (PassesALimit tune)
 unfolding is_too_long
-decides item_of tune =
-    Decides-like (is_too_long item_of tune) (named item_of tune) (told item_of tune)
-    (past (sections_played item_of tune) (places_played item_of tune) (end_of item_of tune) (length (tracks item_of tune)) (length (title_of item_of tune)))
+decides tune =
+    Decides-like (is_too_long tune) (named tune) (told tune)
+    (past (sections_played tune) (places_played tune) (end_of tune) (length (tracks tune)) (length (title_of tune)))
 
-pub long_by : {A : Type 0} (item_of : A → Item) (tune : List A) → PassesALimit item_of tune → is_too_long item_of tune ≡ true
-long_by item_of tune h = (decides item_of tune).1 h
+pub long_by : (tune : List Item) → PassesALimit tune → is_too_long tune ≡ true
+long_by tune h = (decides tune).1 h
 
 pub by_a_limit : IsTooLongByALimit
-by_a_limit tune = decides (λ item. item) tune
+by_a_limit tune = decides tune
 
 -- a tune that passes none of them
-pub record IsShort {A : Type 0} (item_of : A → Item) (tune : List A) : Type 0 where
-  pub sections : sections_played item_of tune ≤ MOST_SECTIONS
-  pub places : places_played item_of tune ≤ MOST_PLACES
-  pub time : end_of item_of tune ≤ grains_of_the_latest_end
-  pub voices : length (tracks item_of tune) ≤ MOST_VOICES
-  pub title : length (title_of item_of tune) ≤ LONGEST_TITLE
+pub record IsShort (tune : List Item) : Type 0 where
+  pub sections : sections_played tune ≤ MOST_SECTIONS
+  pub places : places_played tune ≤ MOST_PLACES
+  pub time : end_of tune ≤ grains_of_the_latest_end
+  pub voices : length (tracks tune) ≤ MOST_VOICES
+  pub title : length (title_of tune) ≤ LONGEST_TITLE
 
-none : {A : Type 0} (item_of : A → Item) (tune : List A) → IsShort item_of tune → PassesALimit item_of tune → ⊥
-none item_of tune short (of_sections h) = omega (arith, short.sections, h)
-none item_of tune short (of_places h) = omega (arith, short.places, h)
-none item_of tune short (of_time h) = omega (arith, short.time, h)
-none item_of tune short (of_voices h) = omega (arith, short.voices, h)
-none item_of tune short (of_title h) = omega (arith, short.title, h)
+none : (tune : List Item) → IsShort tune → PassesALimit tune → ⊥
+none tune short (of_sections h) = omega (arith, short.sections, h)
+none tune short (of_places h) = omega (arith, short.places, h)
+none tune short (of_time h) = omega (arith, short.time, h)
+none tune short (of_voices h) = omega (arith, short.voices, h)
+none tune short (of_title h) = omega (arith, short.title, h)
 
-pub short_enough : {A : Type 0} (item_of : A → Item) (tune : List A) → IsShort item_of tune → is_too_long item_of tune ≡ false
-short_enough item_of tune short =
-    false_from_ne_true (is_too_long item_of tune) (λ long. none item_of tune short ((decides item_of tune).0 long))
+pub short_enough : (tune : List Item) → IsShort tune → is_too_long tune ≡ false
+short_enough tune short =
+    false_from_ne_true (is_too_long tune) (λ long. none tune short ((decides tune).0 long))
 
 -- what a test of a score tells
 writable_is : (what : ChangeKind) → is_writable what ≡ true → IsWritable what
@@ -179,30 +177,22 @@ score_is score h =
     }
 
 -- the score of a tune that passes no limit fits a file
-pub fits : (tune : List (Bor Item)) → All (λ step. IsItem step.now) tune → IsShort (λ step. step.now) tune → IsWithinLimits (score_of (λ step. step.now) tune)
-fits tune each short =
-    let items = map (λ (step : Bor Item). step.now) tune in
-    subst IsWithinLimits (sym (score_mapped (λ step. step.now) tune))
-    (score_is (score_of (λ item. item) items)
-    (fits_a_file items (All-map IsItem (λ step. step.now) tune each)
-    (subst (λ (n : ℕ). n ≤ MOST_PLACES) (places_played_mapped (λ step. step.now) tune) short.places)
-    (subst (λ (n : ℕ). n ≤ grains_of_the_latest_end) (end_mapped (λ step. step.now) tune) short.time)
-    (subst (λ (names : List (List ℕ)). length names ≤ MOST_VOICES) (tracks_mapped (λ step. step.now) tune) short.voices)
-    (subst (λ (title : List ℕ). length title ≤ LONGEST_TITLE) (title_mapped (λ step. step.now) tune) short.title)))
+pub fits : (tune : List Item) → All IsItem tune → IsShort tune → IsWithinLimits (score_of tune)
+fits tune each short = score_is (score_of tune) (fits_a_file tune each short.places short.time short.voices short.title)
 
 -- the counts of a score are those of its tune
-voices_of : (tune : List (Bor Item)) (score : Score) → score ≡ score_of (λ step. step.now) tune → length score.voices ≡ length (tracks (λ step. step.now) tune)
-voices_of tune score is = ap (λ (s : Score). length s.voices) is ∙ length-map (tracks (λ step. step.now) tune) _
+voices_of : (tune : List Item) (score : Score) → score ≡ score_of tune → length score.voices ≡ length (tracks tune)
+voices_of tune score is = ap (λ (s : Score). length s.voices) is ∙ length-map (tracks tune) _
 
-title_is : (tune : List (Bor Item)) (score : Score) → score ≡ score_of (λ step. step.now) tune → length score.title ≡ length (title_of (λ step. step.now) tune)
+title_is : (tune : List Item) (score : Score) → score ≡ score_of tune → length score.title ≡ length (title_of tune)
 title_is tune score is = ap (λ (s : Score). length s.title) is
 
 -- what the test of voices and title tells of a tune
-pub record AreFew (tune : List (Bor Item)) : Type 0 where
-  pub voices : length (tracks (λ step. step.now) tune) ≤ MOST_VOICES
-  pub title : length (title_of (λ step. step.now) tune) ≤ LONGEST_TITLE
+pub record AreFew (tune : List Item) : Type 0 where
+  pub voices : length (tracks tune) ≤ MOST_VOICES
+  pub title : length (title_of tune) ≤ LONGEST_TITLE
 
-pub few : (tune : List (Bor Item)) (score : Score) → score ≡ score_of (λ step. step.now) tune
+pub few : (tune : List Item) (score : Score) → score ≡ score_of tune
     → (nat_le (length score.voices) MOST_VOICES && nat_le (length score.title) LONGEST_TITLE) ≡ true → AreFew tune
 few tune score is h =
     let both = and_parts (nat_le (length score.voices) MOST_VOICES) (nat_le (length score.title) LONGEST_TITLE) h in
@@ -211,9 +201,9 @@ few tune score is h =
       title = subst (λ (n : ℕ). n ≤ LONGEST_TITLE) (title_is tune score is) (leb-true (length score.title) LONGEST_TITLE both.1);
     }
 
-pub many : (tune : List (Bor Item)) (score : Score) → score ≡ score_of (λ step. step.now) tune
-    → (nat_le (length score.voices) MOST_VOICES && nat_le (length score.title) LONGEST_TITLE) ≡ false → is_too_long (λ step. step.now) tune ≡ true
-many tune score is h = long_by (λ step. step.now) tune (⊎_elim
+pub many : (tune : List Item) (score : Score) → score ≡ score_of tune
+    → (nat_le (length score.voices) MOST_VOICES && nat_le (length score.title) LONGEST_TITLE) ≡ false → is_too_long tune ≡ true
+many tune score is h = long_by tune (⊎_elim
     (λ e. of_voices (subst (λ (n : ℕ). MOST_VOICES < n) (voices_of tune score is) (leb-false (length score.voices) MOST_VOICES e)))
     (λ e. of_title (subst (λ (n : ℕ). LONGEST_TITLE < n) (title_is tune score is) (leb-false (length score.title) LONGEST_TITLE e)))
     (and_cases (nat_le (length score.voices) MOST_VOICES) (nat_le (length score.title) LONGEST_TITLE) h))

@@ -16,20 +16,20 @@ rest_of true b h = h
 rest_of false b h = cc
 
 -- what nothing waits in front of is set down as it stands
-alone : {A : Type 0} (item_of : A → Item) (step : A) → set_down item_of [] step ≡ step ∷ []
-alone item_of step = elim (is_ending (mark_of (item_of step))) as (λ b. cond b (step ∷ []) (step ∷ []) ≡ step ∷ []) [
+alone : (step : Item) → set_down [] step ≡ step ∷ []
+alone step = elim (is_ending (mark_of step)) as (λ b. cond b (step ∷ []) (step ∷ []) ≡ step ∷ []) [
   | true ↦ refl
   | false ↦ refl
 ]
 
-pub nothing_moves : {A : Type 0} (item_of : A → Item) (region : Region) (steps : List A)
-    → nothing_waits item_of region steps ≡ true → with_fields_in_endings_from item_of region [] steps ≡ steps
-nothing_moves item_of region [] h = refl
-nothing_moves item_of region (step ∷ steps) h =
-    let item = item_of step in
+pub nothing_moves : (region : Region) (steps : List Item)
+    → nothing_waits region steps ≡ true → with_fields_in_endings_from region [] steps ≡ steps
+nothing_moves region [] h = refl
+nothing_moves region (step ∷ steps) h =
+    let item = step in
     let behind = region_past region (mark_of item) in
-    let stays : waits region item ≡ false = not-true (waits region item) (first_of (not (waits region item)) (nothing_waits item_of behind steps) h) in
-    let others = nothing_moves item_of behind steps (rest_of (not (waits region item)) (nothing_waits item_of behind steps) h) in
-    ap (λ b. cond b (with_fields_in_endings_from item_of region (step ∷ []) steps) (set_down item_of [] step ++ with_fields_in_endings_from item_of behind [] steps)) stays
-    ∙ ap (λ l. l ++ with_fields_in_endings_from item_of behind [] steps) (alone item_of step)
+    let stays : waits region item ≡ false = not-true (waits region item) (first_of (not (waits region item)) (nothing_waits behind steps) h) in
+    let others = nothing_moves behind steps (rest_of (not (waits region item)) (nothing_waits behind steps) h) in
+    ap (λ b. cond b (with_fields_in_endings_from region (step ∷ []) steps) (set_down [] step ++ with_fields_in_endings_from behind [] steps)) stays
+    ∙ ap (λ l. l ++ with_fields_in_endings_from behind [] steps) (alone step)
     ∙ ap (λ l. step ∷ l) others

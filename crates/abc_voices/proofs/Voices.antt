@@ -6,14 +6,11 @@ use Rattle.abc_music.specs.declared.item.Item.TheVariants as items
 use Rattle.abc_voices.specs.Section.{is_section, is_step, opening_voice, part, part_from, sections_from, voice_past}
 use Rattle.abc_voices.specs.Voices.{named_by, declared_by, first_said, voice_behind, with_voices, put_in_front, between, of_voice, AreOfVoices}
 
-abbrev own : Item → Item
-own item = item
-
 abbrev is_letter : List ℕ × Item → Bool
 is_letter one = is_section one.1
 
 -- the first declared voice
-declared : (tune : List Item) → opening_voice own tune ≡ unwrap_or (first_said declared_by tune) []
+pub declared : (tune : List Item) → opening_voice tune ≡ unwrap_or (first_said declared_by tune) []
 declared [] = refl
 declared (items.Number number ∷ tune) = declared tune
 declared (items.Tone tones length ∷ tune) = declared tune
@@ -82,15 +79,15 @@ after_more current [] item = refl
 after_more current (one ∷ held) item = after_more (voice_past current one) held item
 
 part_more : (voice current : List ℕ) (held : List Item) (item : Item)
-    → part_from own voice current (held ++ item ∷ []) ≡ part_from own voice current held ++ one_of voice (after current held) item
+    → part_from voice current (held ++ item ∷ []) ≡ part_from voice current held ++ one_of voice (after current held) item
 part_more voice current [] item = refl
 part_more voice current (one ∷ held) item =
     let rest = part_more voice (voice_past current one) held item in
     let b : Bool = is_step one && bytes_eq current voice in
-    in_front b one (part_from own voice (voice_past current one) (held ++ item ∷ []))
+    in_front b one (part_from voice (voice_past current one) (held ++ item ∷ []))
     ∙ ap (λ steps. cond b (one ∷ []) [] ++ steps) rest
-    ∙ sym (append_assoc (cond b (one ∷ []) []) (part_from own voice (voice_past current one) held) (one_of voice (after (voice_past current one) held) item))
-    ∙ ap (λ steps. steps ++ one_of voice (after (voice_past current one) held) item) (sym (in_front b one (part_from own voice (voice_past current one) held)))
+    ∙ sym (append_assoc (cond b (one ∷ []) []) (part_from voice (voice_past current one) held) (one_of voice (after (voice_past current one) held) item))
+    ∙ ap (λ steps. steps ++ one_of voice (after (voice_past current one) held) item) (sym (in_front b one (part_from voice (voice_past current one) held)))
 
 -- items in front of the first of some lists
 abbrev front : List Item → List (List Item) → List (List Item)
@@ -130,33 +127,33 @@ front_none voice (one ∷ placed) = first_there voice (is_letter one) one (betwe
 -- one item of the walk
 walk_item : (voice opening : List ℕ) (held : List Item) (one : List ℕ × Item) (anew on : List (List ℕ × List Item))
     (others : List (List (List ℕ × Item))) (b : Bool)
-    → (b ≡ true → map (part own voice) anew ≡ map (of_voice voice) others)
-    → map (part own voice) on ≡ front (part_from own voice opening (held ++ one.1 ∷ [])) (map (of_voice voice) others)
+    → (b ≡ true → map (part voice) anew ≡ map (of_voice voice) others)
+    → map (part voice) on ≡ front (part_from voice opening (held ++ one.1 ∷ [])) (map (of_voice voice) others)
     → one.0 ≡ after opening held
-    → map (part own voice) (cond b ((opening, held) ∷ anew) on)
-    ≡ front (part_from own voice opening held) (map (of_voice voice) (cond b ([] ∷ others) (put_in_front one others)))
+    → map (part voice) (cond b ((opening, held) ∷ anew) on)
+    ≡ front (part_from voice opening held) (map (of_voice voice) (cond b ([] ∷ others) (put_in_front one others)))
 walk_item voice opening held one anew on others true new more e =
-    ap (λ rest. part_from own voice opening held ∷ rest) (new refl)
-    ∙ ap (λ steps. steps ∷ map (of_voice voice) others) (sym (append-nil (part_from own voice opening held)))
+    ap (λ rest. part_from voice opening held ∷ rest) (new refl)
+    ∙ ap (λ steps. steps ∷ map (of_voice voice) others) (sym (append-nil (part_from voice opening held)))
 walk_item voice opening held one anew on others false new more e =
     more
     ∙ ap (λ steps. front steps (map (of_voice voice) others))
-    (part_more voice opening held one.1 ∙ ap (λ current. part_from own voice opening held ++ one_of voice current one.1) (sym e))
-    ∙ sym (front_front (part_from own voice opening held) (one_of voice one.0 one.1) (map (of_voice voice) others))
-    ∙ ap (front (part_from own voice opening held)) (sym (own_front voice one others))
+    (part_more voice opening held one.1 ∙ ap (λ current. part_from voice opening held ++ one_of voice current one.1) (sym e))
+    ∙ sym (front_front (part_from voice opening held) (one_of voice one.0 one.1) (map (of_voice voice) others))
+    ∙ ap (front (part_from voice opening held)) (sym (own_front voice one others))
 
 walk : (tune : List Item) (voice opening : List ℕ) (held : List Item) (current : List ℕ) (past rest : List Item)
     → current ≡ voice_behind tune past → current ≡ after opening held
-    → map (part own voice) (sections_from own opening held current rest)
-    ≡ front (part_from own voice opening held) (map (of_voice voice) (between is_letter (with_voices tune past rest)))
-walk tune voice opening held current past [] back on = ap (λ steps. steps ∷ []) (sym (append-nil (part_from own voice opening held)))
+    → map (part voice) (sections_from opening held current rest)
+    ≡ front (part_from voice opening held) (map (of_voice voice) (between is_letter (with_voices tune past rest)))
+walk tune voice opening held current past [] back on = ap (λ steps. steps ∷ []) (sym (append-nil (part_from voice opening held)))
 walk tune voice opening held current past (item ∷ rest) back on =
     let behind : voice_past current item ≡ voice_behind tune (item ∷ past) =
     ap (λ v. voice_past v item) back ∙ one_more (unwrap_or (first_said declared_by tune) []) item past in
     let more = walk tune voice opening (held ++ item ∷ []) (voice_past current item) (item ∷ past) rest behind
     (ap (λ v. voice_past v item) on ∙ sym (after_more opening held item)) in
-    walk_item voice opening held (voice_behind tune past, item) (sections_from own current [] current rest)
-    (sections_from own opening (held ++ item ∷ []) (voice_past current item) rest)
+    walk_item voice opening held (voice_behind tune past, item) (sections_from current [] current rest)
+    (sections_from opening (held ++ item ∷ []) (voice_past current item) rest)
     (between is_letter (with_voices tune (item ∷ past) rest)) (is_section item)
     (λ letter. walk tune voice current [] current (item ∷ past) rest (sym (same_voice current item letter) ∙ behind) refl
     ∙ front_none voice (with_voices tune (item ∷ past) rest))
@@ -164,5 +161,5 @@ walk tune voice opening held current past (item ∷ rest) back on =
 
 pub are_of_voices : AreOfVoices
 are_of_voices tune voice =
-    walk tune voice (opening_voice own tune) [] (opening_voice own tune) [] tune (declared tune) refl
+    walk tune voice (opening_voice tune) [] (opening_voice tune) [] tune (declared tune) refl
     ∙ front_none voice (with_voices tune [] tune)

@@ -1,9 +1,8 @@
 -- What stages set stands within their time; an order of a tune is accepted.
-use Rattle.std.proofs.Common.{◌≡◌, ℕ, ◌+◌, ◌<◌, ◌≤◌, List, [], ◌∷◌, length, map, Option, Some, None, Ok, sym, subst, ap, ◌∙◌, arith}
+use Rattle.std.proofs.Common.{◌≡◌, ℕ, ◌+◌, ◌<◌, ◌≤◌, List, [], ◌∷◌, length, Option, Some, None, Ok, sym, subst, ap, ◌∙◌, arith}
 use Rattle.abc_repeat.specs.Order.{sections_of, has_unknown}
 use Rattle.std.proofs.lemmas.List.Elements.{All-nil, All-cons, All-head, All-tail, All-append}
 use Rattle.std.proofs.lemmas.List.Sums.{sum_by_from}
-use Rattle.std.specs.Borrow.{Bor}
 use Rattle.std.specs.Prelude.{All, IfSome, slice_get}
 use Rattle.std.specs.List.{cons_option, flat_map}
 use Rattle.std.specs.Option.{ForSome}
@@ -31,25 +30,25 @@ one_more end at None sets early all = all
 one_more end at (Some value) sets early all = All-cons (IsBefore end) (record { 0 = at }, value) sets early all
 
 -- what steps set
-steps_before : {V : Type 0} (value_of : Item → Option V) (end at : ℕ) (steps : List (Bor Item)) → at + duration (λ step. step.now) steps ≤ end
-    → All (IsBefore end) (set_from (λ step. step.now) value_of at steps)
+steps_before : {V : Type 0} (value_of : Item → Option V) (end at : ℕ) (steps : List Item) → at + duration steps ≤ end
+    → All (IsBefore end) (set_from value_of at steps)
 steps_before value_of end at [] early = All-nil (IsBefore end)
 steps_before value_of end at (step ∷ steps) early =
-    let sum = sum_by_from (λ (s : Bor Item). length_of s.now) (0 + length_of step.now) steps in
-    one_more end at (value_of step.now) (set_from (λ s. s.now) value_of (at + length_of step.now) steps) (omega (arith, sum))
-    (steps_before value_of end (at + length_of step.now) steps (omega (arith, sum)))
+    let sum = sum_by_from length_of (0 + length_of step) steps in
+    one_more end at (value_of step) (set_from value_of (at + length_of step) steps) (omega (arith, sum))
+    (steps_before value_of end (at + length_of step) steps (omega (arith, sum)))
 
 -- what a part sets
 part_before : {V : Type 0} (value_of : Item → Option V) (end at : ℕ) (longest : Grains) (part : Part) → at + longest.0 ≤ end → IsPart longest part
-    → All (IsBefore end) (set_from (λ step. step.now) value_of at part.steps)
+    → All (IsBefore end) (set_from value_of at part.steps)
 part_before value_of end at longest part early is = steps_before value_of end at part.steps (omega arith)
 
 -- what parts set
 parts_before : {V : Type 0} (value_of : Item → Option V) (end at : ℕ) (longest : Grains) (parts : List Part) → at + longest.0 ≤ end → All (IsPart longest) parts
-    → All (IsBefore end) (flat_map (λ part. set_from (λ step. step.now) value_of at part.steps) parts)
+    → All (IsBefore end) (flat_map (λ part. set_from value_of at part.steps) parts)
 parts_before value_of end at longest [] early all = All-nil (IsBefore end)
 parts_before value_of end at longest (part ∷ parts) early all =
-    All-append (IsBefore end) (set_from (λ step. step.now) value_of at part.steps) (flat_map (λ p. set_from (λ step. step.now) value_of at p.steps) parts)
+    All-append (IsBefore end) (set_from value_of at part.steps) (flat_map (λ p. set_from value_of at p.steps) parts)
     (part_before value_of end at longest part early (All-head (IsPart longest) part parts all))
     (parts_before value_of end at longest parts early (All-tail (IsPart longest) part parts all))
 
@@ -60,13 +59,13 @@ all_before value_of end at [] early all = All-nil (IsBefore end)
 all_before value_of end at (stage ∷ stages) early all =
     let sum = sum_by_from (λ (s : Stage). s.longest.0) (0 + stage.longest.0) stages in
     let is : IsStage stage = All-head IsStage stage stages all in
-    All-append (IsBefore end) (flat_map (λ part. set_from (λ step. step.now) value_of at part.steps) stage.parts) (set_by_all value_of (at + stage.longest.0) stages)
+    All-append (IsBefore end) (flat_map (λ part. set_from value_of at part.steps) stage.parts) (set_by_all value_of (at + stage.longest.0) stages)
     (parts_before value_of end at stage.longest stage.parts (omega (arith, sum)) is.parts)
     (all_before value_of end (at + stage.longest.0) stages (omega (arith, sum)) (All-tail IsStage stage stages all))
 
 -- what a part sets, if there is one
 if_part_before : {V : Type 0} (value_of : Item → Option V) (end at : ℕ) (longest : Grains) (part : Option Part) → at + longest.0 ≤ end → IfSome part (IsPart longest)
-    → All (IsBefore end) (set_from (λ step. step.now) value_of at (steps_of part))
+    → All (IsBefore end) (set_from value_of at (steps_of part))
 if_part_before value_of end at longest None early is = All-nil (IsBefore end)
 if_part_before value_of end at longest (Some part) early is = part_before value_of end at longest part early is
 
@@ -77,7 +76,7 @@ one_before value_of voice end at [] early all = All-nil (IsBefore end)
 one_before value_of voice end at (stage ∷ stages) early all =
     let sum = sum_by_from (λ (s : Stage). s.longest.0) (0 + stage.longest.0) stages in
     let is : IsStage stage = All-head IsStage stage stages all in
-    All-append (IsBefore end) (set_from (λ step. step.now) value_of at (steps_of (slice_get stage.parts voice))) (set_by_one value_of voice (at + stage.longest.0) stages)
+    All-append (IsBefore end) (set_from value_of at (steps_of (slice_get stage.parts voice))) (set_by_one value_of voice (at + stage.longest.0) stages)
     (if_part_before value_of end at stage.longest (slice_get stage.parts voice) (omega (arith, sum))
     (got (IsPart stage.longest) stage.parts voice is.parts))
     (one_before value_of voice end (at + stage.longest.0) stages (omega (arith, sum)) (All-tail IsStage stage stages all))
@@ -103,11 +102,11 @@ order_step : (order : Option (List ℕ)) (item : Item) → IsAccepted order → 
 order_step order (items.Order text) h is = λ other e. let same : text ≡ other = cc in subst (λ t. parts_of t ≡ Ok tt) same is
 order_step order _ h is = h
 
-pub order_accepted : (tune : List (Bor Item)) (order : Option (List ℕ)) → IsAccepted order → All (λ step. IsItem step.now) tune
-    → IsAccepted (past_all (λ step. step.now) order_past order tune)
+pub order_accepted : (tune : List Item) (order : Option (List ℕ)) → IsAccepted order → All IsItem tune
+    → IsAccepted (past_all order_past order tune)
 order_accepted [] order h all = h
 order_accepted (step ∷ tune) order h all =
-    order_accepted tune (order_past order step.now) (order_step order step.now h (All-head (λ s. IsItem s.now) step tune all)) (All-tail (λ s. IsItem s.now) step tune all)
+    order_accepted tune (order_past order step) (order_step order step h (All-head IsItem step tune all)) (All-tail IsItem step tune all)
 
 -- the same order and letters play as many sections, and have as much unknown
 pub same_length : (order order2 : Option (List ℕ)) (found found2 : List ℕ) → order ≡ order2 → found ≡ found2 → length (sections_of order found) ≡ length (sections_of order2 found2)
@@ -119,10 +118,3 @@ same_unknown order order2 found found2 p q = ap (λ o. has_unknown o found) p �
 -- what is not above a number is at most it
 pub not_above : (n most : ℕ) → (most < n → ⊥) → n ≤ most
 not_above n most refuted = omega arith
-
--- the items of steps
-pub unmapped : (tune : List (Bor Item)) → All IsItem (map (λ step. step.now) tune) → All (λ step. IsItem step.now) tune
-unmapped [] all = All-nil (λ (step : Bor Item). IsItem step.now)
-unmapped (step ∷ tune) all =
-    All-cons (λ (s : Bor Item). IsItem s.now) step tune (All-head IsItem step.now (map (λ s. s.now) tune) all)
-    (unmapped tune (All-tail IsItem step.now (map (λ s. s.now) tune) all))

@@ -26,43 +26,43 @@ use Rattle.abc_voices.specs.Section.{letters, sections, part}
 use Rattle.abc_voices.specs.Track.{everyone, tracks}
 
 -- What a voice plays of a section.
-abbrev pub play_in : {A : Type 0} → (A → Item) → List ℕ × List A → List ℕ → List A
-play_in item_of section voice = played item_of (part item_of voice section)
+abbrev pub play_in : List ℕ × List Item → List ℕ → List Item
+play_in section voice = played (part voice section)
 
 -- How many places of a section a voice plays.
-abbrev pub size_in : {A : Type 0} → (A → Item) → List ℕ × List A → List ℕ → ℕ
-size_in item_of section voice = length (places_of item_of (with_fields_in_endings item_of (part item_of voice section)))
+abbrev pub size_in : List ℕ × List Item → List ℕ → ℕ
+size_in section voice = length (places_of (with_fields_in_endings (part voice section)))
 
 -- How long a voice plays in a section.
-abbrev pub length_in : {A : Type 0} → (A → Item) → List ℕ × List A → List ℕ → ℕ
-length_in item_of section voice = duration item_of (play_in item_of section voice)
+abbrev pub length_in : List ℕ × List Item → List ℕ → ℕ
+length_in section voice = duration (play_in section voice)
 
 -- How long a section is: as long as the longest of its voices.
-abbrev pub longest : {A : Type 0} → (A → Item) → List (List ℕ) → List ℕ × List A → ℕ
-longest item_of [] section = 0
-longest item_of (voice ∷ voices) section = max (length_in item_of section voice) (longest item_of voices section)
+abbrev pub longest : List (List ℕ) → List ℕ × List Item → ℕ
+longest [] section = 0
+longest (voice ∷ voices) section = max (length_in section voice) (longest voices section)
 
 -- The sections of a tune in the order of their play.
-abbrev pub played_sections : {A : Type 0} → (A → Item) → List A → List (List ℕ × List A)
-played_sections item_of tune =
-    filter_map (slice_get (sections item_of tune)) (sections_of (past_all item_of order_past None tune) (letters item_of tune))
+abbrev pub played_sections : List Item → List (List ℕ × List Item)
+played_sections tune =
+    filter_map (slice_get (sections tune)) (sections_of (past_all order_past None tune) (letters tune))
 
 -- The notes of a voice in sections that are played from a moment on.
-abbrev pub voice_notes : {A : Type 0} → (A → Item) → List (List ℕ) → List ℕ → ℕ → List (List ℕ × List A) → Notes
-voice_notes item_of voices voice at [] = record { first = []; others = [] }
-voice_notes item_of voices voice at (section ∷ rest) =
-    notes_from item_of at (play_in item_of section voice) (voice_notes item_of voices voice (at + longest item_of voices section) rest)
+abbrev pub voice_notes : List (List ℕ) → List ℕ → ℕ → List (List ℕ × List Item) → Notes
+voice_notes voices voice at [] = record { first = []; others = [] }
+voice_notes voices voice at (section ∷ rest) =
+    notes_from at (play_in section voice) (voice_notes voices voice (at + longest voices section) rest)
 
 -- All notes of a voice.
 abbrev pub all_notes : Notes → List Sounding
 all_notes notes = notes.others ++ notes.first
 
 -- What voices set in sections that are played from a moment on: section by section, in it voice by voice.
-abbrev pub set_in : {A V : Type 0} → (A → Item) → (Item → Option V) → List (List ℕ) → List (List ℕ) → ℕ → List (List ℕ × List A) → List (Grains × V)
-set_in item_of value_of voices those at [] = []
-set_in item_of value_of voices those at (section ∷ rest) =
-    flat_map (λ voice. set_from item_of value_of at (play_in item_of section voice)) those
-    ++ set_in item_of value_of voices those (at + longest item_of voices section) rest
+abbrev pub set_in : {V : Type 0} → (Item → Option V) → List (List ℕ) → List (List ℕ) → ℕ → List (List ℕ × List Item) → List (Grains × V)
+set_in value_of voices those at [] = []
+set_in value_of voices those at (section ∷ rest) =
+    flat_map (λ voice. set_from value_of at (play_in section voice)) those
+    ++ set_in value_of voices those (at + longest voices section) rest
 
 -- A value of its own where there is none.
 abbrev pub or_else : {V : Type 0} → V → Option V → V
@@ -89,85 +89,85 @@ takes_time (items.Tone tones length) = true
 takes_time (items.Rest length bar) = true
 takes_time _ = false
 
-abbrev pub plays_time : {A : Type 0} → (A → Item) → List ℕ × List A → List ℕ → Bool
-plays_time item_of section voice = list_any (λ step. takes_time (item_of step)) (play_in item_of section voice)
+abbrev pub plays_time : List ℕ × List Item → List ℕ → Bool
+plays_time section voice = list_any takes_time (play_in section voice)
 
 -- Whether two voices that play time in a section differ in length.
-abbrev pub differ : {A : Type 0} → (A → Item) → List ℕ × List A → List ℕ → List ℕ → Bool
-differ item_of section a b =
-    plays_time item_of section a && plays_time item_of section b && not (length_in item_of section a == length_in item_of section b)
+abbrev pub differ : List ℕ × List Item → List ℕ → List ℕ → Bool
+differ section a b =
+    plays_time section a && plays_time section b && not (length_in section a == length_in section b)
 
-abbrev pub is_uneven : {A : Type 0} → (A → Item) → List (List ℕ) → List ℕ × List A → Bool
-is_uneven item_of voices section = list_any (λ a. list_any (differ item_of section a) voices) voices
+abbrev pub is_uneven : List (List ℕ) → List ℕ × List Item → Bool
+is_uneven voices section = list_any (λ a. list_any (differ section a) voices) voices
 
 -- The sum of the sections of a tune.
-abbrev pub total : {A : Type 0} → (A → Item) → List A → ℕ
-total item_of tune = sum_by (longest item_of (everyone item_of tune)) (played_sections item_of tune)
+abbrev pub total : List Item → ℕ
+total tune = sum_by (longest (everyone tune)) (played_sections tune)
 
 -- The notes of each voice that has a track.
-abbrev pub voices_notes : {A : Type 0} → (A → Item) → List A → List (List Sounding)
-voices_notes item_of tune =
-    map (λ voice. all_notes (voice_notes item_of (everyone item_of tune) voice 0 (played_sections item_of tune))) (tracks item_of tune)
+abbrev pub voices_notes : List Item → List (List Sounding)
+voices_notes tune =
+    map (λ voice. all_notes (voice_notes (everyone tune) voice 0 (played_sections tune))) (tracks tune)
 
 -- When a tune ends: with its sections, or with a note that lasts longer.
-abbrev pub end_of : {A : Type 0} → (A → Item) → List A → ℕ
-end_of item_of tune = last_off (total item_of tune) (flat_map (λ notes. notes) (voices_notes item_of tune))
+abbrev pub end_of : List Item → ℕ
+end_of tune = last_off (total tune) (flat_map (λ notes. notes) (voices_notes tune))
 
 -- The tempos of all voices and the meters and keys of the first, behind those with which the tune opens.
-abbrev pub changes_of : {A : Type 0} → (A → Item) → List A → List Rattle.abc_voices.specs.declared.score.Change.Change
-changes_of item_of tune =
-    let voices = everyone item_of tune in
-    let first = first_of (tracks item_of tune) in
-    let played = played_sections item_of tune in
+abbrev pub changes_of : List Item → List Rattle.abc_voices.specs.declared.score.Change.Change
+changes_of tune =
+    let voices = everyone tune in
+    let first = first_of (tracks tune) in
+    let played = played_sections tune in
     changes_that_stand
-    ((record { 0 = 0 }, or_else usual_tempo (past_all item_of tempo_past None tune)) ∷ set_in item_of tempo_of voices voices 0 played)
-    ((record { 0 = 0 }, or_else meters.Free (past_all item_of meter_past None tune)) ∷ set_in item_of meter_of voices first 0 played)
-    ((record { 0 = 0 }, or_else (pos 0, false) (past_all item_of key_past None tune)) ∷ set_in item_of key_of voices first 0 played)
+    ((record { 0 = 0 }, or_else usual_tempo (past_all tempo_past None tune)) ∷ set_in tempo_of voices voices 0 played)
+    ((record { 0 = 0 }, or_else meters.Free (past_all meter_past None tune)) ∷ set_in meter_of voices first 0 played)
+    ((record { 0 = 0 }, or_else (pos 0, false) (past_all key_past None tune)) ∷ set_in key_of voices first 0 played)
 
 -- The programs of a voice in sections that are played, behind the one with which a tune opens, if it opens with one.
-abbrev pub programs_in : {A : Type 0} → (A → Item) → Option ℕ → List (List ℕ) → List (List ℕ × List A) → List ℕ → List ProgramChange
-programs_in item_of opening voices played voice =
-    programs_that_stand (behind opening (set_in item_of program_of voices (voice ∷ []) 0 played))
+abbrev pub programs_in : Option ℕ → List (List ℕ) → List (List ℕ × List Item) → List ℕ → List ProgramChange
+programs_in opening voices played voice =
+    programs_that_stand (behind opening (set_in program_of voices (voice ∷ []) 0 played))
 
 -- The programs of each voice that has a track. Nothing is restored at a repeat.
-abbrev pub programs_of : {A : Type 0} → (A → Item) → List A → List (List ProgramChange)
-programs_of item_of tune =
-    map (programs_in item_of (past_all item_of program_past None tune) (everyone item_of tune) (played_sections item_of tune)) (tracks item_of tune)
+abbrev pub programs_of : List Item → List (List ProgramChange)
+programs_of tune =
+    map (programs_in (past_all program_past None tune) (everyone tune) (played_sections tune)) (tracks tune)
 
 -- The score of a tune: its title, its end, its changes, and the notes and the programs of each voice.
-abbrev pub score_of : {A : Type 0} → (A → Item) → List A → Score
-score_of item_of tune = record {
-  title = title_of item_of tune;
-  end = record { 0 = end_of item_of tune };
-  conductor = changes_of item_of tune;
-  voices = voices_notes item_of tune;
-  programs = programs_of item_of tune;
+abbrev pub score_of : List Item → Score
+score_of tune = record {
+  title = title_of tune;
+  end = record { 0 = end_of tune };
+  conductor = changes_of tune;
+  voices = voices_notes tune;
+  programs = programs_of tune;
 }
 
 -- A tune laid out: its score, whether voices of a section that is played are uneven, whether the order names a
 -- part that the tune does not have.
-unfoldable pub arranged_of : {A : Type 0} → (A → Item) → List A → Arranged
-arranged_of item_of tune = record {
-  score = score_of item_of tune;
-  uneven = list_any (is_uneven item_of (everyone item_of tune)) (played_sections item_of tune);
-  unknown = has_unknown (past_all item_of order_past None tune) (letters item_of tune);
+unfoldable pub arranged_of : List Item → Arranged
+arranged_of tune = record {
+  score = score_of tune;
+  uneven = list_any (is_uneven (everyone tune)) (played_sections tune);
+  unknown = has_unknown (past_all order_past None tune) (letters tune);
 }
 
 -- How many sections of a tune are played, the opening one among them.
-abbrev pub sections_played : {A : Type 0} → (A → Item) → List A → ℕ
-sections_played item_of tune = length (sections_of (past_all item_of order_past None tune) (letters item_of tune))
+abbrev pub sections_played : List Item → ℕ
+sections_played tune = length (sections_of (past_all order_past None tune) (letters tune))
 
 -- How many places of a tune are played, each as often as it is, over all voices.
-abbrev pub places_played : {A : Type 0} → (A → Item) → List A → ℕ
-places_played item_of tune =
-    sum_by (λ section. sum_by (size_in item_of section) (everyone item_of tune)) (played_sections item_of tune)
+abbrev pub places_played : List Item → ℕ
+places_played tune =
+    sum_by (λ section. sum_by (size_in section) (everyone tune)) (played_sections tune)
 
 -- Whether a tune is too long: a limit is passed, of sections, of places, of time, of voices, or of a title. Our own.
-unfoldable pub is_too_long : {A : Type 0} → (A → Item) → List A → Bool
-is_too_long item_of tune =
-    nat_lt MOST_SECTIONS (sections_played item_of tune) || nat_lt MOST_PLACES (places_played item_of tune)
-    || nat_lt grains_of_the_latest_end (end_of item_of tune) || nat_lt MOST_VOICES (length (tracks item_of tune))
-    || nat_lt LONGEST_TITLE (length (title_of item_of tune))
+unfoldable pub is_too_long : List Item → Bool
+is_too_long tune =
+    nat_lt MOST_SECTIONS (sections_played tune) || nat_lt MOST_PLACES (places_played tune)
+    || nat_lt grains_of_the_latest_end (end_of tune) || nat_lt MOST_VOICES (length (tracks tune))
+    || nat_lt LONGEST_TITLE (length (title_of tune))
 
 -- What cells give, one after another.
 abbrev pub items_in : List Items → List Item

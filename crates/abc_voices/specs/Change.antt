@@ -31,10 +31,10 @@ at_moment at None = None
 at_moment at (Some value) = Some (record { 0 = at }, value)
 
 -- What is set by steps that are played one after another from a moment on.
-abbrev pub set_from : {A V : Type 0} → (A → Item) → (Item → Option V) → ℕ → List A → List (Grains × V)
-set_from item_of value_of at [] = []
-set_from item_of value_of at (step ∷ steps) =
-    cons_option (at_moment at (value_of (item_of step))) (set_from item_of value_of (at + length_of (item_of step)) steps)
+abbrev pub set_from : {V : Type 0} → (Item → Option V) → ℕ → List Item → List (Grains × V)
+set_from value_of at [] = []
+set_from value_of at (step ∷ steps) =
+    cons_option (at_moment at (value_of step)) (set_from value_of (at + length_of step) steps)
 
 -- What is set, behind what holds at the beginning, if something does.
 abbrev pub behind : {V : Type 0} → Option V → List (Grains × V) → List (Grains × V)

@@ -47,19 +47,19 @@ last_played value_of tick at play = last_said (λ one. set_on tick one.0 (value_
 -- Sections that are played one after another from a moment on, each at its moment.
 abbrev pub sections_at : List (List ℕ) → ℕ → List (List ℕ × List Item) → List (ℕ × (List ℕ × List Item))
 sections_at voices at [] = []
-sections_at voices at (section ∷ rest) = (at, section) ∷ sections_at voices (at + longest (λ item. item) voices section) rest
+sections_at voices at (section ∷ rest) = (at, section) ∷ sections_at voices (at + longest voices section) rest
 
 -- What some voices set last on a tick in a section that is played from a moment on: of the voices that set something
 -- there the last one decides, in the order of the voices, whichever of them sets it later.
 abbrev pub last_beside : {V : Type 0} → (Item → Option V) → List (List ℕ) → ℕ → ℕ × (List ℕ × List Item) → Option (Grains × V)
 last_beside value_of those tick (at, section) =
-    last_said (λ voice. last_played value_of tick at (play_in (λ item. item) section voice)) those
+    last_said (λ voice. last_played value_of tick at (play_in section voice)) those
 
 -- What some voices set last on a tick in a tune: of the sections in which they set something there the last one decides,
 -- in order of play.
 abbrev pub last_set : {V : Type 0} → (Item → Option V) → List (List ℕ) → List Item → ℕ → Option (Grains × V)
 last_set value_of those tune tick =
-    last_said (last_beside value_of those tick) (sections_at (everyone (λ item. item) tune) 0 (played_sections (λ item. item) tune))
+    last_said (last_beside value_of those tick) (sections_at (everyone tune) 0 (played_sections tune))
 
 -- What holds on a tick: what is set there last, or else that with which the tune opens, where its beginning is on the tick.
 abbrev pub set_or_opening : {V : Type 0} → (Item → Option V) → List (List ℕ) → V → List Item → ℕ → Option (Grains × V)
@@ -67,12 +67,12 @@ set_or_opening value_of those opening tune tick = or_said (last_set value_of tho
 
 -- The first voice that has a track, if one has.
 abbrev pub leader : List Item → List (List ℕ)
-leader tune = take 1 (tracks (λ item. item) tune)
+leader tune = take 1 (tracks tune)
 
 -- The tempo on a tick: all voices set it. Where the header says none, it is 120 quarter notes a minute.
 abbrev pub tempo_on : List Item → ℕ → Option Change
 tempo_on tune tick =
-    option_map tempo_change (set_or_opening tempo_of (everyone (λ item. item) tune) (opening_by opening_tempo_of usual_tempo tune) tune tick)
+    option_map tempo_change (set_or_opening tempo_of (everyone tune) (opening_by opening_tempo_of usual_tempo tune) tune tick)
 
 -- The meter on a tick: the first voice with a track sets it. Where it is free meter, it is none. Where the header says
 -- none, it is free.
@@ -107,7 +107,7 @@ is_there is_kind tick change = is_kind change.what && (tick_at change.at.0 == ti
 
 -- The changes of a kind that the score of a tune has on a tick.
 abbrev pub changes_on : (ChangeKind → Bool) → List Item → ℕ → List Change
-changes_on is_kind tune tick = filter (is_there is_kind tick) (score_of (λ item. item) tune).conductor
+changes_on is_kind tune tick = filter (is_there is_kind tick) (score_of tune).conductor
 
 -- On a tick the score of a tune has that tempo, that meter and that key, and no others.
 pub record IsConducted (tune : List Item) (tick : ℕ) : Type 0 where

@@ -26,23 +26,23 @@ abbrev pub region_past : Region → Mark → Region
 region_past region mark = if is_ending mark then Inside else past region mark
 
 -- Whether none of some steps waits for an ending's sign, of which the first stands here.
-abbrev pub nothing_waits : {A : Type 0} → (A → Item) → Region → List A → Bool
-nothing_waits item_of region [] = true
-nothing_waits item_of region (step ∷ steps) =
-    not (waits region (item_of step)) && nothing_waits item_of (region_past region (mark_of (item_of step))) steps
+abbrev pub nothing_waits : Region → List Item → Bool
+nothing_waits region [] = true
+nothing_waits region (step ∷ steps) =
+    not (waits region step) && nothing_waits (region_past region (mark_of step)) steps
 
 -- An ending's sign goes before what has waited for it, anything else behind it.
-abbrev pub set_down : {A : Type 0} → (A → Item) → List A → A → List A
-set_down item_of held step =
-    if is_ending (mark_of (item_of step)) then step ∷ held else held ++ step ∷ []
+abbrev pub set_down : List Item → Item → List Item
+set_down held step =
+    if is_ending (mark_of step) then step ∷ held else held ++ step ∷ []
 
 -- The order of steps behind those that wait: what each step is to the play is its item.
-abbrev pub with_fields_in_endings_from : {A : Type 0} → (A → Item) → Region → List A → List A → List A
-with_fields_in_endings_from item_of region held [] = held
-with_fields_in_endings_from item_of region held (step ∷ steps) =
-    if waits region (item_of step) then with_fields_in_endings_from item_of region (held ++ step ∷ []) steps
-    else set_down item_of held step ++ with_fields_in_endings_from item_of (region_past region (mark_of (item_of step))) [] steps
+abbrev pub with_fields_in_endings_from : Region → List Item → List Item → List Item
+with_fields_in_endings_from region held [] = held
+with_fields_in_endings_from region held (step ∷ steps) =
+    if waits region step then with_fields_in_endings_from region (held ++ step ∷ []) steps
+    else set_down held step ++ with_fields_in_endings_from (region_past region (mark_of step)) [] steps
 
 -- The steps of a voice in a section, in the order in which repeats and endings play them.
-abbrev pub with_fields_in_endings : {A : Type 0} → (A → Item) → List A → List A
-with_fields_in_endings item_of steps = with_fields_in_endings_from item_of Common [] steps
+abbrev pub with_fields_in_endings : List Item → List Item
+with_fields_in_endings steps = with_fields_in_endings_from Common [] steps

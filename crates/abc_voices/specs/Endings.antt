@@ -57,5 +57,5 @@ behind_signs waiting (one ∷ others) =
 -- nothing else is moved, whatever strains the marks of a voice's items in a section are, its fields left out.
 abbrev pub MovesByStrains : Type 0
 MovesByStrains = (part : List Item) (strains : List Strain)
-    → IsStrains false (marks_of (λ item. item) (without_fields part)) strains
-    → with_fields_in_endings (λ item. item) part ≡ behind_signs [] (with_waits false (between_endings_in strains) part)
+    → IsStrains false (marks_of (without_fields part)) strains
+    → with_fields_in_endings part ≡ behind_signs [] (with_waits false (between_endings_in strains) part)

@@ -20,17 +20,17 @@ abbrev pub is_change : Item → Bool
 is_change item = is_field item && is_step item
 
 -- Whether none of a tune's steps does.
-abbrev pub is_steady : {A : Type 0} → (A → Item) → List A → Bool
-is_steady item_of tune = list_all (λ step. not (is_change (item_of step))) tune
+abbrev pub is_steady : List Item → Bool
+is_steady tune = list_all (λ step. not (is_change step)) tune
 
 -- Whether an item sets a program.
 abbrev pub sets_program : Item → Bool
 sets_program item = is_some (program_of item)
 
 -- Whether none of a tune's steps does while the tune is played.
-abbrev pub keeps_programs : {A : Type 0} → (A → Item) → List A → Bool
-keeps_programs item_of tune = list_all (λ step. not (sets_program (item_of step) && is_step (item_of step))) tune
+abbrev pub keeps_programs : List Item → Bool
+keeps_programs tune = list_all (λ step. not (sets_program step && is_step step)) tune
 
 -- The steps of a tune that are no music.
-abbrev pub fields : {A : Type 0} → (A → Item) → List A → List A
-fields item_of tune = filter (λ step. not (is_music (item_of step))) tune
+abbrev pub fields : List Item → List Item
+fields tune = filter (λ step. not (is_music step)) tune

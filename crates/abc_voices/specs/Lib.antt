@@ -5,6 +5,7 @@ pub mod Conductor
 pub mod EndingFields
 pub mod Endings
 pub mod Fields
+pub mod Items
 pub mod Limits
 pub mod OnTicks
 pub mod Opening
@@ -20,5 +21,6 @@ pub mod TiedNotes
 pub mod Ties
 pub mod TooLong
 pub mod Track
+pub mod Tracks
 pub mod Turns
 pub mod Voices

@@ -30,7 +30,7 @@ at_moments at (item ∷ play) = (at, item) ∷ at_moments (at + length_of item) 
 abbrev pub moments_in : List (List ℕ) → List ℕ → ℕ → List (List ℕ × List Item) → List (ℕ × Item)
 moments_in voices voice at [] = []
 moments_in voices voice at (section ∷ rest) =
-    at_moments at (play_in (λ item. item) section voice) ++ moments_in voices voice (at + longest (λ item. item) voices section) rest
+    at_moments at (play_in section voice) ++ moments_in voices voice (at + longest voices section) rest
 
 -- A program at a moment, if there is one and the moment is on this tick.
 abbrev pub on_tick : ℕ → ℕ → Option ℕ → Option ProgramChange
@@ -45,11 +45,11 @@ set_on_tick tick (at, item) = on_tick tick at (program_of item)
 -- the tune opens, where its beginning is on the tick.
 abbrev pub program_on : List Item → ℕ → List ℕ → Option ProgramChange
 program_on tune tick voice =
-    or_said (last_said (set_on_tick tick) (moments_in (everyone (λ item. item) tune) voice 0 (played_sections (λ item. item) tune)))
+    or_said (last_said (set_on_tick tick) (moments_in (everyone tune) voice 0 (played_sections tune)))
     (on_tick tick 0 (last_said opening_program_of tune))
 
 -- On each tick each voice of a tune has that program, and no other one.
 abbrev pub HaveProgramsOnTicks : Type 0
 HaveProgramsOnTicks = (tune : List Item) (tick : ℕ)
-    → map (filter (λ change. tick_at change.at.0 == tick)) (score_of (λ item. item) tune).programs
-    ≡ map (λ voice. option_to_list (program_on tune tick voice)) (tracks (λ item. item) tune)
+    → map (filter (λ change. tick_at change.at.0 == tick)) (score_of tune).programs
+    ≡ map (λ voice. option_to_list (program_on tune tick voice)) (tracks tune)

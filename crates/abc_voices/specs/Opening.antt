@@ -30,9 +30,9 @@ order_past order (items.Order text) = Some text
 order_past order _ = order
 
 -- What holds behind a tune, of what holds before it.
-abbrev pub past_all : {A V : Type 0} → (A → Item) → (V → Item → V) → V → List A → V
-past_all item_of past value [] = value
-past_all item_of past value (step ∷ tune) = past_all item_of past (past value (item_of step)) tune
+abbrev pub past_all : {V : Type 0} → (V → Item → V) → V → List Item → V
+past_all past value [] = value
+past_all past value (step ∷ tune) = past_all past (past value step) tune
 
 -- The title in front of an item: the first T: counts. ABC 2.1 section 3.1.2.
 abbrev pub title_before : List ℕ → Item → List ℕ
@@ -40,6 +40,6 @@ title_before later (items.Title text) = text
 title_before later _ = later
 
 -- The title of a tune, empty where it has none.
-abbrev pub title_of : {A : Type 0} → (A → Item) → List A → List ℕ
-title_of item_of [] = []
-title_of item_of (step ∷ tune) = title_before (title_of item_of tune) (item_of step)
+abbrev pub title_of : List Item → List ℕ
+title_of [] = []
+title_of (step ∷ tune) = title_before (title_of tune) step

@@ -8,16 +8,16 @@ use Rattle.abc_voices.specs.EndingFields.{with_fields_in_endings}
 use Rattle.abc_voices.specs.Step.{is_straight, mark_of, length_of}
 
 -- The marks of steps.
-abbrev pub marks_of : {A : Type 0} → (A → Item) → List A → List Mark
-marks_of item_of steps = map (λ step. mark_of (item_of step)) steps
+abbrev pub marks_of : List Item → List Mark
+marks_of steps = map mark_of steps
 
 -- The places of what is played of steps that stand in the order of their play.
-abbrev pub places_of : {A : Type 0} → (A → Item) → List A → List ℕ
-places_of item_of steps = play_of (marks_of item_of steps)
+abbrev pub places_of : List Item → List ℕ
+places_of steps = play_of (marks_of steps)
 
 -- What is played of a voice's steps in a section, in order of play.
-abbrev pub played : {A : Type 0} → (A → Item) → List A → List A
-played item_of part = filter_map (slice_get (with_fields_in_endings item_of part)) (places_of item_of (with_fields_in_endings item_of part))
+abbrev pub played : List Item → List Item
+played part = filter_map (slice_get (with_fields_in_endings part)) (places_of (with_fields_in_endings part))
 
 -- Whether marks leave the order of play as it stands.
 abbrev pub are_straight : List Mark → Bool
@@ -25,9 +25,9 @@ are_straight [] = true
 are_straight (mark ∷ marks) = is_straight mark && are_straight marks
 
 -- All steps but the marks that say how the others are played.
-abbrev pub without_marks : {A : Type 0} → (A → Item) → List A → List A
-without_marks item_of steps = filter (λ step. is_play (mark_of (item_of step))) steps
+abbrev pub without_marks : List Item → List Item
+without_marks steps = filter (λ step. is_play (mark_of step)) steps
 
 -- How many grains steps take one after another.
-abbrev pub duration : {A : Type 0} → (A → Item) → List A → ℕ
-duration item_of steps = sum_by (λ step. length_of (item_of step)) steps
+abbrev pub duration : List Item → ℕ
+duration steps = sum_by length_of steps

@@ -26,8 +26,8 @@ is_section (items.Section letter) = true
 is_section _ = false
 
 -- The letters of the sections behind the opening one.
-abbrev pub letters : {A : Type 0} → (A → Item) → List A → List ℕ
-letters item_of tune = filter_map (λ step. letter_of (item_of step)) tune
+abbrev pub letters : List Item → List ℕ
+letters tune = filter_map letter_of tune
 
 -- The current voice behind an item: a V: of the body makes its voice the current one.
 abbrev pub voice_past : List ℕ → Item → List ℕ
@@ -40,29 +40,29 @@ declared_or voice (items.Voice true name) = name
 declared_or voice _ = voice
 
 -- The current voice before the first V: of the body: the first declared one, or the one without a name. Our own.
-abbrev pub opening_voice : {A : Type 0} → (A → Item) → List A → List ℕ
-opening_voice item_of [] = []
-opening_voice item_of (step ∷ tune) = declared_or (opening_voice item_of tune) (item_of step)
+abbrev pub opening_voice : List Item → List ℕ
+opening_voice [] = []
+opening_voice (step ∷ tune) = declared_or (opening_voice tune) step
 
 -- The sections of what stands behind these steps of a section, which this voice began, where another is the
 -- current one: each with the voice that is the current one where it begins.
-abbrev pub sections_from : {A : Type 0} → (A → Item) → List ℕ → List A → List ℕ → List A → List (List ℕ × List A)
-sections_from item_of opening held voice [] = (opening, held) ∷ []
-sections_from item_of opening held voice (step ∷ tune) =
-    if is_section (item_of step) then (opening, held) ∷ sections_from item_of voice [] voice tune
-    else sections_from item_of opening (held ++ step ∷ []) (voice_past voice (item_of step)) tune
+abbrev pub sections_from : List ℕ → List Item → List ℕ → List Item → List (List ℕ × List Item)
+sections_from opening held voice [] = (opening, held) ∷ []
+sections_from opening held voice (step ∷ tune) =
+    if is_section step then (opening, held) ∷ sections_from voice [] voice tune
+    else sections_from opening (held ++ step ∷ []) (voice_past voice step) tune
 
 -- The sections of a tune, the opening one first.
-abbrev pub sections : {A : Type 0} → (A → Item) → List A → List (List ℕ × List A)
-sections item_of tune = sections_from item_of (opening_voice item_of tune) [] (opening_voice item_of tune) tune
+abbrev pub sections : List Item → List (List ℕ × List Item)
+sections tune = sections_from (opening_voice tune) [] (opening_voice tune) tune
 
 -- The steps of a voice, of what stands from a place on where this voice is the current one.
-abbrev pub part_from : {A : Type 0} → (A → Item) → List ℕ → List ℕ → List A → List A
-part_from item_of voice current [] = []
-part_from item_of voice current (step ∷ steps) =
-    if is_step (item_of step) && bytes_eq current voice then step ∷ part_from item_of voice (voice_past current (item_of step)) steps
-    else part_from item_of voice (voice_past current (item_of step)) steps
+abbrev pub part_from : List ℕ → List ℕ → List Item → List Item
+part_from voice current [] = []
+part_from voice current (step ∷ steps) =
+    if is_step step && bytes_eq current voice then step ∷ part_from voice (voice_past current step) steps
+    else part_from voice (voice_past current step) steps
 
 -- The steps of a voice in a section.
-abbrev pub part : {A : Type 0} → (A → Item) → List ℕ → List ℕ × List A → List A
-part item_of voice (opening, steps) = part_from item_of voice opening steps
+abbrev pub part : List ℕ → List ℕ × List Item → List Item
+part voice (opening, steps) = part_from voice opening steps

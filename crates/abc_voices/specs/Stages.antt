@@ -1,5 +1,4 @@
 -- The stages of a tune in a table: at a section's place what the voices play of it, or none. Our own.
-use Rattle.std.specs.Borrow.{Bor}
 use Rattle.std.specs.Prelude.{◌≡◌, ℕ, ◌+◌, ◌≤◌, List, Option, Some, None, All, length, map, sum_by, filter_map, slice_get, slice_index_or, slice_set, option_map}
 use Rattle.abc_music.specs.declared.item.Item.{Item}
 use Rattle.abc_repeat.specs.declared.play.TheConstants.{MOST_PLACES}
@@ -17,7 +16,7 @@ abbrev pub at_places : List (Option Stage) → List ℕ → List Stage
 at_places table places = filter_map (stage_at table) places
 
 -- The sections at some places, in this order.
-abbrev pub sections_at : List Section → List ℕ → List (List ℕ × List (Bor Item))
+abbrev pub sections_at : List Section → List ℕ → List (List ℕ × List Item)
 sections_at sections places = filter_map (slice_get (map content sections)) places
 
 -- The stage that the section at a place has.
@@ -32,12 +31,12 @@ number_of number (Some value) = number value
 -- How many places the voices play of the section at a place.
 abbrev pub size_for : List (List ℕ) → List Section → ℕ → ℕ
 size_for voices sections place =
-    number_of (λ section. sum_by (size_in (λ step. step.now) (content section)) voices) (slice_get sections place)
+    number_of (λ section. sum_by (size_in (content section)) voices) (slice_get sections place)
 
 -- How long the section at a place is.
 abbrev pub longest_for : List (List ℕ) → List Section → ℕ → ℕ
 longest_for voices sections place =
-    number_of (λ section. longest (λ step. step.now) voices (content section)) (slice_get sections place)
+    number_of (λ section. longest voices (content section)) (slice_get sections place)
 
 -- What a stage at a place says of its section.
 pub record IsStageAt (voices : List (List ℕ)) (sections : List Section) (place : ℕ) (stage : Stage) : Type 0 where
@@ -52,7 +51,7 @@ pub record AreStages (voices : List (List ℕ)) (sections : List Section) (table
 -- The stage of a section is put at a place, and is small enough.
 pub record IsNew (voices : List (List ℕ)) (section : Section) (place : ℕ) (before after : List (Option Stage)) : Type 0 where
   pub put : after ≡ slice_set before place (Some (stage_of voices (content section)))
-  pub size : stage_size (stage_of voices (content section)) ≡ sum_by (size_in (λ step. step.now) (content section)) voices
+  pub size : stage_size (stage_of voices (content section)) ≡ sum_by (size_in (content section)) voices
   pub few : stage_size (stage_of voices (content section)) ≤ MOST_PLACES
 
 -- The stage of the section at a place stands in the table, and those that stood there still do.

@@ -78,7 +78,7 @@ abbrev pub notes_in : NotesInParts → Notes
 notes_in parts = before_all parts.linked parts.others
 
 -- The notes of what is played from this moment on, in front of a play with these notes.
-abbrev pub notes_from : {A : Type 0} → (A → Item) → ℕ → List A → Notes → Notes
-notes_from item_of at [] notes = notes
-notes_from item_of at (step ∷ steps) notes =
-    before at (tones_of (item_of step)) (notes_from item_of (at + length_of (item_of step)) steps notes)
+abbrev pub notes_from : ℕ → List Item → Notes → Notes
+notes_from at [] notes = notes
+notes_from at (step ∷ steps) notes =
+    before at (tones_of step) (notes_from (at + length_of step) steps notes)

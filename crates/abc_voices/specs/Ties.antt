@@ -27,7 +27,7 @@ tokens_from at (item ∷ play) tokens = with_token at (tones_of item) (tokens_fr
 abbrev pub tokens_in : List (List ℕ) → List ℕ → ℕ → List (List ℕ × List Item) → List TimeToken
 tokens_in voices voice at [] = []
 tokens_in voices voice at (section ∷ rest) =
-    tokens_from at (play_in (λ item. item) section voice) (tokens_in voices voice (at + longest (λ item. item) voices section) rest)
+    tokens_from at (play_in section voice) (tokens_in voices voice (at + longest voices section) rest)
 
 -- Whether a tone has this key.
 abbrev pub is_key : ℕ → Option ℕ → Bool
@@ -100,9 +100,9 @@ heard tokens = chains (λ key. 0) tokens
 -- The notes of a play are its chains.
 abbrev pub PlaysChains : Type 0
 PlaysChains = (at : ℕ) (play : List Item)
-    → all_notes (notes_from (λ item. item) at play (record { first = []; others = [] })) ≡ heard (tokens_from at play [])
+    → all_notes (notes_from at play (record { first = []; others = [] })) ≡ heard (tokens_from at play [])
 
 -- So are those of each voice of a tune, over its repeats and sections.
 abbrev pub VoicesPlayChains : Type 0
-VoicesPlayChains = (tune : List Item) → (score_of (λ item. item) tune).voices
-    ≡ map (λ voice. heard (tokens_in (everyone (λ item. item) tune) voice 0 (played_sections (λ item. item) tune))) (tracks (λ item. item) tune)
+VoicesPlayChains = (tune : List Item) → (score_of tune).voices
+    ≡ map (λ voice. heard (tokens_in (everyone tune) voice 0 (played_sections tune))) (tracks tune)

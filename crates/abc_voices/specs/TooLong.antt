@@ -14,24 +14,24 @@ use Rattle.abc_voices.specs.Track.{tracks}
 
 -- A tune passes a limit: more sections or more places are played than may be, it ends later than a tune may, it has
 -- more voices than may have a track, or its title is longer than a line.
-pub data PassesALimit {A : Type 0} (item_of : A → Item) (tune : List A) : Type 0 where
-  of_sections : MOST_SECTIONS < sections_played item_of tune → PassesALimit item_of tune
-  of_places : MOST_PLACES < places_played item_of tune → PassesALimit item_of tune
-  of_time : grains_of_the_latest_end < end_of item_of tune → PassesALimit item_of tune
-  of_voices : MOST_VOICES < length (tracks item_of tune) → PassesALimit item_of tune
-  of_title : LONGEST_TITLE < length (title_of item_of tune) → PassesALimit item_of tune
+pub data PassesALimit (tune : List Item) : Type 0 where
+  of_sections : MOST_SECTIONS < sections_played tune → PassesALimit tune
+  of_places : MOST_PLACES < places_played tune → PassesALimit tune
+  of_time : grains_of_the_latest_end < end_of tune → PassesALimit tune
+  of_voices : MOST_VOICES < length (tracks tune) → PassesALimit tune
+  of_title : LONGEST_TITLE < length (title_of tune) → PassesALimit tune
 
 -- The score of each tune that plays no more places than may be, ends in time, has no more voices than may have a
 -- track, and a title that fits a line, is within the limits of a file.
 abbrev pub EachShortTuneFits : Type 0
 EachShortTuneFits =
     (tune : List Item) → All IsItem tune
-    → places_played (λ item. item) tune ≤ MOST_PLACES
-    → end_of (λ item. item) tune ≤ grains_of_the_latest_end
-    → length (tracks (λ item. item) tune) ≤ MOST_VOICES
-    → length (title_of (λ item. item) tune) ≤ LONGEST_TITLE
-    → is_within_limits (score_of (λ item. item) tune) ≡ true
+    → places_played tune ≤ MOST_PLACES
+    → end_of tune ≤ grains_of_the_latest_end
+    → length (tracks tune) ≤ MOST_VOICES
+    → length (title_of tune) ≤ LONGEST_TITLE
+    → is_within_limits (score_of tune) ≡ true
 
 -- A tune is too long exactly where it passes a limit.
 abbrev pub IsTooLongByALimit : Type 0
-IsTooLongByALimit = (tune : List Item) → (is_too_long (λ item. item) tune ≡ true) ↔ PassesALimit (λ item. item) tune
+IsTooLongByALimit = (tune : List Item) → (is_too_long tune ≡ true) ↔ PassesALimit tune

@@ -15,13 +15,13 @@ names_past known (items.Voice opening name) = with_name known name
 names_past known _ = known
 
 -- The names that are known behind a tune, of these before it.
-abbrev pub names_from : {A : Type 0} → (A → Item) → List (List ℕ) → List A → List (List ℕ)
-names_from item_of known [] = known
-names_from item_of known (step ∷ tune) = names_from item_of (names_past known (item_of step)) tune
+abbrev pub names_from : List (List ℕ) → List Item → List (List ℕ)
+names_from known [] = known
+names_from known (step ∷ tune) = names_from (names_past known step) tune
 
 -- The voices of a tune, that without a name before those that have one. Our own.
-abbrev pub everyone : {A : Type 0} → (A → Item) → List A → List (List ℕ)
-everyone item_of tune = names_from item_of ([] ∷ []) tune
+abbrev pub everyone : List Item → List (List ℕ)
+everyone tune = names_from ([] ∷ []) tune
 
 -- Whether an item settles that something takes time before the first V: of the body; if not, what follows does.
 abbrev pub plays_before : Bool → Item → Bool
@@ -31,14 +31,14 @@ plays_before later (items.Voice false name) = false
 plays_before later _ = later
 
 -- Whether a note, chord, rest or bar rest stands before the first V: of the body.
-abbrev pub plays_first : {A : Type 0} → (A → Item) → List A → Bool
-plays_first item_of [] = false
-plays_first item_of (step ∷ tune) = plays_before (plays_first item_of tune) (item_of step)
+abbrev pub plays_first : List Item → Bool
+plays_first [] = false
+plays_first (step ∷ tune) = plays_before (plays_first tune) step
 
 -- Whether the voice without a name has a track: something of it takes time. Our own.
-abbrev pub nameless_plays : {A : Type 0} → (A → Item) → List A → Bool
-nameless_plays item_of tune = bytes_eq (opening_voice item_of tune) [] && plays_first item_of tune
+abbrev pub nameless_plays : List Item → Bool
+nameless_plays tune = bytes_eq (opening_voice tune) [] && plays_first tune
 
 -- The voices that have a track.
-abbrev pub tracks : {A : Type 0} → (A → Item) → List A → List (List ℕ)
-tracks item_of tune = if nameless_plays item_of tune then everyone item_of tune else drop 1 (everyone item_of tune)
+abbrev pub tracks : List Item → List (List ℕ)
+tracks tune = if nameless_plays tune then everyone tune else drop 1 (everyone tune)

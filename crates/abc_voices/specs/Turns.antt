@@ -1,5 +1,4 @@
 -- Stages played one after another. Our own.
-use Rattle.std.specs.Borrow.{Bor}
 use Rattle.std.specs.Prelude.{◌≡◌, ◌≤◌, ℕ, pos, ◌+◌, ◌-◌, Bool, false, not, if◌then◌else◌, ◌&&◌, ◌==◌, zero, suc, List, [], ◌∷◌, ◌++◌, map, sum_by, All, Option, Some, None, slice_get}
 use Rattle.std.specs.List.{list_any, flat_map}
 use Rattle.abc_music.specs.declared.item.Item.{Item}
@@ -24,8 +23,8 @@ use Rattle.abc_voices.specs.Track.{nameless_plays}
 
 -- A part of items that can be, which says how long it is, and is not longer than its stage.
 pub record IsPart (longest : Grains) (part : Part) : Type 0 where
-  pub items : All (λ step. IsItem step.now) part.steps
-  pub length : part.length.0 ≡ duration (λ step. step.now) part.steps
+  pub items : All IsItem part.steps
+  pub length : part.length.0 ≡ duration part.steps
   pub short : part.length.0 ≤ longest.0
 
 -- A stage whose parts are such.
@@ -34,7 +33,7 @@ pub record IsStage (stage : Stage) : Type 0 where
 
 -- A stage in which no such item is played.
 abbrev pub PlaysNone : (Item → Bool) → Stage → Type 0
-PlaysNone is stage = All (λ part. All (λ step. is step.now ≡ false) part.steps) stage.parts
+PlaysNone is stage = All (λ part. All (λ step. is step ≡ false) part.steps) stage.parts
 
 -- A stage in which no field is played.
 abbrev pub IsSteady : Stage → Type 0
@@ -49,13 +48,13 @@ abbrev pub length_along : List Stage → ℕ
 length_along stages = sum_by (λ stage. stage.longest.0) stages
 
 -- What is played of a part, if there is one.
-abbrev pub steps_of : Option Part → List (Bor Item)
+abbrev pub steps_of : Option Part → List Item
 steps_of None = []
 steps_of (Some part) = part.steps
 
 -- What the voice at this place plays of a stage, in front of these notes.
 abbrev pub before_rest : ℕ → ℕ → Stage → Notes → Notes
-before_rest voice at stage notes = notes_from (λ step. step.now) at (steps_of (slice_get stage.parts voice)) notes
+before_rest voice at stage notes = notes_from at (steps_of (slice_get stage.parts voice)) notes
 
 -- The notes of the voice at this place, in stages that are played from a moment on.
 abbrev pub notes_along : ℕ → ℕ → List Stage → Notes
@@ -73,7 +72,7 @@ voices_along stages voice count = for_voices (λ one. all_notes (notes_along one
 
 -- What the parts of a stage set when it is played from a moment on.
 abbrev pub set_beside : {V : Type 0} → (Item → Option V) → ℕ → Stage → List (Grains × V)
-set_beside value_of at stage = flat_map (λ part. set_from (λ step. step.now) value_of at part.steps) stage.parts
+set_beside value_of at stage = flat_map (λ part. set_from value_of at part.steps) stage.parts
 
 -- What all voices set in stages that are played from a moment on.
 abbrev pub set_by_all : {V : Type 0} → (Item → Option V) → ℕ → List Stage → List (Grains × V)
@@ -82,7 +81,7 @@ set_by_all value_of at (stage ∷ stages) = set_beside value_of at stage ++ set_
 
 -- What the voice at this place sets in a stage that is played from a moment on.
 abbrev pub set_at : {V : Type 0} → (Item → Option V) → ℕ → ℕ → Stage → List (Grains × V)
-set_at value_of voice at stage = set_from (λ step. step.now) value_of at (steps_of (slice_get stage.parts voice))
+set_at value_of voice at stage = set_from value_of at (steps_of (slice_get stage.parts voice))
 
 -- What the voice at this place sets in stages that are played from a moment on.
 abbrev pub set_by_one : {V : Type 0} → (Item → Option V) → ℕ → ℕ → List Stage → List (Grains × V)
@@ -92,23 +91,23 @@ set_by_one value_of voice at (stage ∷ stages) = set_at value_of voice at stage
 -- Whether two parts that play time differ in length.
 abbrev pub parts_differ : Part → Part → Bool
 parts_differ a b =
-    list_any (λ step. takes_time step.now) a.steps && list_any (λ step. takes_time step.now) b.steps && not (a.length.0 == b.length.0)
+    list_any takes_time a.steps && list_any takes_time b.steps && not (a.length.0 == b.length.0)
 
 -- Whether two voices that play time in a stage differ in length there.
 abbrev pub is_stage_uneven : Stage → Bool
 is_stage_uneven stage = list_any (λ a. list_any (parts_differ a) stage.parts) stage.parts
 
 -- The tempos of all voices and the meters and keys of the one at this place, behind those with which a tune opens.
-abbrev pub changes_along : List (Bor Item) → ℕ → List Stage → List Change
+abbrev pub changes_along : List Item → ℕ → List Stage → List Change
 changes_along tune first stages =
     changes_that_stand
-    ((record { 0 = 0 }, or_else usual_tempo (past_all (λ step. step.now) tempo_past None tune)) ∷ set_by_all tempo_of 0 stages)
-    ((record { 0 = 0 }, or_else meters.Free (past_all (λ step. step.now) meter_past None tune)) ∷ set_by_one meter_of first 0 stages)
-    ((record { 0 = 0 }, or_else (pos 0, false) (past_all (λ step. step.now) key_past None tune)) ∷ set_by_one key_of first 0 stages)
+    ((record { 0 = 0 }, or_else usual_tempo (past_all tempo_past None tune)) ∷ set_by_all tempo_of 0 stages)
+    ((record { 0 = 0 }, or_else meters.Free (past_all meter_past None tune)) ∷ set_by_one meter_of first 0 stages)
+    ((record { 0 = 0 }, or_else (pos 0, false) (past_all key_past None tune)) ∷ set_by_one key_of first 0 stages)
 
 -- The place of the first voice that has a track: that without a name, or else the one behind it.
-abbrev pub first_place : List (Bor Item) → ℕ
-first_place tune = if nameless_plays (λ step. step.now) tune then 0 else 1
+abbrev pub first_place : List Item → ℕ
+first_place tune = if nameless_plays tune then 0 else 1
 
 -- The programs of the voice at this place, behind the one with which a tune opens, if it opens with one.
 abbrev pub programs_by : Option ℕ → List Stage → ℕ → List ProgramChange
@@ -123,11 +122,11 @@ abbrev pub end_along : List Stage → List (List Sounding) → ℕ
 end_along stages voices = last_off (length_along stages) (flat_map (λ notes. notes) voices)
 
 -- The score of stages, whose voices from the one at this place on have tracks, up to so many.
-abbrev pub score_along : List (Bor Item) → ℕ → ℕ → List Stage → Score
+abbrev pub score_along : List Item → ℕ → ℕ → List Stage → Score
 score_along tune first count stages = record {
-  title = title_of (λ step. step.now) tune;
+  title = title_of tune;
   end = record { 0 = end_along stages (voices_along stages first (count - first)) };
   conductor = changes_along tune first stages;
   voices = voices_along stages first (count - first);
-  programs = programs_along (past_all (λ step. step.now) program_past None tune) stages first (count - first);
+  programs = programs_along (past_all program_past None tune) stages first (count - first);
 }

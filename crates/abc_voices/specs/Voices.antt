@@ -52,5 +52,5 @@ of_voice voice placed = map (λ one. one.1) (filter (λ one. is_step one.1 && by
 -- What a voice has in the sections of a tune is, from letter to letter, each item that belongs to it.
 abbrev pub AreOfVoices : Type 0
 AreOfVoices = (tune : List Item) (voice : List ℕ)
-    → map (part (λ item. item) voice) (sections (λ item. item) tune)
+    → map (part voice) (sections tune)
     ≡ map (of_voice voice) (between (λ one. is_section one.1) (with_voices tune [] tune))

@@ -3,6 +3,7 @@
 ghost use Rattle.std.specs.Prelude.{◌≡◌, ◌+◌, ◌++◌, ◌≤◌, Option, OnOk};
 ghost use Rattle.abc_music.specs.declared.item.Item.{Item};
 ghost use Rattle.abc_time.specs.Grains.{grains_of_the_latest_end};
+ghost use Rattle.abc_voices.specs.Items.{items_of};
 ghost use Rattle.abc_voices.specs.Change.{tempo_of, meter_of, key_of, program_of, set_from};
 ghost use Rattle.abc_voices.specs.Play.{duration};
 
@@ -96,9 +97,9 @@ pub(crate) fn put_set<S: Setting>(
     start: Grains,
     steps: &[&Item],
 ) -> Result<(), AllocError>
-    requires { start.0 + duration (λ step. step.now) steps.now ≤ grains_of_the_latest_end }
+    requires { start.0 + duration (items_of steps.now) ≤ grains_of_the_latest_end }
     ensures { OnOk result (sets.new.items
-        ≡ sets.old.items ++ set_from (λ step. step.now) S.value_of start.0 steps.now) }
+        ≡ sets.old.items ++ set_from S.value_of start.0 (items_of steps.now)) }
 {
     let mut at = start;
     for step in steps {

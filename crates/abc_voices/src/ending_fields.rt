@@ -1,6 +1,7 @@
 //! The order in which a voice's items are played in a section.
 
 ghost use Rattle.std.specs.Prelude.{◌≡◌, ◌++◌, [], IfOk, OnOk};
+ghost use Rattle.abc_voices.specs.Items.{items_of};
 ghost use Rattle.abc_voices.specs.declared.ending_fields.Region.TheVariants as regions;
 ghost use Rattle.abc_voices.specs.EndingFields.{waits, past_bar, past, region_past, nothing_waits, set_down, with_fields_in_endings};
 
@@ -57,7 +58,7 @@ impl Region {
 
 /// Whether none of the items of a voice in a section waits for an ending's sign.
 fn nothing_waits(part: &[&Item]) -> bool
-    ensures { result ≡ nothing_waits (λ step. step.now) regions.Common part.now }
+    ensures { result ≡ nothing_waits regions.Common (items_of part.now) }
 {
     let mut region = Region::Common;
     for item in part {
@@ -75,8 +76,8 @@ fn set_down<'a>(
     held: &mut Vec<&'a Item>,
     item: &'a Item,
 ) -> Result<(), AllocError>
-    ensures put { OnOk result (out.new.items
-        ≡ out.old.items ++ set_down (λ step. step.now) held.old.items item.entry) }
+    ensures put { OnOk result (items_of out.new.items
+        ≡ items_of out.old.items ++ set_down (items_of held.old.items) item.entry.now) }
     ensures held { OnOk result (held.new.items ≡ []) }
 {
     if held.is_empty() {
@@ -96,7 +97,7 @@ fn set_down<'a>(
 
 /// The items of a voice in a section, each that waits put behind the next ending's sign.
 fn moved<'a>(alloc: Global, part: &[&'a Item]) -> Result<Vec<&'a Item>, AllocError>
-    ensures { IfOk result (λ steps. steps.items ≡ with_fields_in_endings (λ step. step.now) part.now) }
+    ensures { IfOk result (λ steps. items_of steps.items ≡ with_fields_in_endings (items_of part.now)) }
 {
     let mut steps = Vec::with_capacity(alloc, part.len())?;
     let mut held = Vec::new(alloc);
@@ -118,7 +119,7 @@ pub(crate) fn with_fields_in_endings<'a>(
     alloc: Global,
     part: Vec<&'a Item>,
 ) -> Result<Vec<&'a Item>, AllocError>
-    ensures { IfOk result (λ steps. steps.items ≡ with_fields_in_endings (λ step. step.now) part.entry.items) }
+    ensures { IfOk result (λ steps. items_of steps.items ≡ with_fields_in_endings (items_of part.entry.items)) }
 {
     // In most music nothing waits, and then the items stay in the list that they came in.
     if nothing_waits(&part) {

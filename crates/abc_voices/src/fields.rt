@@ -1,6 +1,7 @@
 //! The items of a tune that its fields give.
 
 ghost use Rattle.std.specs.Prelude.{◌≡◌, IfOk};
+ghost use Rattle.abc_voices.specs.Items.{items_of};
 ghost use Rattle.abc_voices.specs.Fields.{is_music, is_change, is_steady, sets_program, keeps_programs, fields};
 
 use crate::change::{Programs, Setting};
@@ -28,9 +29,14 @@ fn is_change(item: &Item) -> bool
 
 /// Whether none of a tune's fields changes its tempo, its meter, its key or a program while it is played.
 pub(crate) fn is_steady(given: &[&Item]) -> bool
-    ensures { result ≡ is_steady (λ step. step.now) given.now }
+    ensures { result ≡ is_steady (items_of given.now) }
 {
-    given.iter().all(|item| !is_change(item))
+    for item in given {
+        if is_change(item) {
+            return false;
+        }
+    }
+    true
 }
 
 /// Whether it sets a program.
@@ -42,17 +48,20 @@ fn sets_program(item: &Item) -> bool
 
 /// Whether none of a tune's fields sets a program while it is played.
 pub(crate) fn keeps_programs(given: &[&Item]) -> bool
-    ensures { result ≡ keeps_programs (λ step. step.now) given.now }
+    ensures { result ≡ keeps_programs (items_of given.now) }
 {
-    given
-        .iter()
-        .all(|item| !(sets_program(item) && is_step(item)))
+    for item in given {
+        if sets_program(item) && is_step(item) {
+            return false;
+        }
+    }
+    true
 }
 
 /// The items of a tune that are no music. They are few, and they alone say what the tune opens with, which parts it
 /// has and in which order, and which voices.
 pub(crate) fn fields<'a>(alloc: Global, tune: &[&'a Item]) -> Result<Vec<&'a Item>, AllocError>
-    ensures { IfOk result (λ found. found.items ≡ fields (λ step. step.now) tune.now) }
+    ensures { IfOk result (λ found. items_of found.items ≡ fields (items_of tune.now)) }
 {
     let mut found = Vec::new(alloc);
     for item in tune {

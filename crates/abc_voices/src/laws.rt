@@ -5,6 +5,7 @@ ghost use Rattle.abc_voices.specs.Conductor.{IsConductedOnTicks};
 ghost use Rattle.abc_voices.specs.Endings.{MovesByStrains};
 ghost use Rattle.abc_voices.specs.OnTicks.{HaveProgramsOnTicks};
 ghost use Rattle.abc_voices.specs.Ties.{PlaysChains, VoicesPlayChains};
+ghost use Rattle.abc_voices.specs.Tracks.{HaveTracksByMention};
 ghost use Rattle.abc_voices.specs.Voices.{AreOfVoices};
 
 /// Each item is played by the voice of the last V: before it, else by the first declared one, else by the one
@@ -12,6 +13,14 @@ ghost use Rattle.abc_voices.specs.Voices.{AreOfVoices};
 #[tactic(auto, using(crate::proofs::Voices::are_of_voices))]
 pub fn voices_by_looking_back()
     ensures { AreOfVoices }
+{}
+
+/// The tracks of a tune are those of the voices that it mentions, each once, in the order of their first mention, in the
+/// header or in the body; in front of them that of the voice without a name, where a note, chord or rest belongs to it and
+/// no V: of the body stands before that.
+#[tactic(auto, using(crate::proofs::Tracks::have_tracks))]
+pub fn tracks_by_mention()
+    ensures { HaveTracksByMention }
 {}
 
 /// A note is heard for each longest chain of tied tones, of which each is joined with one of its key in the next

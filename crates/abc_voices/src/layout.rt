@@ -5,6 +5,7 @@ ghost use Rattle.std.specs.List.{list_any};
 ghost use Rattle.abc_music.specs.Item.{IsItem};
 ghost use Rattle.abc_repeat.specs.Order.{sections_of, has_unknown};
 ghost use Rattle.abc_time.specs.Grains.{grains_of_the_latest_end};
+ghost use Rattle.abc_voices.specs.Items.{items_of};
 ghost use Rattle.abc_voices.specs.declared.stage.StageFault.TheVariants.{TooMany, TooLate};
 ghost use Rattle.abc_repeat.specs.declared.order.TheConstants.{MOST_SECTIONS};
 ghost use Rattle.abc_repeat.specs.declared.play.TheConstants.{MOST_PLACES};
@@ -36,8 +37,8 @@ use std::alloc::{AllocError, Global};
 
 /// Puts items behind those of a tune.
 fn put_items<'a>(tune: &mut Vec<&'a Item>, items: &'a [Item]) -> Result<(), AllocError>
-    ensures { OnOk result (map (λ step. step.now) tune.new.items
-        ≡ map (λ step. step.now) tune.old.items ++ items.entry.now) }
+    ensures { OnOk result (items_of tune.new.items
+        ≡ items_of tune.old.items ++ items.entry.now) }
 {
     for item in items {
         tune.push(item)?;
@@ -47,8 +48,8 @@ fn put_items<'a>(tune: &mut Vec<&'a Item>, items: &'a [Item]) -> Result<(), Allo
 
 /// The items of a tune, of what its cells give.
 fn tune_of<'a>(alloc: Global, items: &'a [Shared<Items>]) -> Result<Vec<&'a Item>, AllocError>
-    ensures value { IfOk result (λ tune. map (λ step. step.now) tune.items ≡ items_in items.entry.now) }
-    ensures range { IfOk result (λ tune. All IsItem (map (λ step. step.now) tune.items)) }
+    ensures value { IfOk result (λ tune. items_of tune.items ≡ items_in items.entry.now) }
+    ensures range { IfOk result (λ tune. All IsItem (items_of tune.items)) }
 {
     let mut tune = Vec::new(alloc);
     for one in items {
@@ -59,16 +60,16 @@ fn tune_of<'a>(alloc: Global, items: &'a [Shared<Items>]) -> Result<Vec<&'a Item
 
 /// The sections of a tune that are played, in order, by what its fields give.
 fn order_played(alloc: Global, given: &[&Item]) -> Result<Played, BuildFault>
-    requires { All (λ step. IsItem step.now) given.now }
+    requires { All IsItem (items_of given.now) }
     ensures sections { IfOk result (λ played. played.sections.items
-        ≡ sections_of (past_all (λ step. step.now) order_past None given.now) (letters (λ step. step.now) given.now)) }
-    ensures few { IfOk result (λ _. sections_played (λ step. step.now) given.now ≤ MOST_SECTIONS) }
+        ≡ sections_of (past_all order_past None (items_of given.now)) (letters (items_of given.now))) }
+    ensures few { IfOk result (λ _. sections_played (items_of given.now) ≤ MOST_SECTIONS) }
     ensures unknown { IfOk result (λ played. played.unknown
-        ≡ has_unknown (past_all (λ step. step.now) order_past None given.now) (letters (λ step. step.now) given.now)) }
+        ≡ has_unknown (past_all order_past None (items_of given.now)) (letters (items_of given.now))) }
     ensures too_long { (unknown : Bool) → result ≡ Err (BuildFault.TooLong unknown)
-        → MOST_SECTIONS < sections_played (λ step. step.now) given.now }
+        → MOST_SECTIONS < sections_played (items_of given.now) }
     ensures too_long_unknown { (unknown : Bool) → result ≡ Err (BuildFault.TooLong unknown)
-        → unknown ≡ has_unknown (past_all (λ step. step.now) order_past None given.now) (letters (λ step. step.now) given.now) }
+        → unknown ≡ has_unknown (past_all order_past None (items_of given.now)) (letters (items_of given.now)) }
 {
     let found = letters(alloc, given)?;
     match play_order(alloc, order_of(given), &found) {
@@ -80,8 +81,8 @@ fn order_played(alloc: Global, given: &[&Item]) -> Result<Played, BuildFault>
 
 /// The place of the first voice that has a track.
 fn first_track(tune: &[&Item], given: &[&Item]) -> usize
-    requires { given.now ≡ fields (λ step. step.now) tune.now }
-    ensures { result ≡ first_place tune.now }
+    requires { items_of given.now ≡ fields (items_of tune.now) }
+    ensures { result ≡ first_place (items_of tune.now) }
 {
     if nameless_plays(tune, opening_voice(given)) {
         0
@@ -98,14 +99,14 @@ fn stages_of<'t>(
     voices: &[&[u8]],
     played: &[usize],
 ) -> Result<Vec<Option<Stage<'t>>>, StageFault>
-    requires given { given.now ≡ fields (λ step. step.now) tune.now }
-    requires voices { map (λ voice. voice.now) voices.now ≡ everyone (λ step. step.now) tune.now }
-    requires played { played.now ≡ sections_of (past_all (λ step. step.now) order_past None tune.now) (letters (λ step. step.now) tune.now) }
+    requires given { items_of given.now ≡ fields (items_of tune.now) }
+    requires voices { map (λ voice. voice.now) voices.now ≡ everyone (items_of tune.now) }
+    requires played { played.now ≡ sections_of (past_all order_past None (items_of tune.now)) (letters (items_of tune.now)) }
     ensures value { IfOk result (λ table. at_places table.items played.now
-        ≡ map (stage_of (everyone (λ step. step.now) tune.now)) (played_sections (λ step. step.now) tune.now)) }
-    ensures few { IfOk result (λ _. places_played (λ step. step.now) tune.now ≤ MOST_PLACES) }
-    ensures too_many { result ≡ Err TooMany → MOST_PLACES < places_played (λ step. step.now) tune.now }
-    ensures too_late { result ≡ Err TooLate → grains_of_the_latest_end < end_of (λ step. step.now) tune.now }
+        ≡ map (stage_of (everyone (items_of tune.now))) (played_sections (items_of tune.now))) }
+    ensures few { IfOk result (λ _. places_played (items_of tune.now) ≤ MOST_PLACES) }
+    ensures too_many { result ≡ Err TooMany → MOST_PLACES < places_played (items_of tune.now) }
+    ensures too_late { result ≡ Err TooLate → grains_of_the_latest_end < end_of (items_of tune.now) }
 {
     let found = sections(alloc, tune, opening_voice(given))?;
     stages(alloc, &found, voices, played)
@@ -119,17 +120,17 @@ fn laid_along(
     turns: &[Turn],
     count: usize,
 ) -> Result<(Score, bool), StageFault>
-    requires tune { All (λ step. IsItem step.now) tune.now }
-    requires given { given.now ≡ fields (λ step. step.now) tune.now }
+    requires tune { All IsItem (items_of tune.now) }
+    requires given { items_of given.now ≡ fields (items_of tune.now) }
     requires stages { stages_in turns.now
-        ≡ map (stage_of (everyone (λ step. step.now) tune.now)) (played_sections (λ step. step.now) tune.now) }
-    requires count { count ≡ length (everyone (λ step. step.now) tune.now) }
-    ensures score { IfOk result (λ laid. laid.0 ≡ score_of (λ step. step.now) tune.now) }
+        ≡ map (stage_of (everyone (items_of tune.now))) (played_sections (items_of tune.now)) }
+    requires count { count ≡ length (everyone (items_of tune.now)) }
+    ensures score { IfOk result (λ laid. laid.0 ≡ score_of (items_of tune.now)) }
     ensures uneven { IfOk result (λ laid. laid.1
-        ≡ list_any (is_uneven (λ step. step.now) (everyone (λ step. step.now) tune.now)) (played_sections (λ step. step.now) tune.now)) }
-    ensures in_time { IfOk result (λ _. end_of (λ step. step.now) tune.now ≤ grains_of_the_latest_end) }
+        ≡ list_any (is_uneven (everyone (items_of tune.now))) (played_sections (items_of tune.now))) }
+    ensures in_time { IfOk result (λ _. end_of (items_of tune.now) ≤ grains_of_the_latest_end) }
     ensures too_many { result ≢ Err TooMany }
-    ensures too_late { result ≡ Err TooLate → grains_of_the_latest_end < end_of (λ step. step.now) tune.now }
+    ensures too_late { result ≡ Err TooLate → grains_of_the_latest_end < end_of (items_of tune.now) }
 {
     let Some(total) = length_along(turns) else {
         return Err(StageFault::TooLate);
@@ -151,16 +152,16 @@ fn laid_out(
     given: &[&Item],
     played: &[usize],
 ) -> Result<(Score, bool), StageFault>
-    requires tune { All (λ step. IsItem step.now) tune.now }
-    requires given { given.now ≡ fields (λ step. step.now) tune.now }
-    requires played { played.now ≡ sections_of (past_all (λ step. step.now) order_past None tune.now) (letters (λ step. step.now) tune.now) }
-    ensures score { IfOk result (λ laid. laid.0 ≡ score_of (λ step. step.now) tune.now) }
+    requires tune { All IsItem (items_of tune.now) }
+    requires given { items_of given.now ≡ fields (items_of tune.now) }
+    requires played { played.now ≡ sections_of (past_all order_past None (items_of tune.now)) (letters (items_of tune.now)) }
+    ensures score { IfOk result (λ laid. laid.0 ≡ score_of (items_of tune.now)) }
     ensures uneven { IfOk result (λ laid. laid.1
-        ≡ list_any (is_uneven (λ step. step.now) (everyone (λ step. step.now) tune.now)) (played_sections (λ step. step.now) tune.now)) }
-    ensures few { IfOk result (λ _. places_played (λ step. step.now) tune.now ≤ MOST_PLACES) }
-    ensures in_time { IfOk result (λ _. end_of (λ step. step.now) tune.now ≤ grains_of_the_latest_end) }
-    ensures too_many { result ≡ Err TooMany → MOST_PLACES < places_played (λ step. step.now) tune.now }
-    ensures too_late { result ≡ Err TooLate → grains_of_the_latest_end < end_of (λ step. step.now) tune.now }
+        ≡ list_any (is_uneven (everyone (items_of tune.now))) (played_sections (items_of tune.now))) }
+    ensures few { IfOk result (λ _. places_played (items_of tune.now) ≤ MOST_PLACES) }
+    ensures in_time { IfOk result (λ _. end_of (items_of tune.now) ≤ grains_of_the_latest_end) }
+    ensures too_many { result ≡ Err TooMany → MOST_PLACES < places_played (items_of tune.now) }
+    ensures too_late { result ≡ Err TooLate → grains_of_the_latest_end < end_of (items_of tune.now) }
 {
     let voices = everyone(alloc, given)?;
     match stages_of(alloc, tune, given, &voices, played) {
@@ -180,16 +181,16 @@ fn within_limits(
     played: &[usize],
     unknown: bool,
 ) -> Result<Arranged, BuildFault>
-    requires tune { All (λ step. IsItem step.now) tune.now }
-    requires given { given.now ≡ fields (λ step. step.now) tune.now }
-    requires played { played.now ≡ sections_of (past_all (λ step. step.now) order_past None tune.now) (letters (λ step. step.now) tune.now) }
-    requires few { sections_played (λ step. step.now) tune.now ≤ MOST_SECTIONS }
-    requires unknown { unknown ≡ has_unknown (past_all (λ step. step.now) order_past None tune.now) (letters (λ step. step.now) tune.now) }
-    ensures value { IfOk result (λ laid. laid ≡ arranged_of (λ step. step.now) tune.now) }
-    ensures short { IfOk result (λ _. is_too_long (λ step. step.now) tune.now ≡ false) }
+    requires tune { All IsItem (items_of tune.now) }
+    requires given { items_of given.now ≡ fields (items_of tune.now) }
+    requires played { played.now ≡ sections_of (past_all order_past None (items_of tune.now)) (letters (items_of tune.now)) }
+    requires few { sections_played (items_of tune.now) ≤ MOST_SECTIONS }
+    requires unknown { unknown ≡ has_unknown (past_all order_past None (items_of tune.now)) (letters (items_of tune.now)) }
+    ensures value { IfOk result (λ laid. laid ≡ arranged_of (items_of tune.now)) }
+    ensures short { IfOk result (λ _. is_too_long (items_of tune.now) ≡ false) }
     ensures limits { IfOk result (λ laid. IsWithinLimits laid.score) }
     ensures too_long { (other : Bool) → result ≡ Err (BuildFault.TooLong other)
-        → is_too_long (λ step. step.now) tune.now ≡ true }
+        → is_too_long (items_of tune.now) ≡ true }
     ensures unknown { (other : Bool) → result ≡ Err (BuildFault.TooLong other) → other ≡ unknown }
 {
     match laid_out(alloc, tune, given, played) {
@@ -212,15 +213,15 @@ fn within_limits(
 
 /// A tune laid out, of its items and those of them that its fields give.
 fn arranged(alloc: Global, tune: &[&Item], given: &[&Item]) -> Result<Arranged, BuildFault>
-    requires tune { All (λ step. IsItem step.now) tune.now }
-    requires given { given.now ≡ fields (λ step. step.now) tune.now }
-    ensures value { IfOk result (λ laid. laid ≡ arranged_of (λ step. step.now) tune.now) }
-    ensures short { IfOk result (λ _. is_too_long (λ step. step.now) tune.now ≡ false) }
+    requires tune { All IsItem (items_of tune.now) }
+    requires given { items_of given.now ≡ fields (items_of tune.now) }
+    ensures value { IfOk result (λ laid. laid ≡ arranged_of (items_of tune.now)) }
+    ensures short { IfOk result (λ _. is_too_long (items_of tune.now) ≡ false) }
     ensures limits { IfOk result (λ laid. IsWithinLimits laid.score) }
     ensures too_long { (unknown : Bool) → result ≡ Err (BuildFault.TooLong unknown)
-        → is_too_long (λ step. step.now) tune.now ≡ true }
+        → is_too_long (items_of tune.now) ≡ true }
     ensures unknown { (unknown : Bool) → result ≡ Err (BuildFault.TooLong unknown)
-        → unknown ≡ (arranged_of (λ step. step.now) tune.now).unknown }
+        → unknown ≡ (arranged_of (items_of tune.now)).unknown }
 {
     match order_played(alloc, given) {
         Ok(played) => within_limits(alloc, tune, given, &played.sections, played.unknown),
@@ -230,13 +231,13 @@ fn arranged(alloc: Global, tune: &[&Item], given: &[&Item]) -> Result<Arranged, 
 
 /// A tune laid out in time, of what its cells give, or why it is not: it is too long, or there is no memory.
 pub fn arrange(alloc: Global, items: &[Shared<Items>]) -> Result<Arranged, BuildFault>
-    ensures value { IfOk result (λ laid. laid ≡ arranged_of (λ item. item) (items_in items.now)) }
-    ensures short { IfOk result (λ _. is_too_long (λ item. item) (items_in items.now) ≡ false) }
+    ensures value { IfOk result (λ laid. laid ≡ arranged_of (items_in items.now)) }
+    ensures short { IfOk result (λ _. is_too_long (items_in items.now) ≡ false) }
     ensures limits { IfOk result (λ laid. IsWithinLimits laid.score) }
     ensures too_long { (unknown : Bool) → result ≡ Err (BuildFault.TooLong unknown)
-        → is_too_long (λ item. item) (items_in items.now) ≡ true }
+        → is_too_long (items_in items.now) ≡ true }
     ensures unknown { (unknown : Bool) → result ≡ Err (BuildFault.TooLong unknown)
-        → unknown ≡ (arranged_of (λ item. item) (items_in items.now)).unknown }
+        → unknown ≡ (arranged_of (items_in items.now)).unknown }
 {
     let tune = tune_of(alloc, items)?;
     let given = fields(alloc, &tune)?;

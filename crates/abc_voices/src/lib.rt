@@ -32,7 +32,7 @@ mod voice;
 pub use abc_music::MOST_VOICES;
 pub use arranged::{Arranged, BuildFault};
 pub use laws::{
-    conductor_on_ticks, fields_before_endings, programs_on_ticks, ties_in_play,
+    conductor_on_ticks, fields_before_endings, programs_on_ticks, ties_in_play, tracks_by_mention,
     voices_by_looking_back,
 };
 pub use layout::arrange;

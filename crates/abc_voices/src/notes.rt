@@ -3,6 +3,7 @@
 ghost use Rattle.std.specs.Prelude.{◌≡◌, ◌-◌, ◌≤◌, All, Some, OnOk};
 ghost use Rattle.abc_music.specs.Item.{IsItem, IsTone};
 ghost use Rattle.abc_time.specs.Grains.{grains_of_the_latest_end};
+ghost use Rattle.abc_voices.specs.Items.{items_of};
 ghost use Rattle.abc_voices.specs.TiedNotes.{before, notes_from, notes_in};
 ghost use Rattle.abc_voices.specs.Play.{duration};
 ghost use Rattle.abc_voices.specs.Step.{tones_of};
@@ -47,10 +48,10 @@ pub(crate) fn put_notes(
     steps: &[&Item],
 ) -> Result<(), AllocError>
     requires end { end.0 ≤ grains_of_the_latest_end }
-    requires steps { All (λ step. IsItem step.now) steps.now }
-    requires duration { duration (λ step. step.now) steps.now ≤ end.0 }
+    requires steps { All IsItem (items_of steps.now) }
+    requires duration { duration (items_of steps.now) ≤ end.0 }
     ensures { OnOk result (notes_in notes.new
-        ≡ notes_from (λ step. step.now) (end.0 - duration (λ step. step.now) steps.now) steps.now (notes_in notes.old)) }
+        ≡ notes_from (end.0 - duration (items_of steps.now)) (items_of steps.now) (notes_in notes.old)) }
 {
     // A chord has more notes than one: there is room for some, so that a list of many notes is seldom moved.
     notes.reserve(steps.len().saturating_add(steps.len() / 8))?;

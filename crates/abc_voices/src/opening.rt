@@ -1,6 +1,7 @@
 //! What a tune opens with, its title and the order of its parts.
 
 ghost use Rattle.std.specs.Prelude.{◌≡◌, None, option_copied};
+ghost use Rattle.abc_voices.specs.Items.{items_of};
 ghost use Rattle.abc_voices.specs.Opening.{tempo_past, meter_past, key_past, program_past, order_past, past_all, title_of};
 
 use abc_fields::Meter;
@@ -8,7 +9,7 @@ use abc_music::Item;
 
 /// The microseconds of a quarter note with which a tune opens, where its header sets a tempo.
 pub(crate) fn opening_tempo(tune: &[&Item]) -> Option<u32>
-    ensures { result ≡ past_all (λ step. step.now) tempo_past None tune.now }
+    ensures { result ≡ past_all tempo_past None (items_of tune.now) }
 {
     let mut tempo = None;
     for item in tune {
@@ -26,7 +27,7 @@ pub(crate) fn opening_tempo(tune: &[&Item]) -> Option<u32>
 
 /// The meter with which a tune opens, where its items say one.
 pub(crate) fn opening_meter(tune: &[&Item]) -> Option<Meter>
-    ensures { result ≡ past_all (λ step. step.now) meter_past None tune.now }
+    ensures { result ≡ past_all meter_past None (items_of tune.now) }
 {
     let mut meter = None;
     for item in tune {
@@ -43,7 +44,7 @@ pub(crate) fn opening_meter(tune: &[&Item]) -> Option<Meter>
 
 /// The key with which a tune opens, where its items say one: its sharps, and whether it is minor.
 pub(crate) fn opening_key(tune: &[&Item]) -> Option<(i8, bool)>
-    ensures { result ≡ past_all (λ step. step.now) key_past None tune.now }
+    ensures { result ≡ past_all key_past None (items_of tune.now) }
 {
     let mut key = None;
     for item in tune {
@@ -60,7 +61,7 @@ pub(crate) fn opening_key(tune: &[&Item]) -> Option<(i8, bool)>
 
 /// The program with which a tune opens, where its header sets one.
 pub(crate) fn opening_program(tune: &[&Item]) -> Option<u8>
-    ensures { result ≡ past_all (λ step. step.now) program_past None tune.now }
+    ensures { result ≡ past_all program_past None (items_of tune.now) }
 {
     let mut program = None;
     for item in tune {
@@ -77,7 +78,7 @@ pub(crate) fn opening_program(tune: &[&Item]) -> Option<u8>
 
 /// The order of a tune's parts, where its header has one.
 pub(crate) fn order_of<'a>(tune: &[&'a Item]) -> Option<&'a [u8]>
-    ensures { option_copied result ≡ past_all (λ step. step.now) order_past None tune.now }
+    ensures { option_copied result ≡ past_all order_past None (items_of tune.now) }
 {
     let mut order: Option<&'a [u8]> = None;
     for item in tune {
@@ -90,7 +91,7 @@ pub(crate) fn order_of<'a>(tune: &[&'a Item]) -> Option<&'a [u8]>
 
 /// The title of a tune, empty where it has none.
 pub(crate) fn title_of<'a>(tune: &[&'a Item]) -> &'a [u8]
-    ensures { result.now ≡ title_of (λ step. step.now) tune.now }
+    ensures { result.now ≡ title_of (items_of tune.now) }
 {
     for item in tune {
         if let Item::Title(text) = item {

@@ -4,6 +4,7 @@ ghost use Rattle.std.specs.Prelude.{◌≡◌, ◌<◌, ◌≤◌, min, length, 
 ghost use Rattle.abc_repeat.specs.declared.play.TheConstants.{MOST_PLACES};
 ghost use Rattle.abc_repeat.specs.declared.fault.RepeatFault.TheVariants.{TooLong};
 ghost use Rattle.abc_time.specs.Grains.{grains_of_the_latest_end};
+ghost use Rattle.abc_voices.specs.Items.{items_of};
 ghost use Rattle.abc_voices.specs.EndingFields.{with_fields_in_endings};
 ghost use Rattle.abc_voices.specs.Play.{marks_of, places_of, played, duration, are_straight, without_marks};
 
@@ -16,7 +17,7 @@ use std::alloc::{AllocError, Global};
 
 /// The marks of a voice in a section.
 fn marks_of(alloc: Global, steps: &[&Item]) -> Result<Vec<Mark>, AllocError>
-    ensures { IfOk result (λ marks. marks.items ≡ marks_of (λ step. step.now) steps.now) }
+    ensures { IfOk result (λ marks. marks.items ≡ marks_of (items_of steps.now)) }
 {
     let mut marks = Vec::with_capacity(alloc, steps.len())?;
     for step in steps {
@@ -32,7 +33,7 @@ fn chosen<'a>(
     places: &[usize],
 ) -> Result<Vec<&'a Item>, AllocError>
     requires { All (λ place. place < length steps.now) places.now }
-    ensures value { IfOk result (λ items. items.items ≡ filter_map (slice_get steps.now) places.now) }
+    ensures value { IfOk result (λ items. items_of items.items ≡ filter_map (slice_get (items_of steps.now)) places.now) }
     ensures size { IfOk result (λ items. length items.items ≡ length places.now) }
 {
     let mut items = Vec::with_capacity(alloc, places.len())?;
@@ -44,7 +45,7 @@ fn chosen<'a>(
 
 /// Whether items have neither repeats nor double bars nor endings.
 fn are_straight(part: &[&Item]) -> bool
-    ensures { result ≡ are_straight (marks_of (λ step. step.now) part.now) }
+    ensures { result ≡ are_straight (marks_of (items_of part.now)) }
 {
     for step in part {
         if !is_straight(step) {
@@ -56,7 +57,7 @@ fn are_straight(part: &[&Item]) -> bool
 
 /// All items but the marks that say how the others are played.
 fn without_marks<'a>(part: Vec<&'a Item>) -> Vec<&'a Item>
-    ensures { result.items ≡ without_marks (λ step. step.now) part.entry.items }
+    ensures { items_of result.items ≡ without_marks (items_of part.entry.items) }
 {
     let mut items = part;
     items.retain(|step| is_played(step));
@@ -65,13 +66,13 @@ fn without_marks<'a>(part: Vec<&'a Item>) -> Vec<&'a Item>
 
 /// What is played of items with neither repeats nor double bars nor endings, as they stand.
 fn played_once<'a>(part: Vec<&'a Item>, room: u64) -> Result<Vec<&'a Item>, RepeatFault>
-    requires { are_straight (marks_of (λ step. step.now) part.items) ≡ true }
-    ensures value { IfOk result (λ items. items.items ≡ played (λ step. step.now) part.entry.items) }
+    requires { are_straight (marks_of (items_of part.items)) ≡ true }
+    ensures value { IfOk result (λ items. items_of items.items ≡ played (items_of part.entry.items)) }
     ensures size { IfOk result (λ items. length items.items
-        ≡ length (places_of (λ step. step.now) (with_fields_in_endings (λ step. step.now) part.entry.items))) }
+        ≡ length (places_of (with_fields_in_endings (items_of part.entry.items)))) }
     ensures within { IfOk result (λ items. length items.items ≤ min room MOST_PLACES) }
     ensures too_long { result ≡ Err TooLong
-        → min room MOST_PLACES < length (places_of (λ step. step.now) (with_fields_in_endings (λ step. step.now) part.entry.items)) }
+        → min room MOST_PLACES < length (places_of (with_fields_in_endings (items_of part.entry.items))) }
 {
     let items = without_marks(part);
     if items.len() as u64 > room.min(MOST_PLACES) {
@@ -87,12 +88,12 @@ pub(crate) fn played<'a>(
     part: Vec<&'a Item>,
     room: u64,
 ) -> Result<Vec<&'a Item>, RepeatFault>
-    ensures value { IfOk result (λ items. items.items ≡ played (λ step. step.now) part.entry.items) }
+    ensures value { IfOk result (λ items. items_of items.items ≡ played (items_of part.entry.items)) }
     ensures size { IfOk result (λ items. length items.items
-        ≡ length (places_of (λ step. step.now) (with_fields_in_endings (λ step. step.now) part.entry.items))) }
+        ≡ length (places_of (with_fields_in_endings (items_of part.entry.items)))) }
     ensures within { IfOk result (λ items. length items.items ≤ min room MOST_PLACES) }
     ensures too_long { result ≡ Err TooLong
-        → min room MOST_PLACES < length (places_of (λ step. step.now) (with_fields_in_endings (λ step. step.now) part.entry.items)) }
+        → min room MOST_PLACES < length (places_of (with_fields_in_endings (items_of part.entry.items))) }
 {
     // Most music is played as it stands, and then nothing has to be put in order or counted out.
     if are_straight(&part) {
@@ -109,8 +110,8 @@ pub(crate) fn played<'a>(
 #[tactic(auto, unfolding(abc_time::specs::Grains::grains_of_a_whole_note, abc_time::specs::Grains::grains_of_the_latest_end))]
 pub(crate) fn duration(steps: &[&Item]) -> Option<Grains>
     ensures { MatchOption result
-        (grains_of_the_latest_end < duration (λ step. step.now) steps.now)
-        (λ grains. (grains.0 ≡ duration (λ step. step.now) steps.now) × (grains.0 ≤ grains_of_the_latest_end)) }
+        (grains_of_the_latest_end < duration (items_of steps.now))
+        (λ grains. (grains.0 ≡ duration (items_of steps.now)) × (grains.0 ≤ grains_of_the_latest_end)) }
 {
     let mut sum: u64 = 0;
     for step in steps {

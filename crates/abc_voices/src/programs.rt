@@ -2,6 +2,7 @@
 
 ghost use Rattle.std.specs.Prelude.{◌≡◌, true, ◌-◌, ◌≤◌, All, None, IfOk};
 ghost use Rattle.abc_time.specs.Grains.{grains_of_the_latest_end};
+ghost use Rattle.abc_voices.specs.Items.{items_of};
 ghost use Rattle.abc_voices.specs.Fields.{sets_program, keeps_programs};
 ghost use Rattle.abc_voices.specs.Opening.{program_past, past_all};
 ghost use Rattle.abc_voices.specs.Turns.{IsStage, PlaysNone, stages_in, length_along, programs_by, programs_along};
@@ -64,10 +65,10 @@ pub(crate) fn voices_programs(
 ) -> Result<Sequence<Sequence<ProgramChange>>, AllocError>
     requires stages { All (λ turn. IsStage turn.stage.now) turns.now }
     requires in_time { length_along (stages_in turns.now) ≤ grains_of_the_latest_end }
-    requires kept { keeps_programs (λ step. step.now) given.now ≡ true → All (PlaysNone sets_program) (stages_in turns.now) }
+    requires kept { keeps_programs (items_of given.now) ≡ true → All (PlaysNone sets_program) (stages_in turns.now) }
     requires voices { first ≤ count }
     ensures { IfOk result (λ voices. voices
-        ≡ programs_along (past_all (λ step. step.now) program_past None given.now) (stages_in turns.now) first (count - first)) }
+        ≡ programs_along (past_all program_past None (items_of given.now)) (stages_in turns.now) first (count - first)) }
 {
     let opening = opening_program(given);
     // Most tunes keep the programs with which they open, and then what is played need not be looked through.

@@ -1,7 +1,9 @@
 //! The sections of a tune, and what a voice has in each.
 
 ghost use Rattle.std.specs.Prelude.{◌≡◌, IfOk, map};
+ghost use Rattle.abc_voices.specs.Items.{items_of};
 ghost use Rattle.abc_voices.specs.Owned.{is_own_past};
+ghost use Rattle.abc_voices.specs.Stage.{content};
 ghost use Rattle.abc_voices.specs.Section.{is_step, is_section, letters, voice_past, opening_voice, sections, part_from};
 
 use abc_music::Item;
@@ -52,7 +54,7 @@ fn voice_past<'a>(voice: &'a [u8], item: &'a Item) -> &'a [u8]
 
 /// The current voice before the first V: of the body.
 pub(crate) fn opening_voice<'a>(tune: &[&'a Item]) -> &'a [u8]
-    ensures { result.now ≡ opening_voice (λ step. step.now) tune.now }
+    ensures { result.now ≡ opening_voice (items_of tune.now) }
 {
     for item in tune {
         if let Item::Voice {
@@ -88,7 +90,7 @@ pub(crate) fn part<'a>(
     opening: &'a [u8],
     steps: &[&'a Item],
 ) -> Result<Vec<&'a Item>, AllocError>
-    ensures { IfOk result (λ part. part.items ≡ part_from (λ step. step.now) voice.now opening.now steps.now) }
+    ensures { IfOk result (λ part. items_of part.items ≡ part_from voice.now opening.now (items_of steps.now)) }
 {
     let mut part = Vec::with_capacity(alloc, steps.len())?;
     let mut is_own = opening == voice;
@@ -108,9 +110,9 @@ pub(crate) fn sections<'s, 't>(
     tune: &'s [&'t Item],
     first: &'t [u8],
 ) -> Result<Vec<Section<'s, 't>>, AllocError>
-    requires { first.now ≡ opening_voice (λ step. step.now) tune.now }
-    ensures { IfOk result (λ found. map (λ section. (section.voice.now, section.items.now)) found.items
-        ≡ sections (λ step. step.now) tune.entry.now) }
+    requires { first.now ≡ opening_voice (items_of tune.now) }
+    ensures { IfOk result (λ found. map content found.items
+        ≡ sections (items_of tune.entry.now)) }
 {
     let mut found = Vec::new(alloc);
     let mut voice = first;
@@ -137,7 +139,7 @@ pub(crate) fn sections<'s, 't>(
 
 /// The letters of the sections behind the opening one.
 pub(crate) fn letters(alloc: Global, tune: &[&Item]) -> Result<Vec<u8>, AllocError>
-    ensures { IfOk result (λ found. found.items ≡ letters (λ step. step.now) tune.now) }
+    ensures { IfOk result (λ found. found.items ≡ letters (items_of tune.now)) }
 {
     let mut found = Vec::new(alloc);
     for item in tune {

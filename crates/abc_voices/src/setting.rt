@@ -59,7 +59,7 @@ fn put_part<S: Setting>(
     requires part { IsPart longest part.now }
     requires end { at.0 + longest.0 ≤ grains_of_the_latest_end }
     ensures { OnOk result (sets.new.items
-        ≡ sets.old.items ++ set_from (λ step. step.now) S.value_of at.0 part.now.steps) }
+        ≡ sets.old.items ++ set_from S.value_of at.0 part.now.steps) }
 {
     put_set::<S>(sets, at, part.steps.as_slice())
 }

@@ -13,14 +13,23 @@ use abc_repeat::RepeatFault;
 use abc_text::Sequence;
 use abc_time::Grains;
 use std::alloc::{AllocError, Global};
+use std::marker::Model;
 
-/// What a voice plays of a section.
+/// What a voice plays of a section. Contracts see the items.
 #[derive(Drop)]
 pub(crate) struct Part<'t> {
     /// What is played, in order of play.
     pub steps: Sequence<&'t Item>,
     /// How long that takes.
     pub length: Grains,
+}
+
+impl<'t> Model for Part<'t> {
+    ghost use Rattle.abc_voices.specs.Items.{PlayedPart, items_of};
+
+    ghost Value = { PlayedPart };
+
+    ghost view = { λ part. record { steps = items_of part.steps; length = part.length } };
 }
 
 /// What the voices of a tune play of a section, beside one another.
@@ -83,13 +92,13 @@ impl<'t> Part<'t> {
         requires { room ≤ MOST_PLACES }
         ensures value { IfOk result (λ own. own ≡ part_of (content section.now) voice.now) }
         ensures size { IfOk result (λ own. part_size own
-            ≡ size_in (λ step. step.now) (content section.now) voice.now) }
+            ≡ size_in (content section.now) voice.now) }
         ensures within { IfOk result (λ own. part_size own ≤ room) }
         ensures in_time { IfOk result (λ own. own.length.0 ≤ grains_of_the_latest_end) }
         ensures too_many { result ≡ Err StageFault.TooMany
-            → room < size_in (λ step. step.now) (content section.now) voice.now }
+            → room < size_in (content section.now) voice.now }
         ensures too_late { result ≡ Err StageFault.TooLate
-            → grains_of_the_latest_end < length_in (λ step. step.now) (content section.now) voice.now }
+            → grains_of_the_latest_end < length_in (content section.now) voice.now }
     {
         let items = part(alloc, voice, section.voice, section.items)?;
         let steps = played(alloc, items, room)?;
@@ -122,13 +131,13 @@ impl<'t> Stage<'t> {
         ensures value { IfOk result (λ stage. stage
             ≡ stage_of (map (λ voice. voice.now) voices.now) (content section.now)) }
         ensures size { IfOk result (λ stage. stage_size stage
-            ≡ sum_by (size_in (λ step. step.now) (content section.now)) (map (λ voice. voice.now) voices.now)) }
+            ≡ sum_by (size_in (content section.now)) (map (λ voice. voice.now) voices.now)) }
         ensures within { IfOk result (λ stage. stage_size stage ≤ room) }
         ensures in_time { IfOk result (λ stage. stage.longest.0 ≤ grains_of_the_latest_end) }
         ensures too_many { result ≡ Err StageFault.TooMany
-            → room < sum_by (size_in (λ step. step.now) (content section.now)) (map (λ voice. voice.now) voices.now) }
+            → room < sum_by (size_in (content section.now)) (map (λ voice. voice.now) voices.now) }
         ensures too_late { result ≡ Err StageFault.TooLate
-            → grains_of_the_latest_end < longest (λ step. step.now) (map (λ voice. voice.now) voices.now) (content section.now) }
+            → grains_of_the_latest_end < longest (map (λ voice. voice.now) voices.now) (content section.now) }
     {
         let mut parts = Sequence::new(alloc);
         let mut left = room;

@@ -60,11 +60,11 @@ fn put_new<'t>(
     requires place { place < length table.old }
     requires room { room ≤ MOST_PLACES }
     ensures put { IfOk result (λ _. IsNew (map (λ voice. voice.now) voices.now) section.now place table.old table.new) }
-    ensures fits { IfOk result (λ left. left + sum_by (size_in (λ step. step.now) (content section.now)) (map (λ voice. voice.now) voices.now) ≡ room) }
+    ensures fits { IfOk result (λ left. left + sum_by (size_in (content section.now)) (map (λ voice. voice.now) voices.now) ≡ room) }
     ensures too_many { result ≡ Err StageFault.TooMany
-        → room < sum_by (size_in (λ step. step.now) (content section.now)) (map (λ voice. voice.now) voices.now) }
+        → room < sum_by (size_in (content section.now)) (map (λ voice. voice.now) voices.now) }
     ensures too_late { result ≡ Err StageFault.TooLate
-        → grains_of_the_latest_end < longest (λ step. step.now) (map (λ voice. voice.now) voices.now) (content section.now) }
+        → grains_of_the_latest_end < longest (map (λ voice. voice.now) voices.now) (content section.now) }
 {
     let stage = Stage::of(alloc, section, voices, room)?;
     let left = room - stage.size();
@@ -124,11 +124,11 @@ pub(crate) fn stages<'t>(
 ) -> Result<Vec<Option<Stage<'t>>>, StageFault>
     ensures value { IfOk result (λ table. at_places table.items played.now
         ≡ map (stage_of (map (λ voice. voice.now) voices.now)) (sections_at sections.now played.now)) }
-    ensures places { IfOk result (λ table. sum_by (λ section. sum_by (size_in (λ step. step.now) section) (map (λ voice. voice.now) voices.now)) (sections_at sections.now played.now) ≤ MOST_PLACES) }
+    ensures places { IfOk result (λ table. sum_by (λ section. sum_by (size_in section) (map (λ voice. voice.now) voices.now)) (sections_at sections.now played.now) ≤ MOST_PLACES) }
     ensures too_many { result ≡ Err StageFault.TooMany
-        → MOST_PLACES < sum_by (λ section. sum_by (size_in (λ step. step.now) section) (map (λ voice. voice.now) voices.now)) (sections_at sections.now played.now) }
+        → MOST_PLACES < sum_by (λ section. sum_by (size_in section) (map (λ voice. voice.now) voices.now)) (sections_at sections.now played.now) }
     ensures too_late { result ≡ Err StageFault.TooLate
-        → grains_of_the_latest_end < sum_by (longest (λ step. step.now) (map (λ voice. voice.now) voices.now)) (sections_at sections.now played.now) }
+        → grains_of_the_latest_end < sum_by (longest (map (λ voice. voice.now) voices.now)) (sections_at sections.now played.now) }
 {
     let mut table = no_stages(alloc, sections)?;
     let mut room = MOST_PLACES;

@@ -2,6 +2,7 @@
 
 ghost use Rattle.std.specs.Prelude.{◌≡◌};
 ghost use Rattle.std.specs.List.{list_any};
+ghost use Rattle.abc_voices.specs.Items.{items_of};
 ghost use Rattle.abc_voices.specs.Arrange.{takes_time, last_off};
 
 use crate::score::Sounding;
@@ -28,7 +29,7 @@ fn takes_time(item: &Item) -> bool
 
 /// Whether something of a play takes time.
 pub(crate) fn plays_time(steps: &[&Item]) -> bool
-    ensures { result ≡ list_any (λ step. takes_time step.now) steps.now }
+    ensures { result ≡ list_any takes_time (items_of steps.now) }
 {
     for step in steps {
         if takes_time(step) {

@@ -2,6 +2,7 @@
 
 ghost use Rattle.std.specs.Prelude.{◌≡◌, [], ◌∷◌, IfOk, OnOk, map, bytes_eq};
 ghost use Rattle.std.specs.List.{list_any};
+ghost use Rattle.abc_voices.specs.Items.{items_of};
 ghost use Rattle.abc_voices.specs.Section.{opening_voice};
 ghost use Rattle.abc_voices.specs.Track.{with_name, everyone, plays_first, nameless_plays};
 
@@ -33,7 +34,7 @@ fn put_name<'a>(known: &mut Vec<&'a [u8]>, name: &'a [u8]) -> Result<(), AllocEr
 
 /// The voices of a tune, that without a name before those that have one.
 pub(crate) fn everyone<'a>(alloc: Global, tune: &[&'a Item]) -> Result<Vec<&'a [u8]>, AllocError>
-    ensures { IfOk result (λ voices. map (λ voice. voice.now) voices.items ≡ everyone (λ step. step.now) tune.now) }
+    ensures { IfOk result (λ voices. map (λ voice. voice.now) voices.items ≡ everyone (items_of tune.now)) }
 {
     let mut voices = Vec::new(alloc);
     let nameless: &[u8] = &[];
@@ -48,7 +49,7 @@ pub(crate) fn everyone<'a>(alloc: Global, tune: &[&'a Item]) -> Result<Vec<&'a [
 
 /// Whether a note, chord, rest or bar rest stands before the first V: of the body.
 fn plays_first(tune: &[&Item]) -> bool
-    ensures { result ≡ plays_first (λ step. step.now) tune.now }
+    ensures { result ≡ plays_first (items_of tune.now) }
 {
     for item in tune {
         match item {
@@ -63,8 +64,8 @@ fn plays_first(tune: &[&Item]) -> bool
 /// Whether the voice without a name has a track, where this one is the current one before the
 /// first V: of the body.
 pub(crate) fn nameless_plays(tune: &[&Item], opening: &[u8]) -> bool
-    requires { opening.now ≡ opening_voice (λ step. step.now) tune.now }
-    ensures { result ≡ nameless_plays (λ step. step.now) tune.now }
+    requires { opening.now ≡ opening_voice (items_of tune.now) }
+    ensures { result ≡ nameless_plays (items_of tune.now) }
 {
     opening.is_empty() && plays_first(tune)
 }

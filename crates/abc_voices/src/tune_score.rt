@@ -3,6 +3,7 @@
 ghost use Rattle.std.specs.Prelude.{true, ◌≡◌, ◌≢◌, ◌<◌, ◌≤◌, ◌-◌, All, IfOk};
 ghost use Rattle.std.specs.List.{flat_map};
 ghost use Rattle.abc_time.specs.Grains.{grains_of_the_latest_end};
+ghost use Rattle.abc_voices.specs.Items.{items_of};
 ghost use Rattle.abc_voices.specs.declared.stage.StageFault.TheVariants.{TooMany, TooLate};
 ghost use Rattle.abc_voices.specs.Turns.{IsStage, IsSteady, PlaysNone, stages_in, length_along, voices_along, changes_along, end_along, score_along};
 ghost use Rattle.abc_voices.specs.Arrange.{last_off};
@@ -36,8 +37,8 @@ fn changes_along(
 ) -> Result<Vec<Change>, AllocError>
     requires stages { All (λ turn. IsStage turn.stage.now) turns.now }
     requires in_time { length_along (stages_in turns.now) ≤ grains_of_the_latest_end }
-    requires steady { is_steady (λ step. step.now) given.now ≡ true → All IsSteady (stages_in turns.now) }
-    ensures { IfOk result (λ changes. changes.items ≡ changes_along given.now first (stages_in turns.now)) }
+    requires steady { is_steady (items_of given.now) ≡ true → All IsSteady (stages_in turns.now) }
+    ensures { IfOk result (λ changes. changes.items ≡ changes_along (items_of given.now) first (stages_in turns.now)) }
 {
     let tempo = opening_tempo(given).unwrap_or(USUAL_TEMPO);
     let meter = opening_meter(given).unwrap_or(Meter::Free);
@@ -78,10 +79,10 @@ pub(crate) fn score_along(
     requires stages { All (λ turn. IsStage turn.stage.now) turns.now }
     requires total { total.0 ≡ length_along (stages_in turns.now) }
     requires in_time { total.0 ≤ grains_of_the_latest_end }
-    requires steady { is_steady (λ step. step.now) given.now ≡ true → All IsSteady (stages_in turns.now) }
-    requires kept { keeps_programs (λ step. step.now) given.now ≡ true → All (PlaysNone sets_program) (stages_in turns.now) }
+    requires steady { is_steady (items_of given.now) ≡ true → All IsSteady (stages_in turns.now) }
+    requires kept { keeps_programs (items_of given.now) ≡ true → All (PlaysNone sets_program) (stages_in turns.now) }
     requires voices { first ≤ count }
-    ensures value { IfOk result (λ score. score ≡ score_along given.now first count (stages_in turns.now)) }
+    ensures value { IfOk result (λ score. score ≡ score_along (items_of given.now) first count (stages_in turns.now)) }
     ensures in_time { IfOk result (λ score. score.end.0 ≤ grains_of_the_latest_end) }
     ensures too_many { result ≢ Err TooMany }
     ensures too_late { result ≡ Err TooLate

@@ -25,7 +25,7 @@ fn put_part(
     requires part { IsPart longest part.now }
     requires end { at.0 + longest.0 ≤ grains_of_the_latest_end }
     ensures { OnOk result (notes_in notes.new
-        ≡ notes_from (λ step. step.now) at.0 part.now.steps (notes_in notes.old)) }
+        ≡ notes_from at.0 part.now.steps (notes_in notes.old)) }
 {
     let end = Grains(at.0 + part.length.0);
     put_notes(notes, end, part.steps.as_slice())

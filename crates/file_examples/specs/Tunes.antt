@@ -8,10 +8,6 @@ use Rattle.abc_voices.specs.declared.score.ChangeKind.TheVariants as kinds
 use Rattle.abc_voices.specs.declared.score.ProgramChange.{ProgramChange}
 use Rattle.abc_voices.specs.declared.score.Sounding.{Sounding}
 
--- The items of a tune are what they are.
-abbrev pub own : Item → Item
-own item = item
-
 -- A tone of a key, or a silent one, of so many grains, that is tied or not, with a velocity, and one with that of a tune
 -- without dynamics.
 abbrev pub tone_with : ℕ → Option ℕ → ℕ → Bool → Tone

@@ -14,39 +14,39 @@ ghost use Rattle.abc_voices.specs.Play.{marks_of, played};
 ghost use Rattle.abc_voices.specs.Section.{part, sections};
 ghost use Rattle.abc_voices.specs.Ties.{heard, tokens_from};
 ghost use Rattle.abc_voices.specs.Track.{tracks};
-ghost use Rattle.file_examples.specs.Tunes.{own, tone, chord, note, tied, rest, bar_rest, single, opening, closing, between, double, first, second, part_a, part_b, voice_1, voice_2, declared_1, tempo, sounding, tempo_change, key_change, note_with, tied_with, held, opening_program, program, refused_opening, refused, sounding_with, program_change};
+ghost use Rattle.file_examples.specs.Tunes.{tone, chord, note, tied, rest, bar_rest, single, opening, closing, between, double, first, second, part_a, part_b, voice_1, voice_2, declared_1, tempo, sounding, tempo_change, key_change, note_with, tied_with, held, opening_program, program, refused_opening, refused, sounding_with, program_change};
 
 /// A section begins at each part, and goes on in the voice that is the current one there. ABC 2.1 sections 3.1.9 and 7.
 pub fn sections_of_a_tune()
-    ensures none { sections own (note 60 ∷ []) ≡ ([], note 60 ∷ []) ∷ [] }
-    ensures voices { sections own (note 60 ∷ part_a ∷ voice_2 ∷ note 62 ∷ part_b ∷ note 64 ∷ [])
+    ensures none { sections (note 60 ∷ []) ≡ ([], note 60 ∷ []) ∷ [] }
+    ensures voices { sections (note 60 ∷ part_a ∷ voice_2 ∷ note 62 ∷ part_b ∷ note 64 ∷ [])
         ≡ ([], note 60 ∷ []) ∷ ([], voice_2 ∷ note 62 ∷ []) ∷ (50 ∷ [], note 64 ∷ []) ∷ [] }
-    ensures declared { sections own (declared_1 ∷ note 60 ∷ []) ≡ (49 ∷ [], declared_1 ∷ note 60 ∷ []) ∷ [] }
-    ensures ordered { played_sections own (items.Order (66 ∷ 65 ∷ 66 ∷ []) ∷ part_a ∷ note 60 ∷ part_b ∷ note 62 ∷ part_a ∷ note 64 ∷ [])
+    ensures declared { sections (declared_1 ∷ note 60 ∷ []) ≡ (49 ∷ [], declared_1 ∷ note 60 ∷ []) ∷ [] }
+    ensures ordered { played_sections (items.Order (66 ∷ 65 ∷ 66 ∷ []) ∷ part_a ∷ note 60 ∷ part_b ∷ note 62 ∷ part_a ∷ note 64 ∷ [])
         ≡ ([], items.Order (66 ∷ 65 ∷ 66 ∷ []) ∷ []) ∷ ([], note 62 ∷ []) ∷ ([], note 60 ∷ []) ∷ ([], note 62 ∷ []) ∷ [] }
 {}
 
 /// What a voice has in a section is what stands where it is the current one. ABC 2.1 section 7.
 pub fn parts_of_voices()
-    ensures other { part own (50 ∷ []) (49 ∷ [], note 60 ∷ voice_2 ∷ note 62 ∷ voice_1 ∷ note 64 ∷ []) ≡ note 62 ∷ [] }
-    ensures own { part own (49 ∷ []) (49 ∷ [], note 60 ∷ voice_2 ∷ note 62 ∷ voice_1 ∷ note 64 ∷ []) ≡ note 60 ∷ note 64 ∷ [] }
-    ensures no_track { tracks own (voice_1 ∷ note 60 ∷ voice_2 ∷ note 62 ∷ []) ≡ (49 ∷ []) ∷ (50 ∷ []) ∷ [] }
-    ensures nameless { tracks own (note 60 ∷ voice_1 ∷ note 62 ∷ []) ≡ [] ∷ (49 ∷ []) ∷ [] }
+    ensures other { part (50 ∷ []) (49 ∷ [], note 60 ∷ voice_2 ∷ note 62 ∷ voice_1 ∷ note 64 ∷ []) ≡ note 62 ∷ [] }
+    ensures own { part (49 ∷ []) (49 ∷ [], note 60 ∷ voice_2 ∷ note 62 ∷ voice_1 ∷ note 64 ∷ []) ≡ note 60 ∷ note 64 ∷ [] }
+    ensures no_track { tracks (voice_1 ∷ note 60 ∷ voice_2 ∷ note 62 ∷ []) ≡ (49 ∷ []) ∷ (50 ∷ []) ∷ [] }
+    ensures nameless { tracks (note 60 ∷ voice_1 ∷ note 62 ∷ []) ≡ [] ∷ (49 ∷ []) ∷ [] }
 {}
 
 /// What is played of a voice's items. ABC 2.1 sections 4.8 and 4.9.
 pub fn plays()
-    ensures straight { played own (note 60 ∷ single ∷ note 62 ∷ []) ≡ note 60 ∷ note 62 ∷ [] }
-    ensures repeated { played own (opening ∷ note 60 ∷ closing ∷ note 62 ∷ []) ≡ note 60 ∷ note 60 ∷ note 62 ∷ [] }
-    ensures endings { played own (opening ∷ note 60 ∷ single ∷ first ∷ note 62 ∷ closing ∷ second ∷ note 64 ∷ double ∷ [])
+    ensures straight { played (note 60 ∷ single ∷ note 62 ∷ []) ≡ note 60 ∷ note 62 ∷ [] }
+    ensures repeated { played (opening ∷ note 60 ∷ closing ∷ note 62 ∷ []) ≡ note 60 ∷ note 60 ∷ note 62 ∷ [] }
+    ensures endings { played (opening ∷ note 60 ∷ single ∷ first ∷ note 62 ∷ closing ∷ second ∷ note 64 ∷ double ∷ [])
         ≡ note 60 ∷ note 62 ∷ note 60 ∷ note 64 ∷ [] }
 {}
 
 /// A field between the endings is played with the one behind it: `|:A|1B:|[Q:]|2F||`. Our own.
 pub fn fields_before_an_ending()
-    ensures played { played own (opening ∷ note 69 ∷ single ∷ first ∷ note 71 ∷ closing ∷ tempo 1000000 ∷ single ∷ second ∷ note 66 ∷ double ∷ [])
+    ensures played { played (opening ∷ note 69 ∷ single ∷ first ∷ note 71 ∷ closing ∷ tempo 1000000 ∷ single ∷ second ∷ note 66 ∷ double ∷ [])
         ≡ note 69 ∷ note 71 ∷ note 69 ∷ tempo 1000000 ∷ note 66 ∷ [] }
-    ensures waiting { between_endings_in (strains_of (marks_of own (without_fields
+    ensures waiting { between_endings_in (strains_of (marks_of (without_fields
         (opening ∷ note 69 ∷ single ∷ first ∷ note 71 ∷ closing ∷ tempo 1000000 ∷ single ∷ second ∷ note 66 ∷ double ∷ []))))
         ≡ false ∷ false ∷ false ∷ false ∷ false ∷ true ∷ true ∷ false ∷ false ∷ false ∷ [] }
 {}
@@ -54,18 +54,18 @@ pub fn fields_before_an_ending()
 /// No field is moved behind a bar that opens a strain of its own, `|:A|1B::[Q:]|2F||`, nor behind the common part's own
 /// bar, `A:|[Q:]|1B||`. Our own.
 pub fn fields_that_stay()
-    ensures opened { with_fields_in_endings own (opening ∷ note 69 ∷ single ∷ first ∷ note 71 ∷ between ∷ tempo 1000000 ∷ single ∷ second ∷ note 66 ∷ double ∷ [])
+    ensures opened { with_fields_in_endings (opening ∷ note 69 ∷ single ∷ first ∷ note 71 ∷ between ∷ tempo 1000000 ∷ single ∷ second ∷ note 66 ∷ double ∷ [])
         ≡ opening ∷ note 69 ∷ single ∷ first ∷ note 71 ∷ between ∷ tempo 1000000 ∷ single ∷ second ∷ note 66 ∷ double ∷ [] }
-    ensures common { with_fields_in_endings own (note 69 ∷ closing ∷ tempo 1000000 ∷ single ∷ first ∷ note 71 ∷ double ∷ [])
+    ensures common { with_fields_in_endings (note 69 ∷ closing ∷ tempo 1000000 ∷ single ∷ first ∷ note 71 ∷ double ∷ [])
         ≡ note 69 ∷ closing ∷ tempo 1000000 ∷ single ∷ first ∷ note 71 ∷ double ∷ [] }
 {}
 
 /// Ties go on in play: over a repeat, `|:C-|1C:|2C-||C`, and over sections, while another voice plays on, `P:A`, `V:1`
 /// with `C-`, `V:2` with `EE`, `P:B`, `V:1` with `C`. ABC 2.1 section 4.11; that they do is our own.
 pub fn ties_over_repeats_and_sections()
-    ensures repeated { voices_notes own (opening ∷ tied 60 ∷ single ∷ first ∷ note 60 ∷ closing ∷ second ∷ tied 60 ∷ double ∷ note 60 ∷ [])
+    ensures repeated { voices_notes (opening ∷ tied 60 ∷ single ∷ first ∷ note 60 ∷ closing ∷ second ∷ tied 60 ∷ double ∷ note 60 ∷ [])
         ≡ (sounding 60 2 5 ∷ sounding 60 0 2 ∷ []) ∷ [] }
-    ensures sections { voices_notes own (part_a ∷ voice_1 ∷ tied 60 ∷ voice_2 ∷ note 64 ∷ note 64 ∷ part_b ∷ voice_1 ∷ note 60 ∷ [])
+    ensures sections { voices_notes (part_a ∷ voice_1 ∷ tied 60 ∷ voice_2 ∷ note 64 ∷ note 64 ∷ part_b ∷ voice_1 ∷ note 60 ∷ [])
         ≡ (sounding 60 0 3 ∷ []) ∷ (sounding 64 1 2 ∷ sounding 64 0 1 ∷ []) ∷ [] }
 {}
 
@@ -83,26 +83,26 @@ pub fn ties_of_tones()
 
 /// A tone that lasts longer than its chord ends the tune, but a silent one does not. Our own.
 pub fn the_end_of_a_tune()
-    ensures heard { end_of own (chord (tone (Some 60) 1 false ∷ tone (Some 62) 5 false ∷ []) ∷ []) ≡ 5 }
-    ensures silent { end_of own (chord (tone (Some 60) 1 false ∷ tone None 5 false ∷ []) ∷ []) ≡ 1 }
+    ensures heard { end_of (chord (tone (Some 60) 1 false ∷ tone (Some 62) 5 false ∷ []) ∷ []) ≡ 5 }
+    ensures silent { end_of (chord (tone (Some 60) 1 false ∷ tone None 5 false ∷ []) ∷ []) ≡ 1 }
 {}
 
 /// Voices are uneven where they play time in a section and differ in length there; one that plays none is not. Our own.
 pub fn uneven_voices()
-    ensures uneven { list_any (is_uneven own ([] ∷ (49 ∷ []) ∷ (50 ∷ []) ∷ []))
-        (played_sections own (voice_1 ∷ note 60 ∷ voice_2 ∷ note 64 ∷ note 64 ∷ [])) ≡ true }
-    ensures even { list_any (is_uneven own ([] ∷ (49 ∷ []) ∷ (50 ∷ []) ∷ []))
-        (played_sections own (voice_1 ∷ note 60 ∷ voice_2 ∷ note 64 ∷ [])) ≡ false }
-    ensures alone { list_any (is_uneven own ([] ∷ (49 ∷ []) ∷ (50 ∷ []) ∷ []))
-        (played_sections own (voice_1 ∷ note 60 ∷ voice_2 ∷ [])) ≡ false }
+    ensures uneven { list_any (is_uneven ([] ∷ (49 ∷ []) ∷ (50 ∷ []) ∷ []))
+        (played_sections (voice_1 ∷ note 60 ∷ voice_2 ∷ note 64 ∷ note 64 ∷ [])) ≡ true }
+    ensures even { list_any (is_uneven ([] ∷ (49 ∷ []) ∷ (50 ∷ []) ∷ []))
+        (played_sections (voice_1 ∷ note 60 ∷ voice_2 ∷ note 64 ∷ [])) ≡ false }
+    ensures alone { list_any (is_uneven ([] ∷ (49 ∷ []) ∷ (50 ∷ []) ∷ []))
+        (played_sections (voice_1 ∷ note 60 ∷ voice_2 ∷ [])) ≡ false }
 {}
 
 /// Of tempos at one tick the last in order of play stands, here that of the second voice; and a field between two
 /// endings is heard with the second. Our own.
 pub fn tempos_at_a_tick()
-    ensures last { changes_of own (voice_1 ∷ tempo 400000 ∷ note 60 ∷ voice_2 ∷ tempo 300000 ∷ note 60 ∷ [])
+    ensures last { changes_of (voice_1 ∷ tempo 400000 ∷ note 60 ∷ voice_2 ∷ tempo 300000 ∷ note 60 ∷ [])
         ≡ tempo_change 0 300000 ∷ key_change 0 ∷ [] }
-    ensures behind { set_in own tempo_of ([] ∷ []) ([] ∷ []) 0
+    ensures behind { set_in tempo_of ([] ∷ []) ([] ∷ []) 0
         (([], opening ∷ note 69 ∷ single ∷ first ∷ note 71 ∷ closing ∷ tempo 1000000 ∷ single ∷ second ∷ note 66 ∷ double ∷ []) ∷ [])
         ≡ (record { 0 = 3 }, 1000000) ∷ [] }
 {}
@@ -111,7 +111,7 @@ pub fn tempos_at_a_tick()
 /// as loud as their own, `!f!C!p!C`. Our own.
 pub fn velocities_of_notes()
     ensures joined { heard (tokens_from 0 (tied_with 105 60 ∷ note_with 45 60 ∷ []) []) ≡ sounding_with 105 60 0 2 ∷ [] }
-    ensures repeated { voices_notes own (opening ∷ note_with 45 60 ∷ tied_with 105 60 ∷ closing ∷ [])
+    ensures repeated { voices_notes (opening ∷ note_with 45 60 ∷ tied_with 105 60 ∷ closing ∷ [])
         ≡ (sounding_with 105 60 3 4 ∷ sounding_with 105 60 1 3 ∷ sounding_with 45 60 0 1 ∷ []) ∷ [] }
     ensures apart { heard (tokens_from 0 (note_with 105 60 ∷ note_with 45 60 ∷ []) []) ≡ sounding_with 45 60 1 2 ∷ sounding_with 105 60 0 1 ∷ [] }
 {}
@@ -119,22 +119,22 @@ pub fn velocities_of_notes()
 /// A voice has the last program of its header, or the last one that it plays on the first tick in its place; one that is
 /// refused sets none. Our own.
 pub fn programs_at_the_beginning()
-    ensures none { programs_of own (note 60 ∷ []) ≡ [] ∷ [] }
-    ensures played { programs_of own (program 41 ∷ note 60 ∷ []) ≡ (program_change 0 41 ∷ []) ∷ [] }
-    ensures opening { programs_of own (opening_program 5 ∷ opening_program 7 ∷ refused_opening ∷ note 60 ∷ []) ≡ (program_change 0 7 ∷ []) ∷ [] }
-    ensures replaced { programs_of own (opening_program 5 ∷ program 3 ∷ program 41 ∷ note 60 ∷ []) ≡ (program_change 0 41 ∷ []) ∷ [] }
-    ensures on_the_tick { programs_of own (opening_program 5 ∷ note 60 ∷ program 41 ∷ note 62 ∷ []) ≡ (program_change 1 41 ∷ []) ∷ [] }
-    ensures refused { programs_of own (opening_program 5 ∷ refused ∷ note 60 ∷ []) ≡ (program_change 0 5 ∷ []) ∷ [] }
+    ensures none { programs_of (note 60 ∷ []) ≡ [] ∷ [] }
+    ensures played { programs_of (program 41 ∷ note 60 ∷ []) ≡ (program_change 0 41 ∷ []) ∷ [] }
+    ensures opening { programs_of (opening_program 5 ∷ opening_program 7 ∷ refused_opening ∷ note 60 ∷ []) ≡ (program_change 0 7 ∷ []) ∷ [] }
+    ensures replaced { programs_of (opening_program 5 ∷ program 3 ∷ program 41 ∷ note 60 ∷ []) ≡ (program_change 0 41 ∷ []) ∷ [] }
+    ensures on_the_tick { programs_of (opening_program 5 ∷ note 60 ∷ program 41 ∷ note 62 ∷ []) ≡ (program_change 1 41 ∷ []) ∷ [] }
+    ensures refused { programs_of (opening_program 5 ∷ refused ∷ note 60 ∷ []) ≡ (program_change 0 5 ∷ []) ∷ [] }
 {}
 
 /// Each voice has the programs that it plays, and none is restored at a repeat: `|:C`, program 41, `D:|E` behind program 5.
 /// Our own.
 pub fn programs_in_play()
-    ensures own { programs_of own (opening_program 5 ∷ voice_1 ∷ note 60 ∷ voice_2 ∷ program 6 ∷ note 62 ∷ [])
+    ensures own { programs_of (opening_program 5 ∷ voice_1 ∷ note 60 ∷ voice_2 ∷ program 6 ∷ note 62 ∷ [])
         ≡ (program_change 0 5 ∷ []) ∷ (program_change 0 6 ∷ []) ∷ [] }
-    ensures repeated { programs_of own (opening_program 5 ∷ opening ∷ held 60 ∷ program 41 ∷ held 62 ∷ closing ∷ held 64 ∷ [])
+    ensures repeated { programs_of (opening_program 5 ∷ opening ∷ held 60 ∷ program 41 ∷ held 62 ∷ closing ∷ held 64 ∷ [])
         ≡ (program_change 1452971520 41 ∷ program_change 484323840 41 ∷ program_change 0 5 ∷ []) ∷ [] }
-    ensures behind { set_in own program_of ([] ∷ []) ([] ∷ []) 0
+    ensures behind { set_in program_of ([] ∷ []) ([] ∷ []) 0
         (([], opening ∷ note 69 ∷ single ∷ first ∷ note 71 ∷ closing ∷ program 41 ∷ single ∷ second ∷ note 66 ∷ double ∷ []) ∷ [])
         ≡ (record { 0 = 3 }, 41) ∷ [] }
 {}
@@ -142,8 +142,8 @@ pub fn programs_in_play()
 /// A program takes its turn in the play, also one that is refused, but no time: ties go on over it, and a voice that plays
 /// nothing else is not uneven. Our own.
 pub fn programs_take_no_time()
-    ensures places { places_played own (note 60 ∷ refused ∷ program 41 ∷ []) ≡ 3 }
+    ensures places { places_played (note 60 ∷ refused ∷ program 41 ∷ []) ≡ 3 }
     ensures tied { heard (tokens_from 0 (tied 60 ∷ program 41 ∷ note 60 ∷ []) []) ≡ sounding 60 0 2 ∷ [] }
-    ensures even { list_any (is_uneven own ([] ∷ (49 ∷ []) ∷ (50 ∷ []) ∷ []))
-        (played_sections own (voice_1 ∷ note 60 ∷ voice_2 ∷ program 41 ∷ [])) ≡ false }
+    ensures even { list_any (is_uneven ([] ∷ (49 ∷ []) ∷ (50 ∷ []) ∷ []))
+        (played_sections (voice_1 ∷ note 60 ∷ voice_2 ∷ program 41 ∷ [])) ≡ false }
 {}

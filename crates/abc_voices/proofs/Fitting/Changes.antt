@@ -44,43 +44,39 @@ one_set : {V : Type 0} (end at : ℕ) (Q : V → Type 0) (value : Option V) (set
 one_set end at Q None sets by is all = all
 one_set end at Q (Some value) sets by is all = All-cons (IsSetBy end Q) (record { 0 = at }, value) sets (record { before = by; value = is }) all
 
-module _ {A V : Type 0} (item_of : A → Item) (value_of : Item → Option V) (Q : V → Type 0) (is : (item : Item) → IsItem item → IfSome (value_of item) Q) where
-  abbrev Items : A → Type 0
-  Items step = IsItem (item_of step)
-
-  set_by : (end at : ℕ) (steps : List A) → at + lasting item_of steps ≤ end → All Items steps → All (IsSetBy end Q) (set_from item_of value_of at steps)
+module _ {V : Type 0} (value_of : Item → Option V) (Q : V → Type 0) (is : (item : Item) → IsItem item → IfSome (value_of item) Q) where
+  set_by : (end at : ℕ) (steps : List Item) → at + lasting steps ≤ end → All IsItem steps → All (IsSetBy end Q) (set_from value_of at steps)
   set_by end at [] by all = All-nil (IsSetBy end Q)
   set_by end at (step ∷ steps) by all =
-      one_set end at Q (value_of (item_of step)) (set_from item_of value_of (at + length_of (item_of step)) steps) (omega (arith, by))
-      (is (item_of step) (All-head Items step steps all))
-      (set_by end (at + length_of (item_of step)) steps (omega (arith, by)) (All-tail Items step steps all))
+      one_set end at Q (value_of step) (set_from value_of (at + length_of step) steps) (omega (arith, by))
+      (is step (All-head IsItem step steps all))
+      (set_by end (at + length_of step) steps (omega (arith, by)) (All-tail IsItem step steps all))
 
-  voices_set : (end at : ℕ) (voices those : List (List ℕ)) (section : List ℕ × List A) → at + longest item_of voices section ≤ end
-      → All (IsHeard item_of voices) those → All Items section.1
-      → All (IsSetBy end Q) (flat_map (λ voice. set_from item_of value_of at (play_in item_of section voice)) those)
+  voices_set : (end at : ℕ) (voices those : List (List ℕ)) (section : List ℕ × List Item) → at + longest voices section ≤ end
+      → All (IsHeard voices) those → All IsItem section.1
+      → All (IsSetBy end Q) (flat_map (λ voice. set_from value_of at (play_in section voice)) those)
   voices_set end at voices [] section by heard all = All-nil (IsSetBy end Q)
   voices_set end at voices (voice ∷ those) section by heard all =
-      All-append (IsSetBy end Q) (set_from item_of value_of at (play_in item_of section voice)) _
-      (set_by end at (play_in item_of section voice)
-      (omega (arith, by, lasts item_of (play_in item_of section voice), (All-head (IsHeard item_of voices) voice those heard).lasts section))
-      (play_kept item_of Items section voice all))
-      (voices_set end at voices those section by (All-tail (IsHeard item_of voices) voice those heard) all)
+      All-append (IsSetBy end Q) (set_from value_of at (play_in section voice)) _
+      (set_by end at (play_in section voice)
+      (omega (arith, by, lasts (play_in section voice), (All-head (IsHeard voices) voice those heard).lasts section))
+      (play_kept IsItem section voice all))
+      (voices_set end at voices those section by (All-tail (IsHeard voices) voice those heard) all)
 
   -- what voices set in sections that are played from a moment on
-  pub sections_set : (end at : ℕ) (voices those : List (List ℕ)) (sections : List (List ℕ × List A)) → at + sum_by (longest item_of voices) sections ≤ end
-      → All (IsHeard item_of voices) those → All (ItemsIn item_of) sections
-      → All (IsSetBy end Q) (set_in item_of value_of voices those at sections)
+  pub sections_set : (end at : ℕ) (voices those : List (List ℕ)) (sections : List (List ℕ × List Item)) → at + sum_by (longest voices) sections ≤ end
+      → All (IsHeard voices) those → All ItemsIn sections
+      → All (IsSetBy end Q) (set_in value_of voices those at sections)
   sections_set end at voices those [] by heard all = All-nil (IsSetBy end Q)
   sections_set end at voices those (section ∷ rest) by heard all =
-      All-append (IsSetBy end Q) (flat_map (λ voice. set_from item_of value_of at (play_in item_of section voice)) those) _
-      (voices_set end at voices those section (omega (arith, by, sum_by-cons (longest item_of voices) section rest)) heard (All-head (ItemsIn item_of) section rest all))
-      (sections_set end (at + longest item_of voices section) voices those rest (omega (arith, by, sum_by-cons (longest item_of voices) section rest)) heard
-      (All-tail (ItemsIn item_of) section rest all))
+      All-append (IsSetBy end Q) (flat_map (λ voice. set_from value_of at (play_in section voice)) those) _
+      (voices_set end at voices those section (omega (arith, by, sum_by-cons (longest voices) section rest)) heard (All-head ItemsIn section rest all))
+      (sections_set end (at + longest voices section) voices those rest (omega (arith, by, sum_by-cons (longest voices) section rest)) heard
+      (All-tail ItemsIn section rest all))
 
 -- what a tune opens with
-pub past_kept : {A V : Type 0} (item_of : A → Item) (past : V → Item → V) (Q : V → Type 0) → ((value : V) (item : Item) → Q value → IsItem item → Q (past value item))
-    → (value : V) (tune : List A) → Q value → All (λ step. IsItem (item_of step)) tune → Q (past_all item_of past value tune)
-past_kept item_of past Q step_kept value [] is all = is
-past_kept {A} item_of past Q step_kept value (step ∷ tune) is all =
-    let P : A → Type 0 = λ s. IsItem (item_of s) in
-    past_kept item_of past Q step_kept (past value (item_of step)) tune (step_kept value (item_of step) is (All-head P step tune all)) (All-tail P step tune all)
+pub past_kept : {V : Type 0} (past : V → Item → V) (Q : V → Type 0) → ((value : V) (item : Item) → Q value → IsItem item → Q (past value item))
+    → (value : V) (tune : List Item) → Q value → All IsItem tune → Q (past_all past value tune)
+past_kept past Q step_kept value [] is all = is
+past_kept past Q step_kept value (step ∷ tune) is all =
+    past_kept past Q step_kept (past value step) tune (step_kept value step is (All-head IsItem step tune all)) (All-tail IsItem step tune all)

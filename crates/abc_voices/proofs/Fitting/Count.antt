@@ -53,16 +53,15 @@ few_tones (items.Rest length false) is = omega arith
 few_tones _ is = tt
 
 -- each step gives sixteen notes at most
-pub notes_few : {A : Type 0} (item_of : A → Item) (at : ℕ) (steps : List A) (notes : Notes) → All (λ step. IsItem (item_of step)) steps
-    → notes_of (notes_from item_of at steps notes) ≤ notes_of notes + 16 * length steps
-notes_few item_of at [] notes all = omega arith
-notes_few {A} item_of at (step ∷ steps) notes all =
-    let P : A → Type 0 = λ s. IsItem (item_of s) in
-    let k : ℕ = length_of (item_of step) in
+pub notes_few : (at : ℕ) (steps : List Item) (notes : Notes) → All IsItem steps
+    → notes_of (notes_from at steps notes) ≤ notes_of notes + 16 * length steps
+notes_few at [] notes all = omega arith
+notes_few at (step ∷ steps) notes all =
+    let k : ℕ = length_of step in
     omega (
       arith,
-      notes_few item_of (at + k) steps notes (All-tail P step steps all),
-      before_more at (tones_of (item_of step)) (notes_from item_of (at + k) steps notes) (few_tones (item_of step) (All-head P step steps all)),
+      notes_few (at + k) steps notes (All-tail IsItem step steps all),
+      before_more at (tones_of step) (notes_from (at + k) steps notes) (few_tones step (All-head IsItem step steps all)),
     )
 
 one_more : {A : Type 0} (x : Option A) (xs : List A) (n : ℕ) → length xs ≤ n → length (cons_option x xs) ≤ suc n

@@ -33,52 +33,52 @@ pub either : {X : Type 0} (P : X → Type 0) (b : Bool) (xs ys : List X) → All
 either P true xs ys here there = here
 either P false xs ys here there = there
 
-module _ {A : Type 0} (item_of : A → Item) (P : A → Type 0) where
-  set_down_kept : (held : List A) (step : A) → All P held → P step → All P (set_down item_of held step)
+module _ (P : Item → Type 0) where
+  set_down_kept : (held : List Item) (step : Item) → All P held → P step → All P (set_down held step)
   set_down_kept held step all is =
-      either P (is_ending (mark_of (item_of step))) (step ∷ held) (held ++ step ∷ []) (All-cons P step held is all) (All-push P held step all is)
+      either P (is_ending (mark_of step)) (step ∷ held) (held ++ step ∷ []) (All-cons P step held is all) (All-push P held step all is)
 
-  moved_kept : (region : Region) (held steps : List A) → All P held → All P steps → All P (with_fields_in_endings_from item_of region held steps)
+  moved_kept : (region : Region) (held steps : List Item) → All P held → All P steps → All P (with_fields_in_endings_from region held steps)
   moved_kept region held [] waiting all = waiting
   moved_kept region held (step ∷ steps) waiting all =
       let is : P step = All-head P step steps all in
       let rest : All P steps = All-tail P step steps all in
-      either P (waits region (item_of step)) _ _
+      either P (waits region step) _ _
       (moved_kept region (held ++ step ∷ []) steps (All-push P held step waiting is) rest)
-      (All-append P (set_down item_of held step) _ (set_down_kept held step waiting is)
-      (moved_kept (region_past region (mark_of (item_of step))) [] steps (All-nil P) rest))
+      (All-append P (set_down held step) _ (set_down_kept held step waiting is)
+      (moved_kept (region_past region (mark_of step)) [] steps (All-nil P) rest))
 
-  part_kept : (voice current : List ℕ) (steps : List A) → All P steps → All P (part_from item_of voice current steps)
+  part_kept : (voice current : List ℕ) (steps : List Item) → All P steps → All P (part_from voice current steps)
   part_kept voice current [] all = All-nil P
   part_kept voice current (step ∷ steps) all =
-      let rest : All P (part_from item_of voice (voice_past current (item_of step)) steps) =
-      part_kept voice (voice_past current (item_of step)) steps (All-tail P step steps all) in
-      either P (is_step (item_of step) && bytes_eq current voice) _ _ (All-cons P step _ (All-head P step steps all) rest) rest
+      let rest : All P (part_from voice (voice_past current step) steps) =
+      part_kept voice (voice_past current step) steps (All-tail P step steps all) in
+      either P (is_step step && bytes_eq current voice) _ _ (All-cons P step _ (All-head P step steps all) rest) rest
 
   -- what a voice plays of its part of a section
-  pub part_played : (opening : List ℕ) (steps : List A) (voice : List ℕ) → All P (part_from item_of voice opening steps)
-      → All P (play_in item_of (opening, steps) voice)
+  pub part_played : (opening : List ℕ) (steps : List Item) (voice : List ℕ) → All P (part_from voice opening steps)
+      → All P (play_in (opening, steps) voice)
   part_played opening steps voice all =
-      let mine : List A = part_from item_of voice opening steps in
-      picked P (with_fields_in_endings item_of mine) (places_of item_of (with_fields_in_endings item_of mine)) (moved_kept Common [] mine (All-nil P) all)
+      let mine : List Item = part_from voice opening steps in
+      picked P (with_fields_in_endings mine) (places_of (with_fields_in_endings mine)) (moved_kept Common [] mine (All-nil P) all)
 
   -- what a voice plays of a section
-  pub play_kept : (section : List ℕ × List A) (voice : List ℕ) → All P section.1 → All P (play_in item_of section voice)
+  pub play_kept : (section : List ℕ × List Item) (voice : List ℕ) → All P section.1 → All P (play_in section voice)
   play_kept (opening, steps) voice all = part_played opening steps voice (part_kept voice opening steps all)
 
-  abbrev InSection : List ℕ × List A → Type 0
+  abbrev InSection : List ℕ × List Item → Type 0
   InSection section = All P section.1
 
-  sections_kept : (opening : List ℕ) (held : List A) (voice : List ℕ) (tune : List A) → All P held → All P tune → All InSection (sections_from item_of opening held voice tune)
+  sections_kept : (opening : List ℕ) (held : List Item) (voice : List ℕ) (tune : List Item) → All P held → All P tune → All InSection (sections_from opening held voice tune)
   sections_kept opening held voice [] seen all = All-cons InSection (opening, held) [] seen (All-nil InSection)
   sections_kept opening held voice (step ∷ tune) seen all =
       let is : P step = All-head P step tune all in
       let rest : All P tune = All-tail P step tune all in
-      either InSection (is_section (item_of step)) _ _
+      either InSection (is_section step) _ _
       (All-cons InSection (opening, held) _ seen (sections_kept voice [] voice tune (All-nil P) rest))
-      (sections_kept opening (held ++ step ∷ []) (voice_past voice (item_of step)) tune (All-push P held step seen is) rest)
+      (sections_kept opening (held ++ step ∷ []) (voice_past voice step) tune (All-push P held step seen is) rest)
 
   -- the sections that are played
-  pub played_kept : (tune : List A) → All P tune → All InSection (played_sections item_of tune)
+  pub played_kept : (tune : List Item) → All P tune → All InSection (played_sections tune)
   played_kept tune all =
-      picked InSection (sections item_of tune) _ (sections_kept (opening_voice item_of tune) [] (opening_voice item_of tune) tune (All-nil P) all)
+      picked InSection (sections tune) _ (sections_kept (opening_voice tune) [] (opening_voice tune) tune (All-nil P) all)

@@ -91,17 +91,16 @@ same_moment : (a b : ℕ) → a ≡ b → (notes : Notes) → AllFit a notes →
 same_moment a b same notes fits = subst (λ at. AllFit at notes) same fits
 
 -- how long steps take one after another
-abbrev pub lasting : {A : Type 0} → (A → Item) → List A → ℕ
-lasting item_of [] = 0
-lasting item_of (step ∷ steps) = length_of (item_of step) + lasting item_of steps
+abbrev pub lasting : List Item → ℕ
+lasting [] = 0
+lasting (step ∷ steps) = length_of step + lasting steps
 
 -- the notes of steps that are played from a moment on, in front of notes that begin behind them or later
-pub notes_fit : {A : Type 0} (item_of : A → Item) (at : ℕ) (steps : List A) (notes : Notes) → All (λ step. IsItem (item_of step)) steps
-    → AllFit (at + lasting item_of steps) notes → AllFit at (notes_from item_of at steps notes)
-notes_fit item_of at [] notes all fits = all_earlier at 0 notes fits
-notes_fit {A} item_of at (step ∷ steps) notes all fits =
-    let P : A → Type 0 = λ s. IsItem (item_of s) in
-    let k : ℕ = length_of (item_of step) in
-    let rest : AllFit (at + k) (notes_from item_of (at + k) steps notes) =
-    notes_fit item_of (at + k) steps notes (All-tail P step steps all) (same_moment (at + (k + lasting item_of steps)) ((at + k) + lasting item_of steps) (omega arith) notes fits) in
-    before_fits at (tones_of (item_of step)) (notes_from item_of (at + k) steps notes) (tones_within (item_of step) (All-head P step steps all)) (all_earlier at k (notes_from item_of (at + k) steps notes) rest)
+pub notes_fit : (at : ℕ) (steps : List Item) (notes : Notes) → All IsItem steps
+    → AllFit (at + lasting steps) notes → AllFit at (notes_from at steps notes)
+notes_fit at [] notes all fits = all_earlier at 0 notes fits
+notes_fit at (step ∷ steps) notes all fits =
+    let k : ℕ = length_of step in
+    let rest : AllFit (at + k) (notes_from (at + k) steps notes) =
+    notes_fit (at + k) steps notes (All-tail IsItem step steps all) (same_moment (at + (k + lasting steps)) ((at + k) + lasting steps) (omega arith) notes fits) in
+    before_fits at (tones_of step) (notes_from (at + k) steps notes) (tones_within step (All-head IsItem step steps all)) (all_earlier at k (notes_from (at + k) steps notes) rest)

@@ -18,83 +18,79 @@ use Rattle.abc_voices.proofs.Fitting.Count.{notes_of, notes_few, picked_few}
 use Rattle.abc_voices.proofs.Fitting.Kept.{either, play_kept}
 use Rattle.abc_voices.proofs.Fitting.Notes.{Fits, AllFit, all_earlier, lasting, notes_fit}
 
-module _ {A : Type 0} (item_of : A → Item) where
-  pub lasts : (steps : List A) → lasting item_of steps ≡ duration item_of steps
-  lasts [] = refl
-  lasts (step ∷ steps) = ap (λ n. length_of (item_of step) + n) (lasts steps) ∙ sym (sum_by-cons (λ s. length_of (item_of s)) step steps)
+pub lasts : (steps : List Item) → lasting steps ≡ duration steps
+lasts [] = refl
+lasts (step ∷ steps) = ap (λ n. length_of step + n) (lasts steps) ∙ sym (sum_by-cons length_of step steps)
 
-  -- how many places of a section are played, over all voices
-  abbrev pub size_of : List (List ℕ) → List ℕ × List A → ℕ
-  size_of voices section = sum_by (size_in item_of section) voices
+-- how many places of a section are played, over all voices
+abbrev pub size_of : List (List ℕ) → List ℕ × List Item → ℕ
+size_of voices section = sum_by (size_in section) voices
 
-  -- a voice is no longer than the longest in each section, and plays no more than all together
-  pub record IsHeard (voices : List (List ℕ)) (voice : List ℕ) : Type 0 where
-    pub lasts : (section : List ℕ × List A) → length_in item_of section voice ≤ longest item_of voices section
-    pub plays : (section : List ℕ × List A) → size_in item_of section voice ≤ size_of voices section
+-- a voice is no longer than the longest in each section, and plays no more than all together
+pub record IsHeard (voices : List (List ℕ)) (voice : List ℕ) : Type 0 where
+  pub lasts : (section : List ℕ × List Item) → length_in section voice ≤ longest voices section
+  pub plays : (section : List ℕ × List Item) → size_in section voice ≤ size_of voices section
 
-  heard_first : (voice : List ℕ) (voices : List (List ℕ)) → IsHeard (voice ∷ voices) voice
-  heard_first voice voices = record {
-    lasts = λ section. omega arith;
-    plays = λ section. omega (arith, sum_by-cons (size_in item_of section) voice voices);
-  }
+heard_first : (voice : List ℕ) (voices : List (List ℕ)) → IsHeard (voice ∷ voices) voice
+heard_first voice voices = record {
+  lasts = λ section. omega arith;
+  plays = λ section. omega (arith, sum_by-cons (size_in section) voice voices);
+}
 
-  heard_more : (voice : List ℕ) (voices : List (List ℕ)) (other : List ℕ) → IsHeard voices other → IsHeard (voice ∷ voices) other
-  heard_more voice voices other heard = record {
-    lasts = λ section. omega (arith, heard.lasts section);
-    plays = λ section. omega (arith, heard.plays section, sum_by-cons (size_in item_of section) voice voices);
-  }
+heard_more : (voice : List ℕ) (voices : List (List ℕ)) (other : List ℕ) → IsHeard voices other → IsHeard (voice ∷ voices) other
+heard_more voice voices other heard = record {
+  lasts = λ section. omega (arith, heard.lasts section);
+  plays = λ section. omega (arith, heard.plays section, sum_by-cons (size_in section) voice voices);
+}
 
-  pub all_heard : (voices : List (List ℕ)) → All (IsHeard voices) voices
-  all_heard [] = All-nil (IsHeard [])
-  all_heard (voice ∷ voices) =
-      All-cons (IsHeard (voice ∷ voices)) voice voices (heard_first voice voices)
-      (All-weaker (IsHeard voices) (IsHeard (voice ∷ voices)) (heard_more voice voices) voices (all_heard voices))
+pub all_heard : (voices : List (List ℕ)) → All (IsHeard voices) voices
+all_heard [] = All-nil (IsHeard [])
+all_heard (voice ∷ voices) =
+    All-cons (IsHeard (voice ∷ voices)) voice voices (heard_first voice voices)
+    (All-weaker (IsHeard voices) (IsHeard (voice ∷ voices)) (heard_more voice voices) voices (all_heard voices))
 
-  -- the voices that have a track are heard
-  pub tracks_heard : (tune : List A) → All (IsHeard (everyone item_of tune)) (tracks item_of tune)
-  tracks_heard tune =
-      let P : List ℕ → Type 0 = IsHeard (everyone item_of tune) in
-      either P (nameless_plays item_of tune) (everyone item_of tune) (drop 1 (everyone item_of tune)) (all_heard (everyone item_of tune)) (All-drop P 1 (everyone item_of tune) (all_heard (everyone item_of tune)))
+-- the voices that have a track are heard
+pub tracks_heard : (tune : List Item) → All (IsHeard (everyone tune)) (tracks tune)
+tracks_heard tune =
+    let P : List ℕ → Type 0 = IsHeard (everyone tune) in
+    either P (nameless_plays tune) (everyone tune) (drop 1 (everyone tune)) (all_heard (everyone tune)) (All-drop P 1 (everyone tune) (all_heard (everyone tune)))
 
-  abbrev Items : A → Type 0
-  Items step = IsItem (item_of step)
+abbrev pub ItemsIn : List ℕ × List Item → Type 0
+ItemsIn section = All IsItem section.1
 
-  abbrev pub ItemsIn : List ℕ × List A → Type 0
-  ItemsIn section = All Items section.1
+moment : (at k n : ℕ) → k ≤ n → at + n ≡ (at + k) + (n - k)
+moment at k n within = omega (arith, within)
 
-  moment : (at k n : ℕ) → k ≤ n → at + n ≡ (at + k) + (n - k)
-  moment at k n within = omega (arith, within)
+later_fit : (at k n : ℕ) (notes : Notes) → k ≤ n → AllFit (at + n) notes → AllFit (at + k) notes
+later_fit at k n notes within fits =
+    all_earlier (at + k) (n - k) notes (subst (λ m. AllFit m notes) (moment at k n within) fits)
 
-  later_fit : (at k n : ℕ) (notes : Notes) → k ≤ n → AllFit (at + n) notes → AllFit (at + k) notes
-  later_fit at k n notes within fits =
-      all_earlier (at + k) (n - k) notes (subst (λ m. AllFit m notes) (moment at k n within) fits)
+-- the notes of a voice in sections that are played from a moment on
+pub voice_fits : (voices : List (List ℕ)) (voice : List ℕ) → IsHeard voices voice → (at : ℕ) (sections : List (List ℕ × List Item)) → All ItemsIn sections
+    → AllFit at (voice_notes voices voice at sections)
+voice_fits voices voice heard at [] all = record { first = All-nil (Fits at); others = All-nil (Fits at) }
+voice_fits voices voice heard at (section ∷ rest) all =
+    let play : List Item = play_in section voice in
+    let behind : Notes = voice_notes voices voice (at + longest voices section) rest in
+    notes_fit at play behind (play_kept IsItem section voice (All-head ItemsIn section rest all))
+    (later_fit at (lasting play) (longest voices section) behind (omega (arith, lasts play, heard.lasts section))
+    (voice_fits voices voice heard (at + longest voices section) rest (All-tail ItemsIn section rest all)))
 
-  -- the notes of a voice in sections that are played from a moment on
-  pub voice_fits : (voices : List (List ℕ)) (voice : List ℕ) → IsHeard voices voice → (at : ℕ) (sections : List (List ℕ × List A)) → All ItemsIn sections
-      → AllFit at (voice_notes item_of voices voice at sections)
-  voice_fits voices voice heard at [] all = record { first = All-nil (Fits at); others = All-nil (Fits at) }
-  voice_fits voices voice heard at (section ∷ rest) all =
-      let play : List A = play_in item_of section voice in
-      let behind : Notes = voice_notes item_of voices voice (at + longest item_of voices section) rest in
-      notes_fit item_of at play behind (play_kept item_of Items section voice (All-head ItemsIn section rest all))
-      (later_fit at (lasting item_of play) (longest item_of voices section) behind (omega (arith, lasts play, heard.lasts section))
-      (voice_fits voices voice heard (at + longest item_of voices section) rest (All-tail ItemsIn section rest all)))
-
-  -- how many there are
-  pub voice_few : (voices : List (List ℕ)) (voice : List ℕ) → IsHeard voices voice → (at : ℕ) (sections : List (List ℕ × List A)) → All ItemsIn sections
-      → notes_of (voice_notes item_of voices voice at sections) ≤ 16 * sum_by (size_of voices) sections
-  voice_few voices voice heard at [] all = omega arith
-  voice_few voices voice heard at (section ∷ rest) all =
-      let play : List A = play_in item_of section voice in
-      let behind : Notes = voice_notes item_of voices voice (at + longest item_of voices section) rest in
-      omega (
-        arith,
-        sum_by-cons (size_of voices) section rest,
-        notes_few item_of at play behind (play_kept item_of Items section voice (All-head ItemsIn section rest all)),
-        picked_few (with_fields_in_endings item_of (part item_of voice section)) (places_of item_of (with_fields_in_endings item_of (part item_of voice section))),
-        heard.plays section,
-        voice_few voices voice heard (at + longest item_of voices section) rest (All-tail ItemsIn section rest all),
-      )
+-- how many there are
+pub voice_few : (voices : List (List ℕ)) (voice : List ℕ) → IsHeard voices voice → (at : ℕ) (sections : List (List ℕ × List Item)) → All ItemsIn sections
+    → notes_of (voice_notes voices voice at sections) ≤ 16 * sum_by (size_of voices) sections
+voice_few voices voice heard at [] all = omega arith
+voice_few voices voice heard at (section ∷ rest) all =
+    let play : List Item = play_in section voice in
+    let behind : Notes = voice_notes voices voice (at + longest voices section) rest in
+    omega (
+      arith,
+      sum_by-cons (size_of voices) section rest,
+      notes_few at play behind (play_kept IsItem section voice (All-head ItemsIn section rest all)),
+      picked_few (with_fields_in_endings (part voice section)) (places_of (with_fields_in_endings (part voice section))),
+      heard.plays section,
+      voice_few voices voice heard (at + longest voices section) rest (All-tail ItemsIn section rest all),
+    )
 
 -- the latest end of notes is no sooner than where it was looked for from
 pub last_past : (at : ℕ) (notes : List Sounding) → at ≤ last_off at notes

@@ -32,6 +32,7 @@ use Rattle.abc_voices.specs.Limits.{is_note_within, is_voice_within, is_change_w
 use Rattle.abc_voices.specs.Opening.{tempo_past, meter_past, key_past, program_past, past_all, title_of}
 use Rattle.abc_voices.specs.Ticks.{last_of_each_tick}
 use Rattle.abc_voices.specs.Track.{everyone, tracks}
+use Rattle.abc_voices.proofs.Items.{of_map}
 use Rattle.abc_voices.proofs.Fitting.Changes.{IsSetBy, settled_kept, settled_few, sections_set, past_kept}
 use Rattle.abc_voices.proofs.Fitting.Kept.{one_more, played_kept}
 use Rattle.abc_voices.proofs.Fitting.Notes.{Fits, AllFit}
@@ -48,10 +49,6 @@ and_yes {a} {b} here there = and_true a b here there
 
 both : {X : Type 0} (P Q R : X → Type 0) → ((x : X) → P x → Q x → R x) → (xs : List X) → All P xs → All Q xs → All R xs
 both P Q R f xs p q = λ k d within. f (slice_index_or xs k d) (p k d within) (q k d within)
-
-of_map : {X Y : Type 0} (P : Y → Type 0) (f : X → Y) (xs : List X) → All P (map f xs) → All (λ x. P (f x)) xs
-of_map P f [] all = All-nil (λ x. P (f x))
-of_map P f (x ∷ xs) all = All-cons (λ y. P (f y)) x xs (All-head P (f x) (map f xs) all) (of_map P f xs (All-tail P (f x) (map f xs) all))
 
 -- a note of a voice
 note_within : (end : Grains) (note : Sounding) → Fits 0 note → EndsBy end.0 note → is_note_within end note ≡ true
@@ -188,10 +185,10 @@ behind_few (Some number) sets = omega arith
 -- what the law asks of a tune
 pub record IsShort (tune : List Item) : Type 0 where
   pub each : All IsItem tune
-  pub places : places_played (λ item. item) tune ≤ MOST_PLACES
-  pub end : end_of (λ item. item) tune ≤ grains_of_the_latest_end
-  pub voices : length (tracks (λ item. item) tune) ≤ MOST_VOICES
-  pub title : length (title_of (λ item. item) tune) ≤ LONGEST_TITLE
+  pub places : places_played tune ≤ MOST_PLACES
+  pub end : end_of tune ≤ grains_of_the_latest_end
+  pub voices : length (tracks tune) ≤ MOST_VOICES
+  pub title : length (title_of tune) ≤ LONGEST_TITLE
 
 with_opening : {V : Type 0} (end : ℕ) (Q : V → Type 0) (value : V) (sets : List (Grains × V)) → Q value → All (IsSetBy end Q) sets → All (IsSetBy end Q) ((record { 0 = 0 }, value) ∷ sets)
 with_opening end Q value sets is all = All-cons (IsSetBy end Q) (record { 0 = 0 }, value) sets (record { before = omega arith; value = is }) all
@@ -202,135 +199,135 @@ first_heard P (voice ∷ those) all = All-cons P voice [] (All-head P voice thos
 
 module _ (tune : List Item) (short : IsShort tune) where
   abbrev voices : List (List ℕ)
-  voices = everyone (λ item. item) tune
+  voices = everyone tune
 
   abbrev those : List (List ℕ)
-  those = tracks (λ item. item) tune
+  those = tracks tune
 
   abbrev played : List (List ℕ × List Item)
-  played = played_sections (λ item. item) tune
+  played = played_sections tune
 
   abbrev end : Grains
-  end = record { 0 = end_of (λ item. item) tune }
+  end = record { 0 = end_of tune }
 
-  all_played : All (ItemsIn (λ item. item)) played
-  all_played = played_kept (λ item. item) IsItem tune short.each
+  all_played : All ItemsIn played
+  all_played = played_kept IsItem tune short.each
 
-  in_time : 0 + sum_by (longest (λ item. item) voices) played ≤ end.0
-  in_time = omega (arith, last_past (total (λ item. item) tune) (flat_map (λ notes. notes) (voices_notes (λ item. item) tune)))
+  in_time : 0 + sum_by (longest voices) played ≤ end.0
+  in_time = omega (arith, last_past (total tune) (flat_map (λ notes. notes) (voices_notes tune)))
 
   sets : {V : Type 0} (value_of : Item → Option V) (Q : V → Type 0) → ((item : Item) → IsItem item → IfSome (value_of item) Q)
-      → (heard : List (List ℕ)) → All (IsHeard (λ item. item) voices) heard → All (IsSetBy end.0 Q) (set_in (λ item. item) value_of voices heard 0 played)
-  sets value_of Q is heard all = sections_set (λ item. item) value_of Q is end.0 0 voices heard played in_time all all_played
+      → (heard : List (List ℕ)) → All (IsHeard voices) heard → All (IsSetBy end.0 Q) (set_in value_of voices heard 0 played)
+  sets value_of Q is heard all = sections_set value_of Q is end.0 0 voices heard played in_time all all_played
 
   abbrev tempos : List (Grains × ℕ)
-  tempos = (record { 0 = 0 }, or_else usual_tempo (past_all (λ item. item) tempo_past None tune)) ∷ set_in (λ item. item) tempo_of voices voices 0 played
+  tempos = (record { 0 = 0 }, or_else usual_tempo (past_all tempo_past None tune)) ∷ set_in tempo_of voices voices 0 played
 
   abbrev meter_sets : List (Grains × Meter)
-  meter_sets = (record { 0 = 0 }, or_else meters.Free (past_all (λ item. item) meter_past None tune)) ∷ set_in (λ item. item) meter_of voices (first_of those) 0 played
+  meter_sets = (record { 0 = 0 }, or_else meters.Free (past_all meter_past None tune)) ∷ set_in meter_of voices (first_of those) 0 played
 
   abbrev keys : List (Grains × (ℤ × Bool))
-  keys = (record { 0 = 0 }, or_else (pos 0, false) (past_all (λ item. item) key_past None tune)) ∷ set_in (λ item. item) key_of voices (first_of those) 0 played
+  keys = (record { 0 = 0 }, or_else (pos 0, false) (past_all key_past None tune)) ∷ set_in key_of voices (first_of those) 0 played
 
-  first_ones : All (IsHeard (λ item. item) voices) (first_of those)
-  first_ones = first_heard (IsHeard (λ item. item) voices) those (tracks_heard (λ item. item) tune)
+  first_ones : All (IsHeard voices) (first_of those)
+  first_ones = first_heard (IsHeard voices) those (tracks_heard tune)
 
-  opening_tempo_is : FitsInTempoEvent (or_else usual_tempo (past_all (λ item. item) tempo_past None tune))
-  opening_tempo_is = or_else_is FitsInTempoEvent usual_tempo (past_all (λ item. item) tempo_past None tune) (record { least = omega arith; most = omega arith })
-      (past_kept (λ item. item) tempo_past (λ tempo. IfSome tempo FitsInTempoEvent) tempo_past_is None tune tt short.each)
+  opening_tempo_is : FitsInTempoEvent (or_else usual_tempo (past_all tempo_past None tune))
+  opening_tempo_is = or_else_is FitsInTempoEvent usual_tempo (past_all tempo_past None tune) (record { least = omega arith; most = omega arith })
+      (past_kept tempo_past (λ tempo. IfSome tempo FitsInTempoEvent) tempo_past_is None tune tt short.each)
 
-  opening_meter_is : IsMeterInRange (or_else meters.Free (past_all (λ item. item) meter_past None tune))
-  opening_meter_is = or_else_is IsMeterInRange meters.Free (past_all (λ item. item) meter_past None tune) tt
-      (past_kept (λ item. item) meter_past (λ meter. IfSome meter IsMeterInRange) meter_past_is None tune tt short.each)
+  opening_meter_is : IsMeterInRange (or_else meters.Free (past_all meter_past None tune))
+  opening_meter_is = or_else_is IsMeterInRange meters.Free (past_all meter_past None tune) tt
+      (past_kept meter_past (λ meter. IfSome meter IsMeterInRange) meter_past_is None tune tt short.each)
 
   no_sharps : IsKey (pos 0, false)
   no_sharps = record { 0 = grind arith; 1 = grind arith }
 
-  opening_key_is : IsKey (or_else (pos 0, false) (past_all (λ item. item) key_past None tune))
-  opening_key_is = or_else_is IsKey (pos 0, false) (past_all (λ item. item) key_past None tune) no_sharps
-      (past_kept (λ item. item) key_past (λ key. IfSome key IsKey) key_past_is None tune tt short.each)
+  opening_key_is : IsKey (or_else (pos 0, false) (past_all key_past None tune))
+  opening_key_is = or_else_is IsKey (pos 0, false) (past_all key_past None tune) no_sharps
+      (past_kept key_past (λ key. IfSome key IsKey) key_past_is None tune tt short.each)
 
-  changes_fit : list_all (is_change_within end) (changes_of (λ item. item) tune) ≡ true
+  changes_fit : list_all (is_change_within end) (changes_of tune) ≡ true
   changes_fit =
       conductor_fits end tempos meter_sets keys
-      (with_opening end.0 FitsInTempoEvent (or_else usual_tempo (past_all (λ item. item) tempo_past None tune)) (set_in (λ item. item) tempo_of voices voices 0 played)
-      opening_tempo_is (sets tempo_of FitsInTempoEvent tempo_is voices (all_heard (λ item. item) voices)))
-      (with_opening end.0 IsMeterInRange (or_else meters.Free (past_all (λ item. item) meter_past None tune)) (set_in (λ item. item) meter_of voices (first_of those) 0 played)
+      (with_opening end.0 FitsInTempoEvent (or_else usual_tempo (past_all tempo_past None tune)) (set_in tempo_of voices voices 0 played)
+      opening_tempo_is (sets tempo_of FitsInTempoEvent tempo_is voices (all_heard voices)))
+      (with_opening end.0 IsMeterInRange (or_else meters.Free (past_all meter_past None tune)) (set_in meter_of voices (first_of those) 0 played)
       opening_meter_is (sets meter_of IsMeterInRange meter_is (first_of those) first_ones))
-      (with_opening end.0 IsKey (or_else (pos 0, false) (past_all (λ item. item) key_past None tune)) (set_in (λ item. item) key_of voices (first_of those) 0 played)
+      (with_opening end.0 IsKey (or_else (pos 0, false) (past_all key_past None tune)) (set_in key_of voices (first_of those) 0 played)
       opening_key_is (sets key_of IsKey key_is (first_of those) first_ones))
 
-  few_changes : length (changes_of (λ item. item) tune) ≤ MOST_CHANGES
+  few_changes : length (changes_of tune) ≤ MOST_CHANGES
   few_changes =
       omega (
         arith,
         short.places,
         conductor_few tempos meter_sets keys,
-        sets_few (λ item. item) voices those (tracks_room (λ item. item) tune) 0 played,
+        sets_few voices those (tracks_room tune) 0 played,
       )
 
   abbrev notes_of_voice : List ℕ → List Sounding
-  notes_of_voice voice = all_notes (voice_notes (λ item. item) voices voice 0 played)
+  notes_of_voice voice = all_notes (voice_notes voices voice 0 played)
 
   abbrev Ends : List Sounding → Type 0
   Ends notes = All (EndsBy end.0) notes
 
   voices_end : All (λ voice. Ends (notes_of_voice voice)) those
   voices_end = of_map Ends notes_of_voice those
-      (each_list (EndsBy end.0) (map notes_of_voice those) (last_of_all (total (λ item. item) tune) (flat_map (λ notes. notes) (map notes_of_voice those))))
+      (each_list (EndsBy end.0) (map notes_of_voice those) (last_of_all (total tune) (flat_map (λ notes. notes) (map notes_of_voice those))))
 
-  voice_within : (voice : List ℕ) → IsHeard (λ item. item) voices voice → Ends (notes_of_voice voice) → is_voice_within end (notes_of_voice voice) ≡ true
+  voice_within : (voice : List ℕ) → IsHeard voices voice → Ends (notes_of_voice voice) → is_voice_within end (notes_of_voice voice) ≡ true
   voice_within voice heard ends =
-      let notes : Notes = voice_notes (λ item. item) voices voice 0 played in
-      let fits : AllFit 0 notes = voice_fits (λ item. item) voices voice heard 0 played all_played in
+      let notes : Notes = voice_notes voices voice 0 played in
+      let fits : AllFit 0 notes = voice_fits voices voice heard 0 played all_played in
       notes_within end (all_notes notes) (All-append (Fits 0) notes.others notes.first fits.others fits.first) ends
-      (omega (arith, short.places, length-append notes.others notes.first, voice_few (λ item. item) voices voice heard 0 played all_played))
+      (omega (arith, short.places, length-append notes.others notes.first, voice_few voices voice heard 0 played all_played))
 
-  voices_fit : list_all (is_voice_within end) (voices_notes (λ item. item) tune) ≡ true
+  voices_fit : list_all (is_voice_within end) (voices_notes tune) ≡ true
   voices_fit =
       list_all-from_AllPass (is_voice_within end) (map notes_of_voice those)
       (All-map (λ notes. is_voice_within end notes ≡ true) notes_of_voice those
-      (both (IsHeard (λ item. item) voices) (λ voice. Ends (notes_of_voice voice)) (λ voice. is_voice_within end (notes_of_voice voice) ≡ true) voice_within those
-      (tracks_heard (λ item. item) tune) voices_end))
+      (both (IsHeard voices) (λ voice. Ends (notes_of_voice voice)) (λ voice. is_voice_within end (notes_of_voice voice) ≡ true) voice_within those
+      (tracks_heard tune) voices_end))
 
   abbrev opening : Option ℕ
-  opening = past_all (λ item. item) program_past None tune
+  opening = past_all program_past None tune
 
   opening_is : IfSome opening IsProgram
-  opening_is = past_kept (λ item. item) program_past (λ program. IfSome program IsProgram) program_past_is None tune tt short.each
+  opening_is = past_kept program_past (λ program. IfSome program IsProgram) program_past_is None tune tt short.each
 
-  voice_programs : (voice : List ℕ) → IsHeard (λ item. item) voices voice → are_programs_within end (programs_in (λ item. item) opening voices played voice) ≡ true
+  voice_programs : (voice : List ℕ) → IsHeard voices voice → are_programs_within end (programs_in opening voices played voice) ≡ true
   voice_programs voice heard =
-      let own : List (Grains × ℕ) = set_in (λ item. item) program_of voices (voice ∷ []) 0 played in
+      let own : List (Grains × ℕ) = set_in program_of voices (voice ∷ []) 0 played in
       programs_fit end (behind opening own)
       (behind_kept end.0 opening own opening_is
-      (sets program_of IsProgram program_is (voice ∷ []) (All-cons (IsHeard (λ item. item) voices) voice [] heard (All-nil (IsHeard (λ item. item) voices)))))
-      (omega (arith, short.places, behind_few opening own, voice_sets_few (λ item. item) program_of voices voice heard 0 played))
+      (sets program_of IsProgram program_is (voice ∷ []) (All-cons (IsHeard voices) voice [] heard (All-nil (IsHeard voices)))))
+      (omega (arith, short.places, behind_few opening own, voice_sets_few program_of voices voice heard 0 played))
 
-  all_programs_fit : list_all (are_programs_within end) (programs_of (λ item. item) tune) ≡ true
+  all_programs_fit : list_all (are_programs_within end) (programs_of tune) ≡ true
   all_programs_fit =
-      list_all-from_AllPass (are_programs_within end) (programs_of (λ item. item) tune)
-      (All-map (λ programs. are_programs_within end programs ≡ true) (programs_in (λ item. item) opening voices played) those
-      (All-weaker (IsHeard (λ item. item) voices) (λ voice. are_programs_within end (programs_in (λ item. item) opening voices played voice) ≡ true) voice_programs those
-      (tracks_heard (λ item. item) tune)))
+      list_all-from_AllPass (are_programs_within end) (programs_of tune)
+      (All-map (λ programs. are_programs_within end programs ≡ true) (programs_in opening voices played) those
+      (All-weaker (IsHeard voices) (λ voice. are_programs_within end (programs_in opening voices played voice) ≡ true) voice_programs those
+      (tracks_heard tune)))
 
-  as_many : length (programs_of (λ item. item) tune) ≡ length (voices_notes (λ item. item) tune)
-  as_many = length-map those (programs_in (λ item. item) opening voices played) ∙ sym (length-map those notes_of_voice)
+  as_many : length (programs_of tune) ≡ length (voices_notes tune)
+  as_many = length-map those (programs_in opening voices played) ∙ sym (length-map those notes_of_voice)
 
-  counts_fit : are_counts_within (score_of (λ item. item) tune) ≡ true
+  counts_fit : are_counts_within (score_of tune) ≡ true
   counts_fit =
       and_yes (and_yes (and_yes (and_yes (le-leb end.0 grains_of_the_latest_end short.end)
-      (le-leb (length (title_of (λ item. item) tune)) LONGEST_TITLE short.title))
-      (le-leb (length (changes_of (λ item. item) tune)) MOST_CHANGES few_changes))
+      (le-leb (length (title_of tune)) LONGEST_TITLE short.title))
+      (le-leb (length (changes_of tune)) MOST_CHANGES few_changes))
       (le-leb (length (map notes_of_voice those)) MOST_VOICES (as_few notes_of_voice those MOST_VOICES short.voices)))
-      (eq-eqb (length (programs_of (λ item. item) tune)) (length (voices_notes (λ item. item) tune)) as_many)
+      (eq-eqb (length (programs_of tune)) (length (voices_notes tune)) as_many)
 
   -- its score fits a file
-  pub score_fits : is_within_limits (score_of (λ item. item) tune) ≡ true
+  pub score_fits : is_within_limits (score_of tune) ≡ true
   unfolding is_within_limits
   score_fits = and_yes (and_yes (and_yes counts_fit changes_fit) voices_fit) all_programs_fit
 
-pub fits_a_file : (tune : List Item) → All IsItem tune → places_played (λ item. item) tune ≤ MOST_PLACES → end_of (λ item. item) tune ≤ grains_of_the_latest_end
-    → length (tracks (λ item. item) tune) ≤ MOST_VOICES → length (title_of (λ item. item) tune) ≤ LONGEST_TITLE → is_within_limits (score_of (λ item. item) tune) ≡ true
+pub fits_a_file : (tune : List Item) → All IsItem tune → places_played tune ≤ MOST_PLACES → end_of tune ≤ grains_of_the_latest_end
+    → length (tracks tune) ≤ MOST_VOICES → length (title_of tune) ≤ LONGEST_TITLE → is_within_limits (score_of tune) ≡ true
 fits_a_file tune each places end voices title =
     score_fits tune (record { each = each; places = places; end = end; voices = voices; title = title })

@@ -5,4 +5,4 @@ use Rattle.abc_tune.proofs.whole_faults.out_behind.Given as goal
 
 -- what holds so far, and behind the rest
 abbrev pub invariant-loop-item : goal.invariant-loop-item
-invariant-loop-item l = past_all (λ item. item) out_past l.out_of_range (drop l.item-index l.items) ≡ past_all (λ item. item) out_past l.before l.items
+invariant-loop-item l = past_all out_past l.out_of_range (drop l.item-index l.items) ≡ past_all out_past l.before l.items

@@ -1,7 +1,8 @@
 use Rattle.std.proofs.Common.{◌≡◌, ◌++◌, drop}
+use Rattle.abc_voices.specs.Items.{items_of}
 use Rattle.abc_voices.specs.Fields.{fields}
 use Rattle.abc_voices.proofs.fields.fields.Given as goal
 
 -- the fields so far, and those of the rest
 abbrev pub invariant-loop-item : goal.invariant-loop-item
-invariant-loop-item l = l.found.items ++ fields (λ step. step.now) (drop l.item-index l.tune) ≡ fields (λ step. step.now) l.tune
+invariant-loop-item l = items_of l.found.items ++ fields (items_of (drop l.item-index l.tune)) ≡ fields (items_of l.tune)

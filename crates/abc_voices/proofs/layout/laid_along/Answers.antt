@@ -1,5 +1,6 @@
 use Rattle.std.proofs.Common.{◌≡◌, ◌≤◌, ℕ, Err, ap, subst, ◌∙◌, arith}
 use Rattle.abc_time.specs.Grains.{grains_of_the_latest_end}
+use Rattle.abc_voices.specs.Items.{items_of}
 use Rattle.abc_voices.specs.Turns.{stages_in}
 use Rattle.abc_voices.specs.declared.stage.StageFault.TheVariants.{TooLate}
 use Rattle.abc_voices.specs.declared.score.Score.{Score}
@@ -10,38 +11,38 @@ use Rattle.abc_voices.proofs.Steady.{kept_along, steady_along}
 use Rattle.abc_voices.proofs.layout.laid_along.Goals as goal
 
 pub returns-in_default-clause-too_late : goal.returns-in_default-clause-too_late
-returns-in_default-clause-too_late c = λ _. late_total c.args.tune.now (stages_in c.args.turns.now) c.requires.stages c.in_default.ensures
+returns-in_default-clause-too_late c = λ _. late_total (items_of c.args.tune.now) (stages_in c.args.turns.now) c.requires.stages c.in_default.ensures
 
 pub score_along-requires-clause-stages : goal.score_along-requires-clause-stages
 score_along-requires-clause-stages c =
-    are_stages c.args.turns.now (stages_hold c.args.tune.now (stages_in c.args.turns.now) c.requires.stages c.requires.tune)
+    are_stages c.args.turns.now (stages_hold (items_of c.args.tune.now) (stages_in c.args.turns.now) c.requires.stages c.requires.tune)
 
 pub score_along-requires-clause-voices : goal.score_along-requires-clause-voices
-score_along-requires-clause-voices c = omega (arith, first_within c.args.tune.now, c.first_track-first.ensures, c.requires.count)
+score_along-requires-clause-voices c = omega (arith, first_within (items_of c.args.tune.now), c.first_track-first.ensures, c.requires.count)
 
 pub score_along-requires-clause-steady : goal.score_along-requires-clause-steady
 score_along-requires-clause-steady c =
-    steady_along c.args.tune.now c.args.given.now (stages_in c.args.turns.now) c.requires.given c.requires.stages
+    steady_along (items_of c.args.tune.now) (items_of c.args.given.now) (stages_in c.args.turns.now) c.requires.given c.requires.stages
 
 pub score_along-requires-clause-kept : goal.score_along-requires-clause-kept
 score_along-requires-clause-kept c =
-    kept_along c.args.tune.now c.args.given.now (stages_in c.args.turns.now) c.requires.given c.requires.stages
+    kept_along (items_of c.args.tune.now) (items_of c.args.given.now) (stages_in c.args.turns.now) c.requires.given c.requires.stages
 
 pub returns-in-Ok-clause-score : goal.returns-in-Ok-clause-score
 returns-in-Ok-clause-score c =
-    c.in-Ok.ensures.value ∙ score_given c.args.tune.now c.args.given.now c.first_track-first.result c.args.count (stages_in c.args.turns.now) c.requires.given ∙ score_is c.args.tune.now (stages_in c.args.turns.now) c.first_track-first.result c.args.count c.requires.stages c.first_track-first.ensures c.requires.count
+    c.in-Ok.ensures.value ∙ score_given (items_of c.args.tune.now) (items_of c.args.given.now) c.first_track-first.result c.args.count (stages_in c.args.turns.now) c.requires.given ∙ score_is (items_of c.args.tune.now) (stages_in c.args.turns.now) c.first_track-first.result c.args.count c.requires.stages c.first_track-first.ensures c.requires.count
 
 pub returns-in-Ok-clause-uneven : goal.returns-in-Ok-clause-uneven
 returns-in-Ok-clause-uneven c =
-    c.is_uneven-uneven.ensures ∙ uneven_is c.args.tune.now (stages_in c.args.turns.now) c.requires.stages
+    c.is_uneven-uneven.ensures ∙ uneven_is (items_of c.args.tune.now) (stages_in c.args.turns.now) c.requires.stages
 
 pub returns-in-Ok-clause-in_time : goal.returns-in-Ok-clause-in_time
 returns-in-Ok-clause-in_time c =
-    let score = c.in-Ok.ensures.value ∙ score_given c.args.tune.now c.args.given.now c.first_track-first.result c.args.count (stages_in c.args.turns.now) c.requires.given ∙ score_is c.args.tune.now (stages_in c.args.turns.now) c.first_track-first.result c.args.count c.requires.stages c.first_track-first.ensures c.requires.count in
+    let score = c.in-Ok.ensures.value ∙ score_given (items_of c.args.tune.now) (items_of c.args.given.now) c.first_track-first.result c.args.count (stages_in c.args.turns.now) c.requires.given ∙ score_is (items_of c.args.tune.now) (stages_in c.args.turns.now) c.first_track-first.result c.args.count c.requires.stages c.first_track-first.ensures c.requires.count in
     subst (λ (n : ℕ). n ≤ grains_of_the_latest_end) (ap (λ (s : Score). s.end.0) score) c.in-Ok.ensures.in_time
 
 pub returns-in-Err-clause-too_late : goal.returns-in-Err-clause-too_late
 returns-in-Err-clause-too_late c = λ e.
     let same : c.in-Err.why ≡ TooLate = cc in
-    late_end c.args.tune.now (stages_in c.args.turns.now) c.first_track-first.result c.args.count c.requires.stages c.first_track-first.ensures c.requires.count
+    late_end (items_of c.args.tune.now) (stages_in c.args.turns.now) c.first_track-first.result c.args.count c.requires.stages c.first_track-first.ensures c.requires.count
     (c.in-Err.ensures.too_late (ap Err same))

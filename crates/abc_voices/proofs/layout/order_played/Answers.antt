@@ -2,11 +2,12 @@ use Rattle.std.proofs.Common.{◌≡◌, ◌<◌, ◌≤◌, ℕ, None, Err, len
 use Rattle.std.specs.Prelude.{option_copied}
 use Rattle.abc_repeat.specs.Order.{sections_of, has_unknown}
 use Rattle.abc_repeat.specs.declared.order.TheConstants.{MOST_SECTIONS}
+use Rattle.abc_voices.specs.Items.{items_of}
 use Rattle.abc_voices.proofs.Within.{IsAccepted, order_accepted, same_length, same_unknown, not_above}
 use Rattle.abc_voices.proofs.layout.order_played.Goals as goal
 
 pub play_order-requires : goal.play_order-requires
-play_order-requires c = subst IsAccepted (sym c.order_of.ensures) (order_accepted c.args.given.now None (λ text e. cc) c.requires)
+play_order-requires c = subst IsAccepted (sym c.order_of.ensures) (order_accepted (items_of c.args.given.now) None (λ text e. cc) c.requires)
 
 pub returns-in-Ok-clause-few : goal.returns-in-Ok-clause-few
 returns-in-Ok-clause-few c =

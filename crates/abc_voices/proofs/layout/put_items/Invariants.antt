@@ -1,6 +1,7 @@
-use Rattle.std.proofs.Common.{◌≡◌, ◌++◌, drop, map}
+use Rattle.std.proofs.Common.{◌≡◌, ◌++◌, drop}
+use Rattle.abc_voices.specs.Items.{items_of}
 use Rattle.abc_voices.proofs.layout.put_items.Given as goal
 
 -- the items so far, and the others
 abbrev pub invariant-loop-item : goal.invariant-loop-item
-invariant-loop-item l = map (λ step. step.now) l.tune.items ++ drop l.item-index l.items ≡ map (λ step. step.now) l.initial.tune.items ++ l.items
+invariant-loop-item l = items_of l.tune.items ++ drop l.item-index l.items ≡ items_of l.initial.tune.items ++ l.items

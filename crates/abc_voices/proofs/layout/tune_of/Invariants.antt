@@ -1,12 +1,13 @@
-use Rattle.std.proofs.Common.{◌≡◌, ◌++◌, drop, map}
+use Rattle.std.proofs.Common.{◌≡◌, ◌++◌, drop}
 use Rattle.std.specs.Prelude.{All}
 use Rattle.abc_music.specs.Item.{IsItem}
+use Rattle.abc_voices.specs.Items.{items_of}
 use Rattle.abc_voices.specs.Arrange.{items_in}
 use Rattle.abc_voices.proofs.layout.tune_of.Given as goal
 
 -- the items so far, and those of the other cells
 abbrev pub invariant-loop-one : goal.invariant-loop-one
 invariant-loop-one l = record {
-  items : map (λ step. step.now) l.tune.items ++ items_in (drop l.one-index l.items) ≡ items_in l.items;
-  range : All IsItem (map (λ step. step.now) l.tune.items);
+  items : items_of l.tune.items ++ items_in (drop l.one-index l.items) ≡ items_in l.items;
+  range : All IsItem (items_of l.tune.items);
 }

@@ -1,4 +1,6 @@
 use Rattle.std.proofs.Common.{◌≡◌, ◌+◌, ◌-◌, ◌≤◌, length, take, drop}
+use Rattle.abc_time.specs.Grains.{grains_of_the_latest_end}
+use Rattle.abc_voices.specs.Items.{items_of}
 use Rattle.abc_voices.specs.TiedNotes.{notes_from, notes_in}
 use Rattle.abc_voices.specs.Play.{duration}
 use Rattle.abc_voices.proofs.notes.put_notes.Given as goal
@@ -7,8 +9,9 @@ use Rattle.abc_voices.proofs.notes.put_notes.Given as goal
 abbrev pub invariant-loop-left : goal.invariant-loop-left
 invariant-loop-left l = record {
   inside : l.left ≤ length l.steps;
-  moment : l.at.0 ≡ (l.fn.end.0 - duration (λ step. step.now) l.steps) + duration (λ step. step.now) (take l.left l.steps);
-  notes : notes_in l.notes ≡ notes_from (λ step. step.now) l.at.0 (drop l.left l.steps) (notes_in l.initial.notes);
+  in_time : l.at.0 ≤ grains_of_the_latest_end;
+  moment : l.at.0 ≡ (l.fn.end.0 - duration (items_of l.steps)) + duration (items_of (take l.left l.steps));
+  notes : notes_in l.notes ≡ notes_from l.at.0 (items_of (drop l.left l.steps)) (notes_in l.initial.notes);
 }
 
 abbrev pub decreases-loop-left : goal.decreases-loop-left

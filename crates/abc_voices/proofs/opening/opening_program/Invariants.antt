@@ -1,7 +1,8 @@
 use Rattle.std.proofs.Common.{◌≡◌, None, drop}
+use Rattle.abc_voices.specs.Items.{items_of}
 use Rattle.abc_voices.specs.Opening.{program_past, past_all}
 use Rattle.abc_voices.proofs.opening.opening_program.Given as goal
 
 -- what holds so far, and behind the rest
 abbrev pub invariant-loop-item : goal.invariant-loop-item
-invariant-loop-item l = past_all (λ step. step.now) program_past l.program (drop l.item-index l.tune) ≡ past_all (λ step. step.now) program_past None l.tune
+invariant-loop-item l = past_all program_past l.program (items_of (drop l.item-index l.tune)) ≡ past_all program_past None (items_of l.tune)

@@ -1,7 +1,8 @@
 use Rattle.std.proofs.Common.{◌≡◌, ◌++◌, drop}
+use Rattle.abc_voices.specs.Items.{items_of}
 use Rattle.abc_voices.specs.Section.{letters}
 use Rattle.abc_voices.proofs.section.letters.Given as goal
 
 -- the letters so far, and those of the rest
 abbrev pub invariant-loop-item : goal.invariant-loop-item
-invariant-loop-item l = l.found.items ++ letters (λ step. step.now) (drop l.item-index l.tune) ≡ letters (λ step. step.now) l.tune
+invariant-loop-item l = l.found.items ++ letters (items_of (drop l.item-index l.tune)) ≡ letters (items_of l.tune)

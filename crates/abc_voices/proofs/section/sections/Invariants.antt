@@ -1,4 +1,6 @@
 use Rattle.std.proofs.Common.{◌≡◌, ◌≤◌, ◌-◌, ◌++◌, take, drop, map}
+use Rattle.abc_voices.specs.Stage.{content}
+use Rattle.abc_voices.specs.Items.{items_of}
 use Rattle.abc_voices.specs.Section.{sections, sections_from}
 use Rattle.abc_voices.proofs.section.sections.Given as goal
 
@@ -6,5 +8,5 @@ use Rattle.abc_voices.proofs.section.sections.Given as goal
 abbrev pub invariant-loop-at : goal.invariant-loop-at
 invariant-loop-at l = record {
   inside : l.begin ≤ l.at;
-  found : map (λ section. (section.voice.now, section.items.now)) l.found.items ++ sections_from (λ step. step.now) l.opening (take (l.at - l.begin) (drop l.begin l.tune)) l.voice (drop l.at l.tune) ≡ sections (λ step. step.now) l.tune;
+  found : map content l.found.items ++ sections_from l.opening (items_of (take (l.at - l.begin) (drop l.begin l.tune))) l.voice (items_of (drop l.at l.tune)) ≡ sections (items_of l.tune);
 }

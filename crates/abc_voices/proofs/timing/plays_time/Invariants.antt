@@ -1,8 +1,9 @@
 use Rattle.std.proofs.Common.{◌≡◌, drop}
 use Rattle.std.specs.List.{list_any}
+use Rattle.abc_voices.specs.Items.{items_of}
 use Rattle.abc_voices.specs.Arrange.{takes_time}
 use Rattle.abc_voices.proofs.timing.plays_time.Given as goal
 
 -- the rest says what the whole does
 abbrev pub invariant-loop-step : goal.invariant-loop-step
-invariant-loop-step l = list_any (λ step. takes_time step.now) (drop l.step-index l.steps) ≡ list_any (λ step. takes_time step.now) l.steps
+invariant-loop-step l = list_any takes_time (items_of (drop l.step-index l.steps)) ≡ list_any takes_time (items_of l.steps)
