@@ -1,7 +1,8 @@
 //! The order in which a voice's items are played in a section.
 
-ghost use Rattle.std.specs.Prelude.{◌≡◌, ◌++◌, [], IfOk, OnOk};
+ghost use Rattle.std.specs.Prelude.{◌≡◌, ◌++◌, [], not, IfOk, OnOk};
 ghost use Rattle.abc_voices.specs.Items.{items_of};
+ghost use Rattle.abc_voices.specs.Play.{marks_of};
 ghost use Rattle.abc_voices.specs.declared.ending_fields.Region.TheVariants as regions;
 ghost use Rattle.abc_voices.specs.EndingFields.{waits, past_bar, past, region_past, nothing_waits, set_down, with_fields_in_endings};
 
@@ -56,18 +57,21 @@ impl Region {
     }
 }
 
-/// Whether none of the items of a voice in a section waits for an ending's sign.
-fn nothing_waits(part: &[&Item]) -> bool
-    ensures { result ≡ nothing_waits regions.Common (items_of part.now) }
+/// The marks of the items of a voice in a section, and whether one of the items waits for an ending's sign.
+pub(crate) fn marks_of(alloc: Global, part: &[&Item]) -> Result<(Vec<Mark>, bool), AllocError>
+    ensures marks { IfOk result (λ found. found.0.items ≡ marks_of (items_of part.now)) }
+    ensures waits { IfOk result (λ found. not found.1 ≡ nothing_waits regions.Common (items_of part.now)) }
 {
+    let mut marks = Vec::with_capacity(alloc, part.len())?;
     let mut region = Region::Common;
+    let mut waits = false;
     for item in part {
-        if region.waits(item) {
-            return false;
-        }
-        region = region.past(mark_of(item));
+        let mark = mark_of(item);
+        waits = waits || region.waits(item);
+        region = region.past(mark);
+        marks.push(mark)?;
     }
-    true
+    Ok((marks, waits))
 }
 
 /// Puts an item with those that have waited: an ending's sign before them, anything else behind.
@@ -95,8 +99,11 @@ fn set_down<'a>(
     Ok(())
 }
 
-/// The items of a voice in a section, each that waits put behind the next ending's sign.
-fn moved<'a>(alloc: Global, part: &[&'a Item]) -> Result<Vec<&'a Item>, AllocError>
+/// The items of a voice in a section, fields behind an ending's bar moved behind the next ending's sign.
+pub(crate) fn with_fields_in_endings<'a>(
+    alloc: Global,
+    part: &[&'a Item],
+) -> Result<Vec<&'a Item>, AllocError>
     ensures { IfOk result (λ steps. items_of steps.items ≡ with_fields_in_endings (items_of part.now)) }
 {
     let mut steps = Vec::with_capacity(alloc, part.len())?;
@@ -112,18 +119,4 @@ fn moved<'a>(alloc: Global, part: &[&'a Item]) -> Result<Vec<&'a Item>, AllocErr
     }
     steps.extend_from_slice(&held)?;
     Ok(steps)
-}
-
-/// The items of a voice in a section, fields behind an ending's bar moved behind the next ending's sign.
-pub(crate) fn with_fields_in_endings<'a>(
-    alloc: Global,
-    part: Vec<&'a Item>,
-) -> Result<Vec<&'a Item>, AllocError>
-    ensures { IfOk result (λ steps. items_of steps.items ≡ with_fields_in_endings (items_of part.entry.items)) }
-{
-    // In most music nothing waits, and then the items stay in the list that they came in.
-    if nothing_waits(&part) {
-        return Ok(part);
-    }
-    moved(alloc, &part)
 }

@@ -8,23 +8,12 @@ ghost use Rattle.abc_voices.specs.Items.{items_of};
 ghost use Rattle.abc_voices.specs.EndingFields.{with_fields_in_endings};
 ghost use Rattle.abc_voices.specs.Play.{marks_of, places_of, played, duration, are_straight, without_marks};
 
-use crate::ending_fields::with_fields_in_endings;
-use crate::step::{is_played, is_straight, length_of, mark_of};
+use crate::ending_fields::{marks_of, with_fields_in_endings};
+use crate::step::{is_played, is_straight, length_of};
 use abc_music::Item;
 use abc_repeat::{MOST_PLACES, Mark, RepeatFault, expand_within};
 use abc_time::{Grains, LATEST_END};
 use std::alloc::{AllocError, Global};
-
-/// The marks of a voice in a section.
-fn marks_of(alloc: Global, steps: &[&Item]) -> Result<Vec<Mark>, AllocError>
-    ensures { IfOk result (λ marks. marks.items ≡ marks_of (items_of steps.now)) }
-{
-    let mut marks = Vec::with_capacity(alloc, steps.len())?;
-    for step in steps {
-        marks.push(mark_of(step))?;
-    }
-    Ok(marks)
-}
 
 /// What stands at each of some places.
 fn chosen<'a>(
@@ -81,6 +70,25 @@ fn played_once<'a>(part: Vec<&'a Item>, room: u64) -> Result<Vec<&'a Item>, Repe
     Ok(items)
 }
 
+/// What is played of items that stand as repeats and endings play them, by their marks.
+fn expanded<'a>(
+    alloc: Global,
+    steps: &[&'a Item],
+    marks: &[Mark],
+    room: u64,
+) -> Result<Vec<&'a Item>, RepeatFault>
+    requires { marks.now ≡ marks_of (items_of steps.now) }
+    ensures value { IfOk result (λ items. items_of items.items
+        ≡ filter_map (slice_get (items_of steps.now)) (places_of (items_of steps.now))) }
+    ensures size { IfOk result (λ items. length items.items ≡ length (places_of (items_of steps.now))) }
+    ensures within { IfOk result (λ items. length items.items ≤ min room MOST_PLACES) }
+    ensures too_long { result ≡ Err TooLong → min room MOST_PLACES < length (places_of (items_of steps.now)) }
+{
+    let places = expand_within(alloc, marks, room)?;
+    let items = chosen(alloc, steps, &places)?;
+    Ok(items)
+}
+
 /// What is played of the items of a voice in a section, in order of play, where there is room for so many
 /// places. Memory for more places than there are items is asked for only where there is room.
 pub(crate) fn played<'a>(
@@ -99,11 +107,14 @@ pub(crate) fn played<'a>(
     if are_straight(&part) {
         return played_once(part, room);
     }
-    let steps = with_fields_in_endings(alloc, part)?;
-    let marks = marks_of(alloc, &steps)?;
-    let places = expand_within(alloc, &marks, room)?;
-    let items = chosen(alloc, &steps, &places)?;
-    Ok(items)
+    let (marks, waits) = marks_of(alloc, &part)?;
+    // In most music nothing waits for an ending's sign, and then the items stay in the list that they came in.
+    if !waits {
+        return expanded(alloc, &part, &marks, room);
+    }
+    let steps = with_fields_in_endings(alloc, &part)?;
+    let (marks, _) = marks_of(alloc, &steps)?;
+    expanded(alloc, &steps, &marks, room)
 }
 
 /// How long items take one after another, unless that is later than a tune may end.
