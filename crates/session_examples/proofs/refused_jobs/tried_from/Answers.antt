@@ -1,0 +1,6 @@
+use Rattle.std.proofs.Common.{refl}
+use Rattle.live_examples.proofs.Jobs.{given, own}
+use Rattle.session_examples.proofs.refused_jobs.tried_from.Goals as goal
+
+pub returns-in-Ok-Some : goal.returns-in-Ok-Some
+returns-in-Ok-Some g c = own _ _ _ _ (given _ _ _ _ _ c.in-Ok-Some.is refl c.take_from.ensures.after)
