@@ -57,13 +57,13 @@ fn take<R: Runtime + Abort>(
     publisher: &mut Publisher,
     session: &Session,
     name: &str,
-    file: Option<&[u8]>,
+    file: &[u8],
     ends_well: bool,
 ) {
     call(rt, name);
     let held = taken(rt, publisher, session);
     done(rt);
-    check_newest(rt, &held, 1, file);
+    check_newest(rt, &held, 1, Some(file));
     let held = end_older(publisher, held, ends_well);
     finish(publisher, held);
 }
@@ -83,7 +83,7 @@ fn take_all<R: Runtime + Abort>(
         publisher,
         session,
         "Publisher::take, a new file",
-        Some(FILE_OF_C),
+        FILE_OF_C,
         true,
     );
     let lines = lines_of(rt, alloc, &[b"D"]);
@@ -94,7 +94,7 @@ fn take_all<R: Runtime + Abort>(
         publisher,
         session,
         "Publisher::take, another file",
-        Some(FILE_OF_D),
+        FILE_OF_D,
         false,
     );
     take(
@@ -102,18 +102,15 @@ fn take_all<R: Runtime + Abort>(
         publisher,
         session,
         "Publisher::take, the same file again",
-        Some(FILE_OF_D),
+        FILE_OF_D,
         true,
     );
     apply(rt, session, Edit::Delete { from: 1, to: 4 }, &mut work);
-    take(
-        rt,
-        publisher,
-        session,
-        "Publisher::take, a file that goes",
-        None,
-        true,
-    );
+    // no memory is asked for a file that goes
+    let held = taken(rt, publisher, session);
+    check_newest(rt, &held, 1, None);
+    let held = end_older(publisher, held, true);
+    finish(publisher, held);
 }
 
 #[test]
