@@ -76,13 +76,15 @@ fn long_tune(rt: &impl Abort, alloc: Global) -> Edit {
 #[test]
 fn a_session_over_no_lines(rt: HostRuntime) {
     call(&rt, "Session::new");
-    let mut made = Session::new(rt.alloc());
-    if made.is_err() {
-        again(&rt);
-        made = Session::new(rt.alloc());
-    }
+    let made = match Session::new(rt.alloc()) {
+        Ok(made) => made,
+        Err(_) => {
+            again(&rt);
+            Session::new(rt.alloc()).expect(&rt, "there is memory")
+        }
+    };
     done(&rt);
-    assert!(rt; made.expect(&rt, "there is memory").line_count() == 0);
+    assert!(rt; made.line_count() == 0);
 }
 
 #[test]

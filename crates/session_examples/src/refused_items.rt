@@ -27,25 +27,25 @@ fn are_sections(items: &Items, letters: &[u8]) -> bool {
 #[test]
 fn items_one_by_one(rt: HostRuntime) {
     call(&rt, "Items::with_room");
-    let mut made = Items::with_room(rt.alloc(), 1);
-    if made.is_err() {
-        again(&rt);
-        made = Items::with_room(rt.alloc(), 1);
-    }
+    let mut items = match Items::with_room(rt.alloc(), 1) {
+        Ok(made) => made,
+        Err(_) => {
+            again(&rt);
+            Items::with_room(rt.alloc(), 1).expect(&rt, "there is memory")
+        }
+    };
     done(&rt);
-    let mut items = made.expect(&rt, "there is memory");
     assert!(rt; are_sections(&items, b"") && items.faults().is_empty());
     let first = items.push_item(Item::Section(b'A'));
     first.expect(&rt, "there is room for one");
     call(&rt, "Items::push_item");
-    let mut put = items.push_item(Item::Section(b'B'));
-    if put.is_err() {
+    if items.push_item(Item::Section(b'B')).is_err() {
         again(&rt);
         assert!(rt; are_sections(&items, b"A") && items.faults().is_empty());
-        put = items.push_item(Item::Section(b'B'));
+        assert!(rt; items.push_item(Item::Section(b'B')).is_ok());
     }
     done(&rt);
-    assert!(rt; put.is_ok() && are_sections(&items, b"AB") && items.faults().is_empty());
+    assert!(rt; are_sections(&items, b"AB") && items.faults().is_empty());
 }
 
 /// What a cell of eight bytes gives that mean nothing: as many faults.
@@ -69,23 +69,21 @@ fn faults_of_a_cell(rt: HostRuntime) {
     assert!(rt; faults.len() == 8);
     let mut items = Items::with_room(rt.alloc(), 0).expect(&rt, "there is memory");
     call(&rt, "Items::push_fault");
-    let mut put = items.push_fault(faults[0]);
-    if put.is_err() {
+    if items.push_fault(faults[0]).is_err() {
         again(&rt);
         assert!(rt; items.items().is_empty() && items.faults().is_empty());
-        put = items.push_fault(faults[0]);
+        assert!(rt; items.push_fault(faults[0]).is_ok());
     }
     done(&rt);
-    assert!(rt; put.is_ok() && items.faults() == &faults[..1]);
+    assert!(rt; items.faults() == &faults[..1]);
     call(&rt, "Items::push_faults");
-    let mut put = items.push_faults(&faults[1..]);
-    if put.is_err() {
+    if items.push_faults(&faults[1..]).is_err() {
         again(&rt);
         assert!(rt; items.items().is_empty() && items.faults() == &faults[..1]);
-        put = items.push_faults(&faults[1..]);
+        assert!(rt; items.push_faults(&faults[1..]).is_ok());
     }
     done(&rt);
-    assert!(rt; put.is_ok() && items.items().is_empty() && items.faults() == faults);
+    assert!(rt; items.items().is_empty() && items.faults() == faults);
 }
 
 /// Two tones.
@@ -109,13 +107,15 @@ fn tones_of_a_chord(rt: HostRuntime) {
     let first = two_tones(&rt, rt.alloc());
     let second = two_tones(&rt, rt.alloc());
     call(&rt, "Tones::of");
-    let mut made = Tones::of(rt.alloc(), first);
-    if made.is_err() {
-        again(&rt);
-        made = Tones::of(rt.alloc(), second);
-    }
+    let made = match Tones::of(rt.alloc(), first) {
+        Ok(made) => made,
+        Err(_) => {
+            again(&rt);
+            Tones::of(rt.alloc(), second).expect(&rt, "there is memory")
+        }
+    };
     done(&rt);
-    assert!(rt; are_two(&made.expect(&rt, "there is memory")));
+    assert!(rt; are_two(&made));
 }
 
 /// The name of a voice.
@@ -129,14 +129,13 @@ fn voices_of_a_tune(rt: HostRuntime) {
     let second = name(&rt, rt.alloc());
     let mut voices = Voices::new(rt.alloc());
     call(&rt, "Voices::push");
-    let mut put = voices.push(first, 7_u32);
-    if put.is_err() {
+    if voices.push(first, 7_u32).is_err() {
         again(&rt);
         assert!(rt; voices.is_empty());
-        put = voices.push(second, 7);
+        assert!(rt; voices.push(second, 7).is_ok());
     }
     done(&rt);
-    assert!(rt; put.is_ok() && voices.len() == 1 && voices.get(0).copied() == Some(7));
+    assert!(rt; voices.len() == 1 && voices.get(0).copied() == Some(7));
     call(&rt, "Voices::clone");
     let mut copy: Result<_, _> = voices.clone();
     if copy.is_err() {
@@ -171,13 +170,14 @@ fn events_in_order(rt: HostRuntime) {
     let first = events(&rt, rt.alloc());
     let second = events(&rt, rt.alloc());
     call(&rt, "order_events");
-    let mut ordered = order_events(first);
-    if ordered.is_err() {
-        again(&rt);
-        ordered = order_events(second);
-    }
+    let ordered = match order_events(first) {
+        Ok(ordered) => ordered,
+        Err(_) => {
+            again(&rt);
+            order_events(second).expect(&rt, "there is memory")
+        }
+    };
     done(&rt);
-    let ordered = ordered.expect(&rt, "there is memory");
     assert!(rt; ordered.len() == EVENTS as usize);
     for (place, event) in ordered.iter().enumerate() {
         assert!(rt; event.tick as usize == place);

@@ -44,13 +44,16 @@ fn items<R: Runtime + Abort>(rt: &R, alloc: Global) -> Vec<Shared<Items>> {
 fn cells_of_a_line_of_abc(rt: HostRuntime) {
     let mut work = Work::mint(&rt);
     call(&rt, "Abc::cells");
-    let mut made = Abc.cells(rt.alloc(), b"CDEF|[CEG]2", &mut work);
-    if made.is_err() {
-        again(&rt);
-        made = Abc.cells(rt.alloc(), b"CDEF|[CEG]2", &mut work);
-    }
+    let made = match Abc.cells(rt.alloc(), b"CDEF|[CEG]2", &mut work) {
+        Ok(made) => made,
+        Err(_) => {
+            again(&rt);
+            Abc.cells(rt.alloc(), b"CDEF|[CEG]2", &mut work)
+                .expect(&rt, "there is memory")
+        }
+    };
     done(&rt);
-    assert!(rt; made.expect(&rt, "there is memory").len() == 2);
+    assert!(rt; made.len() == 2);
 }
 
 /// The entry of a body, with two voices.
@@ -76,22 +79,27 @@ fn a_step_of_music(rt: HostRuntime) {
         &mut work,
     );
     call(&rt, "BarFold::step, all sorts of music");
-    let mut made = BarFold.step(rt.alloc(), &entry, &cell, &mut work);
-    if made.is_err() {
-        again(&rt);
-        made = BarFold.step(rt.alloc(), &entry, &cell, &mut work);
-    }
+    let (_, items) = match BarFold.step(rt.alloc(), &entry, &cell, &mut work) {
+        Ok(made) => made,
+        Err(_) => {
+            again(&rt);
+            BarFold
+                .step(rt.alloc(), &entry, &cell, &mut work)
+                .expect(&rt, "there is memory")
+        }
+    };
     done(&rt);
-    let (_, items) = made.expect(&rt, "there is memory");
     assert!(rt; items.items().len() > 5 && items.faults().len() > 1);
     call(&rt, "Items::copied");
-    let mut copy = items.copied(rt.alloc());
-    if copy.is_err() {
-        again(&rt);
-        copy = items.copied(rt.alloc());
-    }
+    let copy = match items.copied(rt.alloc()) {
+        Ok(copy) => copy,
+        Err(_) => {
+            again(&rt);
+            items.copied(rt.alloc()).expect(&rt, "there is memory")
+        }
+    };
     done(&rt);
-    assert!(rt; copy.expect(&rt, "there is memory").items().len() == items.items().len());
+    assert!(rt; copy.items().len() == items.items().len());
 }
 
 #[test]
@@ -100,34 +108,37 @@ fn a_step_of_a_voice(rt: HostRuntime) {
     let entry = body(&rt, rt.alloc(), &mut work);
     let cell = cell(&rt, rt.alloc(), b"V:a voice with a long name", &mut work);
     call(&rt, "BarFold::step, another voice");
-    let mut made = BarFold.step(rt.alloc(), &entry, &cell, &mut work);
-    if made.is_err() {
-        again(&rt);
-        made = BarFold.step(rt.alloc(), &entry, &cell, &mut work);
-    }
+    let (_, items) = match BarFold.step(rt.alloc(), &entry, &cell, &mut work) {
+        Ok(made) => made,
+        Err(_) => {
+            again(&rt);
+            BarFold
+                .step(rt.alloc(), &entry, &cell, &mut work)
+                .expect(&rt, "there is memory")
+        }
+    };
     done(&rt);
-    let (_, items) = made.expect(&rt, "there is memory");
     assert!(rt; items.items().len() == 1);
 }
 
 #[test]
 fn texts_of_items(rt: HostRuntime) {
     call(&rt, "ItemText::new");
-    let mut text = ItemText::new(rt.alloc(), b"a title");
-    if text.is_err() {
-        again(&rt);
-        text = ItemText::new(rt.alloc(), b"a title");
-    }
+    let text = match ItemText::new(rt.alloc(), b"a title") {
+        Ok(text) => text,
+        Err(_) => {
+            again(&rt);
+            ItemText::new(rt.alloc(), b"a title").expect(&rt, "there is memory")
+        }
+    };
     done(&rt);
-    assert!(rt; text.expect(&rt, "there is memory").as_slice() == b"a title".as_slice());
+    assert!(rt; text.as_slice() == b"a title".as_slice());
     call(&rt, "VoiceName::new");
-    let mut name = VoiceName::new(rt.alloc(), b"a voice with a long name");
-    if name.is_err() {
+    if VoiceName::new(rt.alloc(), b"a voice with a long name").is_err() {
         again(&rt);
-        name = VoiceName::new(rt.alloc(), b"a voice with a long name");
+        assert!(rt; VoiceName::new(rt.alloc(), b"a voice with a long name").is_ok());
     }
     done(&rt);
-    assert!(rt; name.is_ok());
 }
 
 /// Repeats with two endings.
@@ -142,50 +153,47 @@ const MARKS: [Mark; 5] = [
 #[test]
 fn plays_of_sections(rt: HostRuntime) {
     call(&rt, "expand");
-    let mut play = expand(rt.alloc(), &MARKS);
-    if play.is_err() {
+    if expand(rt.alloc(), &MARKS).is_err() {
         again(&rt);
-        play = expand(rt.alloc(), &MARKS);
+        assert!(rt; expand(rt.alloc(), &MARKS).is_ok());
     }
     done(&rt);
-    assert!(rt; play.is_ok());
     call(&rt, "expand_within");
-    let mut play = expand_within(rt.alloc(), &MARKS, 10);
-    if play.is_err() {
+    if expand_within(rt.alloc(), &MARKS, 10).is_err() {
         again(&rt);
-        play = expand_within(rt.alloc(), &MARKS, 10);
+        assert!(rt; expand_within(rt.alloc(), &MARKS, 10).is_ok());
     }
     done(&rt);
-    assert!(rt; play.is_ok());
     call(&rt, "play_order");
-    let mut order = play_order(rt.alloc(), None, b"ABC");
-    if order.is_err() {
+    if play_order(rt.alloc(), None, b"ABC").is_err() {
         again(&rt);
-        order = play_order(rt.alloc(), None, b"ABC");
+        assert!(rt; play_order(rt.alloc(), None, b"ABC").is_ok());
     }
     done(&rt);
-    assert!(rt; order.is_ok());
 }
 
 #[test]
 fn a_score_and_its_file(rt: HostRuntime) {
     let items = items(&rt, rt.alloc());
     call(&rt, "arrange");
-    let mut arranged = arrange(rt.alloc(), items.as_slice());
-    if arranged.is_err() {
-        again(&rt);
-        arranged = arrange(rt.alloc(), items.as_slice());
-    }
+    let arranged = match arrange(rt.alloc(), items.as_slice()) {
+        Ok(arranged) => arranged,
+        Err(_) => {
+            again(&rt);
+            arrange(rt.alloc(), items.as_slice()).expect(&rt, "there is memory")
+        }
+    };
     done(&rt);
-    let arranged = arranged.expect(&rt, "there is memory");
     call(&rt, "file_of");
-    let mut file = file_of(rt.alloc(), &arranged.score);
-    if file.is_err() {
-        again(&rt);
-        file = file_of(rt.alloc(), &arranged.score);
-    }
+    let file = match file_of(rt.alloc(), &arranged.score) {
+        Ok(file) => file,
+        Err(_) => {
+            again(&rt);
+            file_of(rt.alloc(), &arranged.score).expect(&rt, "there is memory")
+        }
+    };
     done(&rt);
-    assert!(rt; file.expect(&rt, "there is memory").as_slice() == FILE_OF_C);
+    assert!(rt; file.as_slice() == FILE_OF_C);
 }
 
 #[test]
@@ -193,13 +201,15 @@ fn a_tune_that_is_built(rt: HostRuntime) {
     let mut work = Work::mint(&rt);
     let items = items(&rt, rt.alloc());
     call(&rt, "build");
-    let mut built = build(rt.alloc(), items.as_slice(), &mut work);
-    if built.is_err() {
-        again(&rt);
-        built = build(rt.alloc(), items.as_slice(), &mut work);
-    }
+    let built = match build(rt.alloc(), items.as_slice(), &mut work) {
+        Ok(built) => built,
+        Err(_) => {
+            again(&rt);
+            build(rt.alloc(), items.as_slice(), &mut work).expect(&rt, "there is memory")
+        }
+    };
     done(&rt);
-    match &built.expect(&rt, "there is memory").bytes {
+    match &built.bytes {
         Some(bytes) => assert!(rt; bytes.as_slice() == FILE_OF_C),
         None => panic!(&rt; "there is no file"),
     }
@@ -209,93 +219,100 @@ fn a_tune_that_is_built(rt: HostRuntime) {
 fn bytes_of_a_file(rt: HostRuntime) {
     let mut bytes = Vec::new(rt.alloc());
     call(&rt, "put_number");
-    let mut put = put_number(&mut bytes, 240);
-    if put.is_err() {
+    if put_number(&mut bytes, 240).is_err() {
         again(&rt);
         assert!(rt; bytes.is_empty());
-        put = put_number(&mut bytes, 240);
+        assert!(rt; put_number(&mut bytes, 240).is_ok());
     }
     done(&rt);
-    assert!(rt; put.is_ok() && bytes.as_slice() == b"\x81\x70".as_slice());
+    assert!(rt; bytes.as_slice() == b"\x81\x70".as_slice());
     call(&rt, "EventBytes::from_slice");
-    let mut made = EventBytes::from_slice(rt.alloc(), b"a long title");
-    if made.is_err() {
+    if EventBytes::from_slice(rt.alloc(), b"a long title").is_err() {
         again(&rt);
-        made = EventBytes::from_slice(rt.alloc(), b"a long title");
+        assert!(rt; EventBytes::from_slice(rt.alloc(), b"a long title").is_ok());
     }
     done(&rt);
-    assert!(rt; made.is_ok());
+}
+
+#[test]
+fn a_line_of_a_key(rt: HostRuntime) {
+    let mut bytes = Vec::new(rt.alloc());
+    call(&rt, "put_line");
+    if put_line(&mut bytes, LineClass::Music, b"C").is_err() {
+        again(&rt);
+        assert!(rt; bytes.is_empty());
+        assert!(rt; put_line(&mut bytes, LineClass::Music, b"C").is_ok());
+    }
+    done(&rt);
+    assert!(rt; bytes.as_slice() == b"C\n".as_slice());
 }
 
 #[test]
 fn a_memo_of_tunes(rt: HostRuntime) {
     let mut work = Work::mint(&rt);
-    let mut bytes = Vec::new(rt.alloc());
-    call(&rt, "put_line");
-    let mut put = put_line(&mut bytes, LineClass::Music, b"C");
-    if put.is_err() {
-        again(&rt);
-        assert!(rt; bytes.is_empty());
-        put = put_line(&mut bytes, LineClass::Music, b"C");
-    }
-    done(&rt);
-    assert!(rt; put.is_ok() && bytes.as_slice() == b"C\n".as_slice());
     call(&rt, "TuneMemo::new");
-    let mut made = ToyMemo::new(rt.alloc());
-    if made.is_err() {
-        again(&rt);
-        made = ToyMemo::new(rt.alloc());
-    }
+    let mut memo = match ToyMemo::new(rt.alloc()) {
+        Ok(made) => made,
+        Err(_) => {
+            again(&rt);
+            ToyMemo::new(rt.alloc()).expect(&rt, "there is memory")
+        }
+    };
     done(&rt);
-    let mut memo = made.expect(&rt, "there is memory");
     call(&rt, "TuneMemo::built, with its key");
-    let mut built = memo.ask(rt.alloc(), b'0', b"c", &mut work);
-    if built.is_err() {
-        again(&rt);
-        built = memo.ask(rt.alloc(), b'0', b"c", &mut work);
-    }
+    let built = match memo.ask(rt.alloc(), b'0', b"c", &mut work) {
+        Ok(built) => built,
+        Err(_) => {
+            again(&rt);
+            memo.ask(rt.alloc(), b'0', b"c", &mut work)
+                .expect(&rt, "there is memory")
+        }
+    };
     done(&rt);
-    match &built.expect(&rt, "there is memory").get().bytes {
+    match &built.get().bytes {
         Some(bytes) => assert!(rt; bytes.as_slice() == b"0c".as_slice()),
         None => panic!(&rt; "there is no file"),
     }
 }
 
-#[test]
-fn a_chain_of_a_tune(rt: HostRuntime) {
-    let mut work = Work::mint(&rt);
-    let opening = Entry::tune(rt.alloc(), None);
-    let pieces = tune(&rt, rt.alloc(), 4, &mut work);
-    let mut chain = Chain::new(rt.alloc()).expect(&rt, "there is memory");
-    call(&rt, "Chain::prepare");
+/// The chain of a tune of six lines.
+fn chain_of_six<R: Runtime + Abort>(rt: &R, alloc: Global) -> Chain<BarFold> {
+    let mut work = Work::mint(rt);
+    let opening = Entry::tune(alloc, None);
+    let pieces = tune(rt, alloc, 4, &mut work);
+    let mut chain = Chain::new(alloc).expect(rt, "there is memory");
+    call(rt, "Chain::prepare");
     let patch = match chain.prepare(&BarFold, &opening, pieces.as_slice(), &mut work) {
         Ok(patch) => patch,
         Err(_) => {
-            again(&rt);
+            again(rt);
             assert!(rt; chain.len() == 0);
             let patch = chain.prepare(&BarFold, &opening, pieces.as_slice(), &mut work);
-            patch.expect(&rt, "there is memory")
+            patch.expect(rt, "there is memory")
         }
     };
-    done(&rt);
+    done(rt);
     chain.commit(patch);
-    let mut kept = Vec::new(rt.alloc());
-    call(&rt, "Chain::append_kept");
-    let mut put = chain.append_kept(&BarFold, &mut kept, 0, chain.len());
-    if put.is_err() {
-        again(&rt);
-        assert!(rt; kept.is_empty());
-        put = chain.append_kept(&BarFold, &mut kept, 0, chain.len());
-    }
-    done(&rt);
-    assert!(rt; put.is_ok() && kept.len() == chain.len());
+    chain
+}
+
+#[test]
+fn a_chain_of_a_tune(rt: HostRuntime) {
+    let chain = chain_of_six(&rt, rt.alloc());
     assert!(rt; chain.len() == 6);
     call(&rt, "Chain::kept");
-    let mut piece = chain.kept(&BarFold, 5);
-    if piece.is_err() {
+    if chain.kept(&BarFold, 5).is_err() {
         again(&rt);
-        piece = chain.kept(&BarFold, 5);
+        assert!(rt; chain.kept(&BarFold, 5).is_ok());
     }
     done(&rt);
-    assert!(rt; piece.is_ok());
+    let mut kept = Vec::new(rt.alloc());
+    call(&rt, "Chain::append_kept");
+    if chain.append_kept(&BarFold, &mut kept, 0, 6).is_err() {
+        again(&rt);
+        assert!(rt; kept.is_empty());
+        assert!(rt; chain.append_kept(&BarFold, &mut kept, 0, 6).is_ok());
+    }
+    done(&rt);
+    assert!(rt; kept.len() == 6);
 }

@@ -17,22 +17,22 @@ use std::rt::Runtime;
 #[test]
 fn a_sequence(rt: HostRuntime) {
     call(&rt, "Sequence::from_slice");
-    let mut made = Sequence::from_slice(rt.alloc(), b"abc");
-    if made.is_err() {
-        again(&rt);
-        made = Sequence::from_slice(rt.alloc(), b"abc");
-    }
+    let mut sequence = match Sequence::from_slice(rt.alloc(), b"abc") {
+        Ok(made) => made,
+        Err(_) => {
+            again(&rt);
+            Sequence::from_slice(rt.alloc(), b"abc").expect(&rt, "there is memory")
+        }
+    };
     done(&rt);
-    let mut sequence = made.expect(&rt, "there is memory");
     call(&rt, "Sequence::push");
-    let mut put = sequence.push(b'd');
-    if put.is_err() {
+    if sequence.push(b'd').is_err() {
         again(&rt);
         assert!(rt; sequence.as_slice() == b"abc".as_slice());
-        put = sequence.push(b'd');
+        assert!(rt; sequence.push(b'd').is_ok());
     }
     done(&rt);
-    assert!(rt; put.is_ok() && sequence.as_slice() == b"abcd".as_slice());
+    assert!(rt; sequence.as_slice() == b"abcd".as_slice());
     call(&rt, "Sequence::clone");
     let mut copy: Result<_, _> = sequence.clone();
     if copy.is_err() {
@@ -48,14 +48,13 @@ fn a_short_sequence(rt: HostRuntime) {
     let mut sequence = ShortSequence::new(rt.alloc());
     sequence.push(1).expect(&rt, "there is room in place");
     call(&rt, "ShortSequence::push");
-    let mut put = sequence.push(2);
-    if put.is_err() {
+    if sequence.push(2).is_err() {
         again(&rt);
         assert!(rt; sequence.as_slice() == &[1][..]);
-        put = sequence.push(2);
+        assert!(rt; sequence.push(2).is_ok());
     }
     done(&rt);
-    assert!(rt; put.is_ok() && sequence.as_slice() == &[1, 2][..]);
+    assert!(rt; sequence.as_slice() == &[1, 2][..]);
     call(&rt, "ShortSequence::clone");
     let mut copy: Result<_, _> = sequence.clone();
     if copy.is_err() {
@@ -69,13 +68,15 @@ fn a_short_sequence(rt: HostRuntime) {
 #[test]
 fn a_shared_value(rt: HostRuntime) {
     call(&rt, "Shared::new");
-    let mut made = Shared::new(rt.alloc(), 7);
-    if made.is_err() {
-        again(&rt);
-        made = Shared::new(rt.alloc(), 7);
-    }
+    let made = match Shared::new(rt.alloc(), 7) {
+        Ok(made) => made,
+        Err(_) => {
+            again(&rt);
+            Shared::new(rt.alloc(), 7).expect(&rt, "there is memory")
+        }
+    };
     done(&rt);
-    assert!(rt; *made.expect(&rt, "there is memory").get() == 7);
+    assert!(rt; *made.get() == 7);
 }
 
 #[test]
@@ -84,13 +85,15 @@ fn a_list_with_a_gap(rt: HostRuntime) {
     let first = vec![in alloc; 1, 2, 3].expect(&rt, "there is memory");
     let second = vec![in alloc; 1, 2, 3].expect(&rt, "there is memory");
     call(&rt, "GapList::with_room");
-    let mut made = GapList::with_room(alloc, 1);
-    if made.is_err() {
-        again(&rt);
-        made = GapList::with_room(alloc, 1);
-    }
+    let made = match GapList::with_room(alloc, 1) {
+        Ok(made) => made,
+        Err(_) => {
+            again(&rt);
+            GapList::with_room(alloc, 1).expect(&rt, "there is memory")
+        }
+    };
     done(&rt);
-    let list = made.expect(&rt, "there is memory");
+    let list = made;
     assert!(rt; list.len() == 0);
     call(&rt, "GapList::splice_prepare");
     let patch = match list.splice_prepare(alloc, 0, 0, first) {
@@ -132,13 +135,15 @@ const LINE: &[u8] = b"|:C ^D,/2 [CEG]2 z\"Am\"(3def !f![K:G] A>B-|[1,3 c C:|";
 fn a_line_that_is_cut(rt: HostRuntime) {
     let mut work = Work::mint(&rt);
     call(&rt, "scan");
-    let mut tokens = scan(rt.alloc(), LINE, &mut work);
-    if tokens.is_err() {
-        again(&rt);
-        tokens = scan(rt.alloc(), LINE, &mut work);
-    }
+    let tokens = match scan(rt.alloc(), LINE, &mut work) {
+        Ok(tokens) => tokens,
+        Err(_) => {
+            again(&rt);
+            scan(rt.alloc(), LINE, &mut work).expect(&rt, "there is memory")
+        }
+    };
     done(&rt);
-    assert!(rt; tokens.expect(&rt, "there is memory").len() > 20);
+    assert!(rt; tokens.len() > 20);
 }
 
 /// The tokens of the line.
@@ -150,21 +155,25 @@ fn tokens<R: Runtime + Abort>(rt: &R, alloc: Global) -> Vec<Token> {
 fn cells_of_a_line(rt: HostRuntime) {
     let tokens = tokens(&rt, rt.alloc());
     call(&rt, "cells");
-    let mut made = cells(rt.alloc(), tokens.as_slice());
-    if made.is_err() {
-        again(&rt);
-        made = cells(rt.alloc(), tokens.as_slice());
-    }
+    let made = match cells(rt.alloc(), tokens.as_slice()) {
+        Ok(made) => made,
+        Err(_) => {
+            again(&rt);
+            cells(rt.alloc(), tokens.as_slice()).expect(&rt, "there is memory")
+        }
+    };
     done(&rt);
-    assert!(rt; made.expect(&rt, "there is memory").len() == 3);
+    assert!(rt; made.len() == 3);
     call(&rt, "cell_of");
-    let mut made = cell_of(rt.alloc(), tokens.as_slice());
-    if made.is_err() {
-        again(&rt);
-        made = cell_of(rt.alloc(), tokens.as_slice());
-    }
+    let made = match cell_of(rt.alloc(), tokens.as_slice()) {
+        Ok(made) => made,
+        Err(_) => {
+            again(&rt);
+            cell_of(rt.alloc(), tokens.as_slice()).expect(&rt, "there is memory")
+        }
+    };
     done(&rt);
-    assert!(rt; made.expect(&rt, "there is memory").len() == tokens.len());
+    assert!(rt; made.len() == tokens.len());
 }
 
 #[test]
@@ -172,13 +181,15 @@ fn tokens_that_are_given_away(rt: HostRuntime) {
     let first = tokens(&rt, rt.alloc());
     let second = tokens(&rt, rt.alloc());
     call(&rt, "into_cells");
-    let mut made = into_cells(rt.alloc(), first);
-    if made.is_err() {
-        again(&rt);
-        made = into_cells(rt.alloc(), second);
-    }
+    let made = match into_cells(rt.alloc(), first) {
+        Ok(made) => made,
+        Err(_) => {
+            again(&rt);
+            into_cells(rt.alloc(), second).expect(&rt, "there is memory")
+        }
+    };
     done(&rt);
-    assert!(rt; made.expect(&rt, "there is memory").len() == 3);
+    assert!(rt; made.len() == 3);
 }
 
 /// The classes of a file header and two tunes.
@@ -202,31 +213,37 @@ fn classes(rt: &impl Abort, alloc: Global) -> Vec<LineClass>
 fn blocks_of_a_text(rt: HostRuntime) {
     let classes = classes(&rt, rt.alloc());
     call(&rt, "blocks");
-    let mut made = blocks(rt.alloc(), classes.as_slice());
-    if made.is_err() {
-        again(&rt);
-        made = blocks(rt.alloc(), classes.as_slice());
-    }
+    let made = match blocks(rt.alloc(), classes.as_slice()) {
+        Ok(made) => made,
+        Err(_) => {
+            again(&rt);
+            blocks(rt.alloc(), classes.as_slice()).expect(&rt, "there is memory")
+        }
+    };
     done(&rt);
-    assert!(rt; made.expect(&rt, "there is memory").len() == 3);
+    assert!(rt; made.len() == 3);
     call(&rt, "stretch_blocks");
-    let mut made = stretch_blocks(rt.alloc(), 5, classes.as_slice());
-    if made.is_err() {
-        again(&rt);
-        made = stretch_blocks(rt.alloc(), 5, classes.as_slice());
-    }
+    let made = match stretch_blocks(rt.alloc(), 5, classes.as_slice()) {
+        Ok(made) => made,
+        Err(_) => {
+            again(&rt);
+            stretch_blocks(rt.alloc(), 5, classes.as_slice()).expect(&rt, "there is memory")
+        }
+    };
     done(&rt);
-    assert!(rt; made.expect(&rt, "there is memory").len() == 3);
+    assert!(rt; made.len() == 3);
 }
 
 #[test]
 fn numbers_in_order(rt: HostRuntime) {
     call(&rt, "sorted_once");
-    let mut made = sorted_once(rt.alloc(), &[3, 1, 3, 2]);
-    if made.is_err() {
-        again(&rt);
-        made = sorted_once(rt.alloc(), &[3, 1, 3, 2]);
-    }
+    let made = match sorted_once(rt.alloc(), &[3, 1, 3, 2]) {
+        Ok(made) => made,
+        Err(_) => {
+            again(&rt);
+            sorted_once(rt.alloc(), &[3, 1, 3, 2]).expect(&rt, "there is memory")
+        }
+    };
     done(&rt);
-    assert!(rt; made.expect(&rt, "there is memory").as_slice() == &[1, 2, 3][..]);
+    assert!(rt; made.as_slice() == &[1, 2, 3][..]);
 }
