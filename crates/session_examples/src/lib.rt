@@ -2,18 +2,23 @@
 //! since each crate with tests reads and compiles all that these call. `gap_lists` has lists with a gap, `counted_chains`
 //! and `bar_chains` chains of a fold, `plays` a play that is written out, `sessions` a session, and one over a compiler of
 //! its own, `publishing` and `orders` a publisher on a session that is edited, `runs` streams and stores that fail,
-//! `readers` a reader that fails once, `memos` a memo of tunes in the toy language. What commands can show stands in `tests/transcripts`. Expected values are
-//! worked by hand from the rules in `docs/program.md`.
+//! `readers` a reader that fails once, `memos` a memo of tunes in the toy language. The modules `refused_..` tell what
+//! `scripts/refused_calls` is to refuse memory, call by call. What commands can show stands in `tests/transcripts`.
+//! Expected values are worked by hand from the rules in `docs/program.md`.
 #![tactic(auto)]
 
 #[cfg(test)]
 mod account;
+#[cfg(test)]
+mod alike;
 #[cfg(test)]
 mod bar_chains;
 #[cfg(test)]
 mod costs;
 #[cfg(test)]
 mod counted_chains;
+#[cfg(test)]
+mod failing;
 #[cfg(test)]
 mod gap_lists;
 #[cfg(test)]
@@ -27,11 +32,27 @@ mod publishing;
 #[cfg(test)]
 mod readers;
 #[cfg(test)]
+mod refusals;
+#[cfg(test)]
+mod refused_edits;
+#[cfg(test)]
+mod refused_items;
+#[cfg(test)]
+mod refused_jobs;
+#[cfg(test)]
+mod refused_music;
+#[cfg(test)]
+mod refused_runs;
+#[cfg(test)]
+mod refused_texts;
+#[cfg(test)]
 mod runs;
 #[cfg(test)]
 mod sessions;
 #[cfg(test)]
 mod shelf;
+#[cfg(test)]
+mod streams;
 #[cfg(test)]
 mod taken;
 #[cfg(test)]

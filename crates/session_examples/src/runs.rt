@@ -1,173 +1,308 @@
 //! A run of commands: its answers, however the input comes in pieces, and what a failing stream or store leaves.
 
-ghost use Rattle.std.specs.Prelude.{ℕ, Some};
-
+use crate::failing::Failing;
 use crate::shelf::Shelf;
+use crate::streams::{Kept, Pieces};
+use crate::taken::{FILE_OF_C, FILE_OF_D};
 use abc_fold::Work;
-use abc2midi_live::{RunFault, Sink, Source, StreamFault, run};
+use abc2midi_live::{RunFault, run};
+use std::alloc::Global;
+use std::process::Abort;
+use std::rt::Runtime;
 
-/// A source that gives at most so many bytes at a time, and fails at one of its calls.
-#[derive(Drop)]
-struct Pieces<'a> {
-    rest: &'a [u8],
-    most: usize,
-    fails_at: u64,
-    calls: u64,
-    failures: u64,
-}
+/// A command with its lines, and what it answers.
+type Step = (&'static [u8], &'static [u8]);
 
-impl<'a> Pieces<'a> {
-    fn new(rest: &'a [u8], most: usize, fails_at: u64) -> Pieces<'a> {
-        Pieces {
-            rest,
-            most,
-            fails_at,
-            calls: 0,
-            failures: 0,
-        }
-    }
-}
-
-#[tactic(auto, using(abc2midi_live::proofs::Counts::raised_none, abc2midi_live::proofs::Counts::raised_within))]
-impl Source for Pieces<'_> {
-    ghost failures = { λ s. s.failures };
-
-    ghost calls = { λ s. s.calls };
-
-    ghost remaining = { λ s. Some s.rest.now };
-
-    fn read(&mut self, buf: &mut [u8]) -> Result<usize, StreamFault> {
-        self.calls = self.calls.saturating_add(1);
-        if self.calls == self.fails_at {
-            self.failures = self.failures.saturating_add(1);
-            return Err(StreamFault);
-        }
-        let count = self.rest.len().min(buf.len()).min(self.most.max(1));
-        let (front, rest) = self.rest.split_at(count);
-        buf[..count].copy_from_slice(front);
-        self.rest = rest;
-        Ok(count)
-    }
-}
-
-/// A sink that keeps what it is given, and fails at one of its calls.
-#[derive(Drop)]
-struct Kept {
-    bytes: Vec<u8>,
-    fails_at: u64,
-    calls: u64,
-    failures: u64,
-}
-
-#[tactic(auto, using(abc2midi_live::proofs::Counts::raised_none, abc2midi_live::proofs::Counts::raised_within))]
-impl Sink for Kept {
-    ghost failures = { λ s. s.failures };
-
-    ghost contents = { λ s. Some s.bytes.items };
-
-    fn write_all(&mut self, bytes: &[u8]) -> Result<(), StreamFault> {
-        self.calls = self.calls.saturating_add(1);
-        if self.calls == self.fails_at || self.bytes.extend_from_slice(bytes).is_err() {
-            self.failures = self.failures.saturating_add(1);
-            return Err(StreamFault);
-        }
-        Ok(())
-    }
-}
-
-/// A tune, the list of titles, and bytes behind `quit` that have no effect. The commands up to `quit` have 31 bytes,
-/// those up to `titles` 26, `insert` and its lines 19.
-const TUNE: &[u8] = b"insert 1 2\nX:1\nT:A\ntitles\nquit\ntitles\n";
-
-const EDIT_ANSWER: &[u8] = b"ok written 1 removed\n";
-
-const TUNE_ANSWERS: &[u8] = b"ok written 1 removed\n1 A\nend\n";
-
-/// At most so many bytes a read, the read that fails, the write that fails, and what the run over the tune answers and
-/// how it ends.
-const RUNS: [(usize, u64, u64, &[u8], Option<RunFault>); 9] = [
-    (1_000, 0, 0, TUNE_ANSWERS, None),
-    (7, 0, 0, TUNE_ANSWERS, None),
-    // nothing is read behind `quit`: a 32nd read would fail
-    (1, 32, 0, TUNE_ANSWERS, None),
-    (1, 31, 0, TUNE_ANSWERS, Some(RunFault::Read)),
-    (1, 27, 0, TUNE_ANSWERS, Some(RunFault::Read)),
-    (1, 26, 0, EDIT_ANSWER, Some(RunFault::Read)),
-    (1, 19, 0, b"", Some(RunFault::Read)),
-    (1, 0, 2, EDIT_ANSWER, Some(RunFault::Write)),
-    (1, 0, 1, b"", Some(RunFault::Write)),
+/// The first tune of the transcripts.
+const FIRST_TUNE: [Step; 3] = [
+    (b"insert 1 4\nX:1\nT:A\nK:C\nC\n", b"ok written 1 removed\n"),
+    (
+        b"hex 1\n",
+        b"4D546864000000060001000201E04D54726B0000001700FF03014100FF510307A12000FF590200008170FF2F004D54726B0000000D00903C508170803C4000FF2F00\n",
+    ),
+    (b"quit\n", b""),
 ];
 
-/// Whether a run with these streams and this store answers this text and ends so.
-fn answers(
-    rt: &HostRuntime,
-    mut reader: Pieces<'_>,
-    write_fails_at: u64,
-    store: &mut Shelf,
-    answered: &[u8],
+/// A tune comes, changes and goes, each time with two builds.
+const BUILDS: [Step; 10] = [
+    (b"insert 1 4\nX:1\nT:A\nK:C\nC\n", b"ok written 1 removed\n"),
+    (b"build\n", b"written 1.mid\nend\n"),
+    (b"build\n", b"end\n"),
+    (b"replace 4 4 1\nD\n", b"ok written 1 removed\n"),
+    (b"build\n", b"written 1.mid\nend\n"),
+    (b"build\n", b"end\n"),
+    (b"delete 1 4\n", b"ok written removed 1\n"),
+    (b"build\n", b"removed 1.mid\nend\n"),
+    (b"build\n", b"end\n"),
+    (b"quit\n", b""),
+];
+
+/// Puts bytes behind others.
+fn put(rt: &impl Abort, bytes: &mut Vec<u8>, more: &[u8]) {
+    bytes.extend_from_slice(more).expect(rt, "there is memory");
+}
+
+/// The commands one behind the other, and bytes behind them that have no effect.
+fn input_of(rt: &impl Abort, alloc: Global, steps: &[Step]) -> Vec<u8> {
+    let mut input = Vec::new(alloc);
+    for (command, _) in steps {
+        put(rt, &mut input, *command);
+    }
+    put(rt, &mut input, b"titles\n");
+    input
+}
+
+/// How many bytes the commands have.
+fn size_of(steps: &[Step]) -> usize {
+    let mut size: usize = 0;
+    for (command, _) in steps {
+        size = size.saturating_add(command.len());
+    }
+    size
+}
+
+/// The answers to the commands that lie whole within so many bytes.
+fn answers_within(rt: &impl Abort, alloc: Global, steps: &[Step], bytes: usize) -> Vec<u8> {
+    let mut answers = Vec::new(alloc);
+    let mut size: usize = 0;
+    for (command, answer) in steps {
+        size = size.saturating_add(command.len());
+        if size <= bytes {
+            put(rt, &mut answers, *answer);
+        }
+    }
+    answers
+}
+
+/// What a run wrote, and how it ended.
+#[derive(Drop)]
+struct Outcome {
+    answers: Vec<u8>,
     fault: Option<RunFault>,
-) -> bool {
-    let mut writer = Kept {
-        bytes: Vec::new(rt.alloc()),
-        fails_at: write_fails_at,
-        calls: 0,
-        failures: 0,
-    };
-    let mut work = Work::mint(rt);
-    let ended = run(rt.alloc(), None, &mut reader, &mut writer, store, &mut work);
-    writer.bytes.as_slice() == answered && ended.err() == fault
 }
 
-// However the input comes in pieces the answers are the same, and where a stream fails those before it were given.
-#[test]
-fn pieces_and_failing_streams(rt: HostRuntime) {
-    for (most, read_fails_at, write_fails_at, answered, fault) in RUNS.iter() {
-        let reader = Pieces::new(TUNE, *most, *read_fails_at);
-        let mut store = Shelf::new(rt.alloc(), 0);
-        let write_fails_at = *write_fails_at;
-        assert!(rt; answers(&rt, reader, write_fails_at, &mut store, *answered, *fault));
+impl Outcome {
+    /// Of a run with these streams and this store.
+    fn of<R: Runtime>(
+        rt: &R,
+        alloc: Global,
+        mut reader: Pieces<'_>,
+        writing: Failing,
+        store: &mut Shelf,
+    ) -> Outcome {
+        let mut writer = Kept::new(Vec::new(alloc), writing);
+        let mut work = Work::mint(rt);
+        let ended = run(alloc, None, &mut reader, &mut writer, store, &mut work);
+        Outcome {
+            answers: writer.into_bytes(),
+            fault: ended.err(),
+        }
+    }
+
+    /// Whether these are its answers, and it ended so.
+    fn gives(&self, answers: &[u8], fault: Option<RunFault>) -> bool {
+        self.answers.as_slice() == answers && self.fault == fault
     }
 }
 
-/// The file of a tune without notes and without a title.
-const TUNE_FILE: &[u8] =
-    b"MThd\x00\x00\x00\x06\x00\x01\x00\x01\x01\xE0MTrk\x00\x00\x00\x11\x00\xFF\x51\x03\x07\xA1\x20\x00\xFF\x59\x02\x00\x00\x00\xFF\x2F\x00";
+/// Whether a run whose input comes in pieces of this many bytes gives all answers.
+fn is_whole<R: Runtime + Abort>(rt: &R, alloc: Global, steps: &[Step], most: usize) -> bool {
+    let input = input_of(rt, alloc, steps);
+    let answered = answers_within(rt, alloc, steps, input.len());
+    let reader = Pieces::new(input.as_slice(), most, Failing::Never);
+    let mut store = Shelf::new(alloc, Failing::Never);
+    Outcome::of(rt, alloc, reader, Failing::Never, &mut store).gives(answered.as_slice(), None)
+}
 
-/// The call of the store that fails, what comes in, what the run answers, and what the store then has under a name.
-const BUILDS: [(u64, &[u8], &[u8], &str, Option<&[u8]>); 3] = [
-    // The tune is still to be stored, and the next build does it. Then there is nothing to do.
-    (
-        1,
-        b"insert 1 2\nX:1\nK:C\nbuild\nbuild\nbuild\n",
-        b"ok written 1 removed\nfailed 1.mid\nend\nwritten 1.mid\nend\nend\n",
-        "1.mid",
-        Some(TUNE_FILE),
-    ),
-    // A tune that went away has its file removed.
-    (
-        0,
-        b"insert 1 2\nX:1\nK:C\nbuild\ndelete 1 2\nbuild\n",
-        b"ok written 1 removed\nwritten 1.mid\nend\nok written removed 1\nremoved 1.mid\nend\n",
-        "1.mid",
-        None,
-    ),
-    // The second of two files cannot be stored: the build ends there, and the next one goes on with it.
-    (
-        2,
-        b"insert 1 5\nX:1\nK:C\n\nX:2\nK:C\nbuild\nbuild\n",
-        b"ok written 1 2 removed\nwritten 1.mid\nfailed 2.mid\nend\nwritten 2.mid\nend\n",
-        "2.mid",
-        Some(TUNE_FILE),
-    ),
-];
+// However the input comes in pieces the answers are the same.
+#[test]
+fn input_in_pieces(rt: HostRuntime) {
+    for most in [1, 2, 7, 1_000] {
+        assert!(rt;
+            is_whole(&rt, rt.alloc(), &FIRST_TUNE, most) && is_whole(&rt, rt.alloc(), &BUILDS, most)
+        );
+    }
+}
 
-// A fault of the store is made good by the next build, and a store in memory has the files.
+/// Whether a run that reads a byte at a time, and whose reads fail so behind so many bytes, answers what was read whole.
+fn stops_reading<R: Runtime + Abort>(
+    rt: &R,
+    alloc: Global,
+    steps: &[Step],
+    read: usize,
+    failing: Failing,
+) -> bool {
+    let input = input_of(rt, alloc, steps);
+    let answered = answers_within(rt, alloc, steps, read);
+    let reader = Pieces::new(input.as_slice(), 1, failing);
+    let mut store = Shelf::new(alloc, Failing::Never);
+    // nothing is read behind `quit`
+    let fault = if read < size_of(steps) {
+        Some(RunFault::Read)
+    } else {
+        None
+    };
+    Outcome::of(rt, alloc, reader, Failing::Never, &mut store).gives(answered.as_slice(), fault)
+}
+
+/// Checks each read of a run, and one more that is not made: it fails, and those behind it do or do not.
+fn check_reads<R: Runtime + Abort>(rt: &R, alloc: Global, steps: &[Step]) {
+    for read in 0..=size_of(steps) {
+        let call = (read as u64).saturating_add(1);
+        assert!(rt;
+            stops_reading(rt, alloc, steps, read, Failing::Once(call)),
+            "read {call}"
+        );
+        assert!(rt;
+            stops_reading(rt, alloc, steps, read, Failing::ForGood(call)),
+            "read {call}"
+        );
+    }
+}
+
+// Each read fails in turn: the commands that were read whole before it are answered.
+#[test]
+fn reads_that_fail(rt: HostRuntime) {
+    check_reads(&rt, rt.alloc(), &FIRST_TUNE);
+    check_reads(&rt, rt.alloc(), &BUILDS);
+}
+
+/// Whether a run whose writes fail so gives the answers to these commands alone, of which the next one has no answer.
+fn stops_writing<R: Runtime + Abort>(
+    rt: &R,
+    alloc: Global,
+    steps: &[Step],
+    answered: &[Step],
+    failing: Failing,
+) -> bool {
+    let input = input_of(rt, alloc, steps);
+    let answered = answers_within(rt, alloc, answered, input.len());
+    let reader = Pieces::new(input.as_slice(), 1_000, Failing::Never);
+    let mut store = Shelf::new(alloc, Failing::Never);
+    Outcome::of(rt, alloc, reader, failing, &mut store).gives(
+        answered.as_slice(),
+        Some(RunFault::Write),
+    )
+}
+
+/// Checks each write of a run, one for each command but `quit`: it fails, and those behind it do or do not.
+fn check_writes<R: Runtime + Abort>(rt: &R, alloc: Global, steps: &[Step]) {
+    let (_, asked) = steps.split_last().expect(rt, "there are commands");
+    for (at, _) in asked.iter().enumerate() {
+        let call = (at as u64).saturating_add(1);
+        let answered = &asked[..at];
+        assert!(rt;
+            stops_writing(rt, alloc, steps, answered, Failing::Once(call)),
+            "write {call}"
+        );
+        assert!(rt;
+            stops_writing(rt, alloc, steps, answered, Failing::ForGood(call)),
+            "write {call}"
+        );
+    }
+}
+
+// Each write fails in turn: the answers before it were given, and no command behind it is answered.
+#[test]
+fn writes_that_fail(rt: HostRuntime) {
+    check_writes(&rt, rt.alloc(), &FIRST_TUNE);
+    check_writes(&rt, rt.alloc(), &BUILDS);
+}
+
+/// What the builds of `BUILDS` come to where calls of the store fail.
+#[derive(Drop)]
+struct Stored {
+    /// How many calls of the store there were.
+    calls: u64,
+    answers: Vec<u8>,
+    file: Option<&'static [u8]>,
+}
+
+/// Behind an edit come two builds, of which the second does what the first could not.
+fn build_twice(
+    rt: &impl Abort,
+    stored: &mut Stored,
+    failing: Failing,
+    told: &[u8],
+    file: Option<&'static [u8]>,
+) {
+    let mut is_pending = true;
+    for _ in 0..2 {
+        if is_pending {
+            stored.calls = stored.calls.saturating_add(1);
+            is_pending = failing.at(stored.calls);
+            if is_pending {
+                put(rt, &mut stored.answers, b"failed 1.mid\n");
+            } else {
+                put(rt, &mut stored.answers, told);
+                stored.file = file;
+            }
+        }
+        put(rt, &mut stored.answers, b"end\n");
+    }
+}
+
+/// What the builds come to.
+fn stored_by(rt: &impl Abort, alloc: Global, failing: Failing) -> Stored {
+    let answers = Vec::new(alloc);
+    let mut stored = Stored {
+        calls: 0,
+        answers,
+        file: None,
+    };
+    put(rt, &mut stored.answers, b"ok written 1 removed\n");
+    build_twice(
+        rt,
+        &mut stored,
+        failing,
+        b"written 1.mid\n",
+        Some(FILE_OF_C),
+    );
+    put(rt, &mut stored.answers, b"ok written 1 removed\n");
+    build_twice(
+        rt,
+        &mut stored,
+        failing,
+        b"written 1.mid\n",
+        Some(FILE_OF_D),
+    );
+    put(rt, &mut stored.answers, b"ok written removed 1\n");
+    build_twice(rt, &mut stored, failing, b"removed 1.mid\n", None);
+    stored
+}
+
+/// Checks what a run tells of a store that fails so, and what the store then has.
+fn check_store<R: Runtime + Abort>(rt: &R, alloc: Global, failing: Failing) {
+    let input = input_of(rt, alloc, &BUILDS);
+    let stored = stored_by(rt, alloc, failing);
+    let reader = Pieces::new(input.as_slice(), 1_000, Failing::Never);
+    let mut store = Shelf::new(alloc, failing);
+    let answered = stored.answers.as_slice();
+    assert!(rt; Outcome::of(rt, alloc, reader, Failing::Never, &mut store).gives(answered, None));
+    assert!(rt; store.get("1.mid") == stored.file);
+}
+
+// Each call of the store fails in turn, once or for good: the file is told as failed, and the next build tries it again.
 #[test]
 fn stores_that_fail(rt: HostRuntime) {
-    for (fails_at, input, answered, name, file) in BUILDS.iter() {
-        let reader = Pieces::new(*input, 1_000, 0);
-        let mut store = Shelf::new(rt.alloc(), *fails_at);
-        assert!(rt; answers(&rt, reader, 0, &mut store, *answered, None));
-        assert!(rt; store.get(*name) == *file);
+    check_store(&rt, rt.alloc(), Failing::Never);
+    for call in 1..4 {
+        check_store(&rt, rt.alloc(), Failing::Once(call));
+        check_store(&rt, rt.alloc(), Failing::ForGood(call));
     }
+}
+
+/// Two tunes are built twice, and a store that fails at its second call.
+const TWO_TUNES: &[u8] = b"insert 1 7\nX:1\nT:A\nK:C\nC\n\nX:2\nK:C\nbuild\nbuild\n";
+
+// The second of two files cannot be stored: the build ends there, and the next one goes on with it.
+#[test]
+fn the_second_file_fails(rt: HostRuntime) {
+    let alloc = rt.alloc();
+    let reader = Pieces::new(TWO_TUNES, 1_000, Failing::Never);
+    let mut store = Shelf::new(alloc, Failing::Once(2));
+    let answered =
+        b"ok written 1 2 removed\nwritten 1.mid\nfailed 2.mid\nend\nwritten 2.mid\nend\n";
+    assert!(rt; Outcome::of(&rt, alloc, reader, Failing::Never, &mut store).gives(answered, None));
+    assert!(rt; store.get("1.mid") == Some(FILE_OF_C) && store.get("2.mid").is_some());
 }

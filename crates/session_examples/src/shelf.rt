@@ -1,10 +1,11 @@
-//! A store in memory that tells what it contains, and fails at one of its calls.
+//! A store in memory that tells what it contains, and fails at some of its calls.
 
 ghost use Rattle.std.specs.Prelude.{◌≡◌, ◌∷◌, Some, IsErr, OnErr, OnOk};
 ghost use Rattle.abc2midi_live.specs.Storing.{store_seen};
 ghost use Rattle.abc_fold.specs.Work.{raised};
 ghost use Rattle.session_examples.specs.Shelf.{contents_of};
 
+use crate::failing::Failing;
 use abc_text::Sequence;
 use abc2midi_live::{Store, StoreFault};
 use std::alloc::{AllocError, Global};
@@ -15,18 +16,18 @@ use std::collections::VecDeque;
 pub struct Shelf {
     alloc: Global,
     changes: VecDeque<(Sequence<u8>, Option<Sequence<u8>>)>,
-    fails_at: u64,
+    failing: Failing,
     calls: u64,
     failures: u64,
 }
 
 impl Shelf {
-    /// An empty store that fails at this call; at 0 it never does.
-    pub fn new(alloc: Global, fails_at: u64) -> Shelf {
+    /// An empty store of which these calls fail.
+    pub fn new(alloc: Global, failing: Failing) -> Shelf {
         Shelf {
             alloc,
             changes: VecDeque::new(alloc),
-            fails_at,
+            failing,
             calls: 0,
             failures: 0,
         }
@@ -77,7 +78,7 @@ impl Shelf {
         Err(StoreFault)
     }
 
-    /// Counts a call. Whether it is the one that fails.
+    /// Counts a call. Whether it fails.
     #[tactic(auto, using(abc2midi_live::proofs::Counts::raised_within))]
     fn is_failing(&mut self) -> bool
         ensures calls { self.new.calls ≡ raised self.old.calls 1 }
@@ -85,7 +86,7 @@ impl Shelf {
         ensures changes { self.new.changes ≡ self.old.changes }
     {
         self.calls = self.calls.saturating_add(1);
-        self.calls == self.fails_at
+        self.failing.at(self.calls)
     }
 }
 
