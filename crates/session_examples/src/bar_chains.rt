@@ -24,12 +24,12 @@ fn line_piece(rt: &impl Abort, alloc: Global, line: &[u8], work: &mut Work) -> P
     Piece::New(Shared::new(alloc, cell).expect(rt, "there is memory"))
 }
 
-/// The tune of `X:1`, `K:C` and so many lines `CDEF|`.
-pub fn tune(rt: &impl Abort, alloc: Global, lines: usize, work: &mut Work) -> Vec<Piece<BarFold>>
+/// The tune of `X:1`, `K:C` and a hundred lines `CDEF|`.
+fn tune(rt: &impl Abort, alloc: Global, work: &mut Work) -> Vec<Piece<BarFold>>
     ensures { All (IsKept bars) result.items }
 {
     let mut pieces = Vec::new(alloc);
-    for line in 0..lines.saturating_add(2) {
+    for line in 0..LINES + 2 {
         let line: &[u8] = match line {
             0 => b"X:1",
             1 => b"K:C",
@@ -46,7 +46,7 @@ fn chain_of_tune(rt: &impl Abort, alloc: Global, opening: &Entry, work: &mut Wor
     ensures { Folds bars opening.now result }
 {
     let mut chain = Chain::new(alloc).expect(rt, "there is memory");
-    let pieces = tune(rt, alloc, LINES, work);
+    let pieces = tune(rt, alloc, work);
     let patch = chain
         .prepare(&BarFold, opening, &pieces, work)
         .expect(rt, "there is memory");

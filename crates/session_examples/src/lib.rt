@@ -36,19 +36,9 @@ mod refusals;
 #[cfg(test)]
 mod refused_edits;
 #[cfg(test)]
-mod refused_items;
-#[cfg(test)]
 mod refused_jobs;
 #[cfg(test)]
-mod refused_music;
-#[cfg(test)]
-mod refused_notes;
-#[cfg(test)]
-mod refused_parts;
-#[cfg(test)]
 mod refused_runs;
-#[cfg(test)]
-mod refused_texts;
 #[cfg(test)]
 mod runs;
 #[cfg(test)]

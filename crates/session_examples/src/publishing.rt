@@ -50,45 +50,6 @@ fn edit_and_remove(
     store_next(rt, publisher, session, 1, None);
 }
 
-/// A tune is edited while its file is written; the file of the edited tune fails, and is written again.
-fn edit_and_fail(
-    rt: &impl Abort,
-    alloc: Global,
-    session: &mut Session,
-    publisher: &mut Publisher,
-    work: &mut Work,
-) {
-    let tune = insertion(rt, alloc, &[b"X:1", b"T:A", b"K:C", b"C"]);
-    apply(rt, session, tune, work);
-    let held = take(rt, publisher, Held::Nothing, session);
-    check_newest(rt, &held, 1, Some(FILE_OF_C));
-    let lines = lines_of(rt, alloc, &[b"D"]);
-    let (from, to) = (4, 4);
-    apply(rt, session, Edit::Replace { from, to, lines }, work);
-    let held = end_older(publisher, held, true);
-    finish(publisher, held);
-    assert!(rt; publisher.is_pending(1, session));
-    let held = take(rt, publisher, Held::Nothing, session);
-    check_newest(rt, &held, 1, Some(FILE_OF_D));
-    // all jobs that are held fail
-    finish(publisher, held);
-    assert!(rt; publisher.is_pending(1, session));
-    store_next(rt, publisher, session, 1, Some(FILE_OF_D));
-}
-
-#[test]
-fn a_file_that_failed_is_written_again(rt: HostRuntime) {
-    let alloc = rt.alloc();
-    let mut work = Work::mint(&rt);
-    let mut session = empty_session(&rt, alloc);
-    let mut publisher = Publisher::new(alloc).expect(&rt, "there is memory");
-    edit_and_fail(&rt, alloc, &mut session, &mut publisher, &mut work);
-    assert!(rt; publisher.settled(&session));
-    let held = take(&rt, &mut publisher, Held::Nothing, &session);
-    assert!(rt; held.count() == 0);
-    finish(&mut publisher, held);
-}
-
 #[test]
 fn a_tune_is_edited_and_removed(rt: HostRuntime) {
     let alloc = rt.alloc();

@@ -2,7 +2,7 @@
 
 use crate::alike::are_alike;
 use crate::refusals::{again, call, done};
-use crate::texts::{apply, empty_session, insertion, lines_of};
+use crate::texts::{empty_session, insertion, lines_of};
 use abc_fold::Work;
 use abc_live::{Edit, EditError, Report, Session};
 use std::alloc::Global;
@@ -38,24 +38,6 @@ impl Twins {
                 report.expect(rt, "there is memory")
             }
         }
-    }
-
-    /// The report of an edit of the first one, which is prepared and then put in place.
-    fn committed<R: Runtime + Abort>(&mut self, rt: &R, edit: &Edit) -> Report {
-        call(rt, "LiveSession::prepare");
-        let patch = match self.session.prepare(edit, &mut self.work) {
-            Ok(patch) => patch,
-            Err(refused) => {
-                again(rt);
-                assert!(rt; matches!(refused, EditError::OutOfMemory));
-                assert!(rt; are_alike(&self.session, &self.other));
-                let patch = self.session.prepare(edit, &mut self.work);
-                patch.expect(rt, "there is memory")
-            }
-        };
-        done(rt);
-        assert!(rt; are_alike(&self.session, &self.other));
-        self.session.commit(patch)
     }
 
     /// Edits both.
@@ -115,17 +97,6 @@ fn a_note_and_back(rt: HostRuntime) {
     twins.edit(&rt, "Session::apply, another note", &other);
     let back = replacement(&rt, alloc, 4, b"C");
     twins.edit(&rt, "Session::apply, the note as before", &back);
-}
-
-#[test]
-fn an_edit_that_is_prepared(rt: HostRuntime) {
-    let alloc = rt.alloc();
-    let mut twins = Twins::new(&rt, alloc);
-    let tune = insertion(&rt, alloc, &[b"X:1", b"T:A", b"K:C", b"C"]);
-    let report = twins.committed(&rt, &tune);
-    assert!(rt; report.written.as_slice() == [1].as_slice());
-    apply(&rt, &mut twins.other, tune, &mut twins.work);
-    assert!(rt; are_alike(&twins.session, &twins.other));
 }
 
 #[test]
