@@ -18,3 +18,5 @@ pub mod Rounds
 pub mod Runs
 pub mod Sizes
 pub mod Tables
+pub mod Told
+pub mod Whole

@@ -12,9 +12,11 @@ mod play;
 mod section;
 mod size;
 mod strain;
+mod whole_runs;
 
 pub use fault::{OrderFault, RepeatFault};
 pub use mark::Mark;
 pub use order::{MOST_SECTIONS, Played, order_limits, play_order};
 pub use play::{MOST_PLACES, expand, expand_within, play_limits};
 pub use strain::one_reading;
+pub use whole_runs::runs_are_whole;

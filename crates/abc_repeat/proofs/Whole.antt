@@ -1,0 +1,129 @@
+-- Runs are played whole, and single bars change nothing.
+use Rattle.std.proofs.Common.{◌≡◌, ℕ, ◌+◌, max, Bool, true, false, not, cond, ◌&&◌, ◌||◌, ◌==◌, List, [], ◌∷◌, ◌++◌, refl, sym, ap, ◌∙◌, arith, append_assoc}
+use Rattle.std.specs.List.{flat_map}
+use Rattle.std.proofs.lemmas.Bool.{and_parts, eqb-true, not-true}
+use Rattle.abc_repeat.specs.declared.mark.Mark.{Mark}
+use Rattle.abc_repeat.specs.declared.mark.Mark.TheVariants as marks
+use Rattle.abc_repeat.specs.Mark.{is_ending, is_single, closes_common, closes_ending, opens_next, greatest}
+use Rattle.abc_repeat.specs.Strain.{ends_strain, leads_to_ending}
+use Rattle.abc_repeat.specs.Runs.{Run, turn, marks_in, items_played, AreJoined, PassesSingleBars}
+use Rattle.abc_repeat.proofs.Told.{Told, nothing, told_with, told_first, tolds, told_play, played_told}
+
+-- runs that make the same strains whatever stands before them
+record AreAlike {A : Type 0} (runs others : List (Run A)) : Type 0 where
+  leads : leads_to_ending (marks_in runs) ≡ leads_to_ending (marks_in others)
+  strains : (opened inside : Bool) → tolds opened inside runs ≡ tolds opened inside others
+
+-- whether a mark ends its strain, by whether the rest leads to an ending
+abbrev ends_by : Bool → Bool → Mark → Bool → Bool
+ends_by opened inside mark leads = cond inside (closes_ending mark && not (not (opens_next mark) && leads)) (closes_common opened mark)
+
+one_before : {A : Type 0} (run : Run A) (runs others : List (Run A)) → AreAlike runs others → AreAlike (run ∷ runs) (run ∷ others)
+one_before run runs others alike = record {
+  leads = ap (λ b. is_ending run.mark || (is_single run.mark && b)) alike.leads;
+  strains = λ opened inside.
+      ap (λ b. cond (ends_by opened inside run.mark b)
+      (told_with run.items run.mark nothing ∷ tolds (opens_next run.mark) false runs)
+      (told_first run (tolds opened (inside || is_ending run.mark) runs))) alike.leads
+      ∙ ap (λ l. cond (ends_strain opened inside run.mark (marks_in others))
+      (told_with run.items run.mark nothing ∷ l)
+      (told_first run (tolds opened (inside || is_ending run.mark) runs))) (alike.strains (opens_next run.mark) false)
+      ∙ ap (λ l. cond (ends_strain opened inside run.mark (marks_in others))
+      (told_with run.items run.mark nothing ∷ tolds (opens_next run.mark) false others)
+      (told_first run l)) (alike.strains opened (inside || is_ending run.mark));
+}
+
+some_before : {A : Type 0} (before runs others : List (Run A)) → AreAlike runs others → AreAlike (before ++ runs) (before ++ others)
+some_before [] runs others alike = alike
+some_before (run ∷ before) runs others alike = one_before run (before ++ runs) (before ++ others) (some_before before runs others alike)
+
+played_alike : {A : Type 0} (before runs others : List (Run A)) → AreAlike runs others → items_played (before ++ runs) ≡ items_played (before ++ others)
+played_alike before runs others alike =
+    played_told (before ++ runs)
+    ∙ ap (flat_map told_play) ((some_before before runs others alike).strains false false)
+    ∙ sym (played_told (before ++ others))
+
+-- two runs in front of a strain are one
+two_told : {A : Type 0} (first second : List A) (told : Told A)
+    → told_with first marks.Play (told_with second marks.Play told) ≡ told_with (first ++ second) marks.Play told
+two_told first second told =
+    let passes : max 1 (max 1 told.passes) ≡ max 1 told.passes = omega arith in
+    ap (λ (k : ℕ). record { passes = k; common = first ++ (second ++ told.common); endings = told.endings }) passes
+    ∙ ap (λ l. record { passes = max 1 told.passes; common = l; endings = told.endings }) (sym (append_assoc first second told.common))
+
+two_first : {A : Type 0} (first second : List A) (strains : List (Told A))
+    → told_first (turn first) (told_first (turn second) strains) ≡ told_first (turn (first ++ second)) strains
+two_first first second [] = ap (λ told. told ∷ []) (two_told first second nothing)
+two_first first second (told ∷ others) = ap (λ one. one ∷ others) (two_told first second told)
+
+joined_alike : {A : Type 0} (first second : List A) (behind : List (Run A))
+    → AreAlike (turn first ∷ turn second ∷ behind) (turn (first ++ second) ∷ behind)
+joined_alike first second behind = record {
+  leads = refl;
+  strains = strains;
+}
+  where
+    strains : (opened inside : Bool) → tolds opened inside (turn first ∷ turn second ∷ behind) ≡ tolds opened inside (turn (first ++ second) ∷ behind)
+    strains opened true = two_first first second (tolds opened true behind)
+    strains opened false = two_first first second (tolds opened false behind)
+
+pub joined : {A : Type 0} → AreJoined A
+joined before behind first second =
+    played_alike before (turn first ∷ turn second ∷ behind) (turn (first ++ second) ∷ behind) (joined_alike first second behind)
+
+-- a single bar has no colons and is not double
+plain : (mark : Mark) → is_single mark ≡ true → mark ≡ marks.Bar 0 0 false
+plain marks.Play h = cc
+plain (marks.Bar closes opens double) h =
+    let both = and_parts ((closes == 0) && (opens == 0)) (not double) h in
+    let zeros = and_parts (closes == 0) (opens == 0) both.0 in
+    ap (λ n. marks.Bar n opens double) (eqb-true closes 0 zeros.0)
+    ∙ ap (λ n. marks.Bar 0 n double) (eqb-true opens 0 zeros.1)
+    ∙ ap (λ b. marks.Bar 0 0 b) (not-true double both.1)
+plain (marks.Ending numbers) h = cc
+
+bar_told : {A : Type 0} (items own : List A) (mark : Mark) (told : Told A)
+    → told_with items (marks.Bar 0 0 false) (told_with own mark told) ≡ told_with own mark told
+bar_told items own marks.Play told =
+    let passes : max 1 (max 1 told.passes) ≡ max 1 told.passes = omega arith in
+    ap (λ (k : ℕ). record { passes = k; common = own ++ told.common; endings = told.endings }) passes
+bar_told items own (marks.Bar closes opens double) told =
+    let passes : max 1 (max (1 + closes) told.passes) ≡ max (1 + closes) told.passes = omega arith in
+    ap (λ (k : ℕ). record { passes = k; common = told.common; endings = told.endings }) passes
+bar_told items own (marks.Ending numbers) told =
+    let passes : max 1 (max 1 (max (greatest numbers) told.passes)) ≡ max 1 (max (greatest numbers) told.passes) = omega arith in
+    ap (λ (k : ℕ). record { passes = k; common = []; endings = (numbers, told.common) ∷ told.endings }) passes
+
+bar_first : {A : Type 0} (items : List A) (run : Run A) (strains : List (Told A))
+    → told_first (record { mark = marks.Bar 0 0 false; items = items }) (told_first run strains) ≡ told_first run strains
+bar_first items run [] = ap (λ told. told ∷ []) (bar_told items run.items run.mark nothing)
+bar_first items run (told ∷ others) = ap (λ one. one ∷ others) (bar_told items run.items run.mark told)
+
+bar_passed : {A : Type 0} (items : List A) (opened inside : Bool) (behind : List (Run A))
+    → told_first (record { mark = marks.Bar 0 0 false; items = items }) (tolds opened inside behind) ≡ tolds opened inside behind
+bar_passed items opened inside [] = refl
+bar_passed {A} items opened inside (run ∷ rest) =
+    let bar : Run A = record { mark = marks.Bar 0 0 false; items = items } in
+    let ending : List (Told A) = told_with run.items run.mark nothing ∷ tolds (opens_next run.mark) false rest in
+    let staying : List (Told A) = told_first run (tolds opened (inside || is_ending run.mark) rest) in
+    elim (ends_strain opened inside run.mark (marks_in rest)) as (λ b. told_first bar (cond b ending staying) ≡ cond b ending staying) [
+      | true ↦ ap (λ told. told ∷ tolds (opens_next run.mark) false rest) (bar_told items run.items run.mark nothing)
+      | false ↦ bar_first items run (tolds opened (inside || is_ending run.mark) rest)
+    ]
+
+bar_alike : {A : Type 0} (items : List A) (behind : List (Run A)) → AreAlike (record { mark = marks.Bar 0 0 false; items = items } ∷ behind) behind
+bar_alike items behind = record {
+  leads = refl;
+  strains = strains;
+}
+  where
+    strains : (opened inside : Bool) → tolds opened inside (record { mark = marks.Bar 0 0 false; items = items } ∷ behind) ≡ tolds opened inside behind
+    strains true true = bar_passed items true true behind
+    strains true false = bar_passed items true false behind
+    strains false true = bar_passed items false true behind
+    strains false false = bar_passed items false false behind
+
+pub bars_passed : {A : Type 0} → PassesSingleBars A
+bars_passed before behind bar h =
+    ap (λ mark. items_played (before ++ record { mark = mark; items = bar.items } ∷ behind)) (plain bar.mark h)
+    ∙ played_alike before _ behind (bar_alike bar.items behind)
