@@ -7,11 +7,11 @@ use Rattle.abc_voices.specs.Items.{items_of}
 use Rattle.abc_voices.specs.Section.{is_section, voice_past, sections_from}
 
 -- what is left of a list, from an element on
-front : {X : Type 0} (xs : List X) (i : ℕ) (x : X) → i < length xs → x ≡ get_or xs i x → drop i xs ≡ x ∷ drop (i + 1) xs
+pub front : {X : Type 0} (xs : List X) (i : ℕ) (x : X) → i < length xs → x ≡ get_or xs i x → drop i xs ≡ x ∷ drop (i + 1) xs
 front xs i x within is = drop_more xs i x within ∙ ap (λ y. y ∷ drop (i + 1) xs) (sym is)
 
 -- one element more
-held_more : {X : Type 0} (xs : List X) (begin at : ℕ) (x : X) → begin ≤ at → at < length xs → x ≡ get_or xs at x
+pub held_more : {X : Type 0} (xs : List X) (begin at : ℕ) (x : X) → begin ≤ at → at < length xs → x ≡ get_or xs at x
     → take (at + 1 - begin) (drop begin xs) ≡ take (at - begin) (drop begin xs) ++ x ∷ []
 held_more xs begin at x inside within is =
     let next : at + 1 - begin ≡ (at - begin) + 1 = omega arith in

@@ -1,13 +1,10 @@
 -- Where nothing waits for an ending's sign, nothing is moved.
-use Rattle.std.proofs.Common.{◌≡◌, Bool, true, false, not, ◌&&◌, cond, List, [], ◌∷◌, ◌++◌, refl, sym, ap, ◌∙◌}
+use Rattle.std.proofs.Common.{◌≡◌, Bool, true, false, not, ◌&&◌, cond, List, [], ◌∷◌, ◌++◌, refl, ap, ◌∙◌}
 use Rattle.std.proofs.lemmas.Bool.{not-true}
-use Rattle.std.specs.Borrow.{Bor}
 use Rattle.abc_music.specs.declared.item.Item.{Item}
 use Rattle.abc_repeat.specs.Mark.{is_ending}
 use Rattle.abc_voices.specs.declared.ending_fields.Region.{Region}
-use Rattle.abc_voices.specs.declared.ending_fields.Region.TheVariants.{Common}
-use Rattle.abc_voices.specs.EndingFields.{waits, region_past, nothing_waits, set_down, with_fields_in_endings, with_fields_in_endings_from}
-use Rattle.abc_voices.specs.Items.{items_of}
+use Rattle.abc_voices.specs.EndingFields.{waits, region_past, nothing_waits, set_down, with_fields_in_endings_from}
 use Rattle.abc_voices.specs.Step.{mark_of}
 
 first_of : (a b : Bool) → (a && b) ≡ true → a ≡ true
@@ -38,8 +35,3 @@ nothing_moves region (step ∷ steps) h =
     ∙ ap (λ l. step ∷ l) others
 
 -- steps where nothing waits are those that repeats and endings play
-pub in_place : (part seen steps : List (Bor Item)) (one_waits : Bool) → seen ≡ part → steps ≡ part → not one_waits ≡ nothing_waits Common (items_of seen) → one_waits ≡ false
-    → items_of steps ≡ with_fields_in_endings (items_of part)
-in_place part seen steps one_waits same alike is h =
-    ap items_of alike
-    ∙ sym (nothing_moves Common (items_of part) (ap (λ those. nothing_waits Common (items_of those)) (sym same) ∙ sym is ∙ ap not h))

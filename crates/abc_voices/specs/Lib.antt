@@ -16,6 +16,7 @@ pub mod Section
 pub mod Stage
 pub mod Stages
 pub mod Step
+pub mod Stretches
 pub mod Ticks
 pub mod TiedNotes
 pub mod Ties

@@ -1,11 +1,11 @@
 -- What a voice plays of a section, and how long that takes. ABC 2.1 sections 4.8 to 4.10.
-use Rattle.std.specs.Prelude.{ℕ, Bool, true, ◌&&◌, List, [], ◌∷◌, filter, map, sum_by, filter_map, slice_get}
+use Rattle.std.specs.Prelude.{ℕ, not, List, filter, map, sum_by, filter_map, slice_get}
 use Rattle.abc_music.specs.declared.item.Item.{Item}
 use Rattle.abc_repeat.specs.declared.mark.Mark.{Mark}
-use Rattle.abc_repeat.specs.Mark.{is_play}
+use Rattle.abc_repeat.specs.Mark.{is_single}
 use Rattle.abc_repeat.specs.Play.{play_of}
 use Rattle.abc_voices.specs.EndingFields.{with_fields_in_endings}
-use Rattle.abc_voices.specs.Step.{is_straight, mark_of, length_of}
+use Rattle.abc_voices.specs.Step.{mark_of, length_of}
 
 -- The marks of steps.
 abbrev pub marks_of : List Item → List Mark
@@ -19,14 +19,9 @@ places_of steps = play_of (marks_of steps)
 abbrev pub played : List Item → List Item
 played part = filter_map (slice_get (with_fields_in_endings part)) (places_of (with_fields_in_endings part))
 
--- Whether marks leave the order of play as it stands.
-abbrev pub are_straight : List Mark → Bool
-are_straight [] = true
-are_straight (mark ∷ marks) = is_straight mark && are_straight marks
-
--- All steps but the marks that say how the others are played.
-abbrev pub without_marks : List Item → List Item
-without_marks steps = filter (λ step. is_play (mark_of step)) steps
+-- All steps but the bar lines that neither repeat nor are double.
+abbrev pub without_single_bars : List Item → List Item
+without_single_bars steps = filter (λ step. not (is_single (mark_of step))) steps
 
 -- How many grains steps take one after another.
 abbrev pub duration : List Item → ℕ

@@ -1,11 +1,10 @@
 -- What an item is to the play of its voice.
-use Rattle.std.specs.Prelude.{ℕ, Bool, true, false, ◌||◌, List, [], Option, Some, None}
+use Rattle.std.specs.Prelude.{ℕ, Bool, true, false, List, [], Option, Some, None}
 use Rattle.abc_music.specs.declared.item.Item.{Item}
 use Rattle.abc_music.specs.declared.item.Item.TheVariants as items
 use Rattle.abc_music.specs.declared.item.Tone.{Tone}
 use Rattle.abc_repeat.specs.declared.mark.Mark.{Mark}
 use Rattle.abc_repeat.specs.declared.mark.Mark.TheVariants as marks
-use Rattle.abc_repeat.specs.Mark.{is_play, is_single}
 
 -- A field or a directive that is played with the notes: of tempo, meter, key or program. Our own.
 abbrev pub is_field : Item → Bool
@@ -20,10 +19,6 @@ abbrev pub mark_of : Item → Mark
 mark_of (items.Bar line) = marks.Bar line.closes line.opens line.double
 mark_of (items.Ending numbers) = marks.Ending numbers
 mark_of _ = marks.Play
-
--- What leaves the order of play as it stands: all but repeat bars, double bars and the beginnings of endings.
-abbrev pub is_straight : Mark → Bool
-is_straight mark = is_play mark || is_single mark
 
 -- The grains that an item takes: a note, chord, rest or bar rest its length, all else nothing.
 abbrev pub length_of : Item → ℕ

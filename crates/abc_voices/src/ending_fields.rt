@@ -1,12 +1,13 @@
 //! The order in which a voice's items are played in a section.
 
-ghost use Rattle.std.specs.Prelude.{◌≡◌, ◌++◌, [], not, IfOk, OnOk};
+ghost use Rattle.std.specs.Prelude.{◌≡◌, ◌++◌, [], not, All, IfOk, OnOk};
 ghost use Rattle.abc_voices.specs.Items.{items_of};
-ghost use Rattle.abc_voices.specs.Play.{marks_of};
+ghost use Rattle.abc_voices.specs.Stretches.{runs_of, items_in, IsRun};
 ghost use Rattle.abc_voices.specs.declared.ending_fields.Region.TheVariants as regions;
 ghost use Rattle.abc_voices.specs.EndingFields.{waits, past_bar, past, region_past, nothing_waits, set_down, with_fields_in_endings};
 
 use crate::step::{is_field, mark_of};
+use crate::stretches::Stretch;
 use abc_music::Item;
 use abc_repeat::Mark;
 use std::alloc::{AllocError, Global};
@@ -57,21 +58,19 @@ impl Region {
     }
 }
 
-/// The marks of the items of a voice in a section, and whether one of the items waits for an ending's sign.
-pub(crate) fn marks_of(alloc: Global, part: &[&Item]) -> Result<(Vec<Mark>, bool), AllocError>
-    ensures marks { IfOk result (λ found. found.0.items ≡ marks_of (items_of part.now)) }
-    ensures waits { IfOk result (λ found. not found.1 ≡ nothing_waits regions.Common (items_of part.now)) }
+/// Whether something in the stretches of a part waits for an ending's sign. What does is the first of its stretch.
+pub(crate) fn waits(stretches: &[Stretch]) -> bool
+    requires { All IsRun (runs_of stretches.now) }
+    ensures { not result ≡ nothing_waits regions.Common (items_in (runs_of stretches.now)) }
 {
-    let mut marks = Vec::with_capacity(alloc, part.len())?;
     let mut region = Region::Common;
-    let mut waits = false;
-    for item in part {
-        let mark = mark_of(item);
-        waits = waits || region.waits(item);
-        region = region.past(mark);
-        marks.push(mark)?;
+    for stretch in stretches {
+        if region.waits(stretch.items[0]) {
+            return true;
+        }
+        region = region.past(stretch.mark);
     }
-    Ok((marks, waits))
+    false
 }
 
 /// Puts an item with those that have waited: an ending's sign before them, anything else behind.

@@ -1,6 +1,6 @@
 //! A tune laid out in time.
 
-ghost use Rattle.std.specs.Prelude.{◌≡◌, ◌≢◌, ◌<◌, ◌≤◌, ◌++◌, Bool, true, false, length, map, All, None, IfOk, OnOk};
+ghost use Rattle.std.specs.Prelude.{◌≡◌, ◌≢◌, ◌<◌, ◌≤◌, ◌++◌, ◌-◌, ◌^◌, Bool, true, false, min, length, map, All, None, IfOk, OnOk};
 ghost use Rattle.std.specs.List.{list_any};
 ghost use Rattle.abc_music.specs.Item.{IsItem};
 ghost use Rattle.abc_repeat.specs.Order.{sections_of, has_unknown};
@@ -46,12 +46,23 @@ fn put_items<'a>(tune: &mut Vec<&'a Item>, items: &'a [Item]) -> Result<(), Allo
     Ok(())
 }
 
+/// How many items cells give, and 2^64 - 1 for more.
+fn count_of(items: &[Shared<Items>]) -> usize
+    ensures { result ≡ min (length (items_in items.now)) (2 ^ 64 - 1) }
+{
+    let mut count: usize = 0;
+    for one in items {
+        count = count.saturating_add(one.get().items().len());
+    }
+    count
+}
+
 /// The items of a tune, of what its cells give.
 fn tune_of<'a>(alloc: Global, items: &'a [Shared<Items>]) -> Result<Vec<&'a Item>, AllocError>
     ensures value { IfOk result (λ tune. items_of tune.items ≡ items_in items.entry.now) }
     ensures range { IfOk result (λ tune. All IsItem (items_of tune.items)) }
 {
-    let mut tune = Vec::new(alloc);
+    let mut tune = Vec::with_capacity(alloc, count_of(items))?;
     for one in items {
         put_items(&mut tune, one.get().items())?;
     }

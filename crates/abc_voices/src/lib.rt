@@ -21,6 +21,7 @@ mod setting;
 mod stage;
 mod stages;
 mod step;
+mod stretches;
 mod ticks;
 mod tied_notes;
 mod timing;

@@ -1,14 +1,13 @@
 //! The notes of what a voice plays.
 
-ghost use Rattle.std.specs.Prelude.{◌≡◌, ◌-◌, ◌≤◌, All, Some, OnOk};
+ghost use Rattle.std.specs.Prelude.{◌≡◌, ◌-◌, ◌≤◌, All, Some, IfOk, OnOk};
 ghost use Rattle.abc_music.specs.Item.{IsItem, IsTone};
 ghost use Rattle.abc_time.specs.Grains.{grains_of_the_latest_end};
 ghost use Rattle.abc_voices.specs.Items.{items_of};
 ghost use Rattle.abc_voices.specs.TiedNotes.{before, notes_from, notes_in};
 ghost use Rattle.abc_voices.specs.Play.{duration};
-ghost use Rattle.abc_voices.specs.Step.{tones_of};
+ghost use Rattle.abc_voices.specs.Step.{length_of, tones_of};
 
-use crate::step::length_of;
 use crate::tied_notes::NotesInOne;
 use abc_music::{Item, LentTones, Tones};
 use abc_time::Grains;
@@ -26,16 +25,29 @@ fn put_tones(notes: &mut NotesInOne, at: Grains, tones: &Tones) -> Result<(), Al
     }
 }
 
-/// Puts an item before the notes of what comes behind it.
-fn put_item(notes: &mut NotesInOne, at: Grains, item: &Item) -> Result<(), AllocError>
-    requires at { at.0 ≤ grains_of_the_latest_end }
+/// Puts an item that ends at a moment before the notes of what comes behind it, and gives the moment at which it begins.
+fn put_item(notes: &mut NotesInOne, end: Grains, item: &Item) -> Result<Grains, AllocError>
+    requires end { end.0 ≤ grains_of_the_latest_end }
+    requires length { length_of item.now ≤ end.0 }
     requires item { IsItem item.now }
-    ensures { OnOk result (notes_in notes.new ≡ before at.0 (tones_of item.now) (notes_in notes.old)) }
+    ensures begin { IfOk result (λ begin. begin.0 ≡ end.0 - length_of item.now) }
+    ensures put { OnOk result (notes_in notes.new
+        ≡ before (end.0 - length_of item.now) (tones_of item.now) (notes_in notes.old)) }
 {
     match item {
-        Item::Tone { tones, .. } => put_tones(notes, at, tones),
-        Item::Rest { bar: false, .. } => notes.put_token(at, &[]),
-        _ => Ok(()),
+        Item::Tone { tones, length } => {
+            let begin = Grains(end.0 - length.0);
+            put_tones(notes, begin, tones)?;
+            Ok(begin)
+        }
+        Item::Rest { length, bar } => {
+            let begin = Grains(end.0 - length.0);
+            if !*bar {
+                notes.put_token(begin, &[])?;
+            }
+            Ok(begin)
+        }
+        _ => Ok(end),
     }
 }
 
@@ -59,8 +71,7 @@ pub(crate) fn put_notes(
     let mut left = steps.len();
     while left > 0 {
         left -= 1;
-        at.0 -= length_of(steps[left]).0;
-        put_item(notes, at, steps[left])?;
+        at = put_item(notes, at, steps[left])?;
     }
     Ok(())
 }

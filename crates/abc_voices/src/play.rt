@@ -1,61 +1,91 @@
 //! What a voice plays of a section.
 
-ghost use Rattle.std.specs.Prelude.{◌≡◌, ◌<◌, ◌≤◌, min, length, true, All, IfOk, IfSome, MatchOption, filter_map, slice_get};
+ghost use Rattle.std.specs.Prelude.{◌≡◌, ◌<◌, ◌≤◌, ◌-◌, ◌^◌, min, length, true, All, IfOk, MatchOption};
+ghost use Rattle.std.specs.List.{list_all, flat_map};
 ghost use Rattle.abc_repeat.specs.declared.play.TheConstants.{MOST_PLACES};
 ghost use Rattle.abc_repeat.specs.declared.fault.RepeatFault.TheVariants.{TooLong};
+ghost use Rattle.abc_repeat.specs.Mark.{is_play};
+ghost use Rattle.abc_repeat.specs.Runs.{items_at, items_played};
 ghost use Rattle.abc_time.specs.Grains.{grains_of_the_latest_end};
 ghost use Rattle.abc_voices.specs.Items.{items_of};
 ghost use Rattle.abc_voices.specs.EndingFields.{with_fields_in_endings};
-ghost use Rattle.abc_voices.specs.Play.{marks_of, places_of, played, duration, are_straight, without_marks};
+ghost use Rattle.abc_voices.specs.Play.{places_of, played, duration};
+ghost use Rattle.abc_voices.specs.Step.{mark_of};
+ghost use Rattle.abc_voices.specs.Stretches.{runs_of, IsRun};
 
-use crate::ending_fields::{marks_of, with_fields_in_endings};
-use crate::step::{is_played, is_straight, length_of};
+use crate::ending_fields::{waits, with_fields_in_endings};
+use crate::step::{is_played, length_of};
+use crate::stretches::{Stretch, marks_of, stretches};
 use abc_music::Item;
-use abc_repeat::{MOST_PLACES, Mark, RepeatFault, expand_within};
+use abc_repeat::{MOST_PLACES, RepeatFault, expand_within};
 use abc_time::{Grains, LATEST_END};
 use std::alloc::{AllocError, Global};
 
-/// What stands at each of some places.
-fn chosen<'a>(
-    alloc: Global,
-    steps: &[&'a Item],
-    places: &[usize],
-) -> Result<Vec<&'a Item>, AllocError>
-    requires { All (λ place. place < length steps.now) places.now }
-    ensures value { IfOk result (λ items. items_of items.items ≡ filter_map (slice_get (items_of steps.now)) places.now) }
-    ensures size { IfOk result (λ items. length items.items ≡ length places.now) }
+/// How many items stand in the stretches at some places, and 2^64 - 1 for more.
+fn size_at(stretches: &[Stretch], places: &[usize]) -> u64
+    requires { All (λ place. place < length stretches.now) places.now }
+    ensures { result ≡ min (length (flat_map (items_at (runs_of stretches.now)) places.now)) (2 ^ 64 - 1) }
 {
-    let mut items = Vec::with_capacity(alloc, places.len())?;
+    let mut size: u64 = 0;
     for place in places {
-        items.push(steps[*place])?;
+        size = size.saturating_add(stretches[*place].items.len() as u64);
+    }
+    size
+}
+
+/// What stands in the stretches at some places, with room for so many items.
+fn chosen<'t>(
+    alloc: Global,
+    stretches: &[Stretch<'_, 't>],
+    places: &[usize],
+    size: usize,
+) -> Result<Vec<&'t Item>, AllocError>
+    requires { All (λ place. place < length stretches.now) places.now }
+    ensures { IfOk result (λ items. items_of items.items ≡ flat_map (items_at (runs_of stretches.now)) places.now) }
+{
+    let mut items = Vec::with_capacity(alloc, size)?;
+    for place in places {
+        items.extend_from_slice(stretches[*place].items)?;
     }
     Ok(items)
 }
 
-/// Whether items have neither repeats nor double bars nor endings.
-fn are_straight(part: &[&Item]) -> bool
-    ensures { result ≡ are_straight (marks_of (items_of part.now)) }
+/// What is played of the stretches of a part that stands as repeats and endings play it.
+fn expanded<'t>(
+    alloc: Global,
+    stretches: &[Stretch<'_, 't>],
+    room: u64,
+) -> Result<Vec<&'t Item>, RepeatFault>
+    requires { All IsRun (runs_of stretches.now) }
+    ensures value { IfOk result (λ items. items_of items.items ≡ items_played (runs_of stretches.now)) }
+    ensures within { IfOk result (λ items. length items.items ≤ min room MOST_PLACES) }
+    ensures too_long { result ≡ Err TooLong → min room MOST_PLACES < length (items_played (runs_of stretches.now)) }
 {
-    for step in part {
-        if !is_straight(step) {
+    let marks = marks_of(alloc, stretches)?;
+    let places = expand_within(alloc, &marks, room)?;
+    let size = size_at(stretches, &places);
+    if size > room.min(MOST_PLACES) {
+        return Err(RepeatFault::TooLong);
+    }
+    let items = chosen(alloc, stretches, &places, size as usize)?;
+    Ok(items)
+}
+
+/// Whether all items take their turn, as they stand.
+fn are_all_played(part: &[&Item]) -> bool
+    ensures { result ≡ list_all (λ item. is_play (mark_of item)) (items_of part.now) }
+{
+    for item in part {
+        if !is_played(item) {
             return false;
         }
     }
     true
 }
 
-/// All items but the marks that say how the others are played.
-fn without_marks<'a>(part: Vec<&'a Item>) -> Vec<&'a Item>
-    ensures { items_of result.items ≡ without_marks (items_of part.entry.items) }
-{
-    let mut items = part;
-    items.retain(|step| is_played(step));
-    items
-}
-
-/// What is played of items with neither repeats nor double bars nor endings, as they stand.
-fn played_once<'a>(part: Vec<&'a Item>, room: u64) -> Result<Vec<&'a Item>, RepeatFault>
-    requires { are_straight (marks_of (items_of part.items)) ≡ true }
+/// What is played of items that all take their turn, as they stand.
+fn played_once<'t>(part: Vec<&'t Item>, room: u64) -> Result<Vec<&'t Item>, RepeatFault>
+    requires { list_all (λ item. is_play (mark_of item)) (items_of part.items) ≡ true }
     ensures value { IfOk result (λ items. items_of items.items ≡ played (items_of part.entry.items)) }
     ensures size { IfOk result (λ items. length items.items
         ≡ length (places_of (with_fields_in_endings (items_of part.entry.items)))) }
@@ -63,39 +93,19 @@ fn played_once<'a>(part: Vec<&'a Item>, room: u64) -> Result<Vec<&'a Item>, Repe
     ensures too_long { result ≡ Err TooLong
         → min room MOST_PLACES < length (places_of (with_fields_in_endings (items_of part.entry.items))) }
 {
-    let items = without_marks(part);
-    if items.len() as u64 > room.min(MOST_PLACES) {
+    if part.len() as u64 > room.min(MOST_PLACES) {
         return Err(RepeatFault::TooLong);
     }
-    Ok(items)
-}
-
-/// What is played of items that stand as repeats and endings play them, by their marks.
-fn expanded<'a>(
-    alloc: Global,
-    steps: &[&'a Item],
-    marks: &[Mark],
-    room: u64,
-) -> Result<Vec<&'a Item>, RepeatFault>
-    requires { marks.now ≡ marks_of (items_of steps.now) }
-    ensures value { IfOk result (λ items. items_of items.items
-        ≡ filter_map (slice_get (items_of steps.now)) (places_of (items_of steps.now))) }
-    ensures size { IfOk result (λ items. length items.items ≡ length (places_of (items_of steps.now))) }
-    ensures within { IfOk result (λ items. length items.items ≤ min room MOST_PLACES) }
-    ensures too_long { result ≡ Err TooLong → min room MOST_PLACES < length (places_of (items_of steps.now)) }
-{
-    let places = expand_within(alloc, marks, room)?;
-    let items = chosen(alloc, steps, &places)?;
-    Ok(items)
+    Ok(part)
 }
 
 /// What is played of the items of a voice in a section, in order of play, where there is room for so many
 /// places. Memory for more places than there are items is asked for only where there is room.
-pub(crate) fn played<'a>(
+pub(crate) fn played<'t>(
     alloc: Global,
-    part: Vec<&'a Item>,
+    part: Vec<&'t Item>,
     room: u64,
-) -> Result<Vec<&'a Item>, RepeatFault>
+) -> Result<Vec<&'t Item>, RepeatFault>
     ensures value { IfOk result (λ items. items_of items.items ≡ played (items_of part.entry.items)) }
     ensures size { IfOk result (λ items. length items.items
         ≡ length (places_of (with_fields_in_endings (items_of part.entry.items)))) }
@@ -103,18 +113,18 @@ pub(crate) fn played<'a>(
     ensures too_long { result ≡ Err TooLong
         → min room MOST_PLACES < length (places_of (with_fields_in_endings (items_of part.entry.items))) }
 {
-    // Most music is played as it stands, and then nothing has to be put in order or counted out.
-    if are_straight(&part) {
+    // Much music is played as it stands, and then nothing has to be put in order or counted out.
+    if are_all_played(&part) {
         return played_once(part, room);
     }
-    let (marks, waits) = marks_of(alloc, &part)?;
+    let found = stretches(alloc, &part)?;
     // In most music nothing waits for an ending's sign, and then the items stay in the list that they came in.
-    if !waits {
-        return expanded(alloc, &part, &marks, room);
+    if !waits(&found) {
+        return expanded(alloc, &found, room);
     }
     let steps = with_fields_in_endings(alloc, &part)?;
-    let (marks, _) = marks_of(alloc, &steps)?;
-    expanded(alloc, &steps, &marks, room)
+    let found = stretches(alloc, &steps)?;
+    expanded(alloc, &found, room)
 }
 
 /// How long items take one after another, unless that is later than a tune may end.

@@ -1,11 +1,15 @@
 //! The sections of a tune, and what a voice has in each.
 
-ghost use Rattle.std.specs.Prelude.{◌≡◌, IfOk, map};
+ghost use Rattle.std.specs.Prelude.{◌≡◌, ◌&&◌, not, IfOk, map};
+ghost use Rattle.abc_repeat.specs.Mark.{is_single};
 ghost use Rattle.abc_voices.specs.Items.{items_of};
 ghost use Rattle.abc_voices.specs.Owned.{is_own_past};
+ghost use Rattle.abc_voices.specs.Play.{without_single_bars};
 ghost use Rattle.abc_voices.specs.Stage.{content};
+ghost use Rattle.abc_voices.specs.Step.{mark_of};
 ghost use Rattle.abc_voices.specs.Section.{is_step, is_section, letters, voice_past, opening_voice, sections, part_from};
 
+use crate::step::is_single_bar;
 use abc_music::Item;
 use std::alloc::{AllocError, Global};
 
@@ -81,8 +85,15 @@ fn is_own_past(voice: &[u8], is_own: bool, item: &Item) -> bool
     }
 }
 
-/// The items of a voice, of those from a place on where a voice is the current one. Names may be long, so they are
-/// compared where the current voice changes, and not at each item.
+/// Whether it is played, or a mark that changes how: a bar line that neither repeats nor is double does not.
+fn is_turn_or_sign(item: &Item) -> bool
+    ensures { result ≡ (is_step item.now && not (is_single (mark_of item.now))) }
+{
+    is_step(item) && !is_single_bar(item)
+}
+
+/// The items of a voice, of those from a place on where a voice is the current one, but for the bar lines that change
+/// nothing. Names may be long, so they are compared where the current voice changes, and not at each item.
 #[tactic(auto, using(crate::proofs::Owned::part_owned))]
 pub(crate) fn part<'a>(
     alloc: Global,
@@ -90,12 +101,13 @@ pub(crate) fn part<'a>(
     opening: &'a [u8],
     steps: &[&'a Item],
 ) -> Result<Vec<&'a Item>, AllocError>
-    ensures { IfOk result (λ part. items_of part.items ≡ part_from voice.now opening.now (items_of steps.now)) }
+    ensures { IfOk result (λ part. items_of part.items
+        ≡ without_single_bars (part_from voice.now opening.now (items_of steps.now))) }
 {
     let mut part = Vec::with_capacity(alloc, steps.len())?;
     let mut is_own = opening == voice;
     for item in steps {
-        if is_own && is_step(item) {
+        if is_own && is_turn_or_sign(item) {
             part.push(*item)?;
         }
         is_own = is_own_past(voice, is_own, item);

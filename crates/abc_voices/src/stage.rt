@@ -83,6 +83,7 @@ impl From<RepeatFault> for StageFault {
 
 impl<'t> Part<'t> {
     /// What a voice plays of a section, where there is room for so many places.
+    #[tactic(auto, using(crate::proofs::Singles::played_without_bars, crate::proofs::Singles::size_without_bars))]
     pub(crate) fn of(
         alloc: Global,
         section: &Section<'_, 't>,

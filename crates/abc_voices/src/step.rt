@@ -1,8 +1,8 @@
 //! What an item is to the play of its voice.
 
 ghost use Rattle.std.specs.Prelude.{◌≡◌};
-ghost use Rattle.abc_repeat.specs.Mark.{is_play};
-ghost use Rattle.abc_voices.specs.Step.{is_field, is_straight, mark_of, length_of};
+ghost use Rattle.abc_repeat.specs.Mark.{is_play, is_single};
+ghost use Rattle.abc_voices.specs.Step.{is_field, mark_of, length_of};
 
 use abc_music::Item;
 use abc_repeat::Mark;
@@ -40,11 +40,14 @@ pub(crate) fn is_played(item: &Item) -> bool
     !matches!(item, Item::Bar(_) | Item::Ending(_))
 }
 
-/// Whether it takes its turn, or is a bar line that neither repeats nor is double.
-pub(crate) fn is_straight(item: &Item) -> bool
-    ensures { result ≡ is_straight (mark_of item.now) }
+/// Whether it is a bar line that neither repeats nor is double.
+pub(crate) fn is_single_bar(item: &Item) -> bool
+    ensures { result ≡ is_single (mark_of item.now) }
 {
-    is_played(item) || mark_of(item).is_single()
+    match item {
+        Item::Bar(bar) => bar.closes == 0 && bar.opens == 0 && !bar.double,
+        _ => false,
+    }
 }
 
 /// How long it takes.
