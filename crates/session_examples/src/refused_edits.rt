@@ -1,10 +1,10 @@
 //! Edits of which any request for memory may be refused: the session then answers as before, and the same edit succeeds.
 
 use crate::alike::are_alike;
-use crate::refusals::{again, call, done};
 use crate::texts::{empty_session, insertion, lines_of};
 use abc_fold::Work;
 use abc_live::{Edit, EditError, Report, Session};
+use refused_calls::told::{again, call, done};
 use std::alloc::Global;
 use std::process::Abort;
 use std::rt::Runtime;

@@ -4,13 +4,13 @@ ghost use Rattle.std.specs.Prelude.{IfSome};
 ghost use Rattle.abc_publish.specs.Publisher.{maps_of};
 ghost use Rattle.live_examples.specs.Held.{IsUnderWay};
 
-use crate::refusals::{again, call, done};
 use crate::taken::{FILE_OF_C, FILE_OF_D, check_newest};
 use crate::texts::{apply, empty_session, insertion, lines_of};
 use abc_fold::Work;
 use abc_live::{Edit, Session};
 use abc_publish::Publisher;
 use live_examples::held::{Held, end_older, finish};
+use refused_calls::told::{again, call, done};
 use std::alloc::Global;
 use std::process::Abort;
 use std::rt::Runtime;

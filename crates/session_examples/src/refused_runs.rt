@@ -1,11 +1,11 @@
 //! Runs in which any request for memory may be refused.
 
 use crate::failing::Failing;
-use crate::refusals::{again, call, done};
 use crate::shelf::Shelf;
 use crate::streams::{Kept, Pieces};
 use abc_fold::Work;
 use abc2midi_live::{RunFault, run};
+use refused_calls::told::{again, call, done};
 use std::alloc::Global;
 use std::process::Abort;
 use std::rt::Runtime;

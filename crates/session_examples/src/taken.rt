@@ -6,6 +6,7 @@ ghost use Rattle.live_examples.specs.Held.{IsUnderWay};
 use abc_live::Session;
 use abc_publish::Publisher;
 use live_examples::held::Held;
+pub use refused_calls::FILE_OF_C;
 use std::process::Abort;
 
 /// Takes the next job, where there is one.
@@ -22,11 +23,7 @@ pub fn take(rt: &impl Abort, publisher: &mut Publisher, held: Held, session: &Se
     }
 }
 
-/// The file of a tune `T:A`, `K:C` whose note is `C`.
-pub const FILE_OF_C: &[u8] =
-    b"MThd\0\0\0\x06\0\x01\0\x02\x01\xE0MTrk\0\0\0\x17\0\xFF\x03\x01A\0\xFFQ\x03\x07\xA1\x20\0\xFFY\x02\0\0\x81p\xFF\x2F\0MTrk\0\0\0\x0D\0\x90\x3CP\x81p\x80\x3C\x40\0\xFF\x2F\0";
-
-/// The same with `D`, two semitones higher.
+/// The file of a tune `T:A`, `K:C` whose note is `D`, two semitones higher than `C`.
 pub const FILE_OF_D: &[u8] =
     b"MThd\0\0\0\x06\0\x01\0\x02\x01\xE0MTrk\0\0\0\x17\0\xFF\x03\x01A\0\xFFQ\x03\x07\xA1\x20\0\xFFY\x02\0\0\x81p\xFF\x2F\0MTrk\0\0\0\x0D\0\x90\x3EP\x81p\x80\x3E\x40\0\xFF\x2F\0";
 
