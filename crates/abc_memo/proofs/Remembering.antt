@@ -1,6 +1,6 @@
 -- What is remembered of a key is what is built of its items.
 use Rattle.std.proofs.Common.{◌≡◌, Bool, true, false, ◌&&◌, ◌⊎◌, inl, inr, List, [], ◌∷◌, Contains, Option, Some, None, refl, sym, ap, subst, ⊎_elim, ◌∙◌}
-use Rattle.std.specs.Prelude.{IsTrue, cond, nat_eq}
+use Rattle.std.specs.Prelude.{IsTrue, cond, nat_eq, Result, Ok, Err, OnErr, OnOk}
 use Rattle.std.specs.Cmp.Lexicographic.{pointwise, same_text}
 use Rattle.std.specs.List.{flat_map}
 use Rattle.std.specs.Map.{lookup, lookup_entry, remove_entry}
@@ -47,6 +47,11 @@ module _ {K V : Type 0} (test : K → Bool) where
 not_some : {A : Type 0} (option : Option A) → ((a : A) → option ≡ Some a → ⊥) → option ≡ None
 not_some None never = refl
 not_some (Some a) never = absurd (never a refl)
+
+-- What was tried is done, or was refused.
+pub done_or_refused : {T E Done Refused : Type 0} (result : Result T E) → OnOk result Done → OnErr result Refused → Refused ⊎ Done
+done_or_refused (Ok v) done refused = inr done
+done_or_refused (Err e) done refused = inl refused
 
 -- What was built of a key that was not there may be put first.
 pub kept_behind : {Defaults : Type 0} (test : Defaults → Defaults → Bool) (key : TuneKey Defaults) (known : Option Built) (built : Built) (old asked now : List (TuneKey Defaults × Built))

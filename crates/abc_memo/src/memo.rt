@@ -1,6 +1,6 @@
 //! A memo of built tunes.
 
-ghost use Rattle.std.specs.Prelude.{◌≡◌, ◌⊎◌, [], IfOk, OnErr, true, if◌then◌else◌, is_some};
+ghost use Rattle.std.specs.Prelude.{◌≡◌, [], IfOk, OnErr, OnOk, true, if◌then◌else◌, is_some};
 ghost use Rattle.std.specs.Map.{lookup};
 ghost use Rattle.lru.specs.LruCache.{lru_cache, promoted, put_entries};
 ghost use Rattle.abc_fold.specs.Steps.{steps_of};
@@ -56,13 +56,14 @@ impl<C: Compiler> TuneMemo<C> {
         }
     }
 
-    /// Remembers what was built, where there is memory for it.
-    fn keep(&mut self, key: TuneKey<C::Defaults>, built: &Shared<Built>)
-        ensures { (self.new ≡ self.old) ⊎ (self.new ≡ put_entries (⟦<TuneKey<C::Defaults> as PartialEq>⟧.eq) (lru_cache self.old 64) key built.now) }
+    /// Remembers what was built.
+    fn keep(&mut self, key: TuneKey<C::Defaults>, built: &Shared<Built>) -> Result<(), AllocError>
+        ensures ok { OnOk result (self.new ≡ put_entries (⟦<TuneKey<C::Defaults> as PartialEq>⟧.eq) (lru_cache self.old 64) key built.now) }
+        ensures refused { OnErr result (self.new ≡ self.old) }
     {
-        if let Ok(shared) = built.share() {
-            let _ = self.entries.put(key, shared);
-        }
+        let shared = built.share()?;
+        self.entries.put(key, shared)?;
+        Ok(())
     }
 
     /// What the compiler builds of items, which are those of the key: what is remembered, or built now and remembered
@@ -89,7 +90,8 @@ impl<C: Compiler> TuneMemo<C> {
             return Ok(known);
         }
         let built = Shared::new(alloc, compiler.build(alloc, items, work)?)?;
-        self.keep(key, &built);
+        // What finds no memory is built again when it is asked for next.
+        let _ = self.keep(key, &built);
         Ok(built)
     }
 }
