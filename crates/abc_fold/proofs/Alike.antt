@@ -3,13 +3,19 @@ use Rattle.std.proofs.Common.{◌≡◌, Bool, true, false, List, [], ◌∷◌,
 use Rattle.abc_fold.specs.declared.piece.Piece.{Piece}
 use Rattle.abc_fold.specs.declared.piece.Piece.TheVariants.{New, Kept}
 use Rattle.abc_fold.specs.Steps.{Steps, IsAlike, AreAlike, IsResumable, states_from, items_from}
-use Rattle.abc_fold.specs.Piece.{IsStep, cell_of, steps_at, steps_needed}
+use Rattle.abc_fold.specs.Piece.{IsStep, cell_of, is_taken, steps_at, steps_needed}
 
 -- Two tests that imply each other are equal.
 same_test : (p q : Bool) → (p ≡ true → q ≡ true) → (q ≡ true → p ≡ true) → p ≡ q
 same_test true q forth back = sym (forth refl)
 same_test false true forth back = back refl
 same_test false false forth back = refl
+
+-- A piece that is not taken as it was kept needs a step.
+pub not_taken_cost : {F State Cell Items Work : Type 0} (steps : Steps State Cell Items) (state : State) (piece : Piece F State Cell Items Work) (taken : Bool)
+    → taken ≡ is_taken steps state piece → taken ≡ false → steps_at steps state piece ≡ 1
+not_taken_cost steps state (New cell) taken is not = refl
+not_taken_cost steps state (Kept cell entered left items) taken is not = rw (sym is ∙ not) refl
 
 module _ {State Cell Items : Type 0} (steps : Steps State Cell Items) (laws : IsResumable steps) where
   -- States are alike to themselves.
@@ -64,14 +70,12 @@ module _ {State Cell Items : Type 0} (steps : Steps State Cell Items) (laws : Is
   other_tail (x ∷ front) tail old [] all same = all
   other_tail (x ∷ front) tail old (y ∷ whole) all same = (all.0, other_tail front tail old whole all.1 same)
 
-  -- A state alike to the one that was kept behind a cell, where the cell is entered in a state alike to the kept one.
-  pub taken_state : (state entered left own x y : State) (cell : Cell) (given : Items) → x ≡ entered → y ≡ state → true ≡ steps.alike x y → IsStep steps cell entered left given → IsAlike steps own left → IsAlike steps own (steps.next state cell)
-  taken_state state entered left own x y cell given first second test kept alike =
-      let same : IsAlike steps entered state = rw (← first, ← second) (sym test) in
-      laws.transitive own left (steps.next state cell) alike (laws.transitive left (steps.next entered cell) (steps.next state cell) kept.behind_alike (laws.alike_states entered state cell same))
+  -- The state that was kept behind a cell, where the cell is entered in a state alike to the kept one.
+  pub taken_state : (state entered left own : State) (cell : Cell) (given : Items) → IsAlike steps entered state → IsStep steps cell entered left given → own ≡ left → IsAlike steps own (steps.next state cell)
+  taken_state state entered left own cell given same kept is =
+      rw is (laws.transitive left (steps.next entered cell) (steps.next state cell) kept.behind_alike (laws.alike_states entered state cell same))
 
   -- What was kept of a cell is what it gives there.
-  pub taken_items : (state entered left x y : State) (cell : Cell) (given out : Items) → x ≡ entered → y ≡ state → true ≡ steps.alike x y → IsStep steps cell entered left given → out ≡ given → out ≡ steps.gives state cell
-  taken_items state entered left x y cell given out first second test kept is =
-      let same : IsAlike steps entered state = rw (← first, ← second) (sym test) in
+  pub taken_items : (state entered left : State) (cell : Cell) (given out : Items) → IsAlike steps entered state → IsStep steps cell entered left given → out ≡ given → out ≡ steps.gives state cell
+  taken_items state entered left cell given out same kept is =
       is ∙ kept.given_equal ∙ laws.equal_items entered state cell same

@@ -8,7 +8,8 @@ use Rattle.abc_fold.specs.Chain.{Chained, Folds, AreKeptFrom, HasKeptBehind, IsK
 use Rattle.abc_fold.specs.Steps.{Steps, IsAlike, AreAlike, IsResumable, states_from, items_from}
 use Rattle.abc_fold.specs.Piece.{IsKept, IsStep, cell_of, cells_of}
 
-some_same : {X : Type 0} (x y : X) → Some x ≡ Some y → x ≡ y
+-- What stands in two equal options.
+pub some_same : {X : Type 0} (x y : X) → Some x ≡ Some y → x ≡ y
 some_same x y is = search is
 
 none_some : {X : Type 0} (x : X) → None ≡ Some x → ⊥

@@ -1,4 +1,5 @@
 pub mod Chain
+pub mod Following
 pub mod Piece
 pub mod Steps
 pub mod Work

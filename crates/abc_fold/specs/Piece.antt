@@ -1,5 +1,5 @@
 -- The pieces that a chain is made from. Our own.
-use Rattle.std.specs.Prelude.{◌≡◌, ℕ, ◌+◌, if◌then◌else◌, List, [], ◌∷◌, map}
+use Rattle.std.specs.Prelude.{◌≡◌, ℕ, ◌+◌, Bool, false, if◌then◌else◌, List, [], ◌∷◌, map}
 use Rattle.abc_fold.specs.declared.piece.Piece.{Piece}
 use Rattle.abc_fold.specs.declared.piece.Piece.TheVariants.{New, Kept}
 use Rattle.abc_fold.specs.Steps.{Steps, IsAlike}
@@ -22,6 +22,12 @@ pub record IsStep {State Cell Items : Type 0} (steps : Steps State Cell Items) (
 abbrev pub IsKept : {F State Cell Items Work : Type 0} → Steps State Cell Items → Piece F State Cell Items Work → Type 0
 IsKept steps (New cell) = Unit {0}
 IsKept steps (Kept cell entered left items) = IsStep steps cell entered left items
+
+-- Whether what was kept of a piece may be taken where the fold enters it in a state: whether it was kept from a state
+-- alike.
+abbrev pub is_taken : {F State Cell Items Work : Type 0} → Steps State Cell Items → State → Piece F State Cell Items Work → Bool
+is_taken steps state (New cell) = false
+is_taken steps state (Kept cell entered left items) = steps.alike entered state
 
 -- How many steps a piece needs where the fold enters it in a state: one, or none where it was kept from a state alike.
 abbrev pub steps_at : {F State Cell Items Work : Type 0} → Steps State Cell Items → State → Piece F State Cell Items Work → ℕ

@@ -1,13 +1,14 @@
 //! Chains of cells that keep what a fold made of them, and chains that have been prepared.
 
-ghost use Rattle.std.specs.Prelude.{◌≡◌, ◌+◌, ◌-◌, ◌<◌, ◌≤◌, [], ◌++◌, All, IfOk, OnErr, OnOk, IsOk, length, take, drop, option_copied, slice_get};
+ghost use Rattle.std.specs.Prelude.{◌≡◌, ◌+◌, ◌-◌, ◌<◌, ◌≤◌, [], ◌++◌, All, IfOk, OnErr, OnOk, IsOk, Some, length, take, drop, option_copied, slice_get, true};
 ghost use Rattle.abc_fold.specs.Chain.{Chained, Folds, HasKeptBehind, IsKeptAt, no_cells};
+ghost use Rattle.abc_fold.specs.Following.{AreMarked};
 ghost use Rattle.abc_fold.specs.Piece.{IsKept, cells_of, steps_needed};
 ghost use Rattle.abc_fold.specs.Steps.{Steps, IsResumable, steps_of};
 ghost use Rattle.abc_fold.specs.Work.{IsRaisedUpTo};
 
-use crate::piece::{cell_in, passed};
-use crate::{Counts, Piece, Resumable, Shared};
+use crate::piece::{cell_in, is_taken, passed};
+use crate::{Counts, Piece, Pieces, Resumable, Shared};
 use abc_text::Seen;
 use std::alloc::{AllocError, Global};
 use std::marker::Model;
@@ -172,7 +173,32 @@ impl<F: Resumable> Chain<F> {
         ensures counted { let steps = steps_of (F.next fold.now) (F.gives fold.now) (F.alike fold.now) in
             IsRaisedUpTo (steps_needed steps opening.now pieces.now) (F.Work.counts work.old) (F.Work.counts work.new) }
     {
-        let next = folded(self.allocator(), fold, opening, pieces, work)?;
+        let next = folded(self.allocator(), fold, opening, pieces, &[], work)?;
+        Ok(ChainPatch {
+            on: Seen::of(self),
+            next,
+        })
+    }
+
+    /// The same over pieces of which it is known which follow each other: where one is taken as it was kept, the states
+    /// are not compared at the one that follows it.
+    pub fn prepare_pieces(
+        &self,
+        fold: &F,
+        opening: &F::State,
+        pieces: &Pieces<F>,
+        work: &mut F::Work,
+    ) -> Result<ChainPatch<F>, AllocError>
+        requires { All (IsKept (steps_of (F.next fold.now) (F.gives fold.now) (F.alike fold.now))) pieces.now }
+        ensures on { IfOk result (λ patch. patch.on ≡ self.now) }
+        ensures cells { IfOk result (λ patch. patch.after.cells ≡ cells_of pieces.now) }
+        ensures folds { let steps = steps_of (F.next fold.now) (F.gives fold.now) (F.alike fold.now) in
+            IfOk result (λ patch. Folds steps opening.now patch.after) }
+        ensures counted { let steps = steps_of (F.next fold.now) (F.gives fold.now) (F.alike fold.now) in
+            IsRaisedUpTo (steps_needed steps opening.now pieces.now) (F.Work.counts work.old) (F.Work.counts work.new) }
+    {
+        let (listed, marks) = (pieces.as_slice(), pieces.marks());
+        let next = folded(self.allocator(), fold, opening, listed, marks, work)?;
         Ok(ChainPatch {
             on: Seen::of(self),
             next,
@@ -233,15 +259,17 @@ fn taken_back<F: Resumable>(
     appended
 }
 
-/// The chain of a fold over pieces.
+/// The chain of a fold over pieces, some of which are marked as following the one before them.
 fn folded<F: Resumable>(
     alloc: Global,
     fold: &F,
     opening: &F::State,
     pieces: &[Piece<F>],
+    marks: &[bool],
     work: &mut F::Work,
 ) -> Result<Chain<F>, AllocError>
-    requires { All (IsKept (steps_of (F.next fold.now) (F.gives fold.now) (F.alike fold.now))) pieces.now }
+    requires kept { All (IsKept (steps_of (F.next fold.now) (F.gives fold.now) (F.alike fold.now))) pieces.now }
+    requires marked { AreMarked pieces.now marks.now }
     ensures cells { IfOk result (λ chain. chain.cells ≡ cells_of pieces.now) }
     ensures folds { let steps = steps_of (F.next fold.now) (F.gives fold.now) (F.alike fold.now) in
         IfOk result (λ chain. Folds steps opening.now chain) }
@@ -252,9 +280,13 @@ fn folded<F: Resumable>(
     let mut states = Vec::new(alloc);
     let mut cells = Vec::new(alloc);
     let mut items = Vec::new(alloc);
-    for piece in pieces {
+    let mut taken = false;
+    for i in 0..pieces.len() {
+        let piece = &pieces[i];
         cells.push(cell_in(alloc, fold, piece)?)?;
-        let (left, given) = passed(alloc, fold, &state, piece, work)?;
+        let known = is_known(taken, marks, i);
+        taken = is_taken(fold, &state, piece, known);
+        let (left, given) = passed(alloc, fold, &state, piece, taken, work)?;
         items.push(given)?;
         states.push(state)?;
         state = left;
@@ -265,4 +297,19 @@ fn folded<F: Resumable>(
         cells,
         items,
     })
+}
+
+/// Whether it is known in which state a piece was entered: where the one before it was taken as it was kept, and it is
+/// marked as following that one.
+fn is_known(taken: bool, marks: &[bool], i: usize) -> bool
+    ensures before { result ≡ true → taken ≡ true }
+    ensures marked { result ≡ true → slice_get marks.now i ≡ Some true }
+{
+    if !taken {
+        return false;
+    }
+    match marks.get(i) {
+        None => false,
+        Some(mark) => *mark,
+    }
 }

@@ -1,6 +1,6 @@
 //! Folds that can be taken up again from a state that was kept.
 
-ghost use Rattle.std.specs.Prelude.{◌≡◌, Bool, IfOk};
+ghost use Rattle.std.specs.Prelude.{◌≡◌, Bool, IfOk, true};
 ghost use Rattle.abc_fold.specs.Steps.{IsResumable, steps_of};
 
 use crate::Fold;
@@ -15,6 +15,16 @@ pub trait Resumable: Fold {
     /// Whether nothing that follows can tell two states apart. No memory is taken.
     fn same(&self, a: &Self::State, b: &Self::State) -> bool
         ensures { result ≡ alike self.now a.now b.now };
+
+    /// Whether it is seen at little cost that nothing that follows can tell the state behind a cell from the one before
+    /// it. Where it is not seen, they may be alike all the same. No memory is taken.
+    fn stays(&self, state: &Self::State, cell: &Self::Cell, behind: &Self::State) -> bool
+        requires { behind.now ≡ Self.next self.now state.now cell.now }
+        ensures { result ≡ true → alike self.now state.now behind.now ≡ true }
+    {
+        let _ = cell;
+        self.same(state, behind)
+    }
 
     /// A copy of a state.
     fn copy_state(&self, alloc: Global, state: &Self::State) -> Result<Self::State, AllocError>

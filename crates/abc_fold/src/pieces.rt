@@ -1,0 +1,89 @@
+//! Pieces of which it is known which follow each other.
+
+ghost use Rattle.std.specs.Prelude.{◌≡◌, [], ◌∷◌, ◌++◌, OnErr, OnOk, true};
+ghost use Rattle.abc_fold.specs.Following.{AreMarked, FollowsLast};
+
+use crate::{Piece, Resumable};
+use std::alloc::{AllocError, Global};
+use std::marker::Model;
+
+/// Pieces one behind the other, each with a mark whether it is known that it was entered in the very state in which the
+/// one before it was left. Contracts see the pieces.
+#[derive(Drop)]
+pub struct Pieces<F: Resumable> {
+    pieces: Vec<Piece<F>>,
+    marks: Vec<bool>,
+}
+
+impl<F: Resumable> Model for Pieces<F> {
+    ghost use Rattle.std.specs.Prelude.{List};
+    ghost use Rattle.abc_fold.specs.declared.piece.Piece.{Piece};
+    ghost use Rattle.abc_fold.specs.Following.{HasMarks};
+
+    ghost Value = { List (Piece F F.State F.Cell F.Items F.Work) };
+
+    ghost view = { λ p. p.pieces.items };
+
+    ghost invariant = { λ p. HasMarks p.pieces.items p.marks.items };
+}
+
+impl<F: Resumable> Pieces<F> {
+    /// No pieces.
+    pub fn new(alloc: Global) -> Pieces<F>
+        ensures { result ≡ [] }
+    {
+        Pieces {
+            pieces: Vec::new(alloc),
+            marks: Vec::new(alloc),
+        }
+    }
+
+    /// Appends a piece of which it is not known whether it follows the last one. Where memory is refused the pieces stay
+    /// as they were.
+    pub fn push(&mut self, piece: Piece<F>) -> Result<(), AllocError>
+        ensures pushed { OnOk result (self.new ≡ self.old ++ piece ∷ []) }
+        ensures refused { OnErr result (self.new ≡ self.old) }
+    {
+        self.put(piece, false)
+    }
+
+    /// Appends a kept piece that was entered in the very state in which the last one was left, if there is one. Where
+    /// memory is refused the pieces stay as they were.
+    pub fn push_following(&mut self, piece: Piece<F>) -> Result<(), AllocError>
+        requires { FollowsLast self.old piece }
+        ensures pushed { OnOk result (self.new ≡ self.old ++ piece ∷ []) }
+        ensures refused { OnErr result (self.new ≡ self.old) }
+    {
+        self.put(piece, true)
+    }
+
+    /// Appends a piece with its mark.
+    fn put(&mut self, piece: Piece<F>, follows: bool) -> Result<(), AllocError>
+        requires { follows ≡ true → FollowsLast self.old piece }
+        ensures pushed { OnOk result (self.new ≡ self.old ++ piece ∷ []) }
+        ensures refused { OnErr result (self.new ≡ self.old) }
+    {
+        self.marks.push(follows)?;
+        match self.pieces.push(piece) {
+            Ok(()) => Ok(()),
+            Err(refused) => {
+                self.marks.pop();
+                Err(refused.into())
+            }
+        }
+    }
+
+    /// The pieces.
+    pub fn as_slice(&self) -> &[Piece<F>]
+        ensures { result.now ≡ self.now }
+    {
+        &self.pieces
+    }
+
+    /// The mark of each piece.
+    pub(crate) fn marks(&self) -> &[bool]
+        ensures { AreMarked self.now result.now }
+    {
+        &self.marks
+    }
+}
