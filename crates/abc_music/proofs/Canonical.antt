@@ -1,13 +1,12 @@
 -- What is kept of accidentals is nothing but what notes hear of them.
-use Rattle.std.proofs.Common.{Ordering, ◌≡◌, ◌∙◌, ℤ, int_eq, int_cmp, Bool, true, false, List, [], ◌∷◌, Option, Some, None, refl, sym, ap, subst}
+use Rattle.std.proofs.Common.{Ordering, ◌≡◌, ◌∙◌, ℤ, int_eq, int_cmp, Bool, true, false, List, [], ◌∷◌, Option, Some, None, unwrap_or, refl, sym, ap, subst}
 use Rattle.std.specs.Prelude.{option_map, pos}
 use Rattle.std.specs.Ordering.{match_ordering}
 use Rattle.std.specs.declared.cmp.Ordering.TheVariants.{Less, Equal, Greater}
 use Rattle.std.specs.BTreeMap.{insert_entry}
 use Rattle.std.proofs.lemmas.Bool.Decides.{Decides-int_eq}
 use Rattle.std.proofs.lemmas.Cmp.{int_ranked}
-use Rattle.std.specs.Cmp.{int_chain}
-use Rattle.std.specs.Int.Signed.{◌<ℤ◌, <ℤ_irrefl}
+use Rattle.std.specs.Int.Signed.{◌<ℤ◌}
 use Rattle.abc_scan.specs.declared.length.WrittenLength.TheVariants.{Refused}
 use Rattle.abc_scan.specs.declared.note.Note.{Note}
 use Rattle.abc_text.specs.Accidental.{alteration as accidental_alteration}
@@ -21,40 +20,18 @@ use Rattle.abc_music.specs.declared.accidentals.LetterAccidentals.{LetterAcciden
 use Rattle.abc_music.specs.Accidentals.{letters_in, no_accidentals, no_letters, on_letter, reach_of, with_accidental, with_letter, with_octave, written_on}
 use Rattle.abc_music.specs.Alteration.{with_own, with_written}
 use Rattle.abc_music.specs.Reaching.{SameWhereHeardAlike, behind_notes}
+use Rattle.abc_music.specs.OctaveGroups.{AllAbove}
 use Rattle.abc_music.proofs.Alike.{accidentals_of_parts}
-use Rattle.abc_music.proofs.Reaching.{false_by, none_in, on_its_letter, reach_stays}
+use Rattle.abc_music.proofs.Groups.{above_more, above_put, none_below}
+use Rattle.abc_music.proofs.Reaching.{none_in, on_its_letter, reach_stays}
 
 abbrev Octaves : Type 0
 Octaves = List (ℤ × LetterAccidentals)
-
-other_by : (x y : ℤ) → x <ℤ y → int_eq x y ≡ false
-other_by x y below = false_by (int_eq x y) (λ e. <ℤ_irrefl (subst (λ z. x <ℤ z) (sym ((Decides-int_eq x y).0 e)) below))
-
--- every octave lies above this one
-abbrev AllAbove : ℤ → Octaves → Type 0
-AllAbove octave [] = Unit {0}
-AllAbove octave (first ∷ octaves) = (octave <ℤ first.0) × AllAbove octave octaves
 
 -- the octaves rise, and each has an accidental
 abbrev AreKept : Octaves → Type 0
 AreKept [] = Unit {0}
 AreKept (first ∷ octaves) = AllAbove first.0 octaves × (¬ (first.1 ≡ no_letters)) × AreKept octaves
-
-above_more : (low octave : ℤ) (octaves : Octaves) → low <ℤ octave → AllAbove octave octaves → AllAbove low octaves
-above_more low octave [] below h = tt
-above_more low octave (first ∷ octaves) below h = (int_chain low octave first.0 below h.0, above_more low octave octaves below h.1)
-
-above_put_by : (low octave : ℤ) (letters : LetterAccidentals) (first : ℤ × LetterAccidentals) (octaves : Octaves) (r : Ordering)
-    → low <ℤ octave → AllAbove low (first ∷ octaves) → AllAbove low (insert_entry int_cmp octaves octave letters)
-    → AllAbove low (match_ordering r ((octave, letters) ∷ first ∷ octaves) ((first.0, letters) ∷ octaves) (first ∷ insert_entry int_cmp octaves octave letters))
-above_put_by low octave letters first octaves Less below h rest = (below, h)
-above_put_by low octave letters first octaves Equal below h rest = h
-above_put_by low octave letters first octaves Greater below h rest = (h.0, rest)
-
-above_put : (low octave : ℤ) (letters : LetterAccidentals) (octaves : Octaves) → low <ℤ octave → AllAbove low octaves → AllAbove low (insert_entry int_cmp octaves octave letters)
-above_put low octave letters [] below h = (below, tt)
-above_put low octave letters (first ∷ octaves) below h =
-    above_put_by low octave letters first octaves (int_cmp octave first.0) below h (above_put low octave letters octaves below h.1)
 
 kept_put_by : (octave : ℤ) (letters : LetterAccidentals) (first : ℤ × LetterAccidentals) (octaves : Octaves) (r : Ordering) → r ≡ int_cmp octave first.0
     → ¬ (letters ≡ no_letters) → AreKept (first ∷ octaves) → AreKept (insert_entry int_cmp octaves octave letters)
@@ -107,12 +84,9 @@ same_letters : (letters others : LetterAccidentals) → ((letter : Letter) → o
 same_letters letters others h = accidentals_of_parts letters others (h A) (h B) (h C) (h D) (h E) (h F) (h G)
 
 -- nothing is found below
-none_below : (octave : ℤ) (octaves : Octaves) → AllAbove octave octaves → letters_in octaves octave ≡ no_letters
+none_heard_below : (octave : ℤ) (octaves : Octaves) → AllAbove octave octaves → letters_in octaves octave ≡ no_letters
 unfolding letters_in
-none_below octave [] h = refl
-none_below octave (first ∷ octaves) h =
-    let apart : int_eq octave first.0 ≡ false = other_by octave first.0 h.0 in
-    rw apart (none_below octave octaves h.1)
+none_heard_below octave octaves h = ap (λ (o : Option LetterAccidentals). unwrap_or o no_letters) (none_below octave octaves h)
 
 first_found : (first : ℤ × LetterAccidentals) (octaves : Octaves) → letters_in (first ∷ octaves) first.0 ≡ first.1
 unfolding letters_in
@@ -129,7 +103,7 @@ rest_by : (first : ℤ × LetterAccidentals) (octaves others : Octaves) (letters
     → AllAbove first.0 octaves → AllAbove first.0 others → FoundAlike (first ∷ octaves) ((first.0, letters) ∷ others) → letters_in octaves octave ≡ letters_in others octave
 rest_by first octaves others letters octave true e above also alike =
     let is : octave ≡ first.0 = (Decides-int_eq octave first.0).0 e in
-    ap (letters_in octaves) is ∙ none_below first.0 octaves above ∙ sym (none_below first.0 others also) ∙ ap (letters_in others) (sym is)
+    ap (letters_in octaves) is ∙ none_heard_below first.0 octaves above ∙ sym (none_heard_below first.0 others also) ∙ ap (letters_in others) (sym is)
 rest_by first octaves others letters octave false e above also alike =
     sym (rest_found octave first octaves e) ∙ alike octave ∙ rest_found octave (first.0, letters) others e
 
@@ -140,10 +114,10 @@ same_first : (first other : ℤ × LetterAccidentals) (octaves others : Octaves)
     → AreSame octaves others → AreSame (first ∷ octaves) (other ∷ others)
 same_first first other octaves others Less e later h k alike =
     let below : first.0 <ℤ other.0 = int_ranked first.0 other.0 Less e in
-    absurd (h.1 (sym (first_found first octaves) ∙ alike first.0 ∙ none_below first.0 (other ∷ others) (below, above_more first.0 other.0 others below k.0)))
+    absurd (h.1 (sym (first_found first octaves) ∙ alike first.0 ∙ none_heard_below first.0 (other ∷ others) (below, above_more first.0 other.0 others below k.0)))
 same_first first other octaves others Greater e later h k alike =
     let below : other.0 <ℤ first.0 = int_ranked first.0 other.0 Greater e in
-    absurd (k.1 (sym (first_found other others) ∙ sym (alike other.0) ∙ none_below other.0 (first ∷ octaves) (below, above_more other.0 first.0 octaves below h.0)))
+    absurd (k.1 (sym (first_found other others) ∙ sym (alike other.0) ∙ none_heard_below other.0 (first ∷ octaves) (below, above_more other.0 first.0 octaves below h.0)))
 same_first first other octaves others Equal e later h k alike =
     let same : first.0 ≡ other.0 = int_ranked first.0 other.0 Equal e in
     let letters : first.1 ≡ other.1 = sym (first_found first octaves) ∙ alike first.0 ∙ ap (letters_in (other ∷ others)) same ∙ first_found other others in
@@ -154,8 +128,8 @@ same_first first other octaves others Equal e later h k alike =
 
 same_octaves : (octaves others : Octaves) → AreSame octaves others
 same_octaves [] [] h k alike = refl
-same_octaves [] (other ∷ others) h k alike = absurd (k.1 (sym (first_found other others) ∙ sym (alike other.0) ∙ none_below other.0 [] tt))
-same_octaves (first ∷ octaves) [] h k alike = absurd (h.1 (sym (first_found first octaves) ∙ alike first.0 ∙ none_below first.0 [] tt))
+same_octaves [] (other ∷ others) h k alike = absurd (k.1 (sym (first_found other others) ∙ sym (alike other.0) ∙ none_heard_below other.0 [] tt))
+same_octaves (first ∷ octaves) [] h k alike = absurd (h.1 (sym (first_found first octaves) ∙ alike first.0 ∙ none_heard_below first.0 [] tt))
 same_octaves (first ∷ octaves) (other ∷ others) h k alike = same_first first other octaves others (int_cmp first.0 other.0) refl (same_octaves octaves others) h k alike
 
 -- a note of this letter in this octave

@@ -9,7 +9,8 @@ pub mod ChordTones
 pub mod Factors
 pub mod InsideLoop
 pub mod Lasting
-pub mod Octaves
+pub mod Groups
+pub mod SameOctaves
 pub mod LooseTies
 pub mod NoteKeys
 pub mod Pitches

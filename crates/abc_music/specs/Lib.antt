@@ -15,6 +15,7 @@ pub mod Lengths
 pub mod LentTones
 pub mod LooseTies
 pub mod NoteKeys
+pub mod OctaveGroups
 pub mod Pitch
 pub mod Program
 pub mod Reaching

@@ -3,9 +3,9 @@
 ghost use Rattle.std.specs.Prelude.{◌≡◌, ◌↔◌, [], IsTrue, OnErr, OnOk};
 ghost use Rattle.abc_music.specs.Accidentals.{letters_in, no_accidentals, on_letter, reach_of, with_accidental, with_letter, with_octave, written_on};
 
+use crate::octave_groups::OctaveGroups;
 use abc_scan::{Letter, Note, Reach};
 use std::alloc::{AllocError, Global};
-use std::collections::BTreeMap;
 use std::marker::Model;
 
 /// By how many semitones the accidentals that were written in a bar alter each letter; None where there was
@@ -22,7 +22,7 @@ pub struct LetterAccidentals {
 }
 
 /// No accidentals on any letter.
-const NO_LETTERS: LetterAccidentals = LetterAccidentals {
+pub(crate) const NO_LETTERS: LetterAccidentals = LetterAccidentals {
     c: None,
     d: None,
     e: None,
@@ -33,19 +33,22 @@ const NO_LETTERS: LetterAccidentals = LetterAccidentals {
 };
 
 /// The accidentals on the letters of each octave that has any. Contracts see them as a list, in which the octaves
-/// rise: whatever the order is in which the same accidentals were written, it is the same list.
+/// rise: whatever the order is in which the same accidentals were written, it is the same list. Copies share them.
 #[derive(Drop)]
 pub struct OctaveAccidentals {
-    octaves: BTreeMap<i32, LetterAccidentals>,
+    groups: OctaveGroups,
 }
 
 impl Model for OctaveAccidentals {
     ghost use Rattle.std.specs.Prelude.{List, ℤ};
     ghost use Rattle.abc_music.specs.declared.accidentals.LetterAccidentals.{LetterAccidentals};
+    ghost use Rattle.abc_music.specs.OctaveGroups.{AreGrouped, octaves_of};
 
     ghost Value = { List (ℤ × LetterAccidentals) };
 
-    ghost view = { λ o. o.octaves.entries };
+    ghost view = { λ o. octaves_of o.groups };
+
+    ghost invariant = { λ o. AreGrouped o.groups };
 }
 
 /// The accidentals that were written in a bar, as far as they reach (ABC 2.1 section 11.3).
@@ -97,35 +100,40 @@ impl OctaveAccidentals {
         ensures { result ≡ [] }
     {
         OctaveAccidentals {
-            octaves: BTreeMap::new(alloc),
+            groups: OctaveGroups::new(alloc),
         }
     }
 
     /// The accidentals in an octave.
-    #[tactic(auto, unfolding(crate::specs::Accidentals::letters_in))]
     fn letters_in(&self, octave: i32) -> LetterAccidentals
         ensures { result ≡ letters_in self.now octave }
     {
-        self.octaves.get(&octave).copied().unwrap_or(NO_LETTERS)
+        self.groups.letters_in(octave)
     }
 
     /// Puts one more accidental on a letter in an octave.
-    #[tactic(auto, unfolding(crate::specs::Accidentals::with_octave))]
     fn set(&mut self, octave: i32, letter: Letter, by: i8) -> Result<(), AllocError>
         ensures ok { OnOk result (self.new ≡ with_octave self.old octave letter by) }
         ensures refused { OnErr result (self.new ≡ self.old) }
     {
         let mut letters = self.letters_in(octave);
         letters.set(letter, by);
-        self.octaves.insert(octave, letters)?;
+        self.groups = self.groups.with(octave, letters)?;
         Ok(())
+    }
+
+    /// Takes all accidentals away.
+    fn clear(&mut self)
+        ensures { self.new ≡ [] }
+    {
+        self.groups = self.groups.cleared();
     }
 
     /// Whether both have the same accidentals in each octave.
     pub(crate) fn same(&self, other: &OctaveAccidentals) -> bool
         ensures { IsTrue result ↔ (self.now ≡ other.now) }
     {
-        self.octaves == other.octaves
+        self.groups.same(&other.groups)
     }
 }
 
@@ -134,7 +142,7 @@ impl Clone for OctaveAccidentals {
 
     fn clone(&self) -> Result<OctaveAccidentals, AllocError> {
         Ok(OctaveAccidentals {
-            octaves: self.octaves.clone()?,
+            groups: self.groups.clone()?,
         })
     }
 }
@@ -196,7 +204,7 @@ impl Accidentals {
     {
         match self {
             Accidentals::Own => {}
-            Accidentals::InOctaves(octaves) => octaves.octaves.clear(),
+            Accidentals::InOctaves(octaves) => octaves.clear(),
             Accidentals::OnLetters(letters) => *letters = NO_LETTERS,
         }
     }

@@ -15,6 +15,8 @@ mod laws;
 mod lengths;
 mod meter;
 mod numbers;
+mod octave_group;
+mod octave_groups;
 mod pitch;
 mod program;
 mod role;

@@ -1,15 +1,16 @@
-use Rattle.std.proofs.Common.{◌∙◌, ap, unwrap_or, Option, int_cmp, ℤ, List}
+use Rattle.std.proofs.Common.{◌∙◌, ap, sym, unwrap_or, Option, ℤ, List}
 use mir.Syntax.{w32}
 use Rattle.std.proofs.lemmas.Int.{to_z-of_z}
-use Rattle.std.specs.BTreeMap.{get_by}
 use Rattle.abc_music.specs.declared.accidentals.LetterAccidentals.{LetterAccidentals}
 use Rattle.abc_music.specs.Accidentals.{letters_in, no_letters}
+use Rattle.abc_music.specs.OctaveGroups.{group_at}
+use Rattle.abc_music.proofs.Groups.{in_group}
 use Rattle.abc_music.proofs.accidentals.OctaveAccidentals.letters_in.Goals as goal
 
 pub returns : goal.returns
 unfolding letters_in
 returns c =
-    let key = to_z-of_z w32 c.args.octave c.ranges.octave in
-    let found = c.copied.ensures ∙ c.get.ensures.value ∙ ap (λ (z : ℤ). get_by (int_cmp z) c.self.inside.octaves) key in
-    c.unwrap_or.ensures ∙ ap (λ (o : Option LetterAccidentals). unwrap_or o no_letters) found
+    c.letters_in.ensures
+    ∙ ap (λ (z : ℤ). letters_in (group_at c.self.inside.groups z) z) (to_z-of_z w32 c.args.octave c.ranges.octave)
+    ∙ ap (λ (o : Option LetterAccidentals). unwrap_or o no_letters) (sym (in_group c.args.octave c.self.inside.groups c.self.invariant))
     ∙ ap (λ (octaves : List (ℤ × LetterAccidentals)). letters_in octaves c.args.octave) c.self.view_is
