@@ -83,11 +83,11 @@ named_append : (tune more : List Item) → AreNamed tune → AreNamed more → A
 named_append [] more a b = b
 named_append (item ∷ tune) more a b = (a.0, named_append tune more a.1 b)
 
-abbrev is_placed : Current → Bool
+abbrev pub is_placed : Current → Bool
 is_placed (Unnamed settings) = false
 is_placed (At at) = true
 
-abbrev known_of : Body → Mentioned
+abbrev pub known_of : Body → Mentioned
 known_of body = (keys_of body.voices, is_placed body.current)
 
 -- what is mentioned behind items, which name their voices, is no more than before or than may be
@@ -125,7 +125,7 @@ keys_push : {S : Type 0} (voices : List (List ℕ × S)) (name : List ℕ) (know
 keys_push [] name known = refl
 keys_push (voice ∷ voices) name known = ap (λ names. voice.0 ∷ names) (keys_push voices name known)
 
-keys_long : {S : Type 0} (voices : List (List ℕ × S)) → length (keys_of voices) ≡ length voices
+pub keys_long : {S : Type 0} (voices : List (List ℕ × S)) → length (keys_of voices) ≡ length voices
 keys_long [] = refl
 keys_long (voice ∷ voices) = ap suc (keys_long voices)
 
@@ -436,6 +436,10 @@ tokens_add given (token ∷ ahead) =
     let one = kind_adds given token.from token.kind ahead in
     adds_both given (with_token given token ahead) (given_from given (token ∷ ahead))
     (record { given = one.given; items = one.items; tells = one.tells }) (tokens_add (with_token given token ahead) ahead)
+
+-- What a cell of a body mentions is what its items mention.
+pub cell_mentions : (body : Body) (cell : List (Spanned TokenKind)) → (given : List Item) × (known_of (cell_given body cell).body ≡ behind_items (known_of body) given)
+cell_mentions body cell = let added = tokens_add (nothing_given body) cell in (added.given, added.tells.value)
 
 -- the header
 abbrev is_some_name : List (List ℕ) → Bool

@@ -1,6 +1,7 @@
 -- Voices by their names.
 use Rattle.std.specs.List.{AllZip}
 use Rattle.std.proofs.Common.{[], ◌∷◌, ◌≡◌, ℕ, zero, suc, ◌+◌, add-one, length, map, List, Some, refl, sym, ap, ◌∙◌}
+use Rattle.std.specs.Map.{keys_of, values_of}
 use Rattle.abc_bars.specs.Voices.{voice_at, with_voice_at}
 
 -- Copies of voices, each of which is its source, are the voices.
@@ -43,3 +44,8 @@ module _ {S : Type 0} (f : S → S) where
       let found : voice_at (changed_to n voices) n ≡ Some known = ap (λ vs. voice_at vs n) (sym changed) ∙ is in
       let there : with_voice_at now n new ≡ with_voice_at (changed_to n voices) n (f known) = cc in
       there ∙ changed_to-suc n voices known found ∙ ap (λ k. changed_to k voices) (sym (add-one n))
+
+-- Something is known of each voice.
+pub values_long : {S : Type 0} (voices : List (List ℕ × S)) → length (values_of voices) ≡ length voices
+values_long [] = refl
+values_long (voice ∷ voices) = ap suc (values_long voices)

@@ -11,6 +11,7 @@ pub mod FieldKind
 pub mod FileHeader
 pub mod Header
 pub mod HeaderLine
+pub mod KeepsNames
 pub mod LookBack
 pub mod Mentioned
 pub mod Names

@@ -28,6 +28,7 @@ mod opening;
 mod reference;
 mod room;
 mod same;
+mod stays;
 mod tie_laws;
 mod tune_program;
 mod velocity_laws;

@@ -21,6 +21,9 @@ pub struct LetterAccidentals {
     pub b: Option<i8>,
 }
 
+/// How many groups of octaves the notes of music lie in: those above and below the octave of the middle C.
+const MOST_GROUPS: usize = 2;
+
 /// No accidentals on any letter.
 pub(crate) const NO_LETTERS: LetterAccidentals = LetterAccidentals {
     c: None,
@@ -122,6 +125,11 @@ impl OctaveAccidentals {
         Ok(())
     }
 
+    /// Whether they are in few groups of octaves.
+    fn is_small(&self) -> bool {
+        self.groups.len() <= MOST_GROUPS
+    }
+
     /// Takes all accidentals away.
     fn clear(&mut self)
         ensures { self.new ≡ [] }
@@ -171,6 +179,14 @@ impl Accidentals {
             Reach::Not => Accidentals::Own,
             Reach::Octave => Accidentals::InOctaves(OctaveAccidentals::new(alloc)),
             Reach::Pitch => Accidentals::OnLetters(NO_LETTERS),
+        }
+    }
+
+    /// Whether there are few of them.
+    pub(crate) fn is_small(&self) -> bool {
+        match self {
+            Accidentals::Own | Accidentals::OnLetters(_) => true,
+            Accidentals::InOctaves(octaves) => octaves.is_small(),
         }
     }
 

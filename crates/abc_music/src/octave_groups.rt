@@ -62,6 +62,14 @@ impl OctaveGroups {
         OctaveGroups::new(self.alloc)
     }
 
+    /// How many groups there are.
+    pub(crate) fn len(&self) -> usize {
+        match &self.groups {
+            Some(groups) => groups.get().len(),
+            None => 0,
+        }
+    }
+
     /// The group of this number.
     fn group(&self, number: i32) -> Option<&OctaveGroup>
         ensures { option_copied result ≡ lookup (is_at (int_cmp number)) self.now }

@@ -156,6 +156,11 @@ fn same_tied(tied: &[TiedNote], other: &[TiedNote]) -> bool
 }
 
 impl Settings {
+    /// Whether there is little to compare: no accidentals in more octaves than music has.
+    pub fn is_small(&self) -> bool {
+        self.accidentals.is_small()
+    }
+
     /// Whether the same holds for both voices.
     pub fn same(&self, other: &Settings) -> bool
         ensures { IsTrue result ↔ (self.now ≡ other.now) }

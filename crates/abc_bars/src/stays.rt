@@ -1,0 +1,87 @@
+//! Whether a cell left what holds as it was, as far as that is seen at little cost.
+
+ghost use Rattle.std.specs.Prelude.{◌≡◌, IsTrue, length};
+ghost use Rattle.std.specs.Map.{values_of};
+ghost use Rattle.abc_bars.specs.KeepsNames.{KeepsNames};
+ghost use Rattle.abc_bars.specs.Step.{stepped};
+ghost use Rattle.abc_bars.specs.Voices.{voice_at};
+
+use crate::body::{Body, Current};
+use crate::entry::Entry;
+use crate::voices::Voices;
+use abc_music::Settings;
+use abc_scan::Token;
+
+/// Whether the same holds for both voices, where there is little to compare.
+fn seen_same(settings: &Settings, other: &Settings) -> bool
+    ensures { IsTrue result → settings.now ≡ other.now }
+{
+    settings.is_small() && settings.same(other)
+}
+
+impl Voices<Settings> {
+    /// Whether the same is seen to hold for the voices at a place, or there is none.
+    fn seen_same_at(&self, other: &Voices<Settings>, at: usize) -> bool
+        ensures { IsTrue result → voice_at self.now at ≡ voice_at other.now at }
+    {
+        match (self.get(at), other.get(at)) {
+            (Some(settings), Some(with)) => seen_same(settings, with),
+            (None, None) => true,
+            _ => false,
+        }
+    }
+
+    /// Whether the same is seen to hold for as many voices, whatever their names.
+    fn seen_same(&self, other: &Voices<Settings>) -> bool
+        ensures { IsTrue result → values_of self.now ≡ values_of other.now }
+    {
+        if self.len() != other.len() {
+            return false;
+        }
+        for at in 0..self.len() {
+            if !self.seen_same_at(other, at) {
+                return false;
+            }
+        }
+        true
+    }
+}
+
+impl Current {
+    /// Whether both are seen to be the same voice; of one that is not mentioned yet also what holds for it.
+    fn seen_same(&self, other: &Current) -> bool
+        ensures { IsTrue result → self.now ≡ other.now }
+    {
+        match (self, other) {
+            (Current::Unnamed(settings), Current::Unnamed(with)) => seen_same(settings, with),
+            (Current::At(at), Current::At(place)) => at == place,
+            _ => false,
+        }
+    }
+}
+
+impl Body {
+    /// Whether the same is seen to hold in a body behind a cell: no name is read, since a cell takes none away and gives
+    /// none another place.
+    fn stays(&self, next: &Body) -> bool
+        requires { KeepsNames self.now next.now }
+        ensures { IsTrue result → self.now ≡ next.now }
+    {
+        self.current.seen_same(&next.current)
+            && seen_same(&self.another, &next.another)
+            && self.voices.seen_same(&next.voices)
+    }
+}
+
+impl Entry {
+    /// Whether it is seen at little cost that a cell left what holds as it was.
+    pub(crate) fn stays(&self, cell: &[Token], next: &Entry) -> bool
+        requires { next.now ≡ (stepped self.now cell.now).0 }
+        ensures { IsTrue result → self.now ≡ next.now }
+    {
+        match (self, next) {
+            (Entry::Body(body), Entry::Body(next)) => body.get().stays(next.get()),
+            _ => self.same(next),
+        }
+    }
+}
