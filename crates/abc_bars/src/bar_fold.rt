@@ -215,6 +215,10 @@ impl Resumable for BarFold {
         a.same(b)
     }
 
+    fn stays(&self, state: &Entry, cell: &Shared<Cell>, behind: &Entry) -> bool {
+        state.stays(cell.get().as_slice(), behind)
+    }
+
     fn copy_state(&self, _alloc: Global, state: &Entry) -> Result<Entry, AllocError> {
         state.copied()
     }

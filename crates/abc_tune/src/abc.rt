@@ -53,6 +53,10 @@ impl Resumable for Abc {
         BarFold.same(a, b)
     }
 
+    fn stays(&self, state: &Entry, cell: &Shared<Cell>, behind: &Entry) -> bool {
+        BarFold.stays(state, cell, behind)
+    }
+
     fn copy_state(&self, alloc: Global, state: &Entry) -> Result<Entry, AllocError> {
         BarFold.copy_state(alloc, state)
     }
