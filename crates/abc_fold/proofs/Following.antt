@@ -25,7 +25,7 @@ get_front [] last k inside = absurd (omega (arith, inside))
 get_front (x ∷ xs) last zero inside = refl
 get_front (x ∷ xs) last (suc k) inside = get_front xs last k (omega (arith, inside))
 
-get_last : {X : Type 0} (xs : List X) (last : X) → slice_get (xs ++ last ∷ []) (length xs) ≡ Some last
+pub get_last : {X : Type 0} (xs : List X) (last : X) → slice_get (xs ++ last ∷ []) (length xs) ≡ Some last
 get_last [] last = refl
 get_last (x ∷ xs) last = get_last xs last
 
