@@ -1,7 +1,7 @@
 -- A cell takes no name of a voice away, and gives none another place.
 use Rattle.std.proofs.Common.{◌≡◌, ◌⊎◌, inl, inr, ℕ, ◌+◌, Bool, true, false, List, [], ◌∷◌, ◌++◌, length, bytes_eq, refl, sym, ap, subst, ◌∙◌, append_assoc, append-nil, length-append, arith}
 use Rattle.std.specs.List.{list_any, zip}
-use Rattle.std.specs.Map.{keys_of, values_of}
+use Rattle.std.specs.Map.{values_of}
 use Rattle.indexmap.proofs.ReorderLemmas.{zip_of_parts}
 use Rattle.abc_music.specs.declared.item.Item.{Item}
 use Rattle.abc_music.specs.declared.item.Item.TheVariants as items
@@ -51,10 +51,13 @@ item_behind known (items.Order text) = inl refl
 both_behind : (a b c : Mentioned) → IsBehind a b → IsBehind b c → IsBehind a c
 both_behind a b c (inl same) later = subst (λ (k : Mentioned). IsBehind k c) same later
 both_behind a b c (inr more) (inl same) = subst (λ (k : Mentioned). IsBehind a k) (sym same) (inr more)
-both_behind a b c (inr more) (inr later) = inr (later.0, λ named.
-    let first = more.1 named in
-    let second = later.1 more.0 in
-    (first.0 ++ second.0, second.1 ∙ ap (λ names. names ++ second.0) first.1 ∙ append_assoc a.0 first.0 second.0))
+both_behind a b c (inr more) (inr later) = inr (
+  later.0,
+  λ named.
+      let first = more.1 named in
+      let second = later.1 more.0 in
+      (first.0 ++ second.0, second.1 ∙ ap (λ names. names ++ second.0) first.1 ∙ append_assoc a.0 first.0 second.0),
+)
 
 items_behind : (known : Mentioned) (tune : List Item) → IsBehind known (behind_items known tune)
 items_behind known [] = inl refl

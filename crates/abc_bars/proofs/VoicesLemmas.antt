@@ -1,7 +1,7 @@
 -- Voices by their names.
 use Rattle.std.specs.List.{AllZip}
 use Rattle.std.proofs.Common.{[], ◌∷◌, ◌≡◌, ℕ, zero, suc, ◌+◌, add-one, length, map, List, Some, refl, sym, ap, ◌∙◌}
-use Rattle.std.specs.Map.{keys_of, values_of}
+use Rattle.std.specs.Map.{values_of}
 use Rattle.abc_bars.specs.Voices.{voice_at, with_voice_at}
 
 -- Copies of voices, each of which is its source, are the voices.

@@ -1,6 +1,6 @@
 //! Whether a cell left what holds as it was, as far as that is seen at little cost.
 
-ghost use Rattle.std.specs.Prelude.{◌≡◌, IsTrue, length};
+ghost use Rattle.std.specs.Prelude.{◌≡◌, IsTrue};
 ghost use Rattle.std.specs.Map.{values_of};
 ghost use Rattle.abc_bars.specs.KeepsNames.{KeepsNames};
 ghost use Rattle.abc_bars.specs.Step.{stepped};

@@ -1,4 +1,4 @@
-use Rattle.std.proofs.Common.{◌≡◌, ◌∙◌, ap, sym}
+use Rattle.std.proofs.Common.{◌∙◌, ap, sym}
 use Rattle.abc_bars.specs.declared.entry.Entry.{Entry}
 use Rattle.abc_bars.specs.Step.{stepped}
 use Rattle.abc_bars.proofs.KeepsNames.{step_keeps_names}
