@@ -20,7 +20,8 @@ some_at [] k h = absurd (omega arith)
 some_at (x ∷ xs) zero h = (x, refl)
 some_at (x ∷ xs) (suc k) h = some_at xs k (omega arith)
 
-address : (k : ℕ) (o : Option Origin) (origin : Origin) (source first : ℕ) → o ≡ Some origin → origin ≡ record { source = source; first = first } → address_from k o ≡ Some (source, first + k)
+-- The address of a cell of a line.
+pub address : (k : ℕ) (o : Option Origin) (origin : Origin) (source first : ℕ) → o ≡ Some origin → origin ≡ record { source = source; first = first } → address_from k o ≡ Some (source, first + k)
 address k o origin source first e v =
     ap (address_from k) e ∙ ap (λ (y : Origin). address_from k (Some y)) v
 

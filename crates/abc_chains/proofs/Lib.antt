@@ -1,5 +1,6 @@
 pub mod Scanning
 pub mod Carrying
+pub mod Ending
 pub mod Placing
 pub mod Meaning
 pub mod Opening

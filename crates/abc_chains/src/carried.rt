@@ -1,6 +1,7 @@
 //! Lines and the chains that hold their cells.
 
-ghost use Rattle.std.specs.Prelude.{◌≡◌, ◌<◌, IfOk, get_or, length};
+ghost use Rattle.std.specs.Prelude.{◌≡◌, ◌<◌, IfOk, IfSome, IsSome, Some, get_or, length, true};
+ghost use Rattle.abc_chains.specs.Holding.{address_from};
 ghost use Rattle.abc_chains.specs.Rows.{bare, placed};
 
 use crate::row::Row;
@@ -56,6 +57,41 @@ impl<K: Drop> CarriedRow<K> {
         ensures { result.now ≡ self.now.cells }
     {
         self.cells.get().as_slice()
+    }
+
+    /// Whether a chain holds the cells of the line.
+    pub(crate) fn is_held(&self) -> bool
+        ensures { result ≡ true → IsSome self.now.origin }
+    {
+        self.origin.is_some()
+    }
+
+    /// Whether a chain holds the cells of the line just where others end.
+    pub(crate) fn goes_on(&self, end: &Option<Origin>) -> bool
+        ensures held { result ≡ true → IsSome self.now.origin }
+        ensures same { result ≡ true → end.now ≡ self.now.origin }
+    {
+        match (&self.origin, end) {
+            (Some(origin), Some(end)) => origin.source == end.source && origin.first == end.first,
+            _ => false,
+        }
+    }
+
+    /// Where the cells of the line end in the chain that holds them.
+    pub(crate) fn end(&self) -> Option<Origin>
+        ensures { IfSome result (λ end. address_from (length self.now.cells) self.now.origin ≡ Some (end.source, end.first)) }
+    {
+        let count = self.cells().len();
+        match &self.origin {
+            None => None,
+            Some(origin) => {
+                let first = origin.first.checked_add(count)?;
+                Some(Origin {
+                    source: origin.source,
+                    first,
+                })
+            }
+        }
     }
 
     /// The same line.

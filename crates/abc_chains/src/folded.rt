@@ -36,7 +36,7 @@ fn chain_of<F: Resumable>(
     let alloc = old.allocator();
     let pieces = pieces_of(alloc, fold, old, rows, block)?;
     let mut chain = Chain::new(alloc)?;
-    let patch = chain.prepare(fold, opening, &pieces, work)?;
+    let patch = chain.prepare_pieces(fold, opening, &pieces, work)?;
     chain.commit(patch);
     Ok(chain)
 }

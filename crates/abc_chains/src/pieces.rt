@@ -1,15 +1,18 @@
 //! The pieces that the chain of a block is made from.
 
-ghost use Rattle.std.specs.Prelude.{◌≡◌, ◌<◌, ◌++◌, All, IfOk, OnOk, Some, length, slice_get};
+ghost use Rattle.std.specs.Prelude.{◌≡◌, ◌<◌, [], ◌∷◌, ◌++◌, All, IfOk, IfSome, OnErr, OnOk, Some, length, slice_get, true};
+ghost use Rattle.std.specs.Option.{IsSomeAnd};
+ghost use Rattle.abc_chains.specs.Ending.{EndsAt, StandsAt};
 ghost use Rattle.abc_chains.specs.Holding.{IsCarried, IsFolded, LiesWithin, address_from, cells_over, entries_at, held_in, helds_in, helds_of, helds_over};
 ghost use Rattle.abc_fold.specs.Chain.{Folds, IsKeptAt};
+ghost use Rattle.abc_fold.specs.Following.{FollowsLast};
 ghost use Rattle.abc_fold.specs.Piece.{IsKept, cell_of, cells_of};
 ghost use Rattle.abc_fold.specs.Steps.{IsResumable, Steps, steps_of};
 ghost use Rattle.abc_rework.specs.Kept.{held_at};
 
-use crate::carried::{CarriedRow, item_at};
+use crate::carried::{CarriedRow, Origin, item_at};
 use abc_book::Block;
-use abc_fold::{Chain, Fold, Piece, Resumable, Shared};
+use abc_fold::{Chain, Fold, Piece, Pieces, Resumable, Shared};
 use abc_lines::GapList;
 use std::alloc::{AllocError, Global};
 
@@ -48,6 +51,7 @@ fn piece_at<F: Resumable>(
     ensures cell { IfOk result (λ piece. slice_get row.now.cells k ≡ Some (cell_of piece)) }
     ensures held { IfOk result (λ piece. held_in piece ≡ held_at (entries_at chains.now.items) (address_from k row.now.origin)) }
     ensures kept { IfOk result (λ piece. IsKept (steps_of (F.next fold.now) (F.gives fold.now) (F.alike fold.now)) piece) }
+    ensures stands { IfOk result (λ piece. StandsAt chains.now.items (address_from k row.now.origin) piece) }
 {
     match &row.origin {
         None => {
@@ -62,27 +66,73 @@ fn piece_at<F: Resumable>(
     }
 }
 
-/// Appends the pieces of a line.
+/// Appends a piece, of which it may be known that it follows the last one.
+fn append<F: Resumable>(
+    pieces: &mut Pieces<F>,
+    piece: Piece<F>,
+    known: bool,
+) -> Result<(), AllocError>
+    requires { known ≡ true → FollowsLast pieces.old piece }
+    ensures pushed { OnOk result (pieces.new ≡ pieces.old ++ piece ∷ []) }
+    ensures refused { OnErr result (pieces.new ≡ pieces.old) }
+{
+    if known {
+        return pieces.push_following(piece);
+    }
+    pieces.push(piece)
+}
+
+/// Appends the pieces of a line, of which the first may be known to stand where the last one ends.
+fn append_cells<F: Resumable>(
+    alloc: Global,
+    fold: &F,
+    chains: &GapList<Shared<Chain<F>>>,
+    row: &CarriedRow<F::Cell>,
+    known: bool,
+    pieces: &mut Pieces<F>,
+) -> Result<(), AllocError>
+    requires carried { IsCarried chains.now.items row.now }
+    requires folded { All (IsFolded (steps_of (F.next fold.now) (F.gives fold.now) (F.alike fold.now))) chains.now.items }
+    requires kept { All (IsKept (steps_of (F.next fold.now) (F.gives fold.now) (F.alike fold.now))) pieces.old }
+    requires known { known ≡ true → IsSomeAnd (address_from 0 row.now.origin) (λ at. EndsAt chains.now.items pieces.old at.0 at.1) }
+    ensures cells { OnOk result (cells_of pieces.new ≡ cells_of pieces.old ++ row.now.cells) }
+    ensures helds { OnOk result (helds_in pieces.new ≡ helds_in pieces.old ++ helds_of chains.now.items row.now) }
+    ensures kept { All (IsKept (steps_of (F.next fold.now) (F.gives fold.now) (F.alike fold.now))) pieces.new }
+    ensures ends { 0 < length row.now.cells → OnOk result (IfSome (address_from (length row.now.cells) row.now.origin) (λ at. EndsAt chains.now.items pieces.new at.0 at.1)) }
+{
+    let count = row.cells().len();
+    let mut known = known;
+    for k in 0..count {
+        let piece = piece_at(alloc, fold, chains, row, k)?;
+        append(pieces, piece, known)?;
+        known = row.is_held();
+    }
+    Ok(())
+}
+
+/// Appends the pieces of a line. It takes and gives back where the last one ends in an old chain, if that is known.
 fn append_row<F: Resumable>(
     alloc: Global,
     fold: &F,
     chains: &GapList<Shared<Chain<F>>>,
     row: &CarriedRow<F::Cell>,
-    pieces: &mut Vec<Piece<F>>,
-) -> Result<(), AllocError>
+    end: Option<Origin>,
+    pieces: &mut Pieces<F>,
+) -> Result<Option<Origin>, AllocError>
     requires carried { IsCarried chains.now.items row.now }
     requires folded { All (IsFolded (steps_of (F.next fold.now) (F.gives fold.now) (F.alike fold.now))) chains.now.items }
-    requires kept { All (IsKept (steps_of (F.next fold.now) (F.gives fold.now) (F.alike fold.now))) pieces.old.items }
-    ensures cells { OnOk result (cells_of pieces.new.items ≡ cells_of pieces.old.items ++ row.now.cells) }
-    ensures helds { OnOk result (helds_in pieces.new.items ≡ helds_in pieces.old.items ++ helds_of chains.now.items row.now) }
-    ensures kept { All (IsKept (steps_of (F.next fold.now) (F.gives fold.now) (F.alike fold.now))) pieces.new.items }
+    requires kept { All (IsKept (steps_of (F.next fold.now) (F.gives fold.now) (F.alike fold.now))) pieces.old }
+    requires ends { IfSome end (λ end. EndsAt chains.now.items pieces.old end.source end.first) }
+    ensures cells { OnOk result (cells_of pieces.new ≡ cells_of pieces.old ++ row.now.cells) }
+    ensures helds { OnOk result (helds_in pieces.new ≡ helds_in pieces.old ++ helds_of chains.now.items row.now) }
+    ensures kept { All (IsKept (steps_of (F.next fold.now) (F.gives fold.now) (F.alike fold.now))) pieces.new }
+    ensures ends { IfOk result (λ end. IfSome end (λ end. EndsAt chains.now.items pieces.new end.source end.first)) }
 {
-    let count = row.cells().len();
-    for k in 0..count {
-        let piece = piece_at(alloc, fold, chains, row, k)?;
-        pieces.push(piece)?;
+    if row.cells().len() == 0 {
+        return Ok(end);
     }
-    Ok(())
+    append_cells(alloc, fold, chains, row, row.goes_on(&end), pieces)?;
+    Ok(row.end())
 }
 
 /// The pieces of the cells of a block.
@@ -92,17 +142,18 @@ pub(crate) fn pieces_of<F: Resumable>(
     chains: &GapList<Shared<Chain<F>>>,
     rows: &[CarriedRow<F::Cell>],
     block: &Block,
-) -> Result<Vec<Piece<F>>, AllocError>
+) -> Result<Pieces<F>, AllocError>
     requires carried { All (IsCarried chains.now.items) rows.now }
     requires folded { All (IsFolded (steps_of (F.next fold.now) (F.gives fold.now) (F.alike fold.now))) chains.now.items }
     requires within { LiesWithin (length rows.now) block.now }
-    ensures cells { IfOk result (λ pieces. cells_of pieces.items ≡ cells_over rows.now block.now) }
-    ensures helds { IfOk result (λ pieces. helds_in pieces.items ≡ helds_over chains.now.items rows.now block.now) }
-    ensures kept { IfOk result (λ pieces. All (IsKept (steps_of (F.next fold.now) (F.gives fold.now) (F.alike fold.now))) pieces.items) }
+    ensures cells { IfOk result (λ pieces. cells_of pieces ≡ cells_over rows.now block.now) }
+    ensures helds { IfOk result (λ pieces. helds_in pieces ≡ helds_over chains.now.items rows.now block.now) }
+    ensures kept { IfOk result (λ pieces. All (IsKept (steps_of (F.next fold.now) (F.gives fold.now) (F.alike fold.now))) pieces) }
 {
-    let mut pieces = Vec::new(alloc);
+    let mut pieces = Pieces::new(alloc);
+    let mut end = None;
     for i in block.from..block.to {
-        append_row(alloc, fold, chains, &rows[i], &mut pieces)?;
+        end = append_row(alloc, fold, chains, &rows[i], end, &mut pieces)?;
     }
     Ok(pieces)
 }

@@ -4,6 +4,7 @@ use Rattle.abc_fold.specs.Steps.{steps_of}
 use Rattle.abc_chains.specs.Holding.{IsFolded}
 use Rattle.abc_chains.specs.Rows.{CarriedRow}
 use Rattle.abc_chains.proofs.Carrying.{source_there, place_there, place_within, kept_there, own_cell, own_held}
+use Rattle.abc_chains.proofs.Ending.{own_place}
 use Rattle.abc_chains.proofs.pieces.piece_at.Goals as goal
 
 pub item_at-chain-requires : goal.item_at-chain-requires
@@ -34,6 +35,9 @@ returns-in-Some-clause-cell g c = own_cell c.args.row.now.cells c.item_at-chain.
 
 pub returns-in-Some-clause-held : goal.returns-in-Some-clause-held
 returns-in-Some-clause-held g c = own_held c.args.chains.now.items c.args.row.now.cells c.args.row.now.origin c.in-Some.origin c.origin.inside.source c.origin.inside.first c.args.k c.item_at-chain.result.now c.kept_at.result (ap (λ (l : CarriedRow g.row.F-Cell.Denot). l.origin) (sym c.row.view_is) ∙ c.in-Some.is) (sym c.origin.view_is) c.requires.carried c.requires.inside c.item_at-chain.ensures c.kept_at.ensures.place
+
+pub returns-in-Some-clause-stands : goal.returns-in-Some-clause-stands
+returns-in-Some-clause-stands g c = own_place c.args.chains.now.items c.args.row.now.cells c.args.row.now.origin c.in-Some.origin c.origin.inside.source c.origin.inside.first c.args.k c.item_at-chain.result.now c.kept_at.result (ap (λ (l : CarriedRow g.row.F-Cell.Denot). l.origin) (sym c.row.view_is) ∙ c.in-Some.is) (sym c.origin.view_is) c.requires.carried c.requires.inside c.item_at-chain.ensures c.kept_at.ensures.place
 
 pub returns-in-Some-clause-kept : goal.returns-in-Some-clause-kept
 returns-in-Some-clause-kept g c =

@@ -11,9 +11,10 @@ loop-i-preserved g c =
     let inside : c.loop-i.i < length c.args.rows.now = let a = c.loop-i-test.true in let b = c.requires.within.1 in omega arith in
     let at = slice_get_read c.args.rows.now (length c.args.rows.now) c.loop-i.i c.index-rows-i.result refl inside c.index-rows-i.is in
     record {
-      cells = c.in_ok-append_row.ensures.cells ∙ (ap (λ l. l ++ c.index-rows-i.result.cells) c.loop-i.invariant.cells ∙ sym (over_next cells_in c.args.rows.now c.args.block.now.from c.loop-i.i c.index-rows-i.result order at));
-      helds = c.in_ok-append_row.ensures.helds ∙ (ap (λ l. l ++ helds_of c.args.chains.now.items c.index-rows-i.result) c.loop-i.invariant.helds ∙ sym (over_next (helds_of c.args.chains.now.items) c.args.rows.now c.args.block.now.from c.loop-i.i c.index-rows-i.result order at));
+      cells = c.in_ok-end.ensures.cells ∙ (ap (λ l. l ++ c.index-rows-i.result.cells) c.loop-i.invariant.cells ∙ sym (over_next cells_in c.args.rows.now c.args.block.now.from c.loop-i.i c.index-rows-i.result order at));
+      helds = c.in_ok-end.ensures.helds ∙ (ap (λ l. l ++ helds_of c.args.chains.now.items c.index-rows-i.result) c.loop-i.invariant.helds ∙ sym (over_next (helds_of c.args.chains.now.items) c.args.rows.now c.args.block.now.from c.loop-i.i c.index-rows-i.result order at));
       kept = c.append_row.ensures.kept;
+      ends = c.in_ok-end.ensures.ends;
     }
 
 pub returns-clause-cells : goal.returns-clause-cells

@@ -1,13 +1,16 @@
-use Rattle.std.proofs.Common.{◌≡◌, ◌-◌, All, take, drop}
+use Rattle.std.proofs.Common.{◌≡◌, ◌-◌, All, IfSome, take, drop}
 use Rattle.std.specs.List.{flat_map}
 use Rattle.abc_fold.specs.Piece.{IsKept, cells_of}
 use Rattle.abc_fold.specs.Steps.{steps_of}
+use Rattle.abc_rework.specs.Origins.{Origin}
+use Rattle.abc_chains.specs.Ending.{EndsAt}
 use Rattle.abc_chains.specs.Holding.{cells_in, helds_in, helds_of}
 use Rattle.abc_chains.proofs.pieces.pieces_of.Given as goal
 
 abbrev pub invariant-loop-i : goal.invariant-loop-i
 invariant-loop-i g l = record {
-  cells : cells_of l.pieces.items ≡ flat_map cells_in (take (l.i - l.block.from) (drop l.block.from l.rows));
-  helds : helds_in l.pieces.items ≡ flat_map (helds_of l.chains.items) (take (l.i - l.block.from) (drop l.block.from l.rows));
-  kept : All (IsKept (steps_of (g.F.Fold.next l.fold) (g.F.Fold.gives l.fold) (g.F.Resumable.alike l.fold))) l.pieces.items;
+  cells : cells_of l.pieces ≡ flat_map cells_in (take (l.i - l.block.from) (drop l.block.from l.rows));
+  helds : helds_in l.pieces ≡ flat_map (helds_of l.chains.items) (take (l.i - l.block.from) (drop l.block.from l.rows));
+  kept : All (IsKept (steps_of (g.F.Fold.next l.fold) (g.F.Fold.gives l.fold) (g.F.Resumable.alike l.fold))) l.pieces;
+  ends : IfSome l.end (λ (end : Origin). EndsAt l.chains.items l.pieces end.source end.first);
 }
