@@ -1,19 +1,16 @@
 -- Where pieces end in old chains, one piece after the other.
-use Rattle.std.proofs.Common.{◌≡◌, ℕ, ◌+◌, ◌-◌, ◌<◌, true, List, [], ◌∷◌, ◌++◌, Option, Some, None, Result, Ok, Err, IfOk, IfSome, slice_get, get_or, length, refl, sym, ◌∙◌, ap, subst, arith, length-append}
+use Rattle.std.proofs.Common.{◌≡◌, ℕ, ◌+◌, ◌-◌, ◌<◌, List, [], ◌∷◌, ◌++◌, Option, Some, None, Result, Ok, Err, IfOk, IfSome, slice_get, get_or, length, refl, sym, ◌∙◌, ap, subst, arith, length-append}
 use Rattle.std.specs.Option.{IsSome, IsSomeAnd}
 use Rattle.abc_fold.specs.declared.piece.Piece.{Piece}
 use Rattle.abc_fold.specs.declared.piece.Piece.TheVariants.{New, Kept}
 use Rattle.abc_fold.specs.Chain.{Chained, IsKeptAt}
 use Rattle.abc_fold.specs.Following.{Follows, FollowsLast}
+use Rattle.abc_fold.proofs.Following.{get_last}
 use Rattle.abc_fold.proofs.Kept.{some_same}
 use Rattle.abc_rework.specs.Origins.{Origin}
 use Rattle.abc_chains.specs.Ending.{EndsAt, IsLeftAt, StandsAt}
 use Rattle.abc_chains.specs.Holding.{IsHeldAt, address_from, entries_at}
 use Rattle.abc_chains.proofs.Carrying.{address, entries_get, source_there}
-
-get_last : {X : Type 0} (xs : List X) (last : X) → slice_get (xs ++ last ∷ []) (length xs) ≡ Some last
-get_last [] last = refl
-get_last (x ∷ xs) last = get_last xs last
 
 module _ {F State Cell Items Work : Type 0} (chains : List (Chained State Cell Items)) where
   follows_one : (source i : ℕ) (last piece : Piece F State Cell Items Work) → IsLeftAt chains source i last → StandsAt chains (Some (source, i)) piece → Follows last piece
