@@ -1,5 +1,5 @@
 -- Where pieces end in old chains, one piece after the other.
-use Rattle.std.proofs.Common.{◌≡◌, ℕ, ◌+◌, ◌-◌, ◌<◌, List, [], ◌∷◌, ◌++◌, Option, Some, None, Result, Ok, Err, IfOk, IfSome, slice_get, get_or, length, refl, sym, ◌∙◌, ap, subst, arith, length-append}
+use Rattle.std.proofs.Common.{◌≡◌, ℕ, ◌+◌, ◌-◌, ◌<◌, List, [], ◌∷◌, ◌++◌, Option, Some, None, Result, Ok, Err, IfOk, IfSome, slice_get, get_or, length, sym, ◌∙◌, ap, subst, arith, length-append}
 use Rattle.std.specs.Option.{IsSome, IsSomeAnd}
 use Rattle.abc_fold.specs.declared.piece.Piece.{Piece}
 use Rattle.abc_fold.specs.declared.piece.Piece.TheVariants.{New, Kept}
