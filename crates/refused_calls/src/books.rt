@@ -4,7 +4,7 @@ ghost use Rattle.std.specs.Prelude.{◌≡◌, IfOk};
 
 use crate::lists::lines_of;
 use crate::told::{call, done};
-use abc_chains::KeptText;
+use abc_chains::{KeptText, read};
 use abc_fields::FaultCode;
 use abc_fold::{Shared, Work};
 use abc_kept_book::{KeptBook, NewTunes};
@@ -16,6 +16,16 @@ use abc_tunebook::Fault;
 use live_examples::toy::Toy;
 use std::alloc::{AllocError, Global};
 use std::rt::Runtime;
+
+/// Two lines in the toy language, each with what it is and its cells.
+pub fn read_lines<R: Runtime>(rt: &R, alloc: Global) -> Result<bool, AllocError> {
+    let mut work = Work::mint(rt);
+    let lines = lines_of(alloc, &[b"D:5", b"c"])?;
+    call(rt, "read");
+    let rows = read(alloc, &Toy, &lines, &mut work)?;
+    done(rt);
+    Ok(rows.len() == 2 && rows[1].cells().len() == 1)
+}
 
 /// A text without lines.
 pub fn empty_text(rt: &impl Runtime, alloc: Global) -> Result<bool, AllocError> {

@@ -1,8 +1,9 @@
 //! Items and faults that are put together, the tones of a chord, and texts of items.
 
 use crate::told::{call, done, lent};
-use abc_bars::VoiceName;
+use abc_bars::{BarFold, VoiceName};
 use abc_fields::FaultCode;
+use abc_fold::Resumable;
 use abc_music::{Item, ItemText, Items, LentTones, LocalFault, Tone, Tones};
 use abc_text::ShortSequence;
 use std::alloc::{AllocError, Global};
@@ -14,7 +15,7 @@ const PART: Item = Item::Section(b'A');
 const FAULT: LocalFault = (1, FaultCode::BadByte);
 
 /// How many items and faults there are.
-fn counts(items: &Items) -> (usize, usize) {
+pub fn counts(items: &Items) -> (usize, usize) {
     (items.items().len(), items.faults().len())
 }
 
@@ -75,6 +76,15 @@ pub fn copied_items(rt: &impl Runtime, alloc: Global) -> Result<bool, AllocError
     let items = both(alloc)?;
     call(rt, "Items::copied");
     let copy = items.copied(alloc)?;
+    done(rt);
+    Ok(counts(&copy) == (1, 1))
+}
+
+/// Both again, as the fold over bars copies what a cell gave.
+pub fn copied_by_fold(rt: &impl Runtime, alloc: Global) -> Result<bool, AllocError> {
+    let items = both(alloc)?;
+    call(rt, "BarFold::copy_items");
+    let copy = BarFold.copy_items(alloc, &items)?;
     done(rt);
     Ok(counts(&copy) == (1, 1))
 }

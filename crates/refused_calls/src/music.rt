@@ -24,9 +24,17 @@ fn step(
     BarFold.step(alloc, entry, &cell, work)
 }
 
+/// What holds behind lines of a tune.
+pub fn entry_behind(alloc: Global, lines: &[&[u8]], work: &mut Work) -> Result<Entry, AllocError> {
+    let mut entry = Entry::tune(alloc, None);
+    for line in lines {
+        (entry, _) = step(alloc, &entry, line, work)?;
+    }
+    Ok(entry)
+}
+
 /// What holds in a body with two voices, where accidentals reach their octaves.
 fn body(alloc: Global, work: &mut Work) -> Result<Entry, AllocError> {
-    let mut entry = Entry::tune(alloc, None);
     let lines: [&[u8]; 6] = [
         b"X:1",
         b"%%propagate-accidentals octave",
@@ -35,10 +43,7 @@ fn body(alloc: Global, work: &mut Work) -> Result<Entry, AllocError> {
         b"V:2",
         b"^D",
     ];
-    for line in lines {
-        (entry, _) = step(alloc, &entry, line, work)?;
-    }
-    Ok(entry)
+    entry_behind(alloc, &lines, work)
 }
 
 /// What a cell gives there.

@@ -1,9 +1,13 @@
-//! Lines that are cut into tokens and cells, and the blocks of a text.
+//! Lines that are cut into tokens and cells, copies of what tokens hold, and the blocks of a text.
 
+use crate::notes::chord_of;
 use crate::told::{call, done};
 use abc_book::{blocks, stretch_blocks};
 use abc_fold::Work;
-use abc_scan::{LineClass, Token, cell_of, cells, class_of, into_cells, scan};
+use abc_scan::{
+    ChordPartKind, Field, LineClass, Token, cell_of, cells, class_of, into_cells, scan,
+};
+use abc_text::Sequence;
 use std::alloc::{AllocError, Global};
 use std::rt::Runtime;
 
@@ -48,6 +52,27 @@ pub fn line_into_cells<R: Runtime>(rt: &R, alloc: Global) -> Result<bool, AllocE
     let cells = into_cells(alloc, tokens)?;
     done(rt);
     Ok(cells.len() == 3)
+}
+
+/// A chord again.
+pub fn copied_chord(rt: &impl Runtime, alloc: Global) -> Result<bool, AllocError> {
+    let chord = chord_of(alloc, &[ChordPartKind::Tie])?;
+    call(rt, "Chord::clone");
+    let copy = chord.clone()?;
+    done(rt);
+    Ok(copy.parts.len() == 1)
+}
+
+/// A title again.
+pub fn copied_field(rt: &impl Runtime, alloc: Global) -> Result<bool, AllocError> {
+    let field = Field {
+        letter: b'T',
+        value: Sequence::from_slice(alloc, b"A")?,
+    };
+    call(rt, "Field::clone");
+    let copy = field.clone()?;
+    done(rt);
+    Ok(copy.letter == b'T' && copy.value.as_slice() == b"A".as_slice())
 }
 
 /// The classes of a file header and two tunes.

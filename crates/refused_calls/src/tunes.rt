@@ -101,6 +101,16 @@ pub fn tune<R: Runtime>(rt: &R, alloc: Global) -> Result<bool, AllocError> {
     Ok(has_file(&built))
 }
 
+/// The same, by the compiler of ABC.
+pub fn compiled_tune<R: Runtime>(rt: &R, alloc: Global) -> Result<bool, AllocError> {
+    let mut work = Work::mint(rt);
+    let items = items(alloc, &mut work)?;
+    call(rt, "Abc::build");
+    let built = Abc.build(alloc, &items, &mut work)?;
+    done(rt);
+    Ok(has_file(&built))
+}
+
 /// A line by which a tune is known.
 pub fn key_line(rt: &impl Runtime, alloc: Global) -> Result<bool, AllocError> {
     let mut bytes = Vec::new(alloc);

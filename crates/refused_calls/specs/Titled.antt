@@ -1,0 +1,16 @@
+-- The chains of one tune of the toy language, of a title and a line of music that is a fault. Our own.
+use Rattle.std.specs.Prelude.{◌≡◌, ℕ, List, [], ◌∷◌}
+use Rattle.abc_fold.specs.Chain.{Chained, Folds}
+use Rattle.live_examples.specs.declared.toy.Played.{Played}
+use Rattle.live_examples.specs.Toy.{no_byte}
+use Rattle.live_examples.specs.ToyLaws.{toy_steps}
+
+-- The lines `T:A` and `!c`.
+abbrev pub titled : List (List ℕ)
+titled = (84 ∷ 58 ∷ 65 ∷ []) ∷ (33 ∷ 99 ∷ []) ∷ []
+
+-- One chain, which is the toy's fold over these lines where no file header stands before them.
+abbrev pub AreOfTitled : List (Chained ℕ (List ℕ) Played) → Type 0
+AreOfTitled [] = ⊥
+AreOfTitled (chain ∷ []) = (chain.cells ≡ titled) × Folds toy_steps no_byte chain
+AreOfTitled (chain ∷ another ∷ rest) = ⊥
