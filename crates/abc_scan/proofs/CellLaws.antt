@@ -2,12 +2,12 @@
 use Rattle.std.proofs.Common.{◌≡◌, ℕ, suc, ◌+◌, ◌-◌, ◌<◌, ◌≤◌, true, false, List, [], ◌∷◌, ◌++◌, length, take, drop, get_or, refl, sym, ap, ◌∙◌, subst, ⊎_elim, arith, append_assoc, append-nil}
 use Rattle.std.specs.Prelude.{All, ◌==◌}
 use Rattle.std.proofs.Math.Seq.{drop-cons}
-use Rattle.std.proofs.lemmas.Bool.{cond-true, cond-false, cases_Bool, eqb-true}
+use Rattle.std.proofs.lemmas.Bool.{cond-true, cond-false, cond_both, cases_Bool, eqb-true}
 use Rattle.std.proofs.lemmas.List.{drop_all, take_all}
 use Rattle.std.proofs.lemmas.List.Elements.{All-nil, All-cons, All-head, All-tail}
 use Rattle.abc_scan.specs.declared.spanned.Spanned.{Spanned}
 use Rattle.abc_scan.specs.declared.token.TokenKind.{TokenKind}
-use Rattle.abc_scan.specs.Cell.{ends_cell, IsCell, EndsWithBar, but_last, AreCells, put_first, cells_of, first_size}
+use Rattle.abc_scan.specs.Cell.{ends_cell, IsCell, EndsWithBar, but_last, AreCells, put_first, cells_of, first_size, HasNoBar, GoOnWith}
 
 abbrev pub Tokens : Type 0
 Tokens = List (Spanned TokenKind)
@@ -142,3 +142,32 @@ at-plain tokens i t inside is plain = ap first_size (token_is tokens i t inside 
 
 pub at-end : (tokens : Tokens) (i : ℕ) → length tokens ≤ i → first_size (drop i tokens) ≡ 0
 at-end tokens i past = ap first_size (drop_all i tokens past)
+
+-- a bar line ends the cell of tokens without one
+bar_ends : (front : Tokens) (bar : Spanned TokenKind) (rest : Tokens) → HasNoBar front → ends_cell bar ≡ true → cells_of (front ++ bar ∷ rest) ≡ (front ++ bar ∷ []) ∷ cells_of rest
+bar_ends [] bar rest plain is = cond-true (ends_cell bar) ((bar ∷ []) ∷ cells_of rest) (put_first bar (cells_of rest)) is
+bar_ends (t ∷ ts) bar rest plain is =
+    let tokens = ts ++ bar ∷ rest in
+    cond-false (ends_cell t) ((t ∷ []) ∷ cells_of tokens) (put_first t (cells_of tokens)) (All-head (λ u. ends_cell u ≡ false) t ts plain)
+    ∙ ap (put_first t) (bar_ends ts bar rest (All-tail (λ u. ends_cell u ≡ false) t ts plain) is)
+
+-- tokens without a bar line are one cell
+pub open_cell : (ts : Tokens) → HasNoBar ts → 0 < length ts → cells_of ts ≡ ts ∷ []
+open_cell [] plain some = absurd (omega arith)
+open_cell (t ∷ []) plain some = cond-false (ends_cell t) ((t ∷ []) ∷ []) (put_first t []) (All-head (λ u. ends_cell u ≡ false) t [] plain)
+open_cell (t ∷ u ∷ us) plain some =
+    cond-false (ends_cell t) ((t ∷ []) ∷ cells_of (u ∷ us)) (put_first t (cells_of (u ∷ us))) (All-head (λ v. ends_cell v ≡ false) t (u ∷ us) plain)
+    ∙ ap (put_first t) (open_cell (u ∷ us) (All-tail (λ v. ends_cell v ≡ false) t (u ∷ us) plain) (omega arith))
+
+-- one token is one cell
+pub single_cell : (ts : Tokens) → 0 < length ts → length ts < 2 → cells_of ts ≡ ts ∷ []
+single_cell [] some few = absurd (omega arith)
+single_cell (t ∷ []) some few = cond_both (ends_cell t) ((t ∷ []) ∷ []) (put_first t []) (λ cells. cells ≡ (t ∷ []) ∷ []) (λ e. refl) (λ e. refl)
+single_cell (t ∷ u ∷ us) some few = absurd (omega arith)
+
+-- a bar line closes the begun cell
+pub is_closed : (token : Spanned TokenKind) (cells all : List Tokens) (begun more : Tokens) → HasNoBar begun → ends_cell token ≡ true → all ≡ cells ++ (begun ++ token ∷ []) ∷ [] → more ≡ [] → GoOnWith token cells begun all more
+is_closed token cells all begun more plain bar e none rest =
+    (λ i. e i ++ cells_of (none i ++ rest))
+    ∙ append_assoc cells ((begun ++ token ∷ []) ∷ []) (cells_of rest)
+    ∙ ap (λ l. cells ++ l) (sym (bar_ends begun token rest plain bar))

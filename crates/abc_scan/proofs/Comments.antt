@@ -1,7 +1,8 @@
 -- What is read of a line: no carriage return at its end, and no comment.
 use Rattle.std.proofs.Common.{◌≡◌, ℕ, true, false, List, [], ◌∷◌, ◌++◌, refl, sym, ap, ◌∙◌, subst, inl, inr, ⊎_elim}
 use Rattle.std.specs.Prelude.{◌==◌, ◌&&◌, not}
-use Rattle.std.proofs.lemmas.Bool.{cond-true, cond-false, cases_Bool, eqb-true, eqb-false, and_parts, and_cases, not-true, not-false}
+use Rattle.std.proofs.lemmas.Bool.{cond-true, cond-false, cases_Bool, eqb-true, eqb-false, and_parts, and_cases, or_parts, not-true, not-false}
+use Rattle.std.specs.List.{list_any}
 use Rattle.abc_scan.specs.Text.{before_comment, last_or, IsRead, CutsComments}
 
 -- a comment begins here
@@ -46,3 +47,11 @@ reads before (b ∷ bs) = ⊎_elim
 
 pub cuts_comments : CutsComments
 cuts_comments text = reads 32 text
+
+-- where no byte is a `%` there is no comment
+pub no_comment : (before : ℕ) (text : List ℕ) → list_any (λ b. b == 37) text ≡ false → before_comment before text ≡ text
+no_comment before [] none = refl
+no_comment before (b ∷ bs) none =
+    let parts = or_parts (b == 37) (list_any (λ x. x == 37) bs) none in
+    cond-false ((b == 37) && not (before == 92)) [] (b ∷ before_comment b bs) (ap (λ t. t && not (before == 92)) parts.0)
+    ∙ ap (λ l. b ∷ l) (no_comment b bs parts.1)

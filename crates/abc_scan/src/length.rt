@@ -76,16 +76,13 @@ fn begins_length(text: &[u8]) -> bool
     }
 }
 
-/// The length at the front of a text, and how many bytes it takes. Most notes have none.
+/// The length that a text begins with, and how many bytes it takes.
 #[tactic(auto, unfolding(crate::specs::Length::length_at, crate::specs::Length::length_size))]
-pub(crate) fn length_at(text: &[u8]) -> (WrittenLength, usize)
+fn some_length_at(text: &[u8]) -> (WrittenLength, usize)
     ensures value { result.0 ≡ length_at text.now }
     ensures size { result.1 ≡ length_size text.now }
     ensures inside { result.1 ≤ length text.now }
 {
-    if !begins_length(text) {
-        return (WrittenLength::Factor { num: 1, den: 1 }, 0);
-    }
     let over = digits(text);
     let rest = &text[over..];
     let slashes = slashes(rest);
@@ -93,4 +90,19 @@ pub(crate) fn length_at(text: &[u8]) -> (WrittenLength, usize)
     let under = digits_behind(slashes, behind);
     let value = written_length(&text[..over], slashes, &behind[..under]);
     (value, over + slashes + under)
+}
+
+/// The length at the front of a text, and how many bytes it takes. Most notes have none.
+#[inline(always)]
+#[tactic(auto, unfolding(crate::specs::Length::length_at, crate::specs::Length::length_size))]
+pub(crate) fn length_at(text: &[u8]) -> (WrittenLength, usize)
+    ensures value { result.0 ≡ length_at text.now }
+    ensures size { result.1 ≡ length_size text.now }
+    ensures inside { result.1 ≤ length text.now }
+{
+    if begins_length(text) {
+        some_length_at(text)
+    } else {
+        (WrittenLength::Factor { num: 1, den: 1 }, 0)
+    }
 }

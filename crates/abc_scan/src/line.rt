@@ -22,7 +22,7 @@ use std::alloc::{AllocError, Global};
 const LONGEST_LINE: usize = (1 << 31) - 1;
 
 /// A text, if it is not too long to be cut.
-fn short(text: &[u8]) -> Result<&[u8], AllocError>
+pub(crate) fn short(text: &[u8]) -> Result<&[u8], AllocError>
     ensures same { IfOk result (λ short. short.now ≡ text.now) }
     ensures short { IfOk result (λ short. length short.now < 2 ^ 31) }
 {
@@ -88,7 +88,11 @@ fn directive_token(alloc: Global, text: &[u8]) -> Result<Vec<Token>, AllocError>
 }
 
 /// The tokens of a text of this class, which has no carriage return at its end.
-fn tokens_in(alloc: Global, class: LineClass, text: &[u8]) -> Result<Vec<Token>, AllocError>
+pub(crate) fn tokens_in(
+    alloc: Global,
+    class: LineClass,
+    text: &[u8],
+) -> Result<Vec<Token>, AllocError>
     ensures tokens { IfOk result (λ tokens. tokens.items ≡ tokens_in class text.now) }
     ensures silent { has_tokens class ≡ false → IsOk result }
 {

@@ -6,8 +6,8 @@ ghost use Rattle.abc_scan.specs.Text.{without_comment, content, CutsComments};
 
 use abc_text::without_return;
 
-/// A text without its comment.
-pub(crate) fn without_comment(text: &[u8]) -> &[u8]
+/// What stands before the first `%` of a text that begins a comment, or the whole text.
+fn up_to_comment(text: &[u8]) -> &[u8]
     ensures value { result.now ≡ without_comment text.now }
     ensures bounded { length result.now ≤ length text.now }
 {
@@ -19,6 +19,18 @@ pub(crate) fn without_comment(text: &[u8]) -> &[u8]
         before = *byte;
     }
     text
+}
+
+/// A text without its comment. Most have no `%`, which takes no look at each byte by itself.
+pub(crate) fn without_comment(text: &[u8]) -> &[u8]
+    ensures value { result.now ≡ without_comment text.now }
+    ensures bounded { length result.now ≤ length text.now }
+{
+    if text.contains(&b'%') {
+        up_to_comment(text)
+    } else {
+        text
+    }
 }
 
 /// The line without its carriage return and its comment.

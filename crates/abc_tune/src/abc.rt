@@ -7,12 +7,11 @@ ghost use Rattle.abc_tune.specs.Abc.{rules_of_abc, number_of, title_of, first_va
 ghost use Rattle.abc_tune.specs.Lawful.{abc_lawful, abc_told_apart};
 
 use crate::built::build;
-use crate::kept_cells::shared;
 use abc_bars::{BarFold, Defaults, Entry, Item, Items};
 use abc_compiler::{Built, Compiler};
 use abc_fields::FaultCode;
 use abc_fold::{Fold, Resumable, Shared, Work};
-use abc_scan::{Cell, LineClass, class_of, into_cells, scan};
+use abc_scan::{Cell, LineClass, cells_of_line, class_of};
 use std::alloc::{AllocError, Global};
 
 /// The compiler of tunes in ABC.
@@ -117,9 +116,7 @@ impl Compiler for Abc {
         line: &[u8],
         work: &mut Work,
     ) -> Result<Vec<Shared<Cell>>, AllocError> {
-        let tokens = scan(alloc, line, work)?;
-        let cells = into_cells(alloc, tokens)?;
-        shared(alloc, cells)
+        cells_of_line(alloc, line, work)
     }
 
     fn header(&self, alloc: Global) -> Entry {

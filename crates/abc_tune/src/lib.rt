@@ -4,7 +4,6 @@
 mod abc;
 mod built;
 mod fold_laws;
-mod kept_cells;
 mod line_laws;
 mod whole_faults;
 

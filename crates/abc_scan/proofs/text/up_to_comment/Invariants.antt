@@ -1,6 +1,6 @@
 use Rattle.std.proofs.Common.{◌≡◌, ◌++◌, take, drop}
 use Rattle.abc_scan.specs.Text.{before_comment}
-use Rattle.abc_scan.proofs.text.without_comment.Given as goal
+use Rattle.abc_scan.proofs.text.up_to_comment.Given as goal
 
 -- what is read of the text is its front so far and what is read of the rest
 abbrev pub invariant-loop-at : goal.invariant-loop-at

@@ -1,0 +1,11 @@
+use Rattle.std.proofs.Common.{[], ◌∷◌, ◌++◌, ap, sym, ◌∙◌}
+use Rattle.std.specs.Prelude.{◌==◌}
+use Rattle.abc_scan.proofs.CellLaws.{is_some, single_cell}
+use Rattle.abc_scan.proofs.line_cells.cell_of_one.Goals as goal
+
+pub returns : goal.returns
+returns c =
+    let tokens = c.args.tokens.items in
+    c.in_ok-push.ensures.items
+    ∙ (λ i. c.in_ok-cells.ensures.items i ++ (c.in_ok-new.ensures ∙ c.from.ensures) i ∷ [])
+    ∙ sym (single_cell tokens (is_some tokens (ap (λ n. n == 0) (sym c.args.tokens.ok.0) ∙ sym c.is_empty.ensures ∙ c.if-is_empty.false)) c.requires)

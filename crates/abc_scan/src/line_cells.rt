@@ -1,0 +1,135 @@
+//! The cells of a line, cut off it one by one.
+
+ghost use Rattle.std.specs.Prelude.{◌≡◌, ◌<◌, ◌^◌, ◌++◌, ◌∷◌, [], IfOk, OnOk, length};
+ghost use Rattle.abc_fold.specs.Work.{raised};
+ghost use Rattle.abc_scan.specs.Cell.{cells_of, HasNoBar, GoOnWith};
+ghost use Rattle.abc_scan.specs.Line.{cutting_of, tokens_in, tokens_of};
+
+use crate::cell::Cell;
+use crate::class::{LineClass, class_of};
+use crate::closing::Missing;
+use crate::line::{short, tokens_in};
+use crate::spanned::Spanned;
+use crate::text::without_comment;
+use crate::token::{Token, is_bar, next_token};
+use abc_fold::{Shared, Work};
+use abc_text::{Sequence, without_return};
+use std::alloc::{AllocError, Global};
+
+/// For how many tokens of a cell, and for how many cells of a line, room is taken at first.
+const USUAL_TOKENS: usize = 32;
+
+const USUAL_CELLS: usize = 8;
+
+/// Ends the open cell: its tokens leave their list, which keeps its room.
+fn end_cell(
+    alloc: Global,
+    cells: &mut Vec<Shared<Cell>>,
+    begun: &mut Vec<Token>,
+) -> Result<(), AllocError>
+    ensures cells { OnOk result (cells.new.items ≡ cells.old.items ++ begun.old.items ∷ []) }
+    ensures begun { OnOk result (begun.new.items ≡ []) }
+{
+    let tokens = begun.split_off(0)?;
+    cells.push(Shared::new(alloc, Sequence::from(tokens))?)?;
+    Ok(())
+}
+
+/// Puts one more token into the open cell, which a bar line ends.
+fn put_token(
+    alloc: Global,
+    cells: &mut Vec<Shared<Cell>>,
+    begun: &mut Vec<Token>,
+    token: Token,
+) -> Result<(), AllocError>
+    requires { HasNoBar begun.old.items }
+    ensures begun { OnOk result (HasNoBar begun.new.items) }
+    ensures cells { OnOk result (GoOnWith token cells.old.items begun.old.items cells.new.items begun.new.items) }
+{
+    let ends = is_bar(&token.kind);
+    begun.push(token)?;
+    if ends {
+        end_cell(alloc, cells, begun)?;
+    }
+    Ok(())
+}
+
+/// The cells so far and the open one, if it has tokens.
+fn all_cells(
+    alloc: Global,
+    mut cells: Vec<Shared<Cell>>,
+    mut begun: Vec<Token>,
+) -> Result<Vec<Shared<Cell>>, AllocError>
+    requires { HasNoBar begun.items }
+    ensures { IfOk result (λ all. all.items ≡ cells.items ++ cells_of begun.items) }
+{
+    if !begun.is_empty() {
+        end_cell(alloc, &mut cells, &mut begun)?;
+    }
+    cells.shrink_to_fit();
+    Ok(cells)
+}
+
+/// A text cut from left to right into the tokens of cells.
+fn cut_cells(alloc: Global, text: &[u8]) -> Result<Vec<Shared<Cell>>, AllocError>
+    requires { length text.now < 2 ^ 31 }
+    ensures { IfOk result (λ cells. cells.items ≡ cells_of (cutting_of text.now)) }
+{
+    let mut cells = Vec::with_capacity(alloc, USUAL_CELLS)?;
+    let mut begun = Vec::with_capacity(alloc, USUAL_TOKENS)?;
+    let mut missing = Missing::none();
+    let mut after_bar = false;
+    let mut at = 0;
+    while at < text.len() {
+        let (kind, size) = next_token(alloc, after_bar, &text[at..], &mut missing)?;
+        after_bar = is_bar(&kind);
+        let token = Spanned {
+            kind,
+            from: at as u32,
+            to: (at + size) as u32,
+        };
+        put_token(alloc, &mut cells, &mut begun, token)?;
+        at += size;
+    }
+    all_cells(alloc, cells, begun)
+}
+
+/// The cell of the tokens of a field or of a directive, of which there is one or none.
+fn cell_of_one(alloc: Global, tokens: Vec<Token>) -> Result<Vec<Shared<Cell>>, AllocError>
+    requires { length tokens.items < 2 }
+    ensures { IfOk result (λ cells. cells.items ≡ cells_of tokens.items) }
+{
+    if tokens.is_empty() {
+        return Ok(Vec::new(alloc));
+    }
+    let mut cells = Vec::with_capacity(alloc, 1)?;
+    cells.push(Shared::new(alloc, Sequence::from(tokens))?)?;
+    Ok(cells)
+}
+
+/// The cells of a text of this class, which has no carriage return at its end.
+fn cells_in(alloc: Global, class: LineClass, text: &[u8]) -> Result<Vec<Shared<Cell>>, AllocError>
+    ensures { IfOk result (λ cells. cells.items ≡ cells_of (tokens_in class text.now)) }
+{
+    match class {
+        LineClass::Music => cut_cells(alloc, short(without_comment(text))?),
+        LineClass::Blank | LineClass::Comment | LineClass::Field(_) | LineClass::Directive => {
+            cell_of_one(alloc, tokens_in(alloc, class, text)?)
+        }
+    }
+}
+
+/// The cells of a line, by its tokens, each of which its owners can share. Counts one line scanned, also where there is no
+/// memory for the cells.
+#[tactic(auto, unfolding(crate::specs::Line::tokens_of))]
+pub fn cells_of_line(
+    alloc: Global,
+    line: &[u8],
+    work: &mut Work,
+) -> Result<Vec<Shared<Cell>>, AllocError>
+    ensures cells { IfOk result (λ cells. cells.items ≡ cells_of (tokens_of line.now)) }
+    ensures counted { work.new ≡ record work.old { scanned = raised work.old.scanned 1 } }
+{
+    work.count_scanned();
+    cells_in(alloc, class_of(line), without_return(line))
+}
