@@ -4,6 +4,7 @@ pub mod DeclaredVoices
 pub mod EntryLaws
 pub mod HeaderLaws
 pub mod HeaderViews
+pub mod HereLaws
 pub mod KeepsNames
 pub mod LookBack
 pub mod Mentions

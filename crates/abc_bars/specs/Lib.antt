@@ -1,4 +1,6 @@
 pub mod Body
+pub mod BodyCopy
+pub mod BodyCopyLent
 pub mod BodyFields
 pub mod BodyLent
 pub mod BodyOpening

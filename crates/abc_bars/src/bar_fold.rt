@@ -9,7 +9,7 @@ ghost use Rattle.abc_bars.specs.Header.{header_given};
 ghost use Rattle.abc_bars.specs.HeaderLine.{DirectiveLine, FieldLine};
 ghost use Rattle.abc_bars.specs.Step.{field_line, field_in, directive_line, directive_in, line_in, body_stepped, line_stepped, header_stepped, file_header_made, file_header_stepped, stepped};
 
-use crate::body::Body;
+use crate::body_copy::BodyCopy;
 use crate::body_opening::body_from;
 use crate::cell::{Given, cell_given};
 use crate::defaults::Defaults;
@@ -68,11 +68,11 @@ fn directive_in(cell: &[Token]) -> Option<Directive>
 }
 
 /// A cell of a body.
-fn body_stepped(alloc: Global, body: Body, cell: &[Token]) -> Stepped
+fn body_stepped(alloc: Global, body: BodyCopy, cell: &[Token]) -> Stepped
     ensures { IfOk result (λ made. made ≡ body_stepped body cell.now) }
 {
     let Given { body, items, .. } = cell_given(alloc, body, cell)?;
-    let entry = Entry::in_body(alloc, body)?;
+    let entry = body.into_entry(alloc)?;
     Ok((entry, items))
 }
 
@@ -125,7 +125,7 @@ fn header_stepped(alloc: Global, header: Header, cell: &[Token]) -> Stepped
         (None, Some(directive)) => directive_stepped(alloc, header, directive),
         (None, None) => {
             let body = body_from(alloc, &header, &EMPTY_SIGNATURE)?;
-            body_stepped(alloc, body, cell)
+            body_stepped(alloc, BodyCopy::own(alloc, body)?, cell)
         }
     }
 }
@@ -171,7 +171,7 @@ fn stepped(alloc: Global, entry: &Entry, cell: &[Token]) -> Stepped
             header_stepped(alloc, Header::opening(alloc, *defaults), cell)
         }
         Entry::Header(header) => header_stepped(alloc, header.get().copied()?, cell),
-        Entry::Body(body) => body_stepped(alloc, body.get().clone()?, cell),
+        Entry::Body(body) => body_stepped(alloc, BodyCopy::of(body)?, cell),
     }
 }
 

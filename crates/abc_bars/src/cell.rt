@@ -8,8 +8,8 @@ ghost use Rattle.abc_music.specs.Program.{program_of};
 ghost use Rattle.abc_music.specs.TimeTokens.{chord_played};
 ghost use Rattle.abc_music.specs.declared.settings.Settings.{Settings};
 
-use crate::body::Body;
-use crate::body_fields::{FieldItem, field_given};
+use crate::body_copy::BodyCopy;
+use crate::body_fields::FieldItem;
 use crate::room::room_for;
 use abc_fields::FaultCode;
 use abc_music::{
@@ -63,7 +63,7 @@ fn chord_factors(behind: Behind, chord: &Chord, ahead: &[Token]) -> BrokenFactor
 /// What holds behind some tokens of a cell, and what they gave.
 #[derive(Drop)]
 pub(crate) struct Given {
-    pub(crate) body: Body,
+    pub(crate) body: BodyCopy,
     pub(crate) items: Items,
     /// What stands nearest before, of what matters to broken rhythm.
     pub(crate) behind: Behind,
@@ -73,7 +73,7 @@ pub(crate) struct Given {
 
 impl Given {
     /// Before the first token of a cell, with room for so many items.
-    fn nothing(alloc: Global, body: Body, room: usize) -> Result<Given, AllocError>
+    fn nothing(alloc: Global, body: BodyCopy, room: usize) -> Result<Given, AllocError>
         ensures { IfOk result (λ given. given ≡ nothing_given body) }
     {
         let items = Items::with_room(alloc, room)?;
@@ -219,7 +219,7 @@ impl Given {
     fn field(&mut self, alloc: Global, place: usize, field: &Field) -> Result<(), AllocError>
         ensures { OnOk result (self.new ≡ with_field self.old place field.now) }
     {
-        let FieldItem { item, fault } = field_given(alloc, &mut self.body, field, place)?;
+        let FieldItem { item, fault } = self.body.field(alloc, field, place)?;
         self.some_item(item)?;
         self.some_local_fault(fault)?;
         Ok(())
@@ -353,7 +353,7 @@ impl Given {
 }
 
 /// What holds behind a cell that is entered in a body, and what it gives.
-pub(crate) fn cell_given(alloc: Global, body: Body, cell: &[Token]) -> Result<Given, AllocError>
+pub(crate) fn cell_given(alloc: Global, body: BodyCopy, cell: &[Token]) -> Result<Given, AllocError>
     ensures { IfOk result (λ given. given ≡ cell_given body cell.now) }
 {
     let mut given = Given::nothing(alloc, body, room_for(cell))?;

@@ -5,6 +5,7 @@
 mod along_laws;
 mod bar_fold;
 mod body;
+mod body_copy;
 mod body_fields;
 mod body_laws;
 mod body_opening;

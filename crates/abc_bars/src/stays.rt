@@ -13,7 +13,7 @@ use abc_music::Settings;
 use abc_scan::Token;
 
 /// Whether the same holds for both voices, where there is little to compare.
-fn seen_same(settings: &Settings, other: &Settings) -> bool
+pub(crate) fn seen_same(settings: &Settings, other: &Settings) -> bool
     ensures { IsTrue result → settings.now ≡ other.now }
 {
     settings.is_small() && settings.same(other)

@@ -52,8 +52,8 @@ use Rattle.abc_music.specs.TempoItem.{is_out}
 use Rattle.abc_music.specs.TimeTokens.{chord_by, chord_played}
 use Rattle.abc_music.specs.TokenRole.{has_note}
 use Rattle.abc_music.specs.Tuplet.{counted_down, tuplet_opened}
-use Rattle.abc_bars.specs.Voices.{voice_at, with_voice_at}
 use Rattle.abc_bars.specs.LookBack.AfterBody.{body_after, mentioned_if}
+use Rattle.abc_bars.proofs.HereLaws.{same_here}
 
 -- The same notes leave the same of two chords, whatever else is known of them.
 abbrev Agree : Inside → Inside → Type 0
@@ -119,34 +119,6 @@ chord-any : (settings : Settings) (broken other : List Ratio) (tied : Bool) (fro
 chord-any settings broken other tied from place chord =
     same-chord settings broken other chord.length tied from place chord (has_note chord.parts)
     (agree-from settings broken other chord.length tied from place chord.parts (no_notes settings) (no_notes settings) (refl, refl, refl))
-
-set-same : (voices : List (List ℕ × Settings)) (place : ℕ) (another : Settings) → with_voice_at voices place (unwrap_or (voice_at voices place) another) ≡ voices
-set-same [] place another = refl
-set-same (voice ∷ voices) zero another = refl
-set-same (voice ∷ voices) (suc place) another = ap (λ (rest : List (List ℕ × Settings)). voice ∷ rest) (set-same voices place another)
-
-beyond : (voices : List (List ℕ × Settings)) (place : ℕ) (another : Settings) → length voices ≤ place → unwrap_or (voice_at voices place) another ≡ another
-beyond [] place another h = refl
-beyond (voice ∷ voices) zero another h = absurd (omega arith)
-beyond (voice ∷ voices) (suc place) another h = beyond voices place another (omega arith)
-
-not-below : (m n : ℕ) → nat_lt m n ≡ false → n ≤ m
-not-below m n h = grind (arith, nat_tests)
-
-here-at : (body : Body) (place : ℕ) (b : Bool) → nat_lt place (length body.voices) ≡ b
-    → body ≡ cond b (record body { voices = with_voice_at body.voices place (unwrap_or (voice_at body.voices place) body.another) })
-    (record body { another = unwrap_or (voice_at body.voices place) body.another })
-here-at body place true e = ap (λ (voices : List (List ℕ × Settings)). record body { voices = voices }) (sym (set-same body.voices place body.another))
-here-at body place false e =
-    ap (λ (another : Settings). record body { another = another }) (sym (beyond body.voices place body.another (not-below place (length body.voices) e)))
-
--- What holds is written where it holds.
-same-in : (body : Body) (current : Current) → record body { current = current } ≡ with_here_in (record body { current = current }) current (here_in body current)
-same-in body (Unnamed settings) = refl
-same-in body (At place) = here-at (record body { current = At place }) place (nat_lt place (length body.voices)) refl
-
-same-here : (body : Body) → body ≡ with_here body (here body)
-same-here body = same-in body body.current
 
 -- The place of a field changes nothing of what it leaves.
 of-meter : (body : Body) (line place : ℕ) (r : Result Meter FaultCode) → (meter_by body line r).body ≡ (meter_by body place r).body
@@ -227,7 +199,7 @@ by-kind given body line (kinds.Note note) ahead = refl
 by-kind given body line (kinds.Rest length) ahead = refl
 by-kind given body line (kinds.BarRest bars) ahead =
     body-fault (with_item (record given { body = mentioned body }) (bar_rest_of (here (mentioned body)).meter bars).0) line (bar_rest_of (here (mentioned body)).meter bars).1
-    ∙ same-here (mentioned body)
+    ∙ same_here (mentioned body)
 by-kind given body line (kinds.Chord chord) ahead =
     ap (λ (inner : Body). with_here inner (chord_played (here inner) (factors_of given.behind ahead) (tie_ahead ahead) line chord).settings) (mentioned-by (has_note chord.parts) body)
     ∙ ap (with_here (mentioned_if (has_note chord.parts) body))
@@ -238,16 +210,16 @@ by-kind given body line (kinds.Bar bar) ahead = refl
 by-kind given body line (kinds.Tuplet mark) ahead =
     body-fault (record given { body = with_here body (record (here body) { tuplet = (tuplet_opened (here body).meter (here body).tuplet mark).0 }) }) line
     (tuplet_opened (here body).meter (here body).tuplet mark).1
-by-kind given body line (kinds.Ending passes) ahead = body-ending (record given { body = body }) line passes ∙ same-here body
+by-kind given body line (kinds.Ending passes) ahead = body-ending (record given { body = body }) line passes ∙ same_here body
 by-kind given body line (kinds.Broken mark) ahead =
-    body-fault-if (record given { body = body }) (is_bad_mark given.behind ahead) line BadBroken ∙ same-here body
-by-kind given body line kinds.Tie ahead = body-tie given.after_note (record given { body = body }) line LooseTie ∙ same-here body
-by-kind given body line kinds.Blank ahead = same-here body
-by-kind given body line kinds.NoEffect ahead = same-here body
+    body-fault-if (record given { body = body }) (is_bad_mark given.behind ahead) line BadBroken ∙ same_here body
+by-kind given body line kinds.Tie ahead = body-tie given.after_note (record given { body = body }) line LooseTie ∙ same_here body
+by-kind given body line kinds.Blank ahead = same_here body
+by-kind given body line kinds.NoEffect ahead = same_here body
 by-kind given body line (kinds.Dynamic dynamic) ahead = refl
-by-kind given body line (kinds.Directive directive) ahead = body-directive (record given { body = body }) line directive ∙ same-here body
-by-kind given body line kinds.Unclosed ahead = same-here body
-by-kind given body line kinds.BadByte ahead = same-here body
+by-kind given body line (kinds.Directive directive) ahead = body-directive (record given { body = body }) line directive ∙ same_here body
+by-kind given body line kinds.Unclosed ahead = same_here body
+by-kind given body line kinds.BadByte ahead = same_here body
 
 -- What a token of a cell leaves is what the element leaves that it is.
 pub token_leaves : (given : Given) (body : Body) (token : Spanned TokenKind) (ahead : List (Spanned TokenKind))
