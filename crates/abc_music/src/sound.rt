@@ -210,15 +210,19 @@ pub(crate) fn accidentals_behind(
     Ok(Some(accidentals))
 }
 
-/// The tied notes of a note alone.
-pub(crate) fn tied_alone(
+/// The tied notes behind a note alone, where it or a note before it is tied.
+pub(crate) fn tied_behind(
     alloc: Global,
+    settings: &Settings,
     tied: bool,
     note: TiedNote,
-) -> Result<ShortSequence<TiedNote>, AllocError>
-    ensures { IfOk result (λ notes. notes ≡ (if tied then note ∷ [] else [])) }
+) -> Result<Option<ShortSequence<TiedNote>>, AllocError>
+    ensures { IfOk result (λ changed. unwrap_or changed settings.now.tied ≡ (if tied then note ∷ [] else [])) }
 {
+    if !tied && settings.tied.as_slice().is_empty() {
+        return Ok(None);
+    }
     let mut notes = ShortSequence::new(alloc);
     push_tied_if(&mut notes, tied, note)?;
-    Ok(notes)
+    Ok(Some(notes))
 }

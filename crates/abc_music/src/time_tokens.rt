@@ -17,7 +17,7 @@ use crate::item::{Item, Items, LocalFault, Tone};
 use crate::role::has_note;
 use crate::settings::Settings;
 use crate::sound::{
-    Around, Inside, Sounding, accidentals_behind, length_in, sounding_of, tied_alone,
+    Around, Inside, Sounding, accidentals_behind, length_in, sounding_of, tied_behind,
 };
 use crate::tied::TiedNote;
 use crate::tones::Tones;
@@ -97,16 +97,22 @@ fn push_note(items: &mut Items, tone: Tone, refused: bool, column: u32) -> Resul
     }
 }
 
-/// What holds for a voice behind a note alone: the accidentals stay where it has none of its own.
-fn settle(settings: &mut Settings, accidentals: Option<Accidentals>, tied: ShortSequence<TiedNote>)
+/// What holds for a voice behind a note alone, where its accidentals or tied notes change.
+fn settle(
+    settings: &mut Settings,
+    accidentals: Option<Accidentals>,
+    tied: Option<ShortSequence<TiedNote>>,
+)
     ensures { settings.new ≡ record settings.old
-        { accidentals = unwrap_or accidentals settings.old.accidentals; tuplet = counted_down settings.old.tuplet; tied = tied } }
+        { accidentals = unwrap_or accidentals settings.old.accidentals; tuplet = counted_down settings.old.tuplet; tied = unwrap_or tied settings.old.tied } }
 {
     if let Some(accidentals) = accidentals {
         settings.accidentals = accidentals;
     }
     settings.tuplet = counted_down(settings.tuplet);
-    settings.tied = tied;
+    if let Some(tied) = tied {
+        settings.tied = tied;
+    }
 }
 
 /// Gives a note.
@@ -134,7 +140,7 @@ pub fn note_played(
         refused,
     } = sounding_of(settings, &settings.accidentals, broken, around, note);
     let accidentals = accidentals_behind(settings, note)?;
-    let tied = tied_alone(alloc, place.tied, tied_note)?;
+    let tied = tied_behind(alloc, settings, place.tied, tied_note)?;
     push_note(items, tone, refused, column)?;
     settle(settings, accidentals, tied);
     Ok(())
