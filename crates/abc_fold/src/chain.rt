@@ -277,11 +277,12 @@ fn folded<F: Resumable>(
         IsRaisedUpTo (steps_needed steps opening.now pieces.now) (F.Work.counts work.old) (F.Work.counts work.new) }
 {
     let mut state = Shared::new(alloc, fold.copy_state(alloc, opening)?)?;
-    let mut states = Vec::new(alloc);
-    let mut cells = Vec::new(alloc);
-    let mut items = Vec::new(alloc);
+    let count = pieces.len();
+    let mut states = Vec::with_capacity(alloc, count + 1)?;
+    let mut cells = Vec::with_capacity(alloc, count)?;
+    let mut items = Vec::with_capacity(alloc, count)?;
     let mut taken = false;
-    for i in 0..pieces.len() {
+    for i in 0..count {
         let piece = &pieces[i];
         cells.push(cell_in(alloc, fold, piece)?)?;
         let known = is_known(taken, marks, i);

@@ -16,7 +16,7 @@ loop-i-init g c =
     let is = c.in_ok-state.ensures in
     let same = c.in_ok-copy_state.ensures in
     record {
-      ahead = rw (c.new-states.ensures.items, c.new-cells.ensures.items, c.new-items.ensures.items, is, same)
+      ahead = rw (c.in_ok-states.ensures.items, c.in_ok-cells.ensures.items, c.in_ok-items.ensures.items, is, same)
           (ahead_start (steps_of (g.F.Fold.next c.args.fold.now) (g.F.Fold.gives c.args.fold.now) (g.F.Resumable.alike c.args.fold.now)) c.args.opening.now c.args.pieces.now (g.met.F.Resumable.resumable c.args.fold.now) c.args.opening.now refl);
       left = none_left c.args.pieces.now 0 c.in_ok-state.state;
       within = rw (is, same) (within_start (g.F.Work.Counts.counts c.args.work.now) (steps_needed (steps_of (g.F.Fold.next c.args.fold.now) (g.F.Fold.gives c.args.fold.now) (g.F.Resumable.alike c.args.fold.now)) c.args.opening.now c.args.pieces.now));
@@ -53,6 +53,15 @@ loop-i-preserved g c =
 
 pub returns-in_err-copy_state-clause-counted : goal.returns-in_err-copy_state-clause-counted
 returns-in_err-copy_state-clause-counted g c = raised-none _ _
+
+pub returns-in_err-states-clause-counted : goal.returns-in_err-states-clause-counted
+returns-in_err-states-clause-counted g c = raised-none _ _
+
+pub returns-in_err-cells-clause-counted : goal.returns-in_err-cells-clause-counted
+returns-in_err-cells-clause-counted g c = raised-none _ _
+
+pub returns-in_err-items-clause-counted : goal.returns-in_err-items-clause-counted
+returns-in_err-items-clause-counted g c = raised-none _ _
 
 pub returns-in_err-state-clause-counted : goal.returns-in_err-state-clause-counted
 returns-in_err-state-clause-counted g c = raised-none _ _
