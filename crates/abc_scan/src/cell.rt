@@ -56,18 +56,3 @@ pub fn cells(alloc: Global, tokens: &[Token]) -> Result<Vec<Cell>, AllocError>
     }
     Ok(cells)
 }
-
-/// The cells of a line, by its tokens. Where no bar line stands before the last of them, the list of the tokens is the
-/// only cell, without the room that was left in it.
-pub fn into_cells(alloc: Global, mut tokens: Vec<Token>) -> Result<Vec<Cell>, AllocError>
-    ensures value { IfOk result (λ cells. cells.items ≡ cells_of tokens.items) }
-    ensures cells { IfOk result (λ cells. AreCells tokens.items cells.items) }
-{
-    if tokens.is_empty() || first_size(tokens.as_slice()) < tokens.len() {
-        return cells(alloc, tokens.as_slice());
-    }
-    tokens.shrink_to_fit();
-    let mut whole = Vec::with_capacity(alloc, 1)?;
-    whole.push(Sequence::from(tokens))?;
-    Ok(whole)
-}

@@ -33,7 +33,7 @@ mod tuplet;
 pub use abc_text::{Accidental, Letter};
 pub use bar::BarLine;
 pub use broken::{BrokenRhythm, Direction};
-pub use cell::{Cell, cell_of, cells, into_cells};
+pub use cell::{Cell, cell_of, cells};
 pub use chord::Chord;
 pub use class::{LineClass, class_of};
 pub use directive::{Directive, Reach, one_directive};

@@ -5,7 +5,7 @@ use crate::told::{call, done};
 use abc_book::{blocks, stretch_blocks};
 use abc_fold::Work;
 use abc_scan::{
-    ChordPartKind, Field, LineClass, Token, cell_of, cells, class_of, into_cells, scan,
+    ChordPartKind, Field, LineClass, Token, cell_of, cells, cells_of_line, class_of, scan,
 };
 use abc_text::Sequence;
 use std::alloc::{AllocError, Global};
@@ -28,7 +28,7 @@ pub fn cut_line<R: Runtime>(rt: &R, alloc: Global) -> Result<bool, AllocError> {
 }
 
 /// Its tokens as cells.
-pub fn cells_of_line<R: Runtime>(rt: &R, alloc: Global) -> Result<bool, AllocError> {
+pub fn cells_of_tokens<R: Runtime>(rt: &R, alloc: Global) -> Result<bool, AllocError> {
     let tokens = tokens(rt, alloc)?;
     call(rt, "cells");
     let cells = cells(alloc, &tokens)?;
@@ -45,11 +45,10 @@ pub fn line_as_cell<R: Runtime>(rt: &R, alloc: Global) -> Result<bool, AllocErro
     Ok(cell.len() == 28)
 }
 
-/// Its tokens as cells, given away.
+/// The line, cut into cells.
 pub fn line_into_cells<R: Runtime>(rt: &R, alloc: Global) -> Result<bool, AllocError> {
-    let tokens = tokens(rt, alloc)?;
-    call(rt, "into_cells");
-    let cells = into_cells(alloc, tokens)?;
+    call(rt, "cells_of_line");
+    let cells = cells_of_line(alloc, LINE, &mut Work::mint(rt))?;
     done(rt);
     Ok(cells.len() == 3)
 }
