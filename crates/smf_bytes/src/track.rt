@@ -1,5 +1,5 @@
 //! Tracks as chunks.
-ghost use Rattle.std.specs.Prelude.{◌≡◌, ◌≤◌, ◌<◌, ◌^◌, ◌-◌, ◌++◌, ◌∷◌, [], length, map, All, OnOk};
+ghost use Rattle.std.specs.Prelude.{◌≡◌, ◌≤◌, ◌<◌, ◌^◌, ◌-◌, ◌++◌, IsTrue, ◌∷◌, [], length, map, All, OnOk};
 ghost use Rattle.smf_bytes.specs.Number.{number_text};
 ghost use Rattle.smf_bytes.specs.Voice.{bytes_of, event_at};
 ghost use Rattle.smf_bytes.specs.Track.{track_body, track};
@@ -88,12 +88,32 @@ fn put_voice_events(
     let ordered = order_voice(events)?;
     out.reserve(5 * ordered.len())?;
     let mut before = 0;
-    for event in &ordered {
+    let mut left = ordered.as_slice();
+    while let [event, others @ ..] = left {
         let delta = event.tick - before;
-        before = event.tick;
-        put_voice_event(out, delta, channel, event)?;
+        match others {
+            [off, rest @ ..] if is_note(event, off) => {
+                let ends = [0x80 + channel, off.key, off.value];
+                let begins = [0x90 + channel, event.key, event.value];
+                put_both(out, delta, begins, off.tick - event.tick, ends)?;
+                before = off.tick;
+                left = rest;
+            }
+            _ => {
+                put_voice_event(out, delta, channel, event)?;
+                before = event.tick;
+                left = others;
+            }
+        }
     }
     put_end(out, end - before)
+}
+
+/// Whether a note begins and one ends.
+fn is_note(first: &VoiceEvent, second: &VoiceEvent) -> bool
+    ensures { IsTrue result → (first.now.kind ≡ VoiceEventKind.NoteOn) × (second.now.kind ≡ VoiceEventKind.NoteOff) }
+{
+    first.kind == VoiceEventKind::NoteOn && second.kind == VoiceEventKind::NoteOff
 }
 
 /// Appends an event of a voice, so many ticks behind the one before it.
@@ -108,14 +128,15 @@ fn put_voice_event(
     ensures { OnOk result (out.new.items
         ≡ out.old.items ++ number_text delta ++ bytes_of event.now.kind channel event.now.key event.now.value) }
 {
-    match event.kind {
-        VoiceEventKind::NoteOff => put_note(out, delta, [0x80 + channel, event.key, event.value]),
-        VoiceEventKind::NoteOn => put_note(out, delta, [0x90 + channel, event.key, event.value]),
+    let status = match event.kind {
+        VoiceEventKind::NoteOff => 0x80,
+        VoiceEventKind::NoteOn => 0x90,
         VoiceEventKind::ProgramChange => {
             put_number(out, delta)?;
-            out.extend_from_slice(&[0xC0 + channel, event.value])
+            return out.extend_from_slice(&[0xC0 + channel, event.value]);
         }
-    }
+    };
+    put_note(out, delta, [status + channel, event.key, event.value])
 }
 
 /// Appends the bytes of a note that begins or ends, so many ticks behind the event before it. A delta time of one
@@ -136,6 +157,33 @@ fn put_note(out: &mut Vec<u8>, delta: u32, bytes: [u8; 3]) -> Result<(), AllocEr
         put_number(out, delta)?;
         out.extend_from_slice(&bytes)
     }
+}
+
+/// Appends the bytes of a note's beginning and end, each after its delta time. Most notes follow at once on the one
+/// before them, and are shorter than 35 quarter notes: all goes in together then.
+#[tactic(auto, unfolding(crate::specs::Number::number_text))]
+fn put_both(
+    out: &mut Vec<u8>,
+    rest: u32,
+    on: [u8; 3],
+    length: u32,
+    off: [u8; 3],
+) -> Result<(), AllocError>
+    requires rest { rest < 2 ^ 28 }
+    requires length { length < 2 ^ 28 }
+    ensures { OnOk result (out.new.items ≡ out.old.items ++ number_text rest ++ on ++ number_text length ++ off) }
+{
+    if 0x80 <= rest || length < 0x80 || 0x4000 <= length {
+        put_note(out, rest, on)?;
+        return put_note(out, length, off);
+    }
+    let first = leading(length / 0x80);
+    let last = (length % 0x80) as u8;
+    let [begins, key, velocity] = on;
+    let [ends, same_key, release] = off;
+    out.extend_from_slice(&[
+        rest as u8, begins, key, velocity, first, last, ends, same_key, release,
+    ])
 }
 
 /// Appends the end of a track, so many ticks behind its last event.

@@ -1,6 +1,7 @@
-use Rattle.std.proofs.Common.{◌≡◌, ℕ, List, [], ◌∷◌, ◌++◌, arith, drop, map, subst, sym, ap, ◌∙◌}
+use Rattle.std.proofs.Common.{◌≡◌, List, [], ◌∷◌, ◌++◌, arith, map, subst, sym, ap, ◌∙◌}
 use Rattle.std.specs.Prelude.{OnOk}
-use Rattle.std.proofs.lemmas.List.{drop_all}
+use Rattle.std.proofs.lemmas.List.{nil_from_length}
+use Rattle.smf_bytes.specs.declared.voice_event.VoiceEvent.{VoiceEvent}
 use Rattle.smf_bytes.specs.Order.{in_order}
 use Rattle.smf_bytes.specs.Event.{end_event}
 use Rattle.smf_bytes.specs.Voice.{event_at}
@@ -9,29 +10,28 @@ use Rattle.smf_bytes.proofs.Ordered.{is_permutation, is_sorted}
 use Rattle.smf_bytes.proofs.Timed.{Follows, follows_sorted, closed}
 use Rattle.smf_bytes.proofs.track.put_voice_events.Goals as goal
 
-pub loop-event-init : goal.loop-event-init
-loop-event-init c =
+pub loop-left-init : goal.loop-left-init
+unfolding track_body
+loop-left-init c =
     let f = event_at c.args.channel in
     let events = map f c.args.events.items in
-    let same : map f c.deref-event-items.result.now ≡ in_order events = ap (map f) c.deref-event-items.ensures.value ∙ c.in_ok-ordered.ensures.exact c.args.channel in
+    let left = c.as_slice-left.result.now in
+    let same : map f left ≡ in_order events = ap (map f) c.as_slice-left.ensures.value ∙ c.in_ok-ordered.ensures.exact c.args.channel in
     record {
-      written = ap (λ l. l ++ timed 0 (map f c.deref-event-items.result.now ++ end_event c.args.end ∷ [])) c.in_ok-reserve.ensures.items;
+      written =
+          ap (λ l. l ++ timed 0 (map f left ++ end_event c.args.end ∷ [])) c.in_ok-reserve.ensures.items
+          ∙ ap (λ l. c.args.out.now.items ++ timed 0 (l ++ end_event c.args.end ∷ [])) same;
       follows =
           subst (Follows c.args.end 0) (sym same)
           (follows_sorted c.args.end events (in_order events) c.requires.before_end (is_permutation events) (is_sorted events));
     }
 
 pub returns : goal.returns
-unfolding track_body
 returns c =
-    let f = event_at c.args.channel in
-    let notes = c.deref-event-items.result.now in
-    let out = c.args.out.now.items in
-    let whole = out ++ timed 0 (map f notes ++ end_event c.args.end ∷ []) in
-    let done : drop c.loop-event.event-index notes ≡ [] = drop_all c.loop-event.event-index notes (omega arith) in
+    let left = c.loop-left.left.now in
+    let body = c.loop-left.out.items in
+    let done : left ≡ [] = nil_from_length left (omega (arith, c.in_default.len_below)) in
     let shut =
-    closed c.loop-event.out.items whole c.loop-event.before c.args.end
-    (ap (λ l. c.loop-event.out.items ++ timed c.loop-event.before (map f l ++ end_event c.args.end ∷ [])) (sym done) ∙ c.loop-event.invariant.written) in
-    let same : map f notes ≡ in_order (map f c.args.events.items) = ap (map f) c.deref-event-items.ensures.value ∙ c.in_ok-ordered.ensures.exact c.args.channel in
-    subst (λ (l : List ℕ). OnOk c.put_end.result (c.put_end.new.out.items ≡ l))
-    (shut ∙ ap (λ l. out ++ timed 0 (l ++ end_event c.args.end ∷ [])) same) c.put_end.ensures
+    closed body _ c.loop-left.before c.args.end
+    (ap (λ (l : List VoiceEvent). body ++ timed c.loop-left.before (map (event_at c.args.channel) l ++ end_event c.args.end ∷ [])) (sym done) ∙ c.loop-left.invariant.written) in
+    subst (λ l. OnOk c.put_end.result (c.put_end.new.out.items ≡ l)) shut c.put_end.ensures
