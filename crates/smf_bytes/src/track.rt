@@ -160,7 +160,7 @@ fn put_note(out: &mut Vec<u8>, delta: u32, bytes: [u8; 3]) -> Result<(), AllocEr
 }
 
 /// Appends the bytes of a note's beginning and end, each after its delta time. Most notes follow at once on the one
-/// before them, and are shorter than 35 quarter notes: all goes in together then.
+/// before them, so that this time takes one byte, and are of a length that takes two: all goes in together then.
 #[tactic(auto, unfolding(crate::specs::Number::number_text))]
 fn put_both(
     out: &mut Vec<u8>,
