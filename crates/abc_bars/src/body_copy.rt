@@ -127,6 +127,7 @@ impl BodyCopy {
     }
 
     /// The first note, chord, rest or bar rest of the voice without a name mentions it.
+    #[inline(always)]
     pub(crate) fn mention(&mut self, alloc: Global) -> Result<(), AllocError>
         ensures ok { OnOk result (self.new ≡ mentioned self.old) }
         ensures err { OnErr result (self.new ≡ self.old) }

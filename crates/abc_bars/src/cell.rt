@@ -144,6 +144,7 @@ impl Given {
     }
 
     /// A note, which mentions its voice.
+    #[inline(always)]
     fn note(
         &mut self,
         alloc: Global,
@@ -296,6 +297,7 @@ impl Given {
     }
 
     /// A token at a place of its line, with the tokens behind it in its cell.
+    #[inline(always)]
     fn kind(
         &mut self,
         alloc: Global,
@@ -332,6 +334,7 @@ impl Given {
     }
 
     /// One more token of the cell, with those behind it.
+    #[inline(always)]
     fn token(&mut self, alloc: Global, token: &Token, ahead: &[Token]) -> Result<(), AllocError>
         ensures { OnOk result (self.new ≡ with_token self.old token.now ahead.now) }
     {
@@ -342,6 +345,7 @@ impl Given {
     }
 
     /// The tokens of the cell, or those that are left of it.
+    #[inline(always)]
     fn tokens(&mut self, alloc: Global, cell: &[Token]) -> Result<(), AllocError>
         ensures { OnOk result (self.new ≡ given_from self.old cell.now) }
     {

@@ -34,6 +34,7 @@ fn tied_alteration(tied: &[TiedNote], note: Note) -> Option<i8>
 
 /// By how many semitones a note is altered (ABC 2.1 sections 4.2 and 4.11): by its own accidental, else by
 /// the last one in the bar that reaches it, else as the note that is tied to it, else by the signature.
+#[inline(always)]
 pub(crate) fn alteration_of(settings: &Settings, accidentals: &Accidentals, note: Note) -> i8
     ensures { result ≡ alteration_of settings.now accidentals.now note }
 {

@@ -60,6 +60,7 @@ impl Model for BrokenFactors {
 
 impl BrokenFactors {
     /// The factors of a note, chord or rest behind which these tokens stand, up to the cell's end.
+    #[inline(always)]
     pub fn of(behind: Behind, ahead: &[Token]) -> BrokenFactors
         ensures { result ≡ factors_of behind ahead.now }
     {

@@ -163,6 +163,7 @@ impl Items {
     }
 
     /// Puts one more item behind the others.
+    #[inline(always)]
     pub fn push_item(&mut self, item: Item) -> Result<(), AllocError>
         requires { IsItem item }
         ensures ok { OnOk result (self.new ≡ and_item self.old item) }

@@ -62,6 +62,7 @@ fn tuplet_ratio(tuplet: Option<OpenTuplet>) -> Option<Ratio>
 
 /// The unit times the factors of the note's own text, of its chord's, of its tuplet and of the marks
 /// beside it, where that is a length.
+#[inline(always)]
 fn product_of(
     unit: UnitLength,
     own: Ratio,
@@ -91,6 +92,7 @@ fn product_of(
 }
 
 /// The unit times all factors, where no text is refused and the product is a length.
+#[inline(always)]
 fn length_by(
     unit: UnitLength,
     own: WrittenLength,
@@ -115,6 +117,7 @@ fn length_by(
 
 /// The length of a note or rest, and whether what is written is refused: then it is one unit long. `outer`
 /// is the length behind the chord that the note stands in.
+#[inline(always)]
 pub(crate) fn length_or_unit(
     unit: UnitLength,
     own: WrittenLength,

@@ -63,6 +63,7 @@ impl Inside {
 }
 
 /// The length of what is written so, and perhaps behind its chord, and whether it is refused.
+#[inline(always)]
 pub(crate) fn length_in(
     settings: &Settings,
     broken: &BrokenFactors,
@@ -139,6 +140,7 @@ pub(crate) struct Sounding {
 }
 
 /// A note as it sounds behind these accidentals, with what stands around it (ABC 2.1 sections 4.1 to 4.3).
+#[inline(always)]
 pub(crate) fn sounding_of(
     settings: &Settings,
     accidentals: &Accidentals,

@@ -77,6 +77,7 @@ fn sound(
 }
 
 /// Puts a note alone, and its faults: that its length is refused, and that MIDI has no key for it.
+#[inline(always)]
 fn push_note(items: &mut Items, tone: Tone, refused: bool, column: u32) -> Result<(), AllocError>
     requires { IsTone tone }
     ensures ok { OnOk result (items.new ≡ and_item (and_faults items.old
@@ -98,6 +99,7 @@ fn push_note(items: &mut Items, tone: Tone, refused: bool, column: u32) -> Resul
 }
 
 /// What holds for a voice behind a note alone, where its accidentals or tied notes change.
+#[inline(always)]
 fn settle(
     settings: &mut Settings,
     accidentals: Option<Accidentals>,
@@ -116,6 +118,7 @@ fn settle(
 }
 
 /// Gives a note.
+#[inline(always)]
 pub fn note_played(
     alloc: Global,
     settings: &mut Settings,
