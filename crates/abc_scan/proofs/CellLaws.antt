@@ -4,7 +4,7 @@ use Rattle.std.specs.Prelude.{All, ◌==◌}
 use Rattle.std.proofs.Math.Seq.{drop-cons}
 use Rattle.std.proofs.lemmas.Bool.{cond-true, cond-false, cond_both, cases_Bool, eqb-true}
 use Rattle.std.proofs.lemmas.List.{drop_all, take_all}
-use Rattle.std.proofs.lemmas.List.Elements.{All-nil, All-cons, All-head, All-tail}
+use Rattle.std.proofs.lemmas.List.Elements.{All-nil, All-cons, All-head, All-tail, All-append}
 use Rattle.abc_scan.specs.declared.spanned.Spanned.{Spanned}
 use Rattle.abc_scan.specs.declared.token.TokenKind.{TokenKind}
 use Rattle.abc_scan.specs.Cell.{ends_cell, IsCell, EndsWithBar, but_last, AreCells, put_first, cells_of, first_size, HasNoBar, GoOnWith}
@@ -164,6 +164,13 @@ pub single_cell : (ts : Tokens) → 0 < length ts → length ts < 2 → cells_of
 single_cell [] some few = absurd (omega arith)
 single_cell (t ∷ []) some few = cond_both (ends_cell t) ((t ∷ []) ∷ []) (put_first t []) (λ cells. cells ≡ (t ∷ []) ∷ []) (λ e. refl) (λ e. refl)
 single_cell (t ∷ u ∷ us) some few = absurd (omega arith)
+
+-- another token stays in the begun cell
+pub stays : (token : Spanned TokenKind) (cells : List Tokens) (begun more : Tokens) → more ≡ begun ++ token ∷ [] → GoOnWith token cells begun cells more
+stays token cells begun more e rest = ap (λ l. cells ++ cells_of l) (ap (λ l. l ++ rest) e ∙ append_assoc begun (token ∷ []) rest)
+
+pub still_no_bar : (token : Spanned TokenKind) (begun : Tokens) → HasNoBar begun → ends_cell token ≡ false → HasNoBar (begun ++ token ∷ [])
+still_no_bar token begun none plain = All-append (λ t. ends_cell t ≡ false) begun (token ∷ []) none (All-cons (λ t. ends_cell t ≡ false) token [] plain (All-nil (λ t. ends_cell t ≡ false)))
 
 -- a bar line closes the begun cell
 pub is_closed : (token : Spanned TokenKind) (cells all : List Tokens) (begun more : Tokens) → HasNoBar begun → ends_cell token ≡ true → all ≡ cells ++ (begun ++ token ∷ []) ∷ [] → more ≡ [] → GoOnWith token cells begun all more

@@ -1,6 +1,6 @@
 -- The length at the front of a text is the longest one that the grammar has there.
 use Rattle.std.proofs.Common.{◌≡◌, ℕ, zero, suc, ◌+◌, ◌<◌, ◌≤◌, true, false, List, [], ◌∷◌, ◌++◌, length, take, drop, replicate, refl, sym, ap, ◌∙◌, subst, ⊎_elim, arith, append_assoc, length-append, length-drop}
-use Rattle.std.specs.Prelude.{◌==◌}
+use Rattle.std.specs.Prelude.{◌==◌, if◌then◌else◌}
 use Rattle.std.specs.List.{prefix_len, AllPass}
 use Rattle.std.proofs.lemmas.Bool.{cond-true, cond-false, cond_both, cases_Bool, cases_lt, eqb-true, eq-eqb, ne_eqb}
 use Rattle.std.proofs.lemmas.List.{length-replicate}
@@ -8,6 +8,7 @@ use Rattle.std.proofs.lemmas.List.Elements.{All-nil, All-head, All-replicate}
 use Rattle.std.proofs.lemmas.List.Sums.{prefix_len-le-length}
 use Rattle.abc_text.specs.Digit.{is_digit}
 use Rattle.abc_scan.specs.declared.length.WrittenLength.{WrittenLength}
+use Rattle.abc_scan.specs.declared.length.WrittenLength.TheVariants.{Factor}
 use Rattle.abc_scan.specs.Length.{is_slash, written_length, IsLength, over_size, slashes_size, under_size, length_size, length_at}
 use Rattle.abc_text.proofs.Decimals.{digit_range}
 use Rattle.abc_text.proofs.Fronts.{front_passes, front_append, front_exact, take_exact, drop_exact, front_none}
@@ -158,3 +159,14 @@ length_size-le text =
     let slashes = prefix_len-le-length is_slash rest in
     let under = under_size-le rest in
     omega (arith, size, over, slashes, under, length-drop (over_size text) text, length-drop (slashes_size rest) rest)
+
+-- where neither a digit nor a slash stands, no length is written
+pub unwritten : (b : ℕ) (bs : List ℕ) → is_digit b ≡ false → is_slash b ≡ false → (length_size (b ∷ bs) ≡ 0) × (length_at (b ∷ bs) ≡ Factor 1 1)
+unwritten b bs digit slash =
+    let text = b ∷ bs in
+    let over : over_size text ≡ 0 = front_none is_digit b bs digit in
+    let slashes : slashes_size text ≡ 0 = front_none is_slash b bs slash in
+    let under : under_size text ≡ 0 = ap (λ n. if n == 1 then prefix_len is_digit (drop n text) else 0) slashes in (
+      size_from text text 0 over refl ∙ (λ i. 0 + slashes i + under i),
+      value_from text text 0 over refl ∙ (λ i. written_length (take 0 text) (slashes i) (take (under i) (drop (slashes i) text))),
+    )

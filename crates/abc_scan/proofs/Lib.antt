@@ -21,7 +21,9 @@ pub mod Frames
 pub mod Directives
 pub mod ClassLaws
 pub mod Starts
+pub mod Firsts
 pub mod Chords
 pub mod Laws
 pub mod Spans
 pub mod CellLaws
+pub mod CellCuts

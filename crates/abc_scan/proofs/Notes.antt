@@ -1,13 +1,15 @@
 -- The note or rest at the front of a text is the longest one that the grammar has there.
 use Rattle.std.proofs.Common.{◌≡◌, ℕ, zero, suc, ◌+◌, ◌<◌, true, false, Option, Some, None, List, [], ◌∷◌, ◌++◌, length, take, drop, replicate, refl, sym, ap, ◌∙◌, subst, inl, inr, ⊎_elim, arith, append_assoc, length-append, length-drop, take-add}
-use Rattle.std.specs.Prelude.{◌⊎◌, ◌==◌}
+use Rattle.std.specs.Prelude.{ℤ, pos, ◌⊎◌, ◌==◌, ◌||◌}
 use Rattle.std.specs.List.{prefix_len, AllPass}
 use Rattle.std.specs.Option.{option_map}
 use Rattle.std.proofs.Math.Seq.{take-append-add}
-use Rattle.std.proofs.lemmas.Bool.{cond-true, cond-false, cond_both, cases_Bool, cases_lt, eqb-true, eq-eqb, ne_eqb, or_cases, or_from, or_left, or_right}
+use Rattle.std.proofs.lemmas.Bool.{cond-true, cond-false, cond_both, cases_Bool, cases_lt, eqb-true, eq-eqb, ne_eqb, not-true, or_cases, or_from, or_left, or_parts, or_right}
+use Rattle.std.proofs.lemmas.Int.{ints}
 use Rattle.std.proofs.lemmas.List.Elements.{All-head}
 use Rattle.std.proofs.lemmas.List.Sums.{prefix_len-le-length}
 use Rattle.abc_scan.specs.declared.length.WrittenLength.{WrittenLength}
+use Rattle.abc_scan.specs.declared.length.WrittenLength.TheVariants.{Factor}
 use Rattle.abc_text.specs.declared.accidental.Accidental.{Accidental}
 use Rattle.abc_text.specs.declared.accidental.Accidental.TheVariants.{DoubleFlat, Flat, Natural, Sharp, DoubleSharp}
 use Rattle.abc_text.specs.declared.letter.Letter.{Letter}
@@ -17,11 +19,11 @@ use Rattle.abc_text.specs.Letter.{capital, small, IsLetter, letter_of}
 use Rattle.abc_text.proofs.Decimals.{digit_range}
 use Rattle.abc_text.proofs.Letters.{letter_of-is, letter_exact}
 use Rattle.abc_scan.specs.declared.note.Note.{Note}
-use Rattle.abc_scan.specs.Length.{IsLength, length_at, length_size}
-use Rattle.abc_scan.specs.Note.{accidental_text, is_octave_mark, octave, IsNote, IsRest, begins_with, accidental_at, accidental_size, marks_size, note_of, note_behind, note_at, is_rest_letter, rest_at}
+use Rattle.abc_scan.specs.Length.{IsLength, is_slash, length_at, length_size}
+use Rattle.abc_scan.specs.Note.{accidental_text, is_octave_mark, letter_octave, octave, ends_letter, plain_note, LetterAlone, IsNote, IsRest, begins_with, accidental_at, accidental_size, marks_size, note_of, note_behind, note_at, is_rest_letter, rest_at}
 use Rattle.abc_text.proofs.Fronts.{front_passes, front_append, take_exact, drop_exact, front_none}
 use Rattle.abc_scan.proofs.Readings.{Finds, IsFront}
-use Rattle.abc_scan.proofs.Lengths.{length_longest, length_sound, length_size-le}
+use Rattle.abc_scan.proofs.Lengths.{length_longest, length_sound, length_size-le, unwritten}
 
 letter_read : (b : ℕ) (letter : Letter) → IsLetter b letter → letter_of b ≡ Some letter
 letter_read b letter is = (letter_exact b letter).1 is
@@ -99,6 +101,39 @@ note_read text rest note b cut letter =
     let behind : drop (accidental_size (accidental_at text)) text ≡ b ∷ rest =
     (λ i. drop (accidental_size (sign i)) (cut i)) ∙ drop_exact (accidental_size note.accidental) (accidental_text note.accidental) (b ∷ rest) refl in
     (λ i. note_behind (sign i) (behind i)) ∙ ap (option_map (note_of note.accidental b rest)) (letter_read b note.letter letter)
+
+-- a letter alone is read where neither an octave mark nor a length stands behind it
+record Alone (rest : List ℕ) : Type 0 where
+  pub marks : marks_size rest ≡ 0
+  pub size : length_size rest ≡ 0
+  pub value : length_at rest ≡ Factor 1 1
+
+alone_before : (rest : List ℕ) → ends_letter rest ≡ true → Alone rest
+unfolding length_size length_at
+alone_before [] ends = record { marks = refl; size = refl; value = refl }
+alone_before (b ∷ bs) ends =
+    let none = or_parts (is_octave_mark b) (is_digit b || is_slash b) (not-true _ ends) in
+    let written = or_parts (is_digit b) (is_slash b) none.1 in
+    let length_of = unwritten b bs written.0 written.1 in
+    record { marks = front_none is_octave_mark b bs none.0; size = length_of.0; value = length_of.1 }
+
+octave_alone : (b : ℕ) → octave b [] ≡ pos (letter_octave b)
+octave_alone b = omega (arith, ints)
+
+abbrev read_plain : Letter → ℤ → WrittenLength → ℕ → Option (Note × ℕ)
+read_plain letter octaves value size = Some (record { accidental = None; letter = letter; octave = octaves; length = value }, size)
+
+plain_read : (b : ℕ) (rest : List ℕ) (letter : Letter) → letter_of b ≡ Some letter → ends_letter rest ≡ true → note_at (b ∷ rest) ≡ Some (plain_note b letter, 1)
+plain_read b rest letter read ends =
+    let alone = alone_before rest ends in
+    let value : length_at (drop (marks_size rest) rest) ≡ Factor 1 1 = ap (λ n. length_at (drop n rest)) alone.marks ∙ alone.value in
+    let size : length_size (drop (marks_size rest) rest) ≡ 0 = ap (λ n. length_size (drop n rest)) alone.marks ∙ alone.size in
+    note_read (b ∷ rest) rest (plain_note b letter) b refl ((letter_exact b letter).0 read)
+    ∙ (λ i. read_plain letter (octave b (take (alone.marks i) rest)) (value i) (0 + 1 + alone.marks i + size i))
+    ∙ ap (λ o. read_plain letter o (Factor 1 1) 1) (octave_alone b)
+
+pub letter_alone : (b : ℕ) (rest : List ℕ) (letter : Letter) → letter_of b ≡ Some letter → ends_letter rest ≡ true → LetterAlone (b ∷ rest) (plain_note b letter)
+letter_alone b rest letter read ends = record { byte = b; rest = rest; spelling = refl; letter = (letter_exact b letter).0 read; is_read = plain_read b rest letter read ends }
 
 longest_here : (text front rest : List ℕ) (note : Note) (is : IsNote front note) → note_at text ≡ Some (note_of note.accidental is.letter (is.marks ++ (is.written ++ rest)) note.letter) → Finds (note_at text) front note
 longest_here text front rest note is read =

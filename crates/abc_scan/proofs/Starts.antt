@@ -78,7 +78,7 @@ letter_starts G rest = (refl, refl)
 letter_starts A rest = (refl, refl)
 letter_starts B rest = (refl, refl)
 
-signed_starts : (sign : Option Accidental) (letter : Letter) (b : ℕ) (rest : List ℕ) → (b ≡ capital letter) ⊎ (b ≡ small letter) → start_of (accidental_text sign ++ (b ∷ rest)) ≡ starts.Note
+pub signed_starts : (sign : Option Accidental) (letter : Letter) (b : ℕ) (rest : List ℕ) → (b ≡ capital letter) ⊎ (b ≡ small letter) → start_of (accidental_text sign ++ (b ∷ rest)) ≡ starts.Note
 unfolding byte_start
 signed_starts None letter b rest is = ⊎_elim (λ e. ap (λ x. start_of (x ∷ rest)) e ∙ (letter_starts letter rest).0) (λ e. ap (λ x. start_of (x ∷ rest)) e ∙ (letter_starts letter rest).1) is
 signed_starts (Some DoubleFlat) letter b rest is = refl

@@ -1,5 +1,5 @@
 -- Notes and rests. ABC 2.1 sections 4.1 to 4.3 and 4.5.
-use Rattle.std.specs.Prelude.{◌≡◌, ℕ, ℤ, pos, ◌-ℤ◌, ◌+◌, Bool, false, ◌||◌, ◌⊎◌, Option, Some, None, List, [], ◌∷◌, ◌++◌, length, take, drop, if◌then◌else◌, ◌==◌, nat_lt, count_by}
+use Rattle.std.specs.Prelude.{◌≡◌, ℕ, ℤ, pos, ◌-ℤ◌, ◌+◌, Bool, true, false, not, ◌||◌, ◌⊎◌, Option, Some, None, List, [], ◌∷◌, ◌++◌, length, take, drop, if◌then◌else◌, ◌==◌, nat_lt, count_by}
 use Rattle.std.specs.List.{prefix_len, AllPass}
 use Rattle.std.specs.Option.{option_map}
 use Rattle.abc_text.specs.declared.accidental.Accidental.{Accidental}
@@ -7,10 +7,12 @@ use Rattle.abc_text.specs.declared.accidental.Accidental.TheVariants.{DoubleFlat
 use Rattle.abc_text.specs.declared.letter.Letter.{Letter}
 use Rattle.abc_text.specs.Accidental.{spelling}
 use Rattle.abc_text.specs.Letter.{IsLetter, letter_of}
+use Rattle.abc_text.specs.Digit.{is_digit}
 use Rattle.abc_scan.specs.declared.length.WrittenLength.{WrittenLength}
+use Rattle.abc_scan.specs.declared.length.WrittenLength.TheVariants.{Factor}
 use Rattle.abc_scan.specs.declared.note.Note.{Note}
 use Rattle.abc_scan.specs.Byte.{apostrophe, comma, equals_sign, caret, underscore}
-use Rattle.abc_scan.specs.Length.{IsLength, length_at, length_size}
+use Rattle.abc_scan.specs.Length.{IsLength, is_slash, length_at, length_size}
 
 -- How an accidental, or none, is written. ABC 2.1 section 4.2.
 abbrev pub accidental_text : Option Accidental → List ℕ
@@ -90,6 +92,23 @@ note_behind accidental (b ∷ rest) = option_map (note_of accidental b rest) (le
 -- The longest note at the front of a text, and how many bytes it takes.
 unfoldable pub note_at : List ℕ → Option (Note × ℕ)
 note_at text = note_behind (accidental_at text) (drop (accidental_size (accidental_at text)) text)
+
+-- Whether a note that is a letter alone ends before a text: it begins with neither an octave mark nor a length.
+abbrev pub ends_letter : List ℕ → Bool
+ends_letter [] = true
+ends_letter (b ∷ bs) = not (is_octave_mark b || (is_digit b || is_slash b))
+
+-- The note of a letter alone, without accidental, octave marks or length.
+abbrev pub plain_note : ℕ → Letter → Note
+plain_note byte letter = record { accidental = None; letter = letter; octave = pos (letter_octave byte); length = Factor 1 1 }
+
+-- The note at the front of a text is a letter alone.
+pub record LetterAlone (text : List ℕ) (note : Note) : Type 0 where
+  pub byte : ℕ
+  pub rest : List ℕ
+  pub spelling : text ≡ byte ∷ rest
+  pub letter : IsLetter byte note.letter
+  pub is_read : note_at text ≡ Some (note, 1)
 
 -- `z` or `x`. ABC 2.1 section 4.5.
 abbrev pub is_rest_letter : ℕ → Bool

@@ -1,5 +1,5 @@
 -- What a music line is made of. ABC 2.1 section 4.
-use Rattle.std.specs.Prelude.{ℕ, Bool, true, false, Option, Some, None, List, take, if◌then◌else◌, ◌||◌, ◌==◌}
+use Rattle.std.specs.Prelude.{◌≡◌, ℕ, Bool, true, false, Option, Some, None, List, take, if◌then◌else◌, ◌||◌, ◌==◌}
 use Rattle.std.specs.Option.{option_map}
 use Rattle.abc_scan.specs.declared.dynamic.Dynamic.{Dynamic}
 use Rattle.abc_scan.specs.declared.start.Start.{Start}
@@ -142,3 +142,7 @@ line_reader = record { kinds = line_kinds; reading = reading_at }
 -- What comes first in a text, and how many bytes it takes: a token, else one byte that begins none.
 abbrev pub next_token : Bool → List ℕ → TokenKind × ℕ
 next_token after_bar text = next line_reader after_bar text
+
+-- What comes first in a text is a token of this kind that takes one byte, wherever the text stands.
+abbrev pub IsNextByte : TokenKind → List ℕ → Type 0
+IsNextByte kind text = (after_bar : Bool) → next_token after_bar text ≡ (kind, 1)

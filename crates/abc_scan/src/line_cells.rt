@@ -1,8 +1,9 @@
 //! The cells of a line, cut off it one by one.
 
-ghost use Rattle.std.specs.Prelude.{◌≡◌, ◌<◌, ◌^◌, ◌++◌, ◌∷◌, [], IfOk, OnOk, length};
+ghost use Rattle.std.specs.Prelude.{◌≡◌, ◌+◌, ◌<◌, ◌^◌, ◌++◌, ◌∷◌, [], IfOk, OnOk, length};
 ghost use Rattle.abc_fold.specs.Work.{raised};
 ghost use Rattle.abc_scan.specs.Cell.{cells_of, HasNoBar, GoOnWith};
+ghost use Rattle.abc_scan.specs.Cutting.{part_at};
 ghost use Rattle.abc_scan.specs.Line.{cutting_of, tokens_in, tokens_of};
 
 use crate::cell::Cell;
@@ -11,7 +12,7 @@ use crate::closing::Missing;
 use crate::line::{short, tokens_in};
 use crate::spanned::Spanned;
 use crate::text::without_comment;
-use crate::token::{Token, is_bar, next_token};
+use crate::token::{Token, TokenKind, is_bar, next_token, one_byte_at};
 use abc_fold::{Shared, Work};
 use abc_text::{Sequence, without_return};
 use std::alloc::{AllocError, Global};
@@ -70,6 +71,18 @@ fn all_cells(
     Ok(cells)
 }
 
+/// The token of so many bytes at a place of a line.
+fn token_at(at: usize, kind: TokenKind, size: usize) -> Token
+    requires { at + size < 2 ^ 31 }
+    ensures { result ≡ part_at at (kind, size) }
+{
+    Spanned {
+        kind,
+        from: at as u32,
+        to: (at + size) as u32,
+    }
+}
+
 /// A text cut from left to right into the tokens of cells.
 fn cut_cells(alloc: Global, text: &[u8]) -> Result<Vec<Shared<Cell>>, AllocError>
     requires { length text.now < 2 ^ 31 }
@@ -81,15 +94,19 @@ fn cut_cells(alloc: Global, text: &[u8]) -> Result<Vec<Shared<Cell>>, AllocError
     let mut after_bar = false;
     let mut at = 0;
     while at < text.len() {
-        let (kind, size) = next_token(alloc, after_bar, &text[at..], &mut missing)?;
-        after_bar = is_bar(&kind);
-        let token = Spanned {
-            kind,
-            from: at as u32,
-            to: (at + size) as u32,
-        };
-        put_token(alloc, &mut cells, &mut begun, token)?;
-        at += size;
+        match one_byte_at(&text[at..]) {
+            Some(kind) => {
+                begun.push(token_at(at, kind, 1))?;
+                after_bar = false;
+                at += 1;
+            }
+            None => {
+                let (kind, size) = next_token(alloc, after_bar, &text[at..], &mut missing)?;
+                after_bar = is_bar(&kind);
+                put_token(alloc, &mut cells, &mut begun, token_at(at, kind, size))?;
+                at += size;
+            }
+        }
     }
     all_cells(alloc, cells, begun)
 }

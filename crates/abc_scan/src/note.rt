@@ -3,7 +3,7 @@
 ghost use Rattle.std.specs.Prelude.{◌≡◌, ◌≤◌, ◌<◌, ◌+◌, ◌^◌, length, IfSome, count_by, ◌==◌};
 ghost use Rattle.std.specs.List.{prefix_len};
 ghost use Rattle.std.specs.Option.{option_map};
-ghost use Rattle.abc_scan.specs.Note.{accidental_at, accidental_size, is_octave_mark, octave, letter_octave, note_at, rest_at};
+ghost use Rattle.abc_scan.specs.Note.{accidental_at, accidental_size, is_octave_mark, octave, letter_octave, ends_letter, LetterAlone, note_at, rest_at};
 
 use crate::length::{WrittenLength, length_at};
 use abc_text::{Accidental, Letter, letter_of};
@@ -71,6 +71,37 @@ fn octave(letter: u8, marks: &[u8]) -> i32
     let raised = letter_octave(letter) + occurrences(marks, b'\'');
     let lowered = occurrences(marks, b',');
     raised as i32 - lowered as i32
+}
+
+/// Whether neither an octave mark nor a length stands at the front of a text.
+#[inline(always)]
+fn ends_letter(text: &[u8]) -> bool
+    ensures { result ≡ ends_letter text.now }
+{
+    match text {
+        [] => true,
+        [byte, ..] => !matches!(*byte, b'\'' | b',' | b'/' | b'0'..=b'9'),
+    }
+}
+
+/// The note at the front of a text that is a letter alone, as most notes are.
+#[inline(always)]
+#[tactic(auto, using(crate::proofs::Notes::letter_alone))]
+pub(crate) fn letter_alone_at(text: &[u8]) -> Option<Note>
+    ensures { IfSome result (λ note. LetterAlone text.now note) }
+{
+    match text {
+        [byte, rest @ ..] if ends_letter(rest) => {
+            let letter = letter_of(*byte)?;
+            Some(Note {
+                accidental: None,
+                letter,
+                octave: letter_octave(*byte) as i32,
+                length: WrittenLength::Factor { num: 1, den: 1 },
+            })
+        }
+        _ => None,
+    }
 }
 
 /// The note at the front of a text, and how many bytes it takes.

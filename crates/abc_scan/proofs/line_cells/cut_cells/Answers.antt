@@ -1,32 +1,45 @@
-use Rattle.std.proofs.Common.{◌≡◌, ◌+◌, ◌-◌, false, [], ◌∷◌, ◌++◌, ap, sym, subst, refl, take, drop, length, ◌∙◌, arith, length-drop}
+use Rattle.std.proofs.Common.{◌≡◌, ◌+◌, ◌-◌, false, ◌++◌, ap, sym, subst, take, drop, length, ◌∙◌, arith, length-drop}
 use Rattle.std.proofs.lemmas.List.{take_all}
 use Rattle.std.proofs.lemmas.List.Elements.{All-nil}
 use Rattle.abc_scan.specs.Cell.{ends_cell, cells_of, HasNoBar}
 use Rattle.abc_scan.specs.Closing.{IsMissing}
-use Rattle.abc_scan.specs.Cutting.{part_at, cutting_from}
+use Rattle.abc_scan.specs.Cutting.{cutting_from}
 use Rattle.abc_scan.specs.Token.{line_reader, next_token}
 use Rattle.abc_scan.proofs.Closings.{missing-drop, missing-behind}
-use Rattle.abc_scan.proofs.Cuttings.{cut_more}
+use Rattle.abc_scan.proofs.CellLaws.{stays, still_no_bar}
+use Rattle.abc_scan.proofs.CellCuts.{cells_more}
 use Rattle.abc_scan.proofs.line_cells.cut_cells.Goals as goal
 
 pub loop-at-preserved : goal.loop-at-preserved
 loop-at-preserved c =
     let text = c.args.text.now in
     let at = c.loop-at.at in
+    let size = c.in_ok-kind-in-None.size in
+    let told = c.in_ok-kind-in-None.ensures in
     let rest : take (length text - at) (drop at text) ≡ drop at text = take_all (length text - at) (drop at text) (omega (arith, length-drop at text)) in
-    let more = cut_more line_reader c.loop-at.after_bar text [] (part_at at (c.in_ok-kind.kind, c.in_ok-kind.size) ∷ []) _ at (at + c.in_ok-kind.size) at (c.in_ok-kind.kind, c.in_ok-kind.size) (λ i. at + c.in_ok-kind.size) c.loop-at-test.true c.in_ok-kind.ensures.some (c.in_ok-kind.ensures.value ∙ ap (next_token c.loop-at.after_bar) rest) refl refl in
-    let behind = drop (at + c.in_ok-kind.size) text in
-    let cells = c.put_token.new.cells.items in
-    let begun = c.put_token.new.begun.items in
+    let more = cells_more text c.loop-at.after_bar at c.loop-at.cells.items c.put_token.new.cells.items _ c.loop-at.begun.items c.put_token.new.begun.items _ (c.in_ok-kind-in-None.kind, size) c.loop-at-test.true told.some (told.value ∙ ap (next_token c.loop-at.after_bar) rest) c.token_at-in-None.ensures c.in_ok-put_token-in-None.ensures.cells c.loop-at.invariant.cut in
     record {
-      inside = omega (arith, c.in_ok-kind.ensures.inside, ap length rest, length-drop at text);
-      known = missing-behind c.next_token.new.missing text at c.in_ok-kind.size c.in_ok-kind.ensures.some (subst (λ l. IsMissing c.next_token.new.missing (drop 1 l)) rest c.in_ok-kind.ensures.kept);
-      begun = c.in_ok-put_token.ensures.begun;
-      cut =
-          ap (λ b. cells ++ cells_of (begun ++ cutting_from line_reader b (at + c.in_ok-kind.size) 0 behind)) c.is_bar-after_bar.ensures
-          ∙ c.in_ok-put_token.ensures.cells (cutting_from line_reader (line_reader.kinds.is_bar c.in_ok-kind.kind) (at + c.in_ok-kind.size) 0 behind)
-          ∙ ap (λ l. c.loop-at.cells.items ++ cells_of (c.loop-at.begun.items ++ l)) more
-          ∙ c.loop-at.invariant.cut;
+      inside = omega (arith, told.inside, ap length rest, length-drop at text);
+      known = missing-behind c.next_token.new.missing text at size told.some (subst (λ l. IsMissing c.next_token.new.missing (drop 1 l)) rest told.kept);
+      begun = c.in_ok-put_token-in-None.ensures.begun;
+      cut = ap (λ b. c.put_token.new.cells.items ++ cells_of (c.put_token.new.begun.items ++ cutting_from line_reader b (at + size) 0 (drop (at + size) text))) c.is_bar-after_bar.ensures ∙ more;
+    }
+
+pub loop-at-preserved-in-Some : goal.loop-at-preserved-in-Some
+loop-at-preserved-in-Some c =
+    let text = c.args.text.now in
+    let at = c.loop-at.at in
+    let kind = c.in-Some.kind in
+    let token = c.token_at.result in
+    let begun = c.push.new.self.items in
+    let rest : take (length text - at) (drop at text) ≡ drop at text = take_all (length text - at) (drop at text) (omega (arith, length-drop at text)) in
+    let read : (kind, 1) ≡ next_token c.loop-at.after_bar (drop at text) = sym (c.in-Some.ensures.value c.loop-at.after_bar) ∙ ap (next_token c.loop-at.after_bar) rest in
+    let more = cells_more text c.loop-at.after_bar at c.loop-at.cells.items c.loop-at.cells.items _ c.loop-at.begun.items begun token (kind, 1) c.loop-at-test.true (omega arith) read c.token_at.ensures (stays token c.loop-at.cells.items c.loop-at.begun.items begun c.in_ok-push-in-Some.ensures.items) c.loop-at.invariant.cut in
+    record {
+      inside = omega (arith, c.loop-at-test.true);
+      known = missing-behind c.loop-at.missing text at 1 (omega arith) (missing-drop 1 c.loop-at.missing (drop at text) c.loop-at.invariant.known);
+      begun = subst HasNoBar (sym c.in_ok-push-in-Some.ensures.items) (still_no_bar token c.loop-at.begun.items c.loop-at.invariant.begun (ap ends_cell c.token_at.ensures ∙ c.in-Some.ensures.plain));
+      cut = ap (λ b. c.loop-at.cells.items ++ cells_of (begun ++ cutting_from line_reader b (at + 1) 0 (drop (at + 1) text))) (sym c.in-Some.ensures.plain) ∙ more;
     }
 
 pub loop-at-init : goal.loop-at-init
