@@ -112,7 +112,7 @@ module _ (book : Option (List ℕ)) (text : List ℕ) (session : Text) (director
   )
 
   -- what is written, from the answer to the tune book on
-  pub told_run : (result : Result (Unit {0}) RunFault) (input left : Option (List ℕ)) (old new : Outlets) (mid : Option (List ℕ)) → Appends old.output mid text
+  pub told_run : {T : Type 0} (result : Result T RunFault) (input left : Option (List ℕ)) (old new : Outlets) (mid : Option (List ℕ)) → Appends old.output mid text
       → MatchResult result (λ _. Ended directory (λ ended bytes. awaited (holding session directory) begun ended (input_lines ended bytes)) (at input (outlets mid old.store)) (at left new))
       (Leaves directory (λ bytes. awaited (holding session directory) begun false (input_lines false bytes)) (at input (outlets mid old.store)) (at left new))
       → MatchResult result (λ _. Completes (transcript book) (at input old) (at left new)) (LeavesRun book (transcript_so_far book) (at input old) (at left new))

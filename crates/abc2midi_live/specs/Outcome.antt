@@ -130,7 +130,7 @@ TurnsOrFails before after old new result =
     MatchResult result (Turn before.directory (between before after) old new) (Leaves before.directory (before.future false) old new)
 
 -- All of an input is answered by a machine that stands so at first, or what a fault leaves of that.
-abbrev pub AnswersAll : Standing (List ℕ) → Ends → Ends → Result Unit RunFault → Type 0
+abbrev pub AnswersAll : {T : Type 0} → Standing (List ℕ) → Ends → Ends → Result T RunFault → Type 0
 AnswersAll before old new result =
     MatchResult result (λ _. Ended before.directory (λ ended input. before.future ended (input_lines ended input)) old new)
     (Leaves before.directory (λ input. before.future false (input_lines false input)) old new)
@@ -147,7 +147,7 @@ pub record Completes (answered : List ℕ → List StoreAnswer → Option Told) 
   pub contents : HasNoFiles old.out.store.contents → MirrorsWhereTold old.out.store.contents new.out.store.contents told.directory
 
 -- The transcript of a tune book, if there is one, and of an input is complete, or what a fault leaves of it.
-abbrev pub Transcribes : Option (List ℕ) → Ends → Ends → Result Unit RunFault → Type 0
+abbrev pub Transcribes : {T : Type 0} → Option (List ℕ) → Ends → Ends → Result T RunFault → Type 0
 Transcribes book old new result =
     MatchResult result (λ _. Completes (transcript book) old new) (LeavesRun book (transcript_so_far book) old new)
 

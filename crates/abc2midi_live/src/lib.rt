@@ -20,4 +20,4 @@ pub use command::Command;
 pub use fault::RunFault;
 pub use reading::{MOST_READS, run_limits};
 pub use streams::{Piped, Sink, Source, Store, StoreFault, StreamFault};
-pub use transcript::run;
+pub use transcript::{run, run_before_exit};

@@ -86,6 +86,13 @@ impl<M: Machine> Listener<M> {
         }
     }
 
+    /// The machine, without what has come of a line.
+    pub fn into_machine(self) -> M
+        ensures { result ≡ self.machine }
+    {
+        self.machine
+    }
+
     // Keeps what there is room for.
     fn keep(&mut self, piece: &[u8]) -> Result<(), AllocError>
         requires { IsClean piece.now }

@@ -52,7 +52,7 @@ fn turn<M: Machine, R: Source, W: Sink, S: Store>(
     Ok(false)
 }
 
-/// Reads to the end of the input, or until the machine ends, and writes what the machine answers.
+/// Reads to the end of the input, or until the machine ends, writes what the machine answers, and gives it back.
 #[tactic(auto, using(crate::proofs::Counts::raised_none))]
 pub fn listen<M: Machine + Drop, R: Source, W: Sink, S: Store>(
     alloc: Global,
@@ -61,7 +61,7 @@ pub fn listen<M: Machine + Drop, R: Source, W: Sink, S: Store>(
     writer: &mut W,
     store: &mut S,
     work: &mut Work,
-) -> Result<(), RunFault>
+) -> Result<M, RunFault>
     ensures answers { let before = ends (R.remaining reader.old) (W.contents writer.old) (S.seen store.old) in
         let after = ends (R.remaining reader.new) (W.contents writer.new) (S.seen store.new) in
         AnswersAll (standing (M.future machine) (M.directory machine)) before after result }
@@ -74,7 +74,7 @@ pub fn listen<M: Machine + Drop, R: Source, W: Sink, S: Store>(
     let mut buffer = [0; PIECE];
     'reads: for _ in 0..MOST_READS {
         if !turn(&mut listener, &mut buffer, reader, writer, store, work)? {
-            return Ok(());
+            return Ok(listener.into_machine());
         }
     }
     Err(RunFault::Read)

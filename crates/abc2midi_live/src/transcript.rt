@@ -16,6 +16,7 @@ use crate::reading::{MOST_READS, listen};
 use crate::streams::{Sink, Source, Store};
 use abc_fold::Work;
 use std::alloc::Global;
+use std::mem;
 
 /// The dialogue on the text of a tune book, if there is one, whose answer is written.
 #[tactic(auto, using(crate::proofs::Counts::raised_none))]
@@ -42,6 +43,27 @@ fn opened<W: Sink>(
             }
         }
     }
+}
+
+// The dialogue as a run leaves it.
+fn ended<R: Source, W: Sink, S: Store>(
+    alloc: Global,
+    book: Option<&[u8]>,
+    reader: &mut R,
+    writer: &mut W,
+    store: &mut S,
+    work: &mut Work,
+) -> Result<Dialogue, RunFault>
+    ensures transcript { let before = ends (R.remaining reader.old) (W.contents writer.old) (S.seen store.old) in
+        let after = ends (R.remaining reader.new) (W.contents writer.new) (S.seen store.new) in
+        Transcribes (option_copied book.entry) before after result }
+    ensures calls { (made : ℕ) × (made ≤ MOST_READS) × (R.calls reader.new ≡ raised (R.calls reader.old) made) }
+    ensures reads { Reads (R.remaining reader.old) (read_counts (R.failures reader.old) (R.calls reader.old))
+        (read_counts (R.failures reader.new) (R.calls reader.new)) result }
+    ensures writes { W.failures writer.new ≡ raised (W.failures writer.old) (write_faults result) }
+{
+    let dialogue = opened(alloc, book, writer, work)?;
+    listen(alloc, dialogue, reader, writer, store, work)
 }
 
 /// Puts the lines of a tune book, if there is one, into a text that is empty at first, reads commands to the end of
@@ -71,6 +93,32 @@ pub fn run<R: Source, W: Sink, S: Store>(
         (read_counts (R.failures reader.new) (R.calls reader.new)) result }
     ensures writes { W.failures writer.new ≡ raised (W.failures writer.old) (write_faults result) }
 {
-    let dialogue = opened(alloc, book, writer, work)?;
-    listen(alloc, dialogue, reader, writer, store, work)
+    let _dialogue = ended(alloc, book, reader, writer, store, work)?;
+    Ok(())
+}
+
+/// The same as `run`, for a process that ends behind it. Where it answers `Ok` it does not give the memory of the
+/// session back: the system takes the memory of a process back at once, while piece by piece that takes a fifth of
+/// the time of opening a large book. Whoever goes on behind the run calls `run`, which gives all back.
+pub fn run_before_exit<R: Source, W: Sink, S: Store>(
+    alloc: Global,
+    book: Option<&[u8]>,
+    reader: &mut R,
+    writer: &mut W,
+    store: &mut S,
+    work: &mut Work,
+) -> Result<(), RunFault>
+
+    // The clauses of `run`.
+    ensures transcript { let before = ends (R.remaining reader.old) (W.contents writer.old) (S.seen store.old) in
+        let after = ends (R.remaining reader.new) (W.contents writer.new) (S.seen store.new) in
+        Transcribes (option_copied book.entry) before after result }
+    ensures calls { (made : ℕ) × (made ≤ MOST_READS) × (R.calls reader.new ≡ raised (R.calls reader.old) made) }
+    ensures reads { Reads (R.remaining reader.old) (read_counts (R.failures reader.old) (R.calls reader.old))
+        (read_counts (R.failures reader.new) (R.calls reader.new)) result }
+    ensures writes { W.failures writer.new ≡ raised (W.failures writer.old) (write_faults result) }
+{
+    let dialogue = ended(alloc, book, reader, writer, store, work)?;
+    mem::forget(dialogue);
+    Ok(())
 }

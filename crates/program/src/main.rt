@@ -5,7 +5,7 @@ mod arguments;
 mod directory;
 
 use abc_fold::Work;
-use abc2midi_live::{Piped, RunFault, fault_of_book, run};
+use abc2midi_live::{Piped, RunFault, fault_of_book, run_before_exit};
 use arguments::command;
 use clap::error::ErrorKind;
 use directory::{Directory, Place};
@@ -139,7 +139,7 @@ fn converse<R: Runtime + AllocGlobal>(rt: &R) -> Result<(), Failure> {
     warn(rt, dir, store.place());
     let book = book_of(rt, matches.get_str("book"))?;
     let mut work = Work::mint(rt);
-    run(
+    run_before_exit(
         alloc,
         book.as_deref(),
         &mut reader,

@@ -8,7 +8,7 @@ use Rattle.abc2midi_live.specs.Transcript.{transcript_so_far}
 use Rattle.abc2midi_live.proofs.Counts.{raised_none}
 use Rattle.abc2midi_live.proofs.Feeding.{fault_exit}
 use Rattle.abc2midi_live.proofs.Runs.{told_run, not_opened}
-use Rattle.abc2midi_live.proofs.transcript.run.Goals as goal
+use Rattle.abc2midi_live.proofs.transcript.ended.Goals as goal
 
 pub returns-in_err-dialogue-clause-transcript : goal.returns-in_err-dialogue-clause-transcript
 returns-in_err-dialogue-clause-transcript g c =
