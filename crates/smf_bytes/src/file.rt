@@ -15,6 +15,9 @@ use abc_time::{Grains, tick_of};
 use abc_voices::{ProgramChange, Score, Sounding};
 use std::alloc::{AllocError, Global};
 
+/// About so many bytes come before the notes of the first voice: the header and the first track.
+const USUAL_OPENING: usize = 128;
+
 /// The Standard MIDI File of a score: format 1, 480 ticks to a quarter note, first the title and the
 /// changes, then a track for each voice.
 pub fn file_of(alloc: Global, score: &Score) -> Result<Vec<u8>, AllocError>
@@ -22,7 +25,7 @@ pub fn file_of(alloc: Global, score: &Score) -> Result<Vec<u8>, AllocError>
     ensures { IfOk result (λ file. file.items ≡ file_bytes score.now) }
 {
     let end = tick_of(score.end);
-    let mut file = Vec::new(alloc);
+    let mut file = Vec::with_capacity(alloc, USUAL_OPENING)?;
     put_header(&mut file, score.voices.len() + 1)?;
     let changes = conductor(
         alloc,

@@ -28,5 +28,5 @@ loop-place-init c =
     let score = c.args.score.now in
     let events : c.in_ok-changes.changes.items ≡ conductor_events score.title score.conductor =
     c.in_ok-changes.ensures ∙ ap (λ t. conductor_events t c.as_slice-2.result.now) c.as_slice.ensures ∙ ap (conductor_events score.title) c.as_slice-2.ensures in
-    opened score c.new-file.result.items _ _ c.len.result c.tick_of-end.result c.in_ok-changes.changes.items
-    c.new-file.ensures.items c.len.ensures c.in_ok-put_header.ensures c.tick_of-end.ensures.exact events c.in_ok-put_track.ensures
+    opened score c.in_ok-file.file.items _ _ c.len.result c.tick_of-end.result c.in_ok-changes.changes.items
+    c.in_ok-file.ensures.items c.len.ensures c.in_ok-put_header.ensures c.tick_of-end.ensures.exact events c.in_ok-put_track.ensures
