@@ -1,15 +1,15 @@
 -- The length at the front of a text is the longest one that the grammar has there.
-use Rattle.std.proofs.Common.{◌≡◌, ℕ, zero, suc, ◌+◌, ◌<◌, ◌≤◌, true, false, List, [], ◌∷◌, ◌++◌, length, take, drop, replicate, refl, sym, ap, ◌∙◌, subst, ⊎_elim, arith, append_assoc, length-append, length-drop}
+use Rattle.std.proofs.Common.{◌≡◌, ℕ, zero, suc, ◌+◌, ◌-◌, ◌<◌, ◌≤◌, true, false, Some, None, List, [], ◌∷◌, ◌++◌, length, take, drop, replicate, refl, sym, ap, ◌∙◌, subst, ⊎_elim, arith, append_assoc, length-append, length-drop}
 use Rattle.std.specs.Prelude.{◌==◌, if◌then◌else◌}
 use Rattle.std.specs.List.{prefix_len, AllPass}
-use Rattle.std.proofs.lemmas.Bool.{cond-true, cond-false, cond_both, cases_Bool, cases_lt, eqb-true, eq-eqb, ne_eqb}
+use Rattle.std.proofs.lemmas.Bool.{cond-true, cond-false, cond_both, cases_Bool, cases_lt, eqb-true, eq-eqb, ne_eqb, or_parts}
 use Rattle.std.proofs.lemmas.List.{length-replicate}
 use Rattle.std.proofs.lemmas.List.Elements.{All-nil, All-head, All-replicate}
 use Rattle.std.proofs.lemmas.List.Sums.{prefix_len-le-length}
-use Rattle.abc_text.specs.Digit.{is_digit}
+use Rattle.abc_text.specs.Digit.{is_digit, decimal}
 use Rattle.abc_scan.specs.declared.length.WrittenLength.{WrittenLength}
 use Rattle.abc_scan.specs.declared.length.WrittenLength.TheVariants.{Factor}
-use Rattle.abc_scan.specs.Length.{is_slash, written_length, IsLength, over_size, slashes_size, under_size, length_size, length_at}
+use Rattle.abc_scan.specs.Length.{is_slash, begins_length, number_or, factor, written_length, IsLength, over_size, slashes_size, under_size, length_size, length_at}
 use Rattle.abc_text.proofs.Decimals.{digit_range}
 use Rattle.abc_text.proofs.Fronts.{front_passes, front_append, front_exact, take_exact, drop_exact, front_none}
 use Rattle.abc_scan.proofs.Marks.{cut_in_three}
@@ -169,4 +169,37 @@ unwritten b bs digit slash =
     let under : under_size text ≡ 0 = ap (λ n. if n == 1 then prefix_len is_digit (drop n text) else 0) slashes in (
       size_from text text 0 over refl ∙ (λ i. 0 + slashes i + under i),
       value_from text text 0 over refl ∙ (λ i. written_length (take 0 text) (slashes i) (take (under i) (drop (slashes i) text))),
+    )
+
+-- one digit with no length behind it
+record NoneBehind (rest : List ℕ) : Type 0 where
+  pub over : over_size rest ≡ 0
+  pub slashes : slashes_size rest ≡ 0
+  pub under : under_size rest ≡ 0
+
+none_behind : (rest : List ℕ) → begins_length rest ≡ false → NoneBehind rest
+none_behind [] none = record { over = refl; slashes = refl; under = refl }
+none_behind (b ∷ bs) none =
+    let parts = or_parts (is_digit b) (is_slash b) none in
+    let slashes : slashes_size (b ∷ bs) ≡ 0 = front_none is_slash b bs parts.1 in
+    record {
+      over = front_none is_digit b bs parts.0;
+      slashes = slashes;
+      under = ap (λ n. if n == 1 then prefix_len is_digit (drop n (b ∷ bs)) else 0) slashes;
+    }
+
+one_digit_number : (d : ℕ) → 49 ≤ d → number_or (d ∷ []) 1 ≡ Some (d - 48)
+one_digit_number d more =
+    let value : decimal (d ∷ []) ≡ d - 48 = omega arith in
+    cond-false (decimal (d ∷ []) == 0) None (Some (decimal (d ∷ []))) (ne_eqb (decimal (d ∷ [])) 0 (λ e. absurd (omega (arith, value, e)))) ∙ ap Some value
+
+pub one_digit : (d : ℕ) (rest : List ℕ) → 49 ≤ d → is_digit d ≡ true → begins_length rest ≡ false → (length_size (d ∷ rest) ≡ 1) × (length_at (d ∷ rest) ≡ Factor (d - 48) 1)
+one_digit d rest more digit none =
+    let text = d ∷ rest in
+    let behind = none_behind rest none in
+    let over : over_size text ≡ 1 = cond-true _ _ _ digit ∙ ap (λ n. 1 + n) behind.over in (
+      size_from text rest 1 over refl ∙ (λ i. 1 + behind.slashes i + behind.under i),
+      value_from text rest 1 over refl
+          ∙ (λ i. written_length (take 1 text) (behind.slashes i) (take (behind.under i) (drop (behind.slashes i) rest)))
+          ∙ ap (λ o. factor o (Some 1)) (one_digit_number d more),
     )

@@ -1,10 +1,10 @@
 -- The note or rest at the front of a text is the longest one that the grammar has there.
-use Rattle.std.proofs.Common.{◌≡◌, ℕ, zero, suc, ◌+◌, ◌<◌, true, false, Option, Some, None, List, [], ◌∷◌, ◌++◌, length, take, drop, replicate, refl, sym, ap, ◌∙◌, subst, inl, inr, ⊎_elim, arith, append_assoc, length-append, length-drop, take-add}
+use Rattle.std.proofs.Common.{◌≡◌, ℕ, zero, suc, ◌+◌, ◌-◌, ◌<◌, ◌≤◌, true, false, Option, Some, None, List, [], ◌∷◌, ◌++◌, length, take, drop, replicate, refl, sym, ap, ◌∙◌, subst, inl, inr, ⊎_elim, arith, append_assoc, length-append, length-drop, take-add}
 use Rattle.std.specs.Prelude.{ℤ, pos, ◌⊎◌, ◌==◌, ◌||◌}
 use Rattle.std.specs.List.{prefix_len, AllPass}
 use Rattle.std.specs.Option.{option_map}
 use Rattle.std.proofs.Math.Seq.{take-append-add}
-use Rattle.std.proofs.lemmas.Bool.{cond-true, cond-false, cond_both, cases_Bool, cases_lt, eqb-true, eq-eqb, ne_eqb, not-true, or_cases, or_from, or_left, or_parts, or_right}
+use Rattle.std.proofs.lemmas.Bool.{cond-true, cond-false, cond_both, cases_Bool, and_from, and_parts, cases_lt, eqb-true, eq-eqb, le-leb, leb-true, ne_eqb, not-true, or_cases, or_from, or_left, or_parts, or_right}
 use Rattle.std.proofs.lemmas.Int.{ints}
 use Rattle.std.proofs.lemmas.List.Elements.{All-head}
 use Rattle.std.proofs.lemmas.List.Sums.{prefix_len-le-length}
@@ -19,11 +19,11 @@ use Rattle.abc_text.specs.Letter.{capital, small, IsLetter, letter_of}
 use Rattle.abc_text.proofs.Decimals.{digit_range}
 use Rattle.abc_text.proofs.Letters.{letter_of-is, letter_exact}
 use Rattle.abc_scan.specs.declared.note.Note.{Note}
-use Rattle.abc_scan.specs.Length.{IsLength, is_slash, length_at, length_size}
-use Rattle.abc_scan.specs.Note.{accidental_text, is_octave_mark, letter_octave, octave, ends_letter, plain_note, LetterAlone, IsNote, IsRest, begins_with, accidental_at, accidental_size, marks_size, note_of, note_behind, note_at, is_rest_letter, rest_at}
+use Rattle.abc_scan.specs.Length.{IsLength, is_slash, begins_length, length_at, length_size}
+use Rattle.abc_scan.specs.Note.{accidental_text, is_octave_mark, letter_octave, octave, ends_letter, is_factor, plain_note, IsPlain, IsShort, IsNote, IsRest, begins_with, accidental_at, accidental_size, marks_size, note_of, note_behind, note_at, is_rest_letter, rest_at}
 use Rattle.abc_text.proofs.Fronts.{front_passes, front_append, take_exact, drop_exact, front_none}
 use Rattle.abc_scan.proofs.Readings.{Finds, IsFront}
-use Rattle.abc_scan.proofs.Lengths.{length_longest, length_sound, length_size-le, unwritten}
+use Rattle.abc_scan.proofs.Lengths.{length_longest, length_sound, length_size-le, unwritten, one_digit}
 
 letter_read : (b : ℕ) (letter : Letter) → IsLetter b letter → letter_of b ≡ Some letter
 letter_read b letter is = (letter_exact b letter).1 is
@@ -123,17 +123,28 @@ octave_alone b = omega (arith, ints)
 abbrev read_plain : Letter → ℤ → WrittenLength → ℕ → Option (Note × ℕ)
 read_plain letter octaves value size = Some (record { accidental = None; letter = letter; octave = octaves; length = value }, size)
 
-plain_read : (b : ℕ) (rest : List ℕ) (letter : Letter) → letter_of b ≡ Some letter → ends_letter rest ≡ true → note_at (b ∷ rest) ≡ Some (plain_note b letter, 1)
-plain_read b rest letter read ends =
-    let alone = alone_before rest ends in
-    let value : length_at (drop (marks_size rest) rest) ≡ Factor 1 1 = ap (λ n. length_at (drop n rest)) alone.marks ∙ alone.value in
-    let size : length_size (drop (marks_size rest) rest) ≡ 0 = ap (λ n. length_size (drop n rest)) alone.marks ∙ alone.size in
-    note_read (b ∷ rest) rest (plain_note b letter) b refl ((letter_exact b letter).0 read)
-    ∙ (λ i. read_plain letter (octave b (take (alone.marks i) rest)) (value i) (0 + 1 + alone.marks i + size i))
-    ∙ ap (λ o. read_plain letter o (Factor 1 1) 1) (octave_alone b)
+plain_read : (b : ℕ) (rest : List ℕ) (num size : ℕ) (note : Note) → IsPlain b num note → marks_size rest ≡ 0 → length_size rest ≡ size → length_at rest ≡ Factor num 1 → IsShort (b ∷ rest) (note, 1 + size)
+plain_read b rest num size note is marks long written =
+    let letter = note.letter in
+    let own : IsLetter b letter = (letter_exact b letter).0 is.letter in
+    let value : length_at (drop (marks_size rest) rest) ≡ Factor num 1 = ap (λ n. length_at (drop n rest)) marks ∙ written in
+    let sizes : length_size (drop (marks_size rest) rest) ≡ size = ap (λ n. length_size (drop n rest)) marks ∙ long in
+    let read : note_at (b ∷ rest) ≡ Some (plain_note b num letter, 1 + size) =
+    note_read (b ∷ rest) rest (plain_note b num letter) b refl own
+    ∙ (λ i. read_plain letter (octave b (take (marks i) rest)) (value i) (0 + 1 + marks i + sizes i))
+    ∙ ap (λ o. read_plain letter o (Factor num 1) (1 + size)) (octave_alone b) in
+    record { byte = b; rest = rest; spelling = refl; letter = own; is_read = read ∙ ap (λ n. Some (n, 1 + size)) (sym is.plain) }
 
-pub letter_alone : (b : ℕ) (rest : List ℕ) (letter : Letter) → letter_of b ≡ Some letter → ends_letter rest ≡ true → LetterAlone (b ∷ rest) (plain_note b letter)
-letter_alone b rest letter read ends = record { byte = b; rest = rest; spelling = refl; letter = (letter_exact b letter).0 read; is_read = plain_read b rest letter read ends }
+pub letter_alone : (b : ℕ) (rest : List ℕ) (note : Note) → IsPlain b 1 note → ends_letter rest ≡ true → IsShort (b ∷ rest) (note, 1)
+letter_alone b rest note is ends = let alone = alone_before rest ends in plain_read b rest 1 0 note is alone.marks alone.size alone.value
+
+pub letter_digit : (b d : ℕ) (rest : List ℕ) (note : Note) → IsPlain b (d - 48) note → is_factor d ≡ true → begins_length rest ≡ false → IsShort (b ∷ d ∷ rest) (note, 2)
+letter_digit b d rest note is factor none =
+    let parts = and_parts _ _ factor in
+    let least : 49 ≤ d = leb-true 49 d parts.0 in
+    let digit : is_digit d ≡ true = and_from _ _ (le-leb 48 d (omega arith)) parts.1 in
+    let length_of = one_digit d rest least digit none in
+    plain_read b (d ∷ rest) (d - 48) 1 note is (front_none is_octave_mark d rest (digit_no_mark d digit)) length_of.0 length_of.1
 
 longest_here : (text front rest : List ℕ) (note : Note) (is : IsNote front note) → note_at text ≡ Some (note_of note.accidental is.letter (is.marks ++ (is.written ++ rest)) note.letter) → Finds (note_at text) front note
 longest_here text front rest note is read =

@@ -1,5 +1,5 @@
 -- Notes and rests. ABC 2.1 sections 4.1 to 4.3 and 4.5.
-use Rattle.std.specs.Prelude.{◌≡◌, ℕ, ℤ, pos, ◌-ℤ◌, ◌+◌, Bool, true, false, not, ◌||◌, ◌⊎◌, Option, Some, None, List, [], ◌∷◌, ◌++◌, length, take, drop, if◌then◌else◌, ◌==◌, nat_lt, count_by}
+use Rattle.std.specs.Prelude.{◌≡◌, ℕ, ℤ, pos, ◌-ℤ◌, ◌+◌, Bool, true, false, not, nat_le, ◌&&◌, ◌||◌, ◌⊎◌, Option, Some, None, List, [], ◌∷◌, ◌++◌, length, take, drop, if◌then◌else◌, ◌==◌, nat_lt, count_by}
 use Rattle.std.specs.List.{prefix_len, AllPass}
 use Rattle.std.specs.Option.{option_map}
 use Rattle.abc_text.specs.declared.accidental.Accidental.{Accidental}
@@ -98,17 +98,26 @@ abbrev pub ends_letter : List ℕ → Bool
 ends_letter [] = true
 ends_letter (b ∷ bs) = not (is_octave_mark b || (is_digit b || is_slash b))
 
--- The note of a letter alone, without accidental, octave marks or length.
-abbrev pub plain_note : ℕ → Letter → Note
-plain_note byte letter = record { accidental = None; letter = letter; octave = pos (letter_octave byte); length = Factor 1 1 }
+-- A digit that alone is a length: 0 is refused.
+abbrev pub is_factor : ℕ → Bool
+is_factor b = nat_le 49 b && nat_le b 57
 
--- The note at the front of a text is a letter alone.
-pub record LetterAlone (text : List ℕ) (note : Note) : Type 0 where
+-- The note of a letter without accidental or octave marks, so many times as long as the unit.
+abbrev pub plain_note : ℕ → ℕ → Letter → Note
+plain_note byte num letter = record { accidental = None; letter = letter; octave = pos (letter_octave byte); length = Factor num 1 }
+
+-- A note is that of the letter which a byte is.
+pub record IsPlain (byte num : ℕ) (note : Note) : Type 0 where
+  pub letter : letter_of byte ≡ Some note.letter
+  pub plain : note ≡ plain_note byte num note.letter
+
+-- A note and the bytes that it takes are what is read at the front of a text, which begins with its letter.
+pub record IsShort (text : List ℕ) (read : Note × ℕ) : Type 0 where
   pub byte : ℕ
   pub rest : List ℕ
   pub spelling : text ≡ byte ∷ rest
-  pub letter : IsLetter byte note.letter
-  pub is_read : note_at text ≡ Some (note, 1)
+  pub letter : IsLetter byte read.0.letter
+  pub is_read : note_at text ≡ Some read
 
 -- `z` or `x`. ABC 2.1 section 4.5.
 abbrev pub is_rest_letter : ℕ → Bool

@@ -143,6 +143,6 @@ line_reader = record { kinds = line_kinds; reading = reading_at }
 abbrev pub next_token : Bool → List ℕ → TokenKind × ℕ
 next_token after_bar text = next line_reader after_bar text
 
--- What comes first in a text is a token of this kind that takes one byte, wherever the text stands.
-abbrev pub IsNextByte : TokenKind → List ℕ → Type 0
-IsNextByte kind text = (after_bar : Bool) → next_token after_bar text ≡ (kind, 1)
+-- What comes first in a text, and how many bytes it takes, whether a bar line stands before it or not.
+abbrev pub ComesFirst : TokenKind × ℕ → List ℕ → Type 0
+ComesFirst token text = (after_bar : Bool) → next_token after_bar text ≡ token

@@ -67,7 +67,7 @@ fn written_length(over: &[u8], slashes: usize, under: &[u8]) -> WrittenLength
 }
 
 /// Whether a text begins with a digit or a slash.
-fn begins_length(text: &[u8]) -> bool
+pub(crate) fn begins_length(text: &[u8]) -> bool
     ensures { result ≡ begins_length text.now }
 {
     match text {

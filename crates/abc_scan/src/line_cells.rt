@@ -12,7 +12,7 @@ use crate::closing::Missing;
 use crate::line::{short, tokens_in};
 use crate::spanned::Spanned;
 use crate::text::without_comment;
-use crate::token::{Token, TokenKind, is_bar, next_token, one_byte_at};
+use crate::token::{Token, TokenKind, is_bar, next_token, short_token_at};
 use abc_fold::{Shared, Work};
 use abc_text::{Sequence, without_return};
 use std::alloc::{AllocError, Global};
@@ -94,11 +94,11 @@ fn cut_cells(alloc: Global, text: &[u8]) -> Result<Vec<Shared<Cell>>, AllocError
     let mut after_bar = false;
     let mut at = 0;
     while at < text.len() {
-        match one_byte_at(&text[at..]) {
-            Some(kind) => {
-                begun.push(token_at(at, kind, 1))?;
+        match short_token_at(&text[at..]) {
+            Some((kind, size)) => {
+                begun.push(token_at(at, kind, size))?;
                 after_bar = false;
-                at += 1;
+                at += size;
             }
             None => {
                 let (kind, size) = next_token(alloc, after_bar, &text[at..], &mut missing)?;

@@ -3,9 +3,9 @@
 ghost use Rattle.std.specs.Prelude.{◌≡◌, ◌≤◌, ◌<◌, ◌+◌, ◌^◌, length, IfSome, count_by, ◌==◌};
 ghost use Rattle.std.specs.List.{prefix_len};
 ghost use Rattle.std.specs.Option.{option_map};
-ghost use Rattle.abc_scan.specs.Note.{accidental_at, accidental_size, is_octave_mark, octave, letter_octave, ends_letter, LetterAlone, note_at, rest_at};
+ghost use Rattle.abc_scan.specs.Note.{accidental_at, accidental_size, is_octave_mark, octave, letter_octave, ends_letter, is_factor, IsPlain, IsShort, note_at, rest_at};
 
-use crate::length::{WrittenLength, length_at};
+use crate::length::{WrittenLength, begins_length, length_at};
 use abc_text::{Accidental, Letter, letter_of};
 
 /// A note as it is written (ABC 2.1 sections 4.1 to 4.3).
@@ -84,21 +84,42 @@ fn ends_letter(text: &[u8]) -> bool
     }
 }
 
-/// The note at the front of a text that is a letter alone, as most notes are.
+/// The note of a letter without accidental or octave marks, so many times as long as the unit.
 #[inline(always)]
-#[tactic(auto, using(crate::proofs::Notes::letter_alone))]
-pub(crate) fn letter_alone_at(text: &[u8]) -> Option<Note>
-    ensures { IfSome result (λ note. LetterAlone text.now note) }
+fn plain_note(byte: u8, num: u32) -> Option<Note>
+    ensures { IfSome result (λ note. IsPlain byte num note) }
+{
+    let letter = letter_of(byte)?;
+    let octave = letter_octave(byte) as i32;
+    Some(Note {
+        accidental: None,
+        letter,
+        octave,
+        length: WrittenLength::Factor { num, den: 1 },
+    })
+}
+
+/// Whether a byte is a digit that alone is a length: 0 is refused.
+#[inline(always)]
+fn is_factor(byte: u8) -> bool
+    ensures { result ≡ is_factor byte }
+{
+    matches!(byte, b'1'..=b'9')
+}
+
+/// The note at the front of a text that is a letter alone or one with one digit, and how many bytes it takes: most notes
+/// are such.
+#[inline(always)]
+#[tactic(auto, using(crate::proofs::Notes::letter_alone, crate::proofs::Notes::letter_digit))]
+pub(crate) fn short_note_at(text: &[u8]) -> Option<(Note, usize)>
+    ensures value { IfSome result (λ r. IsShort text.now r) }
+    ensures some { IfSome result (λ r. 0 < r.1) }
+    ensures inside { IfSome result (λ r. r.1 ≤ length text.now) }
 {
     match text {
-        [byte, rest @ ..] if ends_letter(rest) => {
-            let letter = letter_of(*byte)?;
-            Some(Note {
-                accidental: None,
-                letter,
-                octave: letter_octave(*byte) as i32,
-                length: WrittenLength::Factor { num: 1, den: 1 },
-            })
+        [byte, rest @ ..] if ends_letter(rest) => Some((plain_note(*byte, 1)?, 1)),
+        [byte, digit, rest @ ..] if is_factor(*digit) && !begins_length(rest) => {
+            Some((plain_note(*byte, u32::from(*digit - b'0'))?, 2))
         }
         _ => None,
     }

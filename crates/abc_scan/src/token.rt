@@ -3,7 +3,7 @@
 ghost use Rattle.std.specs.Prelude.{◌≡◌, ◌≤◌, ◌<◌, ◌^◌, drop, length, false, IfOk, IfSome};
 ghost use Rattle.abc_scan.specs.Closing.{IsMissing};
 ghost use Rattle.abc_scan.specs.Dynamic.{dynamic_of};
-ghost use Rattle.abc_scan.specs.Token.{is_bar, mark_by, reading_by, alone_of, loud_or_silent, next_token, IsNextByte};
+ghost use Rattle.abc_scan.specs.Token.{is_bar, mark_by, reading_by, alone_of, loud_or_silent, next_token, ComesFirst};
 
 use crate::bar::{BarLine, bar_at};
 use crate::bar_rest::bar_rest_at;
@@ -18,7 +18,7 @@ use crate::field::Field;
 use crate::inline_field::inline_field_at;
 use crate::length::WrittenLength;
 use crate::no_effect::extra_space_at;
-use crate::note::{Note, letter_alone_at, note_at, rest_at};
+use crate::note::{Note, note_at, rest_at, short_note_at};
 use crate::spanned::Spanned;
 use crate::start::{Start, start_of};
 use crate::tuplet::{Tuplet, tuplet_at};
@@ -207,16 +207,21 @@ fn mark_at(start: Start, after_bar: bool, text: &[u8]) -> Option<(TokenKind, usi
     }
 }
 
-/// The token of one byte at the front of a text, if it is a blank or the letter of a note alone: most tokens are.
+/// The token at the front of a text, if it is a blank or a short note, and how many bytes it takes: most tokens are such.
 #[inline(always)]
-#[tactic(auto, using(crate::proofs::Firsts::blank_first, crate::proofs::Firsts::letter_first))]
-pub(crate) fn one_byte_at(text: &[u8]) -> Option<TokenKind>
-    ensures value { IfSome result (λ kind. IsNextByte kind text.now) }
-    ensures plain { IfSome result (λ kind. is_bar kind ≡ false) }
+#[tactic(auto, using(crate::proofs::Firsts::blank_first, crate::proofs::Firsts::note_first))]
+pub(crate) fn short_token_at(text: &[u8]) -> Option<(TokenKind, usize)>
+    ensures value { IfSome result (λ r. ComesFirst r text.now) }
+    ensures plain { IfSome result (λ r. is_bar r.0 ≡ false) }
+    ensures some { IfSome result (λ r. 0 < r.1) }
+    ensures inside { IfSome result (λ r. r.1 ≤ length text.now) }
 {
     match text {
-        [b' ', ..] => Some(TokenKind::Blank),
-        _ => Some(TokenKind::Note(letter_alone_at(text)?)),
+        [b' ', ..] => Some((TokenKind::Blank, 1)),
+        _ => {
+            let (note, size) = short_note_at(text)?;
+            Some((TokenKind::Note(note), size))
+        }
     }
 }
 

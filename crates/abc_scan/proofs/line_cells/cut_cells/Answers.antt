@@ -30,16 +30,18 @@ loop-at-preserved-in-Some c =
     let text = c.args.text.now in
     let at = c.loop-at.at in
     let kind = c.in-Some.kind in
+    let size = c.in-Some.size in
+    let told = c.in-Some.ensures in
     let token = c.token_at.result in
     let begun = c.push.new.self.items in
     let rest : take (length text - at) (drop at text) ≡ drop at text = take_all (length text - at) (drop at text) (omega (arith, length-drop at text)) in
-    let read : (kind, 1) ≡ next_token c.loop-at.after_bar (drop at text) = sym (c.in-Some.ensures.value c.loop-at.after_bar) ∙ ap (next_token c.loop-at.after_bar) rest in
-    let more = cells_more text c.loop-at.after_bar at c.loop-at.cells.items c.loop-at.cells.items _ c.loop-at.begun.items begun token (kind, 1) c.loop-at-test.true (omega arith) read c.token_at.ensures (stays token c.loop-at.cells.items c.loop-at.begun.items begun c.in_ok-push-in-Some.ensures.items) c.loop-at.invariant.cut in
+    let read : (kind, size) ≡ next_token c.loop-at.after_bar (drop at text) = sym (told.value c.loop-at.after_bar) ∙ ap (next_token c.loop-at.after_bar) rest in
+    let more = cells_more text c.loop-at.after_bar at c.loop-at.cells.items c.loop-at.cells.items _ c.loop-at.begun.items begun token (kind, size) c.loop-at-test.true told.some read c.token_at.ensures (stays token c.loop-at.cells.items c.loop-at.begun.items begun c.in_ok-push-in-Some.ensures.items) c.loop-at.invariant.cut in
     record {
-      inside = omega (arith, c.loop-at-test.true);
-      known = missing-behind c.loop-at.missing text at 1 (omega arith) (missing-drop 1 c.loop-at.missing (drop at text) c.loop-at.invariant.known);
-      begun = subst HasNoBar (sym c.in_ok-push-in-Some.ensures.items) (still_no_bar token c.loop-at.begun.items c.loop-at.invariant.begun (ap ends_cell c.token_at.ensures ∙ c.in-Some.ensures.plain));
-      cut = ap (λ b. c.loop-at.cells.items ++ cells_of (begun ++ cutting_from line_reader b (at + 1) 0 (drop (at + 1) text))) (sym c.in-Some.ensures.plain) ∙ more;
+      inside = omega (arith, told.inside, ap length rest, length-drop at text);
+      known = missing-behind c.loop-at.missing text at size told.some (missing-drop 1 c.loop-at.missing (drop at text) c.loop-at.invariant.known);
+      begun = subst HasNoBar (sym c.in_ok-push-in-Some.ensures.items) (still_no_bar token c.loop-at.begun.items c.loop-at.invariant.begun (ap ends_cell c.token_at.ensures ∙ told.plain));
+      cut = ap (λ b. c.loop-at.cells.items ++ cells_of (begun ++ cutting_from line_reader b (at + size) 0 (drop (at + size) text))) (sym told.plain) ∙ more;
     }
 
 pub loop-at-init : goal.loop-at-init
