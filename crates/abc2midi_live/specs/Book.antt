@@ -1,6 +1,6 @@
 -- What the program shows of a text: its files, its titles and its faults, by the compiler of ABC. Our own.
 use Rattle.std.specs.Prelude.{List}
-use Rattle.abc_bars.specs.Step.{stepped}
+use Rattle.abc_cells.specs.Step.{stepped}
 use Rattle.abc_lines.specs.Text.{Text}
 use Rattle.abc_tune.specs.Abc.{rules_of_abc}
 use Rattle.abc_tunebook.specs.Book.{Book, book_of}

@@ -1,9 +1,9 @@
 -- Places of different kinds.
 use Rattle.std.proofs.Common.{◌≡◌, ◌↔◌, Bool, true, ap}
 use Rattle.std.proofs.lemmas.Bool.Decides.{same_from_decides}
-use Rattle.abc_bars.specs.Entry.{AreApart, kind_of_place}
-use Rattle.abc_bars.specs.SameEntry.{same_entry, same_entry_tells}
-use Rattle.abc_bars.specs.declared.entry.Entry.{Entry}
+use Rattle.abc_cells.specs.Entry.{AreApart, kind_of_place}
+use Rattle.abc_cells.specs.SameEntry.{same_entry, same_entry_tells}
+use Rattle.abc_cells.specs.declared.entry.Entry.{Entry}
 
 -- What holds at places of different kinds is never the same.
 pub entries_apart : (a b : Entry) → AreApart a b → ¬ (a ≡ b)

@@ -1,15 +1,6 @@
-pub mod BodyOpenings
-pub mod CellLoop
 pub mod DeclaredVoices
 pub mod EntryLaws
 pub mod HeaderLaws
 pub mod HeaderViews
-pub mod HereLaws
-pub mod KeepsNames
 pub mod LookBack
-pub mod Mentions
-pub mod NamePlaces
-pub mod NamedLists
-pub mod SilentChords
 pub mod Titles
-pub mod VoicesLemmas

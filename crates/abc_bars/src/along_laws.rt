@@ -2,14 +2,14 @@
 
 ghost use Rattle.std.specs.Prelude.{◌≡◌, ◌↔◌, IsTrue, List, Option};
 ghost use Rattle.std.specs.Option.{option_map};
-ghost use Rattle.abc_bars.specs.Defaults.{no_defaults};
-ghost use Rattle.abc_bars.specs.Entry.{opening_after};
+ghost use Rattle.abc_header.specs.Defaults.{no_defaults};
+ghost use Rattle.abc_cells.specs.Entry.{opening_after};
 ghost use Rattle.abc_bars.specs.LookBack.Along.{CellTokens, IsLookBack, file_header_begins, given_along, place_after, state_after, tune_begins, values_set};
 ghost use Rattle.abc_bars.specs.LookBack.Place.{Place, view};
 ghost use Rattle.abc_bars.specs.LookBack.TunePlaces.{IsOfTune};
 ghost use Rattle.abc_bars.specs.declared.bar_fold.BarFold.{BarFold};
-ghost use Rattle.abc_bars.specs.declared.entry.Entry.{Entry};
-ghost use Rattle.abc_bars.specs.declared.entry.Entry.TheVariants as entries;
+ghost use Rattle.abc_cells.specs.declared.entry.Entry.{Entry};
+ghost use Rattle.abc_cells.specs.declared.entry.Entry.TheVariants as entries;
 
 use crate::bar_fold::BarFold;
 use abc_fold::{Fold, Resumable};

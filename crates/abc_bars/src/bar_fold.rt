@@ -2,24 +2,21 @@
 
 ghost use Rattle.std.specs.Prelude.{◌≡◌, All, IfOk};
 ghost use Rattle.std.specs.Option.{option_copied};
-ghost use Rattle.abc_bars.specs.Cell.{cell_given};
-ghost use Rattle.abc_bars.specs.SameEntry.{bars_resumable, same_entry};
-ghost use Rattle.abc_music.specs.Item.{IsItem};
-ghost use Rattle.abc_bars.specs.Header.{header_given};
-ghost use Rattle.abc_bars.specs.HeaderLine.{DirectiveLine, FieldLine};
-ghost use Rattle.abc_bars.specs.Step.{field_line, field_in, directive_line, directive_in, line_in, body_stepped, line_stepped, header_stepped, file_header_made, file_header_stepped, stepped};
+ghost use Rattle.abc_cells.specs.Cell.{cell_given};
+ghost use Rattle.abc_cells.specs.SameEntry.{bars_resumable, same_entry};
+ghost use Rattle.abc_items.specs.Item.{IsItem};
+ghost use Rattle.abc_header.specs.Header.{header_given};
+ghost use Rattle.abc_header.specs.HeaderLine.{DirectiveLine, FieldLine};
+ghost use Rattle.abc_cells.specs.Step.{field_line, field_in, directive_line, directive_in, line_in, body_stepped, line_stepped, header_stepped, file_header_made, file_header_stepped, stepped};
 
-use crate::body_copy::BodyCopy;
-use crate::body_opening::body_from;
-use crate::cell::{Given, cell_given};
-use crate::defaults::Defaults;
-use crate::entry::Entry;
-use crate::field_kind::{FieldKind, kind_of};
-use crate::file_header::{FileHeaderGiven, file_header_directed, file_header_given};
-use crate::header::{Header, HeaderGiven, header_directed, header_given};
+use abc_cells::{BodyCopy, Entry, Given, body_from, cell_given};
 use abc_fields::{EMPTY_SIGNATURE, key_set_by};
 use abc_fold::{Fold, Resumable, Shared, Work};
-use abc_music::Items;
+use abc_header::{
+    Defaults, FieldKind, FileHeaderGiven, Header, HeaderGiven, file_header_directed,
+    file_header_given, header_directed, header_given, kind_of,
+};
+use abc_items::Items;
 use abc_scan::{Cell, Directive, Field, Token, TokenKind};
 use abc_text::Sequence;
 use std::alloc::{AllocError, Global};
@@ -161,7 +158,7 @@ fn file_header_stepped(alloc: Global, defaults: Defaults, cell: &[Token]) -> Ste
 }
 
 /// A cell that is entered there.
-#[tactic(auto, unfolding(crate::specs::Step::stepped))]
+#[tactic(auto, unfolding(abc_cells::specs::Step::stepped))]
 fn stepped(alloc: Global, entry: &Entry, cell: &[Token]) -> Stepped
     ensures { IfOk result (λ made. made ≡ stepped entry.now cell.now) }
 {

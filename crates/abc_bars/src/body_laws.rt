@@ -3,9 +3,9 @@
 ghost use Rattle.std.specs.Prelude.{◌≤◌, List, bytes_eq, length};
 ghost use Rattle.std.specs.List.{IsDistinct};
 ghost use Rattle.abc_fields.specs.declared.key.Key.{Key};
-ghost use Rattle.abc_bars.specs.HeaderLine.{HeaderLine};
-ghost use Rattle.abc_bars.specs.declared.defaults.Defaults.{Defaults};
-ghost use Rattle.abc_music.specs.declared.item.TheConstants.{MOST_VOICES};
+ghost use Rattle.abc_header.specs.HeaderLine.{HeaderLine};
+ghost use Rattle.abc_header.specs.declared.defaults.Defaults.{Defaults};
+ghost use Rattle.abc_items.specs.declared.item.TheConstants.{MOST_VOICES};
 ghost use Rattle.abc_bars.specs.LookBack.Element.{Element};
 ghost use Rattle.abc_bars.specs.LookBack.Held.{IsPlaced, held_at, roll_of};
 ghost use Rattle.abc_bars.specs.LookBack.Place.{opening_at};

@@ -2,14 +2,14 @@
 
 ghost use Rattle.std.specs.Prelude.{◌≡◌, ℕ, List, Some, slice_get};
 ghost use Rattle.abc_fields.specs.declared.key.Key.{Key};
-ghost use Rattle.abc_bars.specs.HeaderLine.{HeaderLine};
-ghost use Rattle.abc_bars.specs.Body.{here};
+ghost use Rattle.abc_header.specs.HeaderLine.{HeaderLine};
+ghost use Rattle.abc_cells.specs.Body.{here};
 ghost use Rattle.abc_bars.specs.LookBack.ByName.{naming_at, settings_named};
 ghost use Rattle.abc_bars.specs.LookBack.Element.{Element};
 ghost use Rattle.abc_bars.specs.LookBack.Held.{held_at, roll_of};
 ghost use Rattle.abc_bars.specs.LookBack.Place.{opening_at};
-ghost use Rattle.abc_bars.specs.Voices.{voice_at};
-ghost use Rattle.abc_bars.specs.declared.defaults.Defaults.{Defaults};
+ghost use Rattle.abc_header.specs.Voices.{voice_at};
+ghost use Rattle.abc_header.specs.declared.defaults.Defaults.{Defaults};
 
 /// What looking back finds at a place of a body, said in two sentences. The name of the voice is that of the last
 /// accepted V:, if it is not one voice too many; else that of the first voice of the header, or none. What holds for

@@ -4,15 +4,15 @@ ghost use Rattle.std.specs.Prelude.{◌≡◌, All, List, [], filter, false, map
 ghost use Rattle.abc_fields.specs.declared.key.Key.{Key};
 ghost use Rattle.abc_scan.specs.declared.spanned.Spanned.{Spanned};
 ghost use Rattle.abc_scan.specs.declared.token.TokenKind.{TokenKind};
-ghost use Rattle.abc_music.specs.declared.settings.Settings.{Settings};
+ghost use Rattle.abc_settings.specs.declared.settings.Settings.{Settings};
 ghost use Rattle.abc_music.specs.Broken.{is_time_token};
 ghost use Rattle.abc_music.specs.LooseTies.{is_loose_tie};
-ghost use Rattle.abc_bars.specs.HeaderLine.{HeaderLine};
+ghost use Rattle.abc_header.specs.HeaderLine.{HeaderLine};
 ghost use Rattle.abc_bars.specs.LookBack.Element.{Element};
 ghost use Rattle.abc_bars.specs.LookBack.Place.{given_in_body};
 ghost use Rattle.abc_bars.specs.LookBack.Ties.{IsTimeBefore, loose_ties, tied_notes};
 ghost use Rattle.abc_bars.specs.LookBack.Voice.{alteration_at, as_tied, settings_at, tied_at};
-ghost use Rattle.abc_bars.specs.declared.defaults.Defaults.{Defaults};
+ghost use Rattle.abc_header.specs.declared.defaults.Defaults.{Defaults};
 
 /// The faults `LooseTie` of a cell of music, wherever it stands, are at those of its ties that have no note or chord
 /// directly before them, and at those inside a chord that have no note directly before them.

@@ -15,18 +15,18 @@ use Rattle.abc_scan.specs.declared.token.TokenKind.{TokenKind}
 use Rattle.abc_time.specs.declared.grains.Grains.{Grains}
 use Rattle.abc_time.specs.declared.ratio.Ratio.{Ratio}
 use Rattle.abc_music.specs.declared.chords.Outside.{Outside}
-use Rattle.abc_music.specs.declared.item.TheConstants.{MOST_CHORD_NOTES}
-use Rattle.abc_music.specs.declared.settings.Settings.{Settings}
+use Rattle.abc_items.specs.declared.item.TheConstants.{MOST_CHORD_NOTES}
+use Rattle.abc_settings.specs.declared.settings.Settings.{Settings}
 use Rattle.abc_music.specs.declared.sound.Inside.{Inside}
 use Rattle.abc_music.specs.ChordFaults.{AreFaultsOf, BadLengthsAtNotes, IsFaultOf, is_bad_length}
 use Rattle.abc_music.specs.Chords.{around_part, inside_from, inside_of, tie_follows, with_chord_note, with_kind, with_part}
-use Rattle.abc_music.specs.Column.{column_of}
+use Rattle.abc_items.specs.Column.{column_of}
 use Rattle.abc_music.specs.Lasting.{IsPlace, Lasts, factors_at}
 use Rattle.abc_music.specs.Lengths.{length_by, or_unit, texts_of}
 use Rattle.abc_music.specs.Sound.{fault_if, length_in, no_notes, note_faults, tone_in}
 use Rattle.abc_music.specs.TimeTokens.{chord_by}
 use Rattle.abc_music.specs.TokenRole.{has_note, is_note_part}
-use Rattle.abc_music.specs.Tuplet.{tuplet_factors}
+use Rattle.abc_settings.specs.Tuplet.{tuplet_factors}
 use Rattle.abc_music.proofs.Lasting.{length_lasts}
 
 abbrev notes : List (Spanned ChordPartKind) → List (Spanned ChordPartKind)

@@ -12,20 +12,20 @@ use Rattle.abc_scan.specs.declared.parts.ChordPartKind.{ChordPartKind}
 use Rattle.abc_scan.specs.declared.parts.ChordPartKind.TheVariants as kinds
 use Rattle.abc_scan.specs.declared.spanned.Spanned.{Spanned}
 use Rattle.abc_time.specs.declared.ratio.Ratio.{Ratio}
-use Rattle.abc_music.specs.declared.accidentals.Accidentals.{Accidentals}
+use Rattle.abc_settings.specs.declared.accidentals.Accidentals.{Accidentals}
 use Rattle.abc_music.specs.declared.chords.Outside.{Outside}
-use Rattle.abc_music.specs.declared.item.TheConstants.{MOST_CHORD_NOTES}
-use Rattle.abc_music.specs.declared.item.Tone.{Tone}
-use Rattle.abc_music.specs.declared.settings.Settings.{Settings}
+use Rattle.abc_items.specs.declared.item.TheConstants.{MOST_CHORD_NOTES}
+use Rattle.abc_items.specs.declared.item.Tone.{Tone}
+use Rattle.abc_settings.specs.declared.settings.Settings.{Settings}
 use Rattle.abc_music.specs.declared.sound.Around.{Around}
 use Rattle.abc_music.specs.declared.sound.Inside.{Inside}
-use Rattle.abc_music.specs.Alteration.{alteration_of, with_own}
+use Rattle.abc_settings.specs.Alteration.{alteration_of, with_own}
 use Rattle.abc_music.specs.ChordKeys.{note_in, notes_in, AreAsLoud, ChordsAreAsLoud, ChordsSoundTheirKeys, NotesAreAsLoud, SoundsKey}
 use Rattle.abc_music.specs.Chords.{around_part, inside_from, inside_of, tie_follows, with_chord_note, with_kind, with_part}
-use Rattle.abc_music.specs.Reaching.{behind_notes}
+use Rattle.abc_settings.specs.Reaching.{behind_notes}
 use Rattle.abc_music.specs.Sound.{key_in, no_notes, tone_in}
 use Rattle.abc_music.specs.TimeTokens.{chord_by, first_length}
-use Rattle.abc_music.specs.Velocity.{velocity_of}
+use Rattle.abc_items.specs.Velocity.{velocity_of}
 use Rattle.abc_music.proofs.ChordNotes.{take_place}
 use Rattle.abc_music.proofs.NoteKeys.{altered_by}
 

@@ -16,21 +16,21 @@ use Rattle.abc_scan.specs.declared.spanned.Spanned.{Spanned}
 use Rattle.abc_time.specs.declared.grains.Grains.{Grains}
 use Rattle.abc_time.specs.declared.ratio.Ratio.{Ratio}
 use Rattle.abc_music.specs.declared.chords.Outside.{Outside}
-use Rattle.abc_music.specs.declared.item.TheConstants.{MOST_CHORD_NOTES}
-use Rattle.abc_music.specs.declared.item.Tone.{Tone}
-use Rattle.abc_music.specs.declared.settings.Settings.{Settings}
+use Rattle.abc_items.specs.declared.item.TheConstants.{MOST_CHORD_NOTES}
+use Rattle.abc_items.specs.declared.item.Tone.{Tone}
+use Rattle.abc_settings.specs.declared.settings.Settings.{Settings}
 use Rattle.abc_music.specs.declared.sound.Inside.{Inside}
 use Rattle.abc_music.specs.Chords.{around_part, inside_from, inside_of, tie_follows, with_chord_note, with_dropped, with_kind, with_part}
 use Rattle.abc_music.specs.ChordNotes.{is_big, big_at, IsNoteOf, IsLengthOf, SoundsTogether, ChordsSound, BigAtTheSeventeenth}
 use Rattle.abc_scan.specs.declared.token.TokenKind.{TokenKind}
-use Rattle.abc_music.specs.declared.item.Item.TheVariants as items
+use Rattle.abc_items.specs.declared.item.Item.TheVariants as items
 use Rattle.abc_music.specs.Lasting.{IsPlace, Lasts, factors_at}
 use Rattle.abc_music.specs.Lengths.{length_by, texts_of}
 use Rattle.abc_music.specs.TimeTokens.{chord_by, chord_played, first_length}
 use Rattle.abc_music.specs.TokenRole.{has_note, is_note_part}
-use Rattle.abc_music.specs.Tuplet.{tuplet_factors}
+use Rattle.abc_settings.specs.Tuplet.{tuplet_factors}
 use Rattle.abc_music.proofs.Lasting.{given_by, length_lasts}
-use Rattle.abc_music.specs.Column.{column_of}
+use Rattle.abc_items.specs.Column.{column_of}
 use Rattle.abc_music.specs.Sound.{fault_if, length_in, no_notes, note_faults, tone_in}
 
 -- the notes among parts

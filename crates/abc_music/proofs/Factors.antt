@@ -13,7 +13,7 @@ use Rattle.abc_time.specs.Length.{IsLength, length_of, quotient_of}
 use Rattle.abc_time.specs.Product.{product_of}
 use Rattle.abc_time.specs.Ratio.{IsRatio}
 use Rattle.abc_time.proofs.LengthLaws.{length_of-Ok}
-use Rattle.abc_music.specs.Tuplet.{OpenTuplet, tuplet_factors}
+use Rattle.abc_settings.specs.Tuplet.{OpenTuplet, tuplet_factors}
 
 -- the factor that changes nothing
 abbrev pub once : Ratio

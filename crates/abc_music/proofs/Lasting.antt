@@ -20,23 +20,24 @@ use Rattle.abc_time.specs.Grains.{grains_of_the_longest_length}
 use Rattle.abc_time.specs.Length.{IsLength, length_of}
 use Rattle.abc_time.specs.Ratio.{IsRatio}
 use Rattle.abc_time.proofs.LengthLaws.{length_of-Ok}
-use Rattle.abc_music.specs.declared.settings.Settings.{Settings}
+use Rattle.abc_settings.specs.declared.settings.Settings.{Settings}
 use Rattle.abc_music.specs.Acting.{ActsBefore, ActsBehind, behind_at}
 use Rattle.abc_fields.specs.Meter.{HasMeterRange}
-use Rattle.abc_music.specs.declared.item.Item.{Item}
+use Rattle.abc_items.specs.declared.item.Item.{Item}
 use Rattle.abc_music.specs.BarRest.{AreBars, bar_grains, bars_of, or_one_bar}
 use Rattle.std.proofs.lemmas.List.Elements.{All-nil, All-cons}
 use Rattle.abc_music.proofs.BarCounts.{bars_exact, no_bars}
 use Rattle.abc_music.specs.Broken.{first_factor, second_factor, first_by, second_by, longer, shorter, halved, mark_behind, mark_ahead}
 use Rattle.abc_music.specs.Lengths.{is_ratio_part, ratio_of, written_ratio, texts_of, length_by, or_unit}
 use Rattle.abc_music.specs.Lasting.{once, SaysFactor, IsOuterFactor, IsTupletFactor, IsLengthened, IsShortened, IsFirstFactor, IsSecondFactor, Lasts, IsPlace, factors_at, IsGiven, HasLengthFault, NotesLast, RestsLast, BarRestsLast, FreeBarRests}
-use Rattle.abc_music.specs.declared.item.Item.TheVariants as items
-use Rattle.abc_music.specs.Column.{column_of}
+use Rattle.abc_items.specs.declared.item.Item.TheVariants as items
+use Rattle.abc_items.specs.Column.{column_of}
 use Rattle.abc_music.specs.Sound.{length_in, tone_in, key_in, fault_if}
-use Rattle.abc_music.specs.Tuplet.{tuplet_ratio, tuplet_factors, IsOpen, OpenTuplet}
-use Rattle.abc_music.specs.Unit.{IsUnitPart}
+use Rattle.abc_settings.specs.Tuplet.{tuplet_ratio, tuplet_factors, IsOpen, OpenTuplet}
+use Rattle.abc_settings.specs.Unit.{IsUnitPart}
 use Rattle.abc_music.proofs.Acting.{before_from, before_to, behind_of, behind_to}
-use Rattle.abc_music.proofs.WholeParts.{unit_exact, bar_exact, bar_short}
+use Rattle.abc_music.proofs.WholeBars.{bar_exact, bar_short}
+use Rattle.abc_settings.proofs.WholeParts.{unit_exact}
 use Rattle.abc_music.proofs.Factors.{all_ratios as five_ratios, same_products, same_length, ok_or_none}
 
 -- a number in range is one of a ratio

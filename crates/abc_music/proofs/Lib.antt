@@ -1,7 +1,5 @@
 pub mod Acting
-pub mod Alike
 pub mod BarCounts
-pub mod Canonical
 pub mod ChordFaults
 pub mod ChordKeys
 pub mod ChordNotes
@@ -9,10 +7,7 @@ pub mod ChordTones
 pub mod Factors
 pub mod InsideLoop
 pub mod Lasting
-pub mod Groups
-pub mod SameOctaves
 pub mod LooseTies
 pub mod NoteKeys
 pub mod Pitches
-pub mod Reaching
-pub mod WholeParts
+pub mod WholeBars

@@ -10,12 +10,12 @@ use Rattle.abc_scan.specs.declared.parts.ChordPartKind.TheVariants as kinds
 use Rattle.abc_scan.specs.declared.spanned.Spanned.{Spanned}
 use Rattle.abc_time.specs.declared.ratio.Ratio.{Ratio}
 use Rattle.abc_music.specs.declared.chords.Outside.{Outside}
-use Rattle.abc_music.specs.declared.item.TheConstants.{MOST_CHORD_NOTES}
-use Rattle.abc_music.specs.declared.settings.Settings.{Settings}
+use Rattle.abc_items.specs.declared.item.TheConstants.{MOST_CHORD_NOTES}
+use Rattle.abc_settings.specs.declared.settings.Settings.{Settings}
 use Rattle.abc_music.specs.declared.sound.Around.{Around}
 use Rattle.abc_music.specs.declared.sound.Inside.{Inside}
 use Rattle.abc_music.specs.Chords.{around_part, inside_from, inside_of, is_tie, tie_follows, with_fault, with_kind, with_part}
-use Rattle.abc_music.specs.Column.{column_of}
+use Rattle.abc_items.specs.Column.{column_of}
 use Rattle.abc_music.specs.LooseTies.{is_behind_note, is_loose, is_loose_tie, TiesBehindNotes}
 use Rattle.abc_music.specs.Sound.{fault_if, no_notes, note_faults}
 use Rattle.abc_music.specs.TimeTokens.{chord_by}

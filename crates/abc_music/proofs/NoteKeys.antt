@@ -12,11 +12,11 @@ use Rattle.abc_scan.specs.declared.note.Note.{Note}
 use Rattle.abc_text.specs.declared.accidental.Accidental.{Accidental}
 use Rattle.abc_text.specs.Accidental.{alteration as accidental_alteration}
 use Rattle.abc_text.specs.Letter.{capital}
-use Rattle.abc_music.specs.declared.accidentals.Accidentals.{Accidentals}
-use Rattle.abc_music.specs.declared.settings.Settings.{Settings}
-use Rattle.abc_music.specs.declared.tied.TiedNote.{TiedNote}
-use Rattle.abc_music.specs.Accidentals.{written_on}
-use Rattle.abc_music.specs.Alteration.{alteration_of, goes_on_in, tied_alteration}
+use Rattle.abc_settings.specs.declared.accidentals.Accidentals.{Accidentals}
+use Rattle.abc_settings.specs.declared.settings.Settings.{Settings}
+use Rattle.abc_settings.specs.declared.tied.TiedNote.{TiedNote}
+use Rattle.abc_settings.specs.Accidentals.{written_on}
+use Rattle.abc_settings.specs.Alteration.{alteration_of, goes_on_in, tied_alteration}
 use Rattle.abc_music.specs.NoteKeys.{IsSame, IsAltered, NotesSoundTheirKeys}
 use Rattle.abc_music.specs.Sound.{tone_in}
 

@@ -8,8 +8,8 @@ use Rattle.abc_fields.specs.declared.meter.Meter.TheVariants.{Free, Of}
 use Rattle.abc_time.specs.declared.grains.Grains.{Grains}
 use Rattle.abc_time.specs.Grains.{grains_of_a_whole_note, grains_of_the_longest_length}
 use Rattle.abc_time.specs.Length.{length_of}
-use Rattle.abc_music.specs.declared.item.Item.{Item}
-use Rattle.abc_music.specs.declared.item.Item.TheVariants.{Rest}
+use Rattle.abc_items.specs.declared.item.Item.{Item}
+use Rattle.abc_items.specs.declared.item.Item.TheVariants.{Rest}
 use Rattle.abc_music.specs.Lengths.{ratio_of}
 
 -- The length of one bar.

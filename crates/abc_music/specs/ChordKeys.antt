@@ -7,17 +7,17 @@ use Rattle.abc_scan.specs.declared.parts.ChordPartKind.TheVariants as parts
 use Rattle.abc_scan.specs.declared.spanned.Spanned.{Spanned}
 use Rattle.abc_time.specs.declared.grains.Grains.{Grains}
 use Rattle.abc_time.specs.declared.ratio.Ratio.{Ratio}
-use Rattle.abc_music.specs.declared.accidentals.Accidentals.{Accidentals}
-use Rattle.abc_music.specs.declared.item.Item.TheVariants as items
-use Rattle.abc_music.specs.declared.item.TheConstants.{MOST_CHORD_NOTES}
-use Rattle.abc_music.specs.declared.item.Tone.{Tone}
-use Rattle.abc_music.specs.declared.settings.Settings.{Settings}
+use Rattle.abc_settings.specs.declared.accidentals.Accidentals.{Accidentals}
+use Rattle.abc_items.specs.declared.item.Item.TheVariants as items
+use Rattle.abc_items.specs.declared.item.TheConstants.{MOST_CHORD_NOTES}
+use Rattle.abc_items.specs.declared.item.Tone.{Tone}
+use Rattle.abc_settings.specs.declared.settings.Settings.{Settings}
 use Rattle.abc_music.specs.NoteKeys.{IsAltered}
 use Rattle.abc_music.specs.Pitch.{midi_key, pitch_of}
-use Rattle.abc_music.specs.Reaching.{behind_notes}
+use Rattle.abc_settings.specs.Reaching.{behind_notes}
 use Rattle.abc_music.specs.TimeTokens.{chord_played, note_played}
 use Rattle.abc_music.specs.TokenRole.{has_note}
-use Rattle.abc_music.specs.Velocity.{velocity_of}
+use Rattle.abc_items.specs.Velocity.{velocity_of}
 
 -- The note that a part of a chord is, if it is one.
 abbrev pub note_in : ChordPartKind → List Note

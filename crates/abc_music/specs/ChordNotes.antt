@@ -9,12 +9,12 @@ use Rattle.abc_scan.specs.declared.parts.ChordPartKind.{ChordPartKind}
 use Rattle.abc_scan.specs.declared.parts.ChordPartKind.TheVariants as parts
 use Rattle.abc_scan.specs.declared.spanned.Spanned.{Spanned}
 use Rattle.abc_scan.specs.declared.token.TokenKind.{TokenKind}
-use Rattle.abc_music.specs.declared.item.Item.TheVariants as items
-use Rattle.abc_music.specs.declared.item.TheConstants.{MOST_CHORD_NOTES}
-use Rattle.abc_music.specs.declared.item.Tone.{Tone}
-use Rattle.abc_music.specs.declared.settings.Settings.{Settings}
+use Rattle.abc_items.specs.declared.item.Item.TheVariants as items
+use Rattle.abc_items.specs.declared.item.TheConstants.{MOST_CHORD_NOTES}
+use Rattle.abc_items.specs.declared.item.Tone.{Tone}
+use Rattle.abc_settings.specs.declared.settings.Settings.{Settings}
 use Rattle.abc_time.specs.declared.grains.Grains.{Grains}
-use Rattle.abc_music.specs.Column.{column_of}
+use Rattle.abc_items.specs.Column.{column_of}
 use Rattle.abc_music.specs.Lasting.{IsGiven, IsPlace, Lasts, factors_at}
 use Rattle.abc_music.specs.TimeTokens.{chord_played}
 use Rattle.abc_music.specs.TokenRole.{has_note, is_note_part}

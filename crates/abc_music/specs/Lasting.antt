@@ -20,16 +20,16 @@ use Rattle.abc_time.specs.Grains.{grains_of_the_longest_length}
 use Rattle.abc_time.specs.Length.{IsLength}
 use Rattle.abc_time.specs.Ratio.{IsRatio}
 use Rattle.abc_music.specs.declared.broken.TheConstants.{MOST_MARKS}
-use Rattle.abc_music.specs.declared.item.Item.{Item}
-use Rattle.abc_music.specs.declared.item.Item.TheVariants as items
-use Rattle.abc_music.specs.declared.settings.Settings.{Settings}
+use Rattle.abc_items.specs.declared.item.Item.{Item}
+use Rattle.abc_items.specs.declared.item.Item.TheVariants as items
+use Rattle.abc_settings.specs.declared.settings.Settings.{Settings}
 use Rattle.abc_music.specs.Acting.{IsTimeAt, IsMarkAt, ActsBefore, ActsBehind, behind_at}
 use Rattle.abc_music.specs.BarRest.{AreBars, bar_rest_of}
 use Rattle.abc_music.specs.Broken.{factors_of}
-use Rattle.abc_music.specs.Column.{column_of}
+use Rattle.abc_items.specs.Column.{column_of}
 use Rattle.abc_music.specs.TimeTokens.{note_played, rest_played, first_length}
-use Rattle.abc_music.specs.Tuplet.{IsOpen, OpenTuplet}
-use Rattle.abc_music.specs.Unit.{IsUnitPart}
+use Rattle.abc_settings.specs.Tuplet.{IsOpen, OpenTuplet}
+use Rattle.abc_settings.specs.Unit.{IsUnitPart}
 
 -- The factor that changes nothing.
 abbrev pub once : Ratio

@@ -6,12 +6,12 @@ use Rattle.abc_text.specs.declared.accidental.Accidental.{Accidental}
 use Rattle.abc_text.specs.Accidental.{alteration as accidental_alteration}
 use Rattle.abc_text.specs.Letter.{capital}
 use Rattle.abc_time.specs.declared.ratio.Ratio.{Ratio}
-use Rattle.abc_music.specs.declared.accidentals.Accidentals.{Accidentals}
-use Rattle.abc_music.specs.declared.item.Item.TheVariants as items
-use Rattle.abc_music.specs.declared.item.Tone.{Tone}
-use Rattle.abc_music.specs.declared.settings.Settings.{Settings}
-use Rattle.abc_music.specs.declared.tied.TiedNote.{TiedNote}
-use Rattle.abc_music.specs.Accidentals.{written_on}
+use Rattle.abc_settings.specs.declared.accidentals.Accidentals.{Accidentals}
+use Rattle.abc_items.specs.declared.item.Item.TheVariants as items
+use Rattle.abc_items.specs.declared.item.Tone.{Tone}
+use Rattle.abc_settings.specs.declared.settings.Settings.{Settings}
+use Rattle.abc_settings.specs.declared.tied.TiedNote.{TiedNote}
+use Rattle.abc_settings.specs.Accidentals.{written_on}
 use Rattle.abc_music.specs.Pitch.{midi_key, pitch_of}
 use Rattle.abc_music.specs.TimeTokens.{note_played}
 

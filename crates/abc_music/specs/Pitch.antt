@@ -2,9 +2,9 @@
 use Rattle.std.specs.Prelude.{ℕ, ℤ, pos, negsuc, ◌+ℤ◌, ◌*ℤ◌, ◌+◌, if◌then◌else◌, nat_le, Option, Some, None}
 use Rattle.abc_text.specs.Letter.{semitones}
 use Rattle.abc_scan.specs.declared.note.Note.{Note}
-use Rattle.abc_music.specs.declared.item.TheConstants.{HIGHEST_KEY}
+use Rattle.abc_items.specs.declared.item.TheConstants.{HIGHEST_KEY}
 use Rattle.abc_music.specs.declared.pitch.TheConstants.{MIDDLE_C, OCTAVE}
-use Rattle.abc_music.specs.declared.voice_shift.VoiceShift.{VoiceShift}
+use Rattle.abc_settings.specs.declared.voice_shift.VoiceShift.{VoiceShift}
 
 -- How many semitones notes sound above what is written: by the clef, by octaves and by semitones (ABC 2.1
 -- section 4.6).

@@ -6,17 +6,17 @@ use Rattle.abc_scan.specs.declared.length.WrittenLength.{WrittenLength}
 use Rattle.abc_scan.specs.declared.note.Note.{Note}
 use Rattle.abc_time.specs.declared.grains.Grains.{Grains}
 use Rattle.abc_time.specs.declared.ratio.Ratio.{Ratio}
-use Rattle.abc_music.specs.declared.accidentals.Accidentals.{Accidentals}
-use Rattle.abc_music.specs.declared.item.Tone.{Tone}
-use Rattle.abc_music.specs.declared.settings.Settings.{Settings}
+use Rattle.abc_settings.specs.declared.accidentals.Accidentals.{Accidentals}
+use Rattle.abc_items.specs.declared.item.Tone.{Tone}
+use Rattle.abc_settings.specs.declared.settings.Settings.{Settings}
 use Rattle.abc_music.specs.declared.sound.Around.{Around}
 use Rattle.abc_music.specs.declared.sound.Inside.{Inside}
-use Rattle.abc_music.specs.declared.tied.TiedNote.{TiedNote}
-use Rattle.abc_music.specs.Alteration.{alteration_of, with_own}
+use Rattle.abc_settings.specs.declared.tied.TiedNote.{TiedNote}
+use Rattle.abc_settings.specs.Alteration.{alteration_of, with_own}
 use Rattle.abc_music.specs.Lengths.{length_or_unit, texts_of}
 use Rattle.abc_music.specs.Pitch.{midi_key, pitch_of}
-use Rattle.abc_music.specs.Tuplet.{tuplet_factors}
-use Rattle.abc_music.specs.Velocity.{velocity_of}
+use Rattle.abc_settings.specs.Tuplet.{tuplet_factors}
+use Rattle.abc_items.specs.Velocity.{velocity_of}
 
 -- The length of what is written so, and perhaps behind its chord, in a note, chord or rest with these
 -- factors of broken rhythm, and whether it is refused.

@@ -7,18 +7,18 @@ use Rattle.abc_scan.specs.declared.length.WrittenLength.{WrittenLength}
 use Rattle.abc_scan.specs.declared.note.Note.{Note}
 use Rattle.abc_time.specs.declared.grains.Grains.{Grains}
 use Rattle.abc_time.specs.declared.ratio.Ratio.{Ratio}
-use Rattle.abc_music.specs.declared.item.Item.{Item}
-use Rattle.abc_music.specs.declared.item.Item.TheVariants as items
-use Rattle.abc_music.specs.declared.item.Tone.{Tone}
-use Rattle.abc_music.specs.declared.settings.Settings.{Settings}
+use Rattle.abc_items.specs.declared.item.Item.{Item}
+use Rattle.abc_items.specs.declared.item.Item.TheVariants as items
+use Rattle.abc_items.specs.declared.item.Tone.{Tone}
+use Rattle.abc_settings.specs.declared.settings.Settings.{Settings}
 use Rattle.abc_music.specs.declared.sound.Around.{Around}
 use Rattle.abc_music.specs.declared.sound.Inside.{Inside}
-use Rattle.abc_music.specs.Item.{Items}
+use Rattle.abc_items.specs.Item.{Items}
 use Rattle.abc_music.specs.Chords.{inside_of}
-use Rattle.abc_music.specs.Column.{column_of}
+use Rattle.abc_items.specs.Column.{column_of}
 use Rattle.abc_music.specs.Sound.{fault_if, length_in, no_notes, with_note}
 use Rattle.abc_music.specs.TokenRole.{has_note}
-use Rattle.abc_music.specs.Tuplet.{counted_down}
+use Rattle.abc_settings.specs.Tuplet.{counted_down}
 
 -- What holds for the voice behind a token, and what the token gives.
 pub record Played : Type 0 where

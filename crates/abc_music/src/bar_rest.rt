@@ -5,12 +5,12 @@ ghost use Rattle.abc_fields.specs.Meter.{HasMeterRange};
 ghost use Rattle.abc_time.specs.Grains.{grains_of_the_longest_length};
 ghost use Rattle.abc_time.specs.Length.{IsLength};
 ghost use Rattle.abc_music.specs.BarRest.{AreBars, bar_grains, bars_of, bar_rest_length, bar_rest_of};
-ghost use Rattle.abc_music.specs.Item.{IsItem};
+ghost use Rattle.abc_items.specs.Item.{IsItem};
 
-use crate::item::Item;
 use crate::lengths::ratio_of;
-use crate::meter::TuneMeter;
 use abc_fields::{FaultCode, Meter};
+use abc_items::Item;
+use abc_settings::TuneMeter;
 use abc_time::{Grains, Ratio, WHOLE_NOTE, length};
 
 /// The length of one bar, exactly.

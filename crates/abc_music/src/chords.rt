@@ -4,12 +4,11 @@ ghost use Rattle.std.specs.Prelude.{◌≡◌, IfOk, OnOk};
 ghost use Rattle.abc_music.specs.Chords.{around_part, inside_of, is_tie, tie_follows, with_chord_note, with_kind, with_part, AreCounted};
 
 use crate::broken::BrokenFactors;
-use crate::column::column_inside;
-use crate::item::MOST_CHORD_NOTES;
-use crate::settings::Settings;
 use crate::sound::{Around, Inside, add_note};
 use abc_fields::FaultCode;
+use abc_items::{MOST_CHORD_NOTES, column_inside};
 use abc_scan::{ChordPart, ChordPartKind, Note, WrittenLength};
+use abc_settings::Settings;
 use std::alloc::{AllocError, Global};
 
 /// What stands round the notes of a chord (ABC 2.1 section 4.17).

@@ -5,7 +5,6 @@ ghost use Rattle.abc_music.specs.ChordNotes.{ChordsSound, BigAtTheSeventeenth};
 ghost use Rattle.abc_music.specs.Lasting.{NotesLast, RestsLast, BarRestsLast, FreeBarRests};
 ghost use Rattle.abc_music.specs.LooseTies.{TiesBehindNotes};
 ghost use Rattle.abc_music.specs.NoteKeys.{NotesSoundTheirKeys};
-ghost use Rattle.abc_music.specs.Reaching.{AccidentalsReach, SameWhereHeardAlike};
 
 /// A note or a rest lasts the unit times what is written, what its tuplet says and what the marks of broken
 /// rhythm say that act on it, exactly; where that is no length it lasts one unit, and that is a fault.
@@ -30,13 +29,6 @@ pub fn notes_of_chords()
 /// A tie inside a chord is loose exactly where no note stands directly before it.
 pub fn loose_ties_of_chords()
     ensures { TiesBehindNotes }
-{}
-
-/// A note hears of the notes before it in its bar the last accidental that reaches it: of its letter in any octave, of
-/// its letter in its octave, or none. What is kept of them is nothing else, whatever the order they were written in.
-pub fn reach_of_accidentals()
-    ensures last { AccidentalsReach }
-    ensures alike { SameWhereHeardAlike }
 {}
 
 /// A note sounds the key of its pitch, altered by its own accidental, else by the last one that reaches it, else as

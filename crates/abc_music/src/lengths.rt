@@ -7,12 +7,11 @@ ghost use Rattle.abc_time.specs.Grains.{grains_of_the_longest_length};
 ghost use Rattle.abc_time.specs.Length.{IsLength, length_of};
 ghost use Rattle.abc_time.specs.Ratio.{IsRatio};
 ghost use Rattle.abc_music.specs.Lengths.{is_ratio_part, ratio_of, written_ratio, texts_of, length_by, HasLength, length_or_unit};
-ghost use Rattle.abc_music.specs.Tuplet.{tuplet_factors};
+ghost use Rattle.abc_settings.specs.Tuplet.{tuplet_factors};
 
 use crate::broken::BrokenFactors;
-use crate::tuplet::OpenTuplet;
-use crate::unit::UnitLength;
 use abc_scan::WrittenLength;
+use abc_settings::{OpenTuplet, UnitLength};
 use abc_text::LARGEST_NUMBER;
 use abc_time::{Grains, Ratio, length};
 

@@ -2,12 +2,12 @@
 
 ghost use Rattle.std.specs.Prelude.{◌≡◌, pos};
 ghost use Rattle.abc_music.specs.declared.broken.TheConstants.{MOST_MARKS};
-ghost use Rattle.abc_music.specs.declared.column.TheConstants.{FIRST_COLUMN};
-ghost use Rattle.abc_music.specs.declared.item.TheConstants.{HIGHEST_KEY, MOST_CHORD_NOTES, MOST_VOICES};
+ghost use Rattle.abc_items.specs.declared.column.TheConstants.{FIRST_COLUMN};
+ghost use Rattle.abc_items.specs.declared.item.TheConstants.{HIGHEST_KEY, MOST_CHORD_NOTES, MOST_VOICES};
 ghost use Rattle.abc_music.specs.declared.pitch.TheConstants.{MIDDLE_C, OCTAVE};
-ghost use Rattle.abc_music.specs.declared.program.TheConstants.{HIGHEST_PROGRAM};
-ghost use Rattle.abc_music.specs.declared.tuplet.TheConstants.{LARGEST_TUPLET_NUMBER};
-ghost use Rattle.abc_music.specs.declared.velocity.TheConstants.{HIGHEST_VELOCITY, USUAL_VELOCITY};
+ghost use Rattle.abc_items.specs.declared.program.TheConstants.{HIGHEST_PROGRAM};
+ghost use Rattle.abc_settings.specs.declared.tuplet.TheConstants.{LARGEST_TUPLET_NUMBER};
+ghost use Rattle.abc_items.specs.declared.velocity.TheConstants.{HIGHEST_VELOCITY, USUAL_VELOCITY};
 
 /// The keys of MIDI end at 127, the middle C is 60, and an octave has twelve semitones (SMF 1.0, ABC 2.1
 /// section 4.1).

@@ -4,9 +4,9 @@ ghost use Rattle.std.specs.Prelude.{◌≡◌, ◌^◌, ◌<◌, ◌≤◌, ◌�
 ghost use Rattle.abc_text.specs.Letter.{semitones};
 ghost use Rattle.abc_music.specs.Pitch.{midi_key, pitch_of, shifted_by};
 
-use crate::item::HIGHEST_KEY;
-use crate::voice_shift::VoiceShift;
+use abc_items::HIGHEST_KEY;
 use abc_scan::{Letter, Note};
+use abc_settings::VoiceShift;
 
 /// The key of the middle C, which is a capital C (ABC 2.1 section 4.1).
 const MIDDLE_C: u8 = 60;

@@ -1,21 +1,17 @@
 //! Notes as they sound.
 
 ghost use Rattle.std.specs.Prelude.{◌≡◌, if◌then◌else◌, [], ◌∷◌, ◌++◌, All, IfOk, OnOk, unwrap_or};
-ghost use Rattle.abc_music.specs.Item.{IsTone, IsWithinLongest};
-ghost use Rattle.abc_music.specs.Alteration.{with_own};
+ghost use Rattle.abc_items.specs.Item.{IsTone, IsWithinLongest};
+ghost use Rattle.abc_settings.specs.Alteration.{with_own};
 ghost use Rattle.abc_music.specs.Sound.{fault_if, length_in, no_notes, tied_note_in, tone_in, with_note};
 
-use crate::accidentals::Accidentals;
-use crate::alteration::{alteration_of, write_own};
 use crate::broken::BrokenFactors;
-use crate::item::{LocalFault, Tone};
 use crate::lengths::length_or_unit;
 use crate::pitch::key_of;
-use crate::settings::Settings;
-use crate::tied::TiedNote;
-use crate::velocity::velocity_of;
 use abc_fields::FaultCode;
+use abc_items::{LocalFault, Tone, velocity_of};
 use abc_scan::{Note, WrittenLength};
+use abc_settings::{Accidentals, Settings, TiedNote, alteration_of, write_own};
 use abc_text::{Sequence, ShortSequence};
 use abc_time::Grains;
 use std::alloc::{AllocError, Global};

@@ -2,28 +2,23 @@
 
 ghost use Rattle.std.specs.Prelude.{◌≡◌, ◌∷◌, ◌++◌, [], false, All, IfOk, OnErr, OnOk, is_none, unwrap_or};
 ghost use Rattle.abc_fields.specs.declared.fault.FaultCode.TheVariants.{BadLength, EmptyChord, KeyRange};
-ghost use Rattle.abc_music.specs.Column.{column_of};
-ghost use Rattle.abc_music.specs.Item.{AreTones, IsTone, IsWithinLongest, and_faults, and_item};
+ghost use Rattle.abc_items.specs.Column.{column_of};
+ghost use Rattle.abc_items.specs.Item.{AreTones, IsTone, IsWithinLongest, and_faults, and_item};
 ghost use Rattle.abc_music.specs.Sound.{fault_if};
-ghost use Rattle.abc_music.specs.declared.item.Item.TheVariants as item_kinds;
-ghost use Rattle.abc_music.specs.Tuplet.{counted_down};
+ghost use Rattle.abc_items.specs.declared.item.Item.TheVariants as item_kinds;
+ghost use Rattle.abc_settings.specs.Tuplet.{counted_down};
 ghost use Rattle.abc_music.specs.TimeTokens.{first_length, sounded, note_played, chord_played, rest_played, with_played};
 
-use crate::accidentals::Accidentals;
 use crate::broken::BrokenFactors;
 use crate::chords::{Outside, inside_of};
-use crate::column::column_of;
-use crate::item::{Item, Items, LocalFault, Tone};
 use crate::role::has_note;
-use crate::settings::Settings;
 use crate::sound::{
     Around, Inside, Sounding, accidentals_behind, length_in, sounding_of, tied_behind,
 };
-use crate::tied::TiedNote;
-use crate::tones::Tones;
-use crate::tuplet::counted_down;
 use abc_fields::FaultCode;
+use abc_items::{Item, Items, LocalFault, Tone, Tones, column_of};
 use abc_scan::{Chord, Note, WrittenLength};
+use abc_settings::{Accidentals, Settings, TiedNote, counted_down};
 use abc_text::ShortSequence;
 use abc_time::Grains;
 use std::alloc::{AllocError, Global};

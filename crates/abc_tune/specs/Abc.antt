@@ -1,14 +1,14 @@
 -- The compiler of ABC, by definition.
 use Rattle.std.specs.Prelude.{ℕ, List, [], ◌∷◌, Option, Some, None}
 use Rattle.std.specs.Option.{option_or}
-use Rattle.abc_bars.specs.declared.defaults.Defaults.{Defaults}
-use Rattle.abc_bars.specs.declared.entry.Entry.{Entry}
-use Rattle.abc_bars.specs.declared.entry.Entry.TheVariants as entries
-use Rattle.abc_music.specs.declared.item.Item.{Item}
-use Rattle.abc_music.specs.declared.item.Item.TheVariants as items
-use Rattle.abc_bars.specs.Defaults.{no_defaults}
-use Rattle.abc_bars.specs.Entry.{defaults_of, opening_after}
-use Rattle.abc_music.specs.Item.{Items}
+use Rattle.abc_header.specs.declared.defaults.Defaults.{Defaults}
+use Rattle.abc_cells.specs.declared.entry.Entry.{Entry}
+use Rattle.abc_cells.specs.declared.entry.Entry.TheVariants as entries
+use Rattle.abc_items.specs.declared.item.Item.{Item}
+use Rattle.abc_items.specs.declared.item.Item.TheVariants as items
+use Rattle.abc_header.specs.Defaults.{no_defaults}
+use Rattle.abc_cells.specs.Entry.{defaults_of, opening_after}
+use Rattle.abc_items.specs.Item.{Items}
 use Rattle.abc_scan.specs.declared.spanned.Spanned.{Spanned}
 use Rattle.abc_scan.specs.declared.token.TokenKind.{TokenKind}
 use Rattle.abc_scan.specs.Cell.{cells_of}

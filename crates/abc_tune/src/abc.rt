@@ -1,16 +1,19 @@
 //! The compiler of ABC.
 
 ghost use Rattle.std.specs.Prelude.{◌≡◌, option_copied};
-ghost use Rattle.abc_bars.specs.Step.{stepped};
-ghost use Rattle.abc_bars.specs.SameEntry.{same_entry, bars_resumable};
+ghost use Rattle.abc_cells.specs.Step.{stepped};
+ghost use Rattle.abc_cells.specs.SameEntry.{same_entry, bars_resumable};
 ghost use Rattle.abc_tune.specs.Abc.{rules_of_abc, number_of, title_of, first_value};
 ghost use Rattle.abc_tune.specs.Lawful.{abc_lawful, abc_told_apart};
 
 use crate::built::build;
-use abc_bars::{BarFold, Defaults, Entry, Item, Items};
+use abc_bars::BarFold;
+use abc_cells::Entry;
 use abc_compiler::{Built, Compiler};
 use abc_fields::FaultCode;
 use abc_fold::{Fold, Resumable, Shared, Work};
+use abc_header::Defaults;
+use abc_items::{Item, Items};
 use abc_scan::{Cell, LineClass, cells_of_line, class_of};
 use std::alloc::{AllocError, Global};
 

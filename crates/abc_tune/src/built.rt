@@ -6,13 +6,13 @@ ghost use Rattle.abc_fold.specs.Work.{raised};
 ghost use Rattle.abc_tune.specs.Built.{bytes_of, build_faults_of};
 ghost use Rattle.abc_tune.specs.WholeFaults.{faults_with, is_too_long_fault, AreRisingFrom};
 ghost use Rattle.abc_voices.specs.Arrange.{items_in};
-ghost use Rattle.abc_voices.specs.Limits.{IsWithinLimits};
+ghost use Rattle.abc_score.specs.Limits.{IsWithinLimits};
 ghost use Rattle.smf_bytes.specs.File.{file_bytes};
 
 use crate::whole_faults::faults_with;
 use abc_compiler::Built;
 use abc_fold::{Shared, Work};
-use abc_music::Items;
+use abc_items::Items;
 use abc_text::Sequence;
 use abc_voices::{Arranged, BuildFault, arrange};
 use smf_bytes::file_of;

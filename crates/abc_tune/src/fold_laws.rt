@@ -2,10 +2,10 @@
 
 ghost use Rattle.std.specs.Prelude.{List, Option};
 ghost use Rattle.std.specs.Option.{option_map};
-ghost use Rattle.abc_bars.specs.Defaults.{no_defaults};
-ghost use Rattle.abc_bars.specs.Entry.{opening_after};
+ghost use Rattle.abc_header.specs.Defaults.{no_defaults};
+ghost use Rattle.abc_cells.specs.Entry.{opening_after};
 ghost use Rattle.abc_bars.specs.LookBack.Along.{CellTokens, IsLookBack, file_header_begins, state_after, tune_begins};
-ghost use Rattle.abc_bars.specs.declared.entry.Entry.TheVariants as entries;
+ghost use Rattle.abc_cells.specs.declared.entry.Entry.TheVariants as entries;
 ghost use Rattle.abc_tune.specs.declared.abc.Abc.{Abc};
 
 use crate::abc::Abc;

@@ -8,7 +8,7 @@ ghost use Rattle.abc_voices.specs.Opening.{past_all};
 
 use abc_fields::FaultCode;
 use abc_fold::Shared;
-use abc_music::{Item, Items};
+use abc_items::{Item, Items};
 use abc_text::Sequence;
 use std::alloc::{AllocError, Global};
 

@@ -8,23 +8,23 @@ use Rattle.std.proofs.lemmas.Bool.Decides.{Decides-like, Decides-ltb, Decides-or
 use Rattle.std.proofs.lemmas.List.{length-map}
 use Rattle.std.proofs.lemmas.List.Elements.{All-weaker}
 use Rattle.std.proofs.lemmas.List.Sums.{AllPass-from_list_all}
-use Rattle.abc_music.specs.Item.{IsItem}
-use Rattle.abc_music.specs.declared.item.Item.{Item}
-use Rattle.abc_music.specs.declared.item.TheConstants.{MOST_VOICES}
+use Rattle.abc_items.specs.Item.{IsItem}
+use Rattle.abc_items.specs.declared.item.Item.{Item}
+use Rattle.abc_items.specs.declared.item.TheConstants.{MOST_VOICES}
 use Rattle.abc_repeat.specs.declared.order.TheConstants.{MOST_SECTIONS}
 use Rattle.abc_repeat.specs.declared.play.TheConstants.{MOST_PLACES}
 use Rattle.abc_text.proofs.Powers.{power_from}
 use Rattle.abc_time.specs.declared.grains.Grains.{Grains}
 use Rattle.abc_time.specs.Grains.{grains_of_the_latest_end}
-use Rattle.abc_voices.specs.declared.limits.TheConstants.{LONGEST_TITLE, MOST_CHANGES, MOST_NOTES, MOST_PROGRAMS}
-use Rattle.abc_voices.specs.declared.score.Change.{Change}
-use Rattle.abc_voices.specs.declared.score.ChangeKind.{ChangeKind}
-use Rattle.abc_voices.specs.declared.score.ChangeKind.TheVariants.{Tempo, Meter, Key}
-use Rattle.abc_voices.specs.declared.score.ProgramChange.{ProgramChange}
-use Rattle.abc_voices.specs.declared.score.Score.{Score}
-use Rattle.abc_voices.specs.declared.score.Sounding.{Sounding}
+use Rattle.abc_score.specs.declared.limits.TheConstants.{LONGEST_TITLE, MOST_CHANGES, MOST_NOTES, MOST_PROGRAMS}
+use Rattle.abc_score.specs.declared.score.Change.{Change}
+use Rattle.abc_score.specs.declared.score.ChangeKind.{ChangeKind}
+use Rattle.abc_score.specs.declared.score.ChangeKind.TheVariants.{Tempo, Meter, Key}
+use Rattle.abc_score.specs.declared.score.ProgramChange.{ProgramChange}
+use Rattle.abc_score.specs.declared.score.Score.{Score}
+use Rattle.abc_score.specs.declared.score.Sounding.{Sounding}
 use Rattle.abc_voices.specs.Arrange.{end_of, is_too_long, places_played, score_of, sections_played}
-use Rattle.abc_voices.specs.Limits.{IsWritable, IsChangeWithin, IsSoundingWithin, IsVoiceWithin, IsProgramWithin, AreProgramsWithin, AreCountsWithin, IsWithinLimits, is_writable, is_change_within, is_note_within, is_voice_within, is_program_within, are_programs_within, are_counts_within, is_within_limits}
+use Rattle.abc_score.specs.Limits.{IsWritable, IsChangeWithin, IsSoundingWithin, IsVoiceWithin, IsProgramWithin, AreProgramsWithin, AreCountsWithin, IsWithinLimits, is_writable, is_change_within, is_note_within, is_voice_within, is_program_within, are_programs_within, are_counts_within, is_within_limits}
 use Rattle.abc_voices.specs.Opening.{title_of}
 use Rattle.abc_voices.specs.TooLong.{PassesALimit, of_sections, of_places, of_time, of_voices, of_title, IsTooLongByALimit}
 use Rattle.abc_voices.specs.Track.{tracks}

@@ -1,16 +1,17 @@
 -- The tempo, the meter and the key on each tick, by what is played there. Our own.
 use Rattle.std.specs.Prelude.{◌≡◌, ℕ, ℤ, pos, ◌+◌, ◌==◌, Bool, true, false, ◌&&◌, if◌then◌else◌, List, [], ◌∷◌, take, filter, Option, Some, None, option_map, option_and_then, unwrap_or}
 use Rattle.std.specs.Option.{option_to_list}
-use Rattle.abc_music.specs.declared.item.Item.{Item}
-use Rattle.abc_music.specs.declared.item.Item.TheVariants as items
+use Rattle.abc_items.specs.declared.item.Item.{Item}
+use Rattle.abc_items.specs.declared.item.Item.TheVariants as items
 use Rattle.abc_fields.specs.declared.meter.Meter.{Meter}
 use Rattle.abc_fields.specs.declared.meter.Meter.TheVariants as meters
 use Rattle.abc_time.specs.declared.grains.Grains.{Grains}
 use Rattle.abc_time.specs.Grains.{tick_at}
-use Rattle.abc_voices.specs.declared.score.Change.{Change}
-use Rattle.abc_voices.specs.declared.score.ChangeKind.{ChangeKind}
-use Rattle.abc_voices.specs.declared.score.ChangeKind.TheVariants as kinds
-use Rattle.abc_voices.specs.Arrange.{longest, play_in, played_sections, score_of, usual_tempo}
+use Rattle.abc_score.specs.declared.score.Change.{Change}
+use Rattle.abc_score.specs.declared.score.ChangeKind.{ChangeKind}
+use Rattle.abc_score.specs.declared.score.ChangeKind.TheVariants as kinds
+use Rattle.abc_voices.specs.Arrange.{played_sections, score_of, usual_tempo}
+use Rattle.abc_sections.specs.PlayedSection.{longest, play_in}
 use Rattle.abc_voices.specs.Change.{at_moment, tempo_of, meter_of, key_of}
 use Rattle.abc_voices.specs.OnTicks.{at_moments, last_said}
 use Rattle.abc_voices.specs.ScoreChanges.{tempo_change, meter_change, key_change}

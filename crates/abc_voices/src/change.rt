@@ -1,15 +1,15 @@
 //! Changes of tempo, meter, key and program, at their moments.
 
 ghost use Rattle.std.specs.Prelude.{◌≡◌, ◌+◌, ◌++◌, ◌≤◌, Option, OnOk};
-ghost use Rattle.abc_music.specs.declared.item.Item.{Item};
+ghost use Rattle.abc_items.specs.declared.item.Item.{Item};
 ghost use Rattle.abc_time.specs.Grains.{grains_of_the_latest_end};
-ghost use Rattle.abc_voices.specs.Items.{items_of};
+ghost use Rattle.abc_sections.specs.Items.{items_of};
 ghost use Rattle.abc_voices.specs.Change.{tempo_of, meter_of, key_of, program_of, set_from};
-ghost use Rattle.abc_voices.specs.Play.{duration};
+ghost use Rattle.abc_sections.specs.Play.{duration};
 
-use crate::step::length_of;
 use abc_fields::Meter;
-use abc_music::Item;
+use abc_items::Item;
+use abc_sections::length_of;
 use abc_time::Grains;
 use std::alloc::AllocError;
 

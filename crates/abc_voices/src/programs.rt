@@ -2,7 +2,7 @@
 
 ghost use Rattle.std.specs.Prelude.{◌≡◌, true, ◌-◌, ◌≤◌, All, None, IfOk};
 ghost use Rattle.abc_time.specs.Grains.{grains_of_the_latest_end};
-ghost use Rattle.abc_voices.specs.Items.{items_of};
+ghost use Rattle.abc_sections.specs.Items.{items_of};
 ghost use Rattle.abc_voices.specs.Fields.{sets_program, keeps_programs};
 ghost use Rattle.abc_voices.specs.Opening.{program_past, past_all};
 ghost use Rattle.abc_voices.specs.Turns.{IsStage, PlaysNone, stages_in, length_along, programs_by, programs_along};
@@ -10,11 +10,11 @@ ghost use Rattle.abc_voices.specs.Turns.{IsStage, PlaysNone, stages_in, length_a
 use crate::change::Programs;
 use crate::fields::keeps_programs;
 use crate::opening::opening_program;
-use crate::score::ProgramChange;
 use crate::score_changes::programs_that_stand;
 use crate::setting::one_along;
-use crate::stage::Turn;
-use abc_music::Item;
+use abc_items::Item;
+use abc_score::ProgramChange;
+use abc_sections::Turn;
 use abc_text::Sequence;
 use std::alloc::{AllocError, Global};
 

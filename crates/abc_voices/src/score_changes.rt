@@ -4,9 +4,9 @@ ghost use Rattle.std.specs.Prelude.{◌≡◌, ◌≤◌, ◌++◌, All, IfOk, O
 ghost use Rattle.abc_time.specs.Grains.{grains_of_the_latest_end};
 ghost use Rattle.abc_voices.specs.ScoreChanges.{tempo_change, meter_change, key_change, program_change, changes_that_stand, programs_that_stand};
 
-use crate::score::{Change, ChangeKind, ProgramChange};
 use crate::ticks::last_of_each_tick;
 use abc_fields::Meter;
+use abc_score::{Change, ChangeKind, ProgramChange};
 use abc_time::Grains;
 use std::alloc::{AllocError, Global};
 

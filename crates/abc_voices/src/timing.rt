@@ -2,11 +2,11 @@
 
 ghost use Rattle.std.specs.Prelude.{◌≡◌};
 ghost use Rattle.std.specs.List.{list_any};
-ghost use Rattle.abc_voices.specs.Items.{items_of};
+ghost use Rattle.abc_sections.specs.Items.{items_of};
 ghost use Rattle.abc_voices.specs.Arrange.{takes_time, last_off};
 
-use crate::score::Sounding;
-use abc_music::Item;
+use abc_items::Item;
+use abc_score::Sounding;
 use abc_time::Grains;
 
 /// When a moment and the last of some notes are over.

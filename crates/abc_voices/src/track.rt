@@ -2,11 +2,11 @@
 
 ghost use Rattle.std.specs.Prelude.{◌≡◌, [], ◌∷◌, IfOk, OnOk, map, bytes_eq};
 ghost use Rattle.std.specs.List.{list_any};
-ghost use Rattle.abc_voices.specs.Items.{items_of};
-ghost use Rattle.abc_voices.specs.Section.{opening_voice};
+ghost use Rattle.abc_sections.specs.Items.{items_of};
+ghost use Rattle.abc_sections.specs.Section.{opening_voice};
 ghost use Rattle.abc_voices.specs.Track.{with_name, everyone, plays_first, nameless_plays};
 
-use abc_music::Item;
+use abc_items::Item;
 use std::alloc::{AllocError, Global};
 
 /// Whether a name is one of some others.

@@ -5,8 +5,8 @@ ghost use Rattle.std.specs.List.{list_any};
 ghost use Rattle.abc_time.specs.Grains.{grains_of_the_latest_end};
 ghost use Rattle.abc_voices.specs.Turns.{stages_in, length_along, parts_differ, is_stage_uneven};
 
-use crate::stage::{Part, Stage, Turn};
 use crate::timing::plays_time;
+use abc_sections::{Part, Stage, Turn};
 use abc_time::{Grains, LATEST_END};
 
 /// How long stages are one after another, unless that is later than a tune may end.

@@ -7,9 +7,9 @@ ghost use Rattle.abc_voices.specs.Arrange.{all_notes};
 ghost use Rattle.abc_voices.specs.TiedNotes.{notes_from, notes_in};
 
 use crate::notes::put_notes;
-use crate::score::Sounding;
-use crate::stage::{Part, Stage, Turn};
 use crate::tied_notes::NotesInOne;
+use abc_score::Sounding;
+use abc_sections::{Part, Stage, Turn};
 use abc_text::Sequence;
 use abc_time::Grains;
 use std::alloc::{AllocError, Global};

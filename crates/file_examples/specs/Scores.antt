@@ -1,9 +1,9 @@
 -- The scores, and the changes and the notes of a track, of the worked examples of files. Our own.
 use Rattle.std.specs.Prelude.{pos, negsuc, true, false, List, [], ◌∷◌, codes}
-use Rattle.abc_voices.specs.declared.score.Change.{Change}
-use Rattle.abc_voices.specs.declared.score.ChangeKind.TheVariants.{Tempo, Meter, Key}
-use Rattle.abc_voices.specs.declared.score.Score.{Score}
-use Rattle.abc_voices.specs.declared.score.Sounding.{Sounding}
+use Rattle.abc_score.specs.declared.score.Change.{Change}
+use Rattle.abc_score.specs.declared.score.ChangeKind.TheVariants.{Tempo, Meter, Key}
+use Rattle.abc_score.specs.declared.score.Score.{Score}
+use Rattle.abc_score.specs.declared.score.Sounding.{Sounding}
 use Rattle.file_examples.specs.Values.{at_tick, change_at, program_at, seventh, sounding, sounding_with}
 
 -- A tempo that changes at tick 240.

@@ -1,12 +1,12 @@
 -- Items of tunes as the worked examples write them: a note lasts one grain. Our own.
 use Rattle.std.specs.Prelude.{ℕ, pos, Bool, true, false, List, [], ◌∷◌, Option, Some, None}
-use Rattle.abc_music.specs.declared.item.Item.{Item}
-use Rattle.abc_music.specs.declared.item.Item.TheVariants as items
-use Rattle.abc_music.specs.declared.item.Tone.{Tone}
-use Rattle.abc_voices.specs.declared.score.Change.{Change}
-use Rattle.abc_voices.specs.declared.score.ChangeKind.TheVariants as kinds
-use Rattle.abc_voices.specs.declared.score.ProgramChange.{ProgramChange}
-use Rattle.abc_voices.specs.declared.score.Sounding.{Sounding}
+use Rattle.abc_items.specs.declared.item.Item.{Item}
+use Rattle.abc_items.specs.declared.item.Item.TheVariants as items
+use Rattle.abc_items.specs.declared.item.Tone.{Tone}
+use Rattle.abc_score.specs.declared.score.Change.{Change}
+use Rattle.abc_score.specs.declared.score.ChangeKind.TheVariants as kinds
+use Rattle.abc_score.specs.declared.score.ProgramChange.{ProgramChange}
+use Rattle.abc_score.specs.declared.score.Sounding.{Sounding}
 
 -- A tone of a key, or a silent one, of so many grains, that is tied or not, with a velocity, and one with that of a tune
 -- without dynamics.

@@ -1,10 +1,11 @@
 //! Items and faults that are put together, the tones of a chord, and texts of items.
 
 use crate::told::{call, done, lent};
-use abc_bars::{BarFold, VoiceName};
+use abc_bars::BarFold;
 use abc_fields::FaultCode;
 use abc_fold::Resumable;
-use abc_music::{Item, ItemText, Items, LentTones, LocalFault, Tone, Tones};
+use abc_header::VoiceName;
+use abc_items::{Item, ItemText, Items, LentTones, LocalFault, Tone, Tones};
 use abc_text::ShortSequence;
 use std::alloc::{AllocError, Global};
 use std::rt::Runtime;

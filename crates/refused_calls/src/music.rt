@@ -1,8 +1,10 @@
 //! Steps of the fold over the cells of a tune.
 
 use crate::told::{call, done};
-use abc_bars::{BarFold, Entry, Items};
+use abc_bars::BarFold;
+use abc_cells::Entry;
 use abc_fold::{Fold, Shared, Work};
+use abc_items::Items;
 use abc_scan::{Cell, scan};
 use std::alloc::{AllocError, Global};
 use std::rt::Runtime;

@@ -3,12 +3,13 @@
 use crate::items::counts;
 use crate::told::{call, done, lent};
 use abc_fields::NATURAL;
-use abc_music::{
-    Accidentals, Behind, BrokenFactors, Items, NotePlace, Settings, TiedNote, TuneMeter,
-    UnitLength, VoiceShift, chord_played, note_played, rest_played, tuplet_opened,
-};
+use abc_items::Items;
+use abc_music::{Behind, BrokenFactors, NotePlace, chord_played, note_played, rest_played};
 use abc_scan::{
     Accidental, Chord, ChordPartKind, Letter, Note, Reach, Spanned, Tuplet, WrittenLength,
+};
+use abc_settings::{
+    Accidentals, Settings, TiedNote, TuneMeter, UnitLength, VoiceShift, tuplet_opened,
 };
 use abc_text::{Sequence, ShortSequence};
 use std::alloc::{AllocError, Global};

@@ -3,8 +3,9 @@
 use crate::files::FILE_OF_C;
 use crate::music::cell;
 use crate::told::{again, call, done, lent};
-use abc_bars::{Entry, Items};
+use abc_cells::Entry;
 use abc_fold::{Fold, Shared, Work};
+use abc_items::Items;
 use abc_scan::{Cell, LineClass};
 use abc_tune::{Abc, Built, Compiler, build, put_line};
 use abc_voices::{BuildFault, arrange};

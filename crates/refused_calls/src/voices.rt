@@ -2,8 +2,10 @@
 
 use crate::music::entry_behind;
 use crate::told::{call, done, lent};
-use abc_bars::{BarFold, Entry, VoiceName, Voices};
+use abc_bars::BarFold;
+use abc_cells::Entry;
 use abc_fold::{Resumable, Shared, Work};
+use abc_header::{VoiceName, Voices};
 use std::alloc::{AllocError, Global};
 use std::rt::Runtime;
 

@@ -1,13 +1,15 @@
 //! A chain over a tune of a hundred lines is made, and what it keeps is taken up and copied.
 
 ghost use Rattle.std.specs.Prelude.{◌<◌, All, length};
-ghost use Rattle.abc_bars.specs.SameEntry.{bars};
-ghost use Rattle.abc_bars.specs.declared.entry.Entry.{Entry};
+ghost use Rattle.abc_cells.specs.SameEntry.{bars};
+ghost use Rattle.abc_cells.specs.declared.entry.Entry.{Entry};
 ghost use Rattle.abc_fold.specs.Chain.{Folds};
 ghost use Rattle.abc_fold.specs.Piece.{IsKept};
 
-use abc_bars::{BarFold, Entry, Items};
+use abc_bars::BarFold;
+use abc_cells::Entry;
 use abc_fold::{Chain, Fold, Piece, Resumable, Shared, Work};
+use abc_items::Items;
 use abc_scan::{Cell, scan};
 use std::alloc::Global;
 use std::process::Abort;

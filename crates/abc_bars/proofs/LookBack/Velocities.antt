@@ -10,9 +10,9 @@ use Rattle.abc_scan.specs.declared.spanned.Spanned.{Spanned}
 use Rattle.abc_scan.specs.declared.token.TokenKind.TheVariants as kinds
 use Rattle.abc_time.specs.declared.ratio.Ratio.{Ratio}
 use Rattle.abc_music.specs.declared.chords.Outside.{Outside}
-use Rattle.abc_music.specs.declared.item.TheConstants.{MOST_CHORD_NOTES}
-use Rattle.abc_music.specs.declared.item.Tone.{Tone}
-use Rattle.abc_music.specs.declared.settings.Settings.{Settings}
+use Rattle.abc_items.specs.declared.item.TheConstants.{MOST_CHORD_NOTES}
+use Rattle.abc_items.specs.declared.item.Tone.{Tone}
+use Rattle.abc_settings.specs.declared.settings.Settings.{Settings}
 use Rattle.abc_music.specs.declared.sound.Around.{Around}
 use Rattle.abc_music.specs.declared.sound.Inside.{Inside}
 use Rattle.abc_music.specs.Broken.{factors_of}
@@ -20,9 +20,9 @@ use Rattle.abc_music.specs.Chords.{around_part, inside_from, inside_of, tie_foll
 use Rattle.abc_music.specs.Sound.{no_notes, tone_in, with_note}
 use Rattle.abc_music.specs.TimeTokens.{first_length}
 use Rattle.abc_music.specs.TokenRole.{has_note}
-use Rattle.abc_music.specs.Velocity.{velocity_of}
-use Rattle.abc_bars.specs.Body.{here, mentioned}
-use Rattle.abc_bars.specs.Cell.{mentioned_by_chord, tie_ahead}
+use Rattle.abc_items.specs.Velocity.{velocity_of}
+use Rattle.abc_cells.specs.Body.{here, mentioned}
+use Rattle.abc_cells.specs.Cell.{mentioned_by_chord, tie_ahead}
 use Rattle.abc_bars.specs.LookBack.Element.{Element}
 use Rattle.abc_bars.specs.LookBack.CellPlace.{Standing, standing_at}
 use Rattle.abc_bars.specs.LookBack.Velocities.{ChordsHaveVelocities, IsVelocityAt, NotesHaveVelocities, SoundsWith}

@@ -3,14 +3,14 @@
 use Rattle.std.specs.Prelude.{◌≡◌, List, [], ◌∷◌, map, Option, Some, None}
 use Rattle.abc_scan.specs.declared.spanned.Spanned.{Spanned}
 use Rattle.abc_scan.specs.declared.token.TokenKind.{TokenKind}
-use Rattle.abc_bars.specs.declared.defaults.Defaults.{Defaults}
-use Rattle.abc_bars.specs.declared.entry.Entry.{Entry}
-use Rattle.abc_bars.specs.Defaults.{no_defaults}
-use Rattle.abc_bars.specs.HeaderLine.{HeaderLine}
-use Rattle.abc_bars.specs.Step.{line_in}
+use Rattle.abc_header.specs.declared.defaults.Defaults.{Defaults}
+use Rattle.abc_cells.specs.declared.entry.Entry.{Entry}
+use Rattle.abc_header.specs.Defaults.{no_defaults}
+use Rattle.abc_header.specs.HeaderLine.{HeaderLine}
+use Rattle.abc_cells.specs.Step.{line_in}
 use Rattle.abc_bars.specs.LookBack.Defaults.{defaults_at}
 use Rattle.abc_bars.specs.LookBack.Place.{Place, InFileHeader, InHeader, given_at, place_behind, view}
-use Rattle.abc_music.specs.Item.{Items}
+use Rattle.abc_items.specs.Item.{Items}
 
 -- The tokens of a cell.
 abbrev pub CellTokens : Type 0

@@ -8,10 +8,10 @@ use Rattle.abc_scan.specs.declared.spanned.Spanned.{Spanned}
 use Rattle.abc_scan.specs.declared.token.TokenKind.{TokenKind}
 use Rattle.abc_scan.specs.declared.token.TokenKind.TheVariants as kinds
 use Rattle.abc_time.specs.declared.grains.Grains.{Grains}
-use Rattle.abc_music.specs.declared.item.Item.{Item}
-use Rattle.abc_music.specs.declared.item.Item.TheVariants as items
-use Rattle.abc_music.specs.declared.item.Tone.{Tone}
-use Rattle.abc_music.specs.declared.settings.Settings.{Settings}
+use Rattle.abc_items.specs.declared.item.Item.{Item}
+use Rattle.abc_items.specs.declared.item.Item.TheVariants as items
+use Rattle.abc_items.specs.declared.item.Tone.{Tone}
+use Rattle.abc_settings.specs.declared.settings.Settings.{Settings}
 use Rattle.abc_music.specs.ChordNotes.{SoundsTogether}
 use Rattle.abc_music.specs.Lasting.{IsGiven, IsOneTone, IsPlace, Lasts}
 use Rattle.abc_music.specs.TokenRole.{has_note}

@@ -8,9 +8,9 @@ use Rattle.abc_scan.specs.declared.spanned.Spanned.{Spanned}
 use Rattle.abc_scan.specs.declared.token.TokenKind.{TokenKind}
 use Rattle.abc_scan.specs.declared.token.TokenKind.TheVariants as kinds
 use Rattle.abc_music.specs.Broken.{is_time_token}
-use Rattle.abc_music.specs.Column.{column_of}
+use Rattle.abc_items.specs.Column.{column_of}
 use Rattle.abc_music.specs.LooseTies.{is_loose, with_before}
-use Rattle.abc_bars.specs.Cell.{may_be_tied}
+use Rattle.abc_cells.specs.Cell.{may_be_tied}
 use Rattle.abc_bars.specs.LookBack.Element.{Element}
 use Rattle.abc_bars.specs.LookBack.Voice.{counted_notes}
 

@@ -1,4 +1,4 @@
-use Rattle.abc_music.proofs.WholeParts.{bar_value, bar_exact_at, bar_short_at}
+use Rattle.abc_music.proofs.WholeBars.{bar_value, bar_exact_at, bar_short_at}
 use Rattle.abc_music.proofs.bar_rest.bar_grains.Goals as goal
 
 pub returns-clause-value : goal.returns-clause-value

@@ -3,7 +3,7 @@ use Rattle.std.specs.Prelude.{option_to_list}
 use Rattle.std.specs.Result.{result_ok}
 use Rattle.abc_time.specs.Length.{length_of}
 use Rattle.abc_time.specs.Ratio.{IsRatio}
-use Rattle.abc_music.specs.Tuplet.{tuplet_factors}
+use Rattle.abc_settings.specs.Tuplet.{tuplet_factors}
 use Rattle.abc_music.proofs.Factors.{SameProducts, exact_along, same_length, same_products, all_ratios, for_some, unchanged, once_by, none_is, empty_is, plain_value, plain_exact}
 use Rattle.abc_music.proofs.lengths.product_of.Goals as goal
 

@@ -1,5 +1,5 @@
 use Rattle.std.proofs.Common.{◌≡◌, ◌++◌, drop}
-use Rattle.abc_voices.specs.Items.{items_of}
+use Rattle.abc_sections.specs.Items.{items_of}
 use Rattle.abc_voices.specs.Fields.{fields}
 use Rattle.abc_voices.proofs.fields.fields.Given as goal
 

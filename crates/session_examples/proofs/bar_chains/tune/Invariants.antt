@@ -1,5 +1,5 @@
 use Rattle.std.proofs.Common.{All}
-use Rattle.abc_bars.specs.SameEntry.{bars}
+use Rattle.abc_cells.specs.SameEntry.{bars}
 use Rattle.abc_fold.specs.Piece.{IsKept}
 use Rattle.session_examples.proofs.bar_chains.tune.Given as goal
 

@@ -1,6 +1,6 @@
 use Rattle.std.proofs.Common.{rules, All, [], ◌∷◌, ◌++◌, ◌≡◌}
 use Rattle.std.proofs.lemmas.List.Elements.{All-push}
-use Rattle.abc_bars.specs.SameEntry.{bars, bars_resumable}
+use Rattle.abc_cells.specs.SameEntry.{bars, bars_resumable}
 use Rattle.abc_fold.specs.Piece.{IsKept}
 use Rattle.session_examples.proofs.bar_chains.with_line.Goals as goal
 

@@ -1,4 +1,4 @@
-use Rattle.abc_bars.specs.SameEntry.{same_entry_tells}
+use Rattle.abc_cells.specs.SameEntry.{same_entry_tells}
 use Rattle.abc_bars.proofs.bar_fold.BarFoldResumable.stays.Goals as goal
 
 pub returns : goal.returns

@@ -1,0 +1,12 @@
+pub mod Body
+pub mod BodyCopy
+pub mod BodyCopyLent
+pub mod BodyFields
+pub mod BodyLent
+pub mod BodyOpening
+pub mod Cell
+pub mod Entry
+pub mod KeepsNames
+pub mod Mentioned
+pub mod SameEntry
+pub mod Step

@@ -1,0 +1,14 @@
+pub mod Defaults
+pub mod Equality
+pub mod FieldFault
+pub mod FieldKind
+pub mod FileHeader
+pub mod Header
+pub mod HeaderLine
+pub mod Names
+pub mod Opening
+pub mod Reference
+pub mod SameDefaults
+pub mod SameHeader
+pub mod Voices
+pub mod VoicesLent

@@ -1,0 +1,6 @@
+pub mod Column
+pub mod Item
+pub mod KeptTones
+pub mod LentTones
+pub mod Program
+pub mod Velocity

@@ -1,0 +1,206 @@
+//! What cells give to the score.
+
+ghost use Rattle.std.specs.Prelude.{◌≡◌, All, [], ◌∷◌, ◌++◌, IfOk, OnErr, OnOk};
+ghost use Rattle.abc_items.specs.Item.{IsItem, nothing, and_item, and_faults};
+
+use crate::item_text::ItemText;
+use crate::tones::Tones;
+use crate::velocity::USUAL_VELOCITY;
+use abc_fields::{FaultCode, Meter};
+use abc_scan::BarLine;
+use abc_text::Sequence;
+use abc_time::Grains;
+use std::alloc::{AllocError, Global};
+use std::marker::Model;
+
+/// The highest key of MIDI (SMF 1.0).
+pub const HIGHEST_KEY: u8 = 127;
+
+/// The most notes of a chord that count.
+pub const MOST_CHORD_NOTES: usize = 16;
+
+/// The most voices of a tune. Our own.
+pub const MOST_VOICES: usize = 15;
+
+/// One note of a note or chord that takes time.
+#[derive(Clone, Copy)]
+pub struct Tone {
+    pub length: Grains,
+    /// The key of MIDI, 60 being the middle C; None where MIDI has none for it, and it is silent.
+    pub key: Option<u8>,
+    /// The velocity of MIDI, 1 to 127.
+    pub velocity: u8,
+    /// Whether a tie follows it.
+    pub tied: bool,
+}
+
+impl Default for Tone {
+    fn default() -> Self {
+        Tone {
+            key: None,
+            length: Grains(0),
+            velocity: USUAL_VELOCITY,
+            tied: false,
+        }
+    }
+}
+
+/// What a cell gives to the score. `opening` marks what holds when the tune begins: each field of a
+/// header gives the tempo and meter as if the header ended behind it, of which the last counts, and the
+/// field that ends a header gives the key.
+#[derive(Clone, Drop)]
+pub enum Item {
+    /// The tune's reference number, 0 where X: has none.
+    Number(u32),
+    /// A note or chord, with the length that it takes.
+    Tone {
+        tones: Tones,
+        length: Grains,
+    },
+    /// A rest; `bar` where it rests for whole bars.
+    Rest {
+        length: Grains,
+        bar: bool,
+    },
+    Bar(BarLine),
+    /// The passes that an ending is for: bit i - 1 is set for pass i.
+    Ending(u32),
+    /// The capital letter of a part.
+    Section(u8),
+    /// Microseconds of a quarter note, None where the field sets none; `out` where its tempo is out of
+    /// range.
+    Tempo {
+        opening: bool,
+        micros: Option<u32>,
+        out: bool,
+    },
+    /// None where the field is refused.
+    Meter {
+        opening: bool,
+        meter: Option<Meter>,
+    },
+    /// Sharps, negative for flats, and whether the mode is minor; None where the signature stays.
+    Key {
+        opening: bool,
+        key: Option<(i8, bool)>,
+    },
+    /// The name of a voice: a header's V: declares it, another one makes it the current one.
+    Voice {
+        opening: bool,
+        name: ItemText,
+    },
+    /// A program of MIDI, 0 to 127; None where the directive is refused. In a header the last one that is not
+    /// refused counts, and a file header's stands before those of the tune's header.
+    Program {
+        opening: bool,
+        number: Option<u8>,
+    },
+    Title(ItemText),
+    /// The order of the parts.
+    Order(ItemText),
+}
+
+/// A book keeps the items of all of its cells.
+const _: () = prove!(size_of::<Item>() == 32);
+
+/// A fault of a cell: its column, counted from 1, and its code.
+pub type LocalFault = (u32, FaultCode);
+
+/// What a cell gives: its items, and its faults, each in the order in which it was put here.
+#[derive(Drop)]
+pub struct Items {
+    items: Vec<Item>,
+    faults: Vec<LocalFault>,
+}
+
+impl Model for Items {
+    ghost use Rattle.std.specs.Prelude.{All};
+    ghost use Rattle.abc_items.specs.Item.{Items as Seen, IsItem};
+
+    ghost Value = { Seen };
+
+    ghost view = { λ given. record { items = given.items.items; faults = given.faults.items } };
+
+    ghost invariant = { λ given. All IsItem given.items.items };
+}
+
+impl Items {
+    /// No item and no fault yet, with room for so many items.
+    pub fn with_room(alloc: Global, items: usize) -> Result<Items, AllocError>
+        ensures { IfOk result (λ made. made ≡ nothing) }
+    {
+        Ok(Items {
+            items: Vec::with_capacity(alloc, items)?,
+            faults: Vec::new(alloc),
+        })
+    }
+
+    /// These items and these faults.
+    pub fn of(items: Sequence<Item>, faults: Sequence<LocalFault>) -> Items
+        requires { All IsItem items }
+        ensures items { result.items ≡ items }
+        ensures faults { result.faults ≡ faults }
+    {
+        Items {
+            items: items.into_vec(),
+            faults: faults.into_vec(),
+        }
+    }
+
+    /// The items in the order in which they were put here.
+    pub fn items(&self) -> &[Item]
+        ensures value { result.now ≡ self.now.items }
+        ensures range { All IsItem result.now }
+    {
+        self.items.as_slice()
+    }
+
+    /// The faults in the order in which they were put here, each column counted from 1.
+    pub fn faults(&self) -> &[LocalFault]
+        ensures { result.now ≡ self.now.faults }
+    {
+        self.faults.as_slice()
+    }
+
+    /// Puts one more item behind the others.
+    #[inline(always)]
+    pub fn push_item(&mut self, item: Item) -> Result<(), AllocError>
+        requires { IsItem item }
+        ensures ok { OnOk result (self.new ≡ and_item self.old item) }
+        ensures refused { OnErr result (self.new ≡ self.old) }
+    {
+        self.items.push(item)?;
+        Ok(())
+    }
+
+    /// Puts one more fault behind the others.
+    pub fn push_fault(&mut self, fault: LocalFault) -> Result<(), AllocError>
+        ensures ok { OnOk result (self.new ≡ and_faults self.old (fault ∷ [])) }
+        ensures refused { OnErr result (self.new ≡ self.old) }
+    {
+        self.faults.push(fault)?;
+        Ok(())
+    }
+
+    /// Puts faults behind the others.
+    pub fn push_faults(&mut self, more: &[LocalFault]) -> Result<(), AllocError>
+        ensures ok { OnOk result (self.new ≡ and_faults self.old more.now) }
+        ensures refused { OnErr result (self.new ≡ self.old) }
+    {
+        self.faults.extend_from_slice(more)?;
+        Ok(())
+    }
+
+    /// Puts one more item and its faults behind the others. There is room for the item before a fault is put, so that
+    /// none is put without it.
+    pub fn push_with_faults(&mut self, item: Item, faults: &[LocalFault]) -> Result<(), AllocError>
+        requires { IsItem item }
+        ensures ok { OnOk result (self.new ≡ and_item (and_faults self.old faults.now) item) }
+        ensures refused { OnErr result (self.new ≡ self.old) }
+    {
+        self.items.reserve(1)?;
+        self.faults.extend_from_slice(faults)?;
+        self.items.push(item)?;
+        Ok(())
+    }
+}

@@ -1,0 +1,10 @@
+pub mod Cuts
+pub mod Items
+pub mod OneByOne
+pub mod Owned
+pub mod Played
+pub mod Stretched
+pub mod Singles
+pub mod Unmoved
+pub mod Waiting
+pub mod Whole

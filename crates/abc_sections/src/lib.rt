@@ -1,0 +1,14 @@
+//! The sections of a tune, and what each voice plays of one: its strains, with the fields that endings take with them.
+#![tactic(auto)]
+
+mod ending_fields;
+mod play;
+mod section;
+mod stage;
+mod step;
+mod stretches;
+
+pub use ending_fields::Region;
+pub use section::{Section, is_step, letters, opening_voice, sections};
+pub use stage::{Part, Stage, StageFault, Turn};
+pub use step::{is_field, length_of};

@@ -1,0 +1,6 @@
+pub mod Alike
+pub mod Canonical
+pub mod Groups
+pub mod SameOctaves
+pub mod Reaching
+pub mod WholeParts
