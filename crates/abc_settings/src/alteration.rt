@@ -1,6 +1,6 @@
 //! By how many semitones notes are altered.
 
-ghost use Rattle.std.specs.Prelude.{◌≡◌, OnOk};
+ghost use Rattle.std.specs.Prelude.{◌≡◌, OnErr, OnOk};
 ghost use Rattle.abc_settings.specs.Alteration.{alteration_of, goes_on_in, own_alteration, tied_alteration, with_own};
 
 use crate::accidentals::Accidentals;
@@ -52,7 +52,8 @@ pub fn alteration_of(settings: &Settings, accidentals: &Accidentals, note: Note)
 
 /// Puts a note's own accidental, if it has one, behind the others.
 pub fn write_own(accidentals: &mut Accidentals, note: Note) -> Result<(), AllocError>
-    ensures { OnOk result (accidentals.new ≡ with_own accidentals.old note) }
+    ensures ok { OnOk result (accidentals.new ≡ with_own accidentals.old note) }
+    ensures refused { OnErr result (accidentals.new ≡ accidentals.old) }
 {
     if let Some(by) = own_alteration(note) {
         accidentals.set(note, by)?;
