@@ -74,7 +74,8 @@ blocks_moved n at before (class ∷ classes) =
     ∙ ap (λ l. map (moved n) (ended_by before class) ++ l) (blocks_moved n (at + 1) (after_line before at class) classes)
     ∙ sym (map-append (moved n) (ended_by before class) (blocks_from (after_line before at class) (at + 1) classes))
 
-is_field_x : (x : LineClass) → IsTrue (is_x_line x) → x ≡ Field letter_x
+-- a line that begins a tune is a field X:
+pub is_field_x : (x : LineClass) → IsTrue (is_x_line x) → x ≡ Field letter_x
 is_field_x Blank h = absurd (cc)
 is_field_x Comment h = absurd (cc)
 is_field_x (Field letter) h = ap (λ l. Field l) (eqb-true letter letter_x h)

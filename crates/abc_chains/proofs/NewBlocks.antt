@@ -1,7 +1,7 @@
 -- The tunes and the file header of a text of which a stretch is replaced.
 use Rattle.std.proofs.Common.{◌≡◌, ◌↔◌, ℕ, zero, suc, ◌+◌, ◌-◌, ◌<◌, ◌≤◌, true, false, if◌then◌else◌, List, [], ◌∷◌, ◌++◌, map, Some, None, All, length, take, drop, slice_get, refl, sym, ◌∙◌, ap, subst, arith, append_assoc, ⊎_elim, inl, inr}
 use Rattle.std.specs.Prelude.{IsTrue, cond, count_by, nat_le}
-use Rattle.std.proofs.lemmas.Bool.{cases_Bool, cases_lt, eqb-true}
+use Rattle.std.proofs.lemmas.Bool.{cases_Bool, cases_lt}
 use Rattle.std.proofs.lemmas.Bool.Decides.{nat_tests}
 use Rattle.std.proofs.lemmas.List.Sums.{sum_by-cons}
 use Rattle.std.proofs.lemmas.List.Elements.{All-cons, All-nil}
@@ -11,12 +11,12 @@ use Rattle.abc_book.specs.Stretch.{BeginTune, blocks_at, blocks_before, blocks_b
 use Rattle.abc_book.specs.declared.block.Block.{Block}
 use Rattle.abc_book.specs.declared.block.BlockKind.{BlockKind}
 use Rattle.abc_book.specs.declared.block.BlockKind.TheVariants as kinds
-use Rattle.abc_book.proofs.Cuts.{x_line_cuts}
+use Rattle.abc_book.proofs.Cuts.{is_field_x, x_line_cuts}
 use Rattle.abc_book.proofs.Lying.{each_in_one}
 use Rattle.abc_book.proofs.Rising.{blocks_rise, tunes_begin}
 use Rattle.abc_book.proofs.Stretches.{stretch_is_enough}
 use Rattle.abc_scan.specs.declared.class.LineClass.{LineClass}
-use Rattle.abc_scan.specs.declared.class.LineClass.TheVariants.{Blank, Comment, Field, Directive, Music}
+use Rattle.abc_scan.specs.declared.class.LineClass.TheVariants.{Blank, Comment, Field}
 use Rattle.abc_tunebook.specs.Book.{header_in, is_file_header, is_tune, tunes_in}
 use Rattle.abc_chains.specs.Renewing.{start_of}
 use Rattle.abc_chains.proofs.Parts.{drop_past}
@@ -108,13 +108,6 @@ header_none classes (block ∷ blocks) last rise one begin x = ⊎_elim
     absurd (no_tune block.kind e ((begin 0 block (omega arith)).1 (ap (slice_get classes) first ∙ x))))
     (λ (e : is_file_header block.kind ≡ false). simp e)
     (cases_Bool (is_file_header block.kind))
-
-is_field_x : (x : LineClass) → IsTrue (is_x_line x) → x ≡ Field letter_x
-is_field_x Blank h = absurd (cc)
-is_field_x Comment h = absurd (cc)
-is_field_x (Field letter) h = ap (λ l. Field l) (eqb-true letter letter_x h)
-is_field_x Directive h = absurd (cc)
-is_field_x Music h = absurd (cc)
 
 no_header : (classes : List LineClass) → 1 ≤ length classes → BeginTune classes → header_in (blocks_of classes) ≡ None
 no_header [] some begin = absurd (omega arith)

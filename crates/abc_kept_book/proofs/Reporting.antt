@@ -1,5 +1,5 @@
 -- What differs between the files of two lists of tunes.
-use Rattle.std.proofs.Common.{◌≡◌, ℕ, ◌+◌, ◌-◌, ◌<◌, ◌≤◌, ◌==◌, eqb-true, eq-eqb, Bool, true, false, not, cond, List, [], ◌∷◌, ◌++◌, take, drop, Contains, filter, ◌↔◌, ◌⊎◌, inl, inr, ⊎_elim, Option, Some, None, IsSome, is_some, option_and_then, slice_get, refl, sym, ap, ◌∙◌, subst, arith}
+use Rattle.std.proofs.Common.{◌≡◌, ℕ, ◌+◌, ◌-◌, ◌<◌, ◌≤◌, ◌==◌, eqb-true, Bool, true, false, not, cond, List, [], ◌∷◌, ◌++◌, take, drop, Contains, filter, ◌↔◌, ◌⊎◌, inl, inr, ⊎_elim, Option, Some, None, IsSome, is_some, option_and_then, slice_get, refl, sym, ap, ◌∙◌, subst, arith}
 use Rattle.std.specs.List.Sorted.{IsStrictlyIncreasing, IsStrictlySortedBy}
 use Rattle.std.specs.Map.{keys_of}
 use Rattle.std.specs.Option.{option_eq}
@@ -18,30 +18,10 @@ use Rattle.abc_kept_book.specs.Outputs.{files_of}
 use Rattle.abc_kept_book.specs.Owners.{Owners, bytes_at, claims_of, owner_at, owners_behind, owners_of}
 use Rattle.abc_kept_book.specs.Report.{rewritten_at, rewritten_by}
 use Rattle.abc_outputs.specs.declared.output.Output.{Output}
-use Rattle.abc_tunebook.proofs.Difference.{rising_written}
-use Rattle.abc_tunebook.proofs.Members.{contains_cons, contains_head, contains_none, contains_tail, from_filter, to_filter, from_sorted, to_sorted}
+use Rattle.abc_tunebook.proofs.Difference.{from_numbers, rising_written, to_numbers}
+use Rattle.abc_tunebook.proofs.Members.{contains_head, contains_none, from_filter, to_filter, from_sorted, to_sorted}
 use Rattle.abc_tunebook.specs.Files.{Files, file_at, removed, written}
 use Rattle.abc_tunebook.specs.Sorted.{sorted_once}
-
--- the numbers of files are those that have one
-from_numbers_step : (file : ℕ × List ℕ) (files : Files) (n : ℕ) → (Contains (keys_of files) n → IsSome (file_at files n))
-    → (b : Bool) → (file.0 == n) ≡ b → (file.0 ≡ n) ⊎ Contains (keys_of files) n → IsSome (cond b (Some file.1) (file_at files n))
-from_numbers_step file files n rest true here cases = refl
-from_numbers_step file files n rest false here (inl is) = absurd (false≢true (sym here ∙ eq-eqb file.0 n is))
-from_numbers_step file files n rest false here (inr later) = rest later
-
-from_numbers : (files : Files) (n : ℕ) → Contains (keys_of files) n → IsSome (file_at files n)
-from_numbers [] n h = contains_none n h
-from_numbers (file ∷ files) n h = from_numbers_step file files n (from_numbers files n) (file.0 == n) refl (contains_cons file.0 (keys_of files) n h)
-
-to_numbers_step : (file : ℕ × List ℕ) (files : Files) (n : ℕ) → (IsSome (file_at files n) → Contains (keys_of files) n)
-    → (b : Bool) → (file.0 == n) ≡ b → IsSome (cond b (Some file.1) (file_at files n)) → Contains (keys_of (file ∷ files)) n
-to_numbers_step file files n rest true here has = contains_head file.0 (keys_of files) n (eqb-true file.0 n here)
-to_numbers_step file files n rest false here has = contains_tail file.0 (keys_of files) n (rest has)
-
-to_numbers : (files : Files) (n : ℕ) → IsSome (file_at files n) → Contains (keys_of files) n
-to_numbers [] n h = absurd (false≢true h)
-to_numbers (file ∷ files) n h = to_numbers_step file files n (to_numbers files n) (file.0 == n) refl h
 
 -- what the test of bytes says
 same_bytes : (a b : Option (List ℕ)) → a ≡ b → option_eq bytes_eq a b ≡ true

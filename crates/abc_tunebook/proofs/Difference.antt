@@ -21,7 +21,7 @@ from_numbers_step file files n rest true here cases = refl
 from_numbers_step file files n rest false here (inl is) = absurd (false≢true (sym here ∙ eq-eqb file.0 n is))
 from_numbers_step file files n rest false here (inr later) = rest later
 
-from_numbers : (files : Files) (n : ℕ) → Contains (keys_of files) n → IsSome (file_at files n)
+pub from_numbers : (files : Files) (n : ℕ) → Contains (keys_of files) n → IsSome (file_at files n)
 from_numbers [] n h = contains_none n h
 from_numbers (file ∷ files) n h = from_numbers_step file files n (from_numbers files n) (file.0 == n) refl (contains_cons file.0 (keys_of files) n h)
 
@@ -30,7 +30,7 @@ to_numbers_step : (file : ℕ × List ℕ) (files : Files) (n : ℕ) → (IsSome
 to_numbers_step file files n rest true here has = contains_head file.0 (keys_of files) n ((Decides-eqb file.0 n).0 here)
 to_numbers_step file files n rest false here has = contains_tail file.0 (keys_of files) n (rest has)
 
-to_numbers : (files : Files) (n : ℕ) → IsSome (file_at files n) → Contains (keys_of files) n
+pub to_numbers : (files : Files) (n : ℕ) → IsSome (file_at files n) → Contains (keys_of files) n
 to_numbers [] n h = absurd (false≢true h)
 to_numbers (file ∷ files) n h = to_numbers_step file files n (to_numbers files n) (file.0 == n) refl h
 
