@@ -1,5 +1,5 @@
 -- What differs between the files of two lists of tunes.
-use Rattle.std.proofs.Common.{◌≡◌, ℕ, ◌+◌, ◌-◌, ◌<◌, ◌≤◌, ◌==◌, eqb-true, Bool, true, false, not, cond, List, [], ◌∷◌, ◌++◌, take, drop, Contains, filter, ◌↔◌, ◌⊎◌, inl, inr, ⊎_elim, Option, Some, None, IsSome, is_some, option_and_then, slice_get, refl, sym, ap, ◌∙◌, subst, arith}
+use Rattle.std.proofs.Common.{◌≡◌, ℕ, ◌+◌, ◌-◌, ◌<◌, ◌≤◌, ◌==◌, eqb-true, eq-eqb, Bool, true, false, not, cond, List, [], ◌∷◌, ◌++◌, take, drop, Contains, filter, ◌↔◌, ◌⊎◌, inl, inr, ⊎_elim, Option, Some, None, IsSome, is_some, option_and_then, slice_get, refl, sym, ap, ◌∙◌, subst, arith}
 use Rattle.std.specs.List.Sorted.{IsStrictlyIncreasing, IsStrictlySortedBy}
 use Rattle.std.specs.Map.{keys_of}
 use Rattle.std.specs.Option.{option_eq}
