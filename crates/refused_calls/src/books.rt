@@ -2,8 +2,6 @@
 
 ghost use Rattle.std.specs.Prelude.{◌≡◌, IfOk};
 
-use crate::lists::lines_of;
-use crate::told::{call, done};
 use abc_chains::{KeptText, read};
 use abc_fields::FaultCode;
 use abc_fold::{Shared, Work};
@@ -14,6 +12,8 @@ use abc_text::Sequence;
 use abc_tune::Built;
 use abc_tunebook::Fault;
 use live_examples::toy::Toy;
+use refused_music::lines_of;
+use refused_music::told::{call, done};
 use std::alloc::{AllocError, Global};
 use std::rt::Runtime;
 

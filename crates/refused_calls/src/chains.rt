@@ -6,10 +6,11 @@ ghost use Rattle.abc_fold.specs.Piece.{IsKept};
 ghost use Rattle.abc_fold.specs.declared.piece.Piece.TheVariants.{New};
 ghost use Rattle.live_examples.specs.ToyLaws.{toy_steps};
 
-use crate::told::{call, done, lent};
 use abc_fold::{Chain, Piece, Pieces, Work};
 use abc_text::Sequence;
 use live_examples::toy::Toy;
+use refused_music::lent;
+use refused_music::told::{call, done};
 use std::alloc::{AllocError, Global};
 use std::rt::Runtime;
 

@@ -9,7 +9,6 @@ ghost use Rattle.live_examples.specs.ToyLaws.{toy_steps};
 ghost use Rattle.refused_calls.specs.Titled.{AreOfTitled};
 
 use crate::chains::chain_of;
-use crate::told::{again, call, done, lent};
 use abc_book::{Block, BlockKind};
 use abc_fields::FaultCode;
 use abc_fold::{Chain, Shared, Work};
@@ -18,6 +17,8 @@ use abc_outputs::{FoldedStretch, Output, TakenOver, outputs_of, put_cell_faults,
 use abc_tune::TuneMemo;
 use abc_tunebook::Fault;
 use live_examples::toy::Toy;
+use refused_music::lent;
+use refused_music::told::{again, call, done};
 use std::alloc::{AllocError, Global};
 use std::rt::Runtime;
 

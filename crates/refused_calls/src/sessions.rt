@@ -1,10 +1,10 @@
 //! Sessions in the toy language.
 
-use crate::lists::lines_of;
-use crate::told::{call, done, lent};
 use abc_fold::Work;
 use abc_live::{Edit, LiveSession};
 use live_examples::toy::Toy;
+use refused_music::told::{call, done};
+use refused_music::{lent, lines_of};
 use std::alloc::{AllocError, Global};
 use std::rt::Runtime;
 

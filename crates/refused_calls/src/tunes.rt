@@ -1,8 +1,5 @@
 //! A tune, from its lines to its file, and tunes that are remembered.
 
-use crate::files::FILE_OF_C;
-use crate::music::cell;
-use crate::told::{again, call, done, lent};
 use abc_cells::Entry;
 use abc_fold::{Fold, Shared, Work};
 use abc_items::Items;
@@ -10,6 +7,8 @@ use abc_scan::{Cell, LineClass};
 use abc_tune::{Abc, Built, Compiler, build, put_line};
 use abc_voices::{BuildFault, arrange};
 use live_examples::memo::ToyMemo;
+use refused_music::told::{again, call, done};
+use refused_music::{FILE_OF_C, cell, lent};
 use smf_bytes::file_of;
 use std::alloc::{AllocError, Global};
 use std::rt::Runtime;

@@ -4,7 +4,7 @@ use crate::alike::are_alike;
 use crate::texts::{empty_session, insertion, lines_of};
 use abc_fold::Work;
 use abc_live::{Edit, EditError, Report, Session};
-use refused_calls::told::{again, call, done};
+use refused_music::told::{again, call, done};
 use std::alloc::Global;
 use std::process::Abort;
 use std::rt::Runtime;

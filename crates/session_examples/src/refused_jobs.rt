@@ -10,7 +10,7 @@ use abc_fold::Work;
 use abc_live::{Edit, Session};
 use abc_publish::Publisher;
 use live_examples::held::{Held, end_older, finish};
-use refused_calls::told::{again, call, done};
+use refused_music::told::{again, call, done};
 use std::alloc::Global;
 use std::process::Abort;
 use std::rt::Runtime;

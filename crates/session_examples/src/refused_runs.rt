@@ -5,7 +5,7 @@ use crate::shelf::Shelf;
 use crate::streams::{Kept, Pieces};
 use abc_fold::Work;
 use abc2midi_live::{RunFault, run};
-use refused_calls::told::{again, call, done};
+use refused_music::told::{again, call, done};
 use std::alloc::Global;
 use std::process::Abort;
 use std::rt::Runtime;

@@ -6,7 +6,7 @@ ghost use Rattle.live_examples.specs.Held.{IsUnderWay};
 use abc_live::Session;
 use abc_publish::Publisher;
 use live_examples::held::Held;
-pub use refused_calls::FILE_OF_C;
+pub use refused_music::FILE_OF_C;
 use std::process::Abort;
 
 /// Takes the next job, where there is one.

@@ -1,7 +1,8 @@
 //! The voices of a tune, and what holds in its header and its body.
 
+use crate::lent;
 use crate::music::entry_behind;
-use crate::told::{call, done, lent};
+use crate::told::{call, done};
 use abc_bars::BarFold;
 use abc_cells::Entry;
 use abc_fold::{Resumable, Shared, Work};

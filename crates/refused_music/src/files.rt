@@ -2,7 +2,8 @@
 
 ghost use Rattle.std.specs.Prelude.{◌<◌, ◌^◌};
 
-use crate::told::{call, done, lent};
+use crate::lent;
+use crate::told::{call, done};
 use smf_bytes::{Event, EventBytes, order_events, put_number};
 use std::alloc::{AllocError, Global};
 use std::rt::Runtime;

@@ -1,6 +1,7 @@
 //! Items and faults that are put together, the tones of a chord, and texts of items.
 
-use crate::told::{call, done, lent};
+use crate::lent;
+use crate::told::{call, done};
 use abc_bars::BarFold;
 use abc_fields::FaultCode;
 use abc_fold::Resumable;

@@ -1,7 +1,8 @@
 //! Notes, chords and rests that are played, and what holds for the voice that plays them.
 
 use crate::items::counts;
-use crate::told::{call, done, lent};
+use crate::lent;
+use crate::told::{call, done};
 use abc_fields::NATURAL;
 use abc_items::Items;
 use abc_music::{Behind, BrokenFactors, NotePlace, chord_played, note_played, rest_played};

@@ -1,6 +1,7 @@
 //! Lists, shared values, and lines.
 
-use crate::told::{call, done, lent};
+use crate::lent;
+use crate::told::{call, done};
 use abc_fold::Shared;
 use abc_lines::{EditError, GapList, LineBuffer};
 use abc_text::{Sequence, ShortSequence};

@@ -21,6 +21,7 @@ pub fn done(rt: &impl Runtime) {
 
 /// The end of a function of a call that may change what it is lent. Where the call is refused memory, that is looked at,
 /// and the call is made again on it.
+#[macro_export]
 macro_rules! lent {
     ($rt:expr, $call:expr, $is_as_before:expr, $is_right:expr) => {{
         if $call.is_err() {
@@ -34,5 +35,3 @@ macro_rules! lent {
         Ok($is_right)
     }};
 }
-
-pub(crate) use lent;
