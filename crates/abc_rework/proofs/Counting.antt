@@ -17,9 +17,9 @@ use Rattle.abc_rework.proofs.Rows.{rows_tell}
 abbrev pub by_look_up : {State Cell Items : Type 0} → Steps State Cell Items → (List ℕ → List Cell) → (ℕ → ℕ → Option (Past State)) → Spot State → Bool
 by_look_up steps read past spot = is_fresh_after steps.alike spot.entered (entered_past (past spot.line spot.nth))
 
-pub first_get : {A : Type 0} (row : List (Option A)) → flat_option (slice_get row 0) ≡ first_past row
+pub first_get : {A : Type 0} (options : List (Option A)) → flat_option (slice_get options 0) ≡ first_past options
 first_get [] = refl
-first_get (a ∷ row) = refl
+first_get (a ∷ more) = refl
 
 pub rest_get : {A : Type 0} (row : List A) (k : ℕ) → slice_get (rest row) k ≡ slice_get row (suc k)
 rest_get [] k = refl
