@@ -2,12 +2,15 @@
 use Rattle.std.proofs.Common.{◌≡◌, ℕ, suc, ◌+◌, ◌-◌, ◌<◌, ◌≤◌, true, false, List, [], ◌∷◌, ◌++◌, length, take, drop, get_or, refl, sym, ap, ◌∙◌, subst, ⊎_elim, arith, append_assoc, append-nil}
 use Rattle.std.specs.Prelude.{All, ◌==◌}
 use Rattle.std.proofs.Math.Seq.{drop-cons}
-use Rattle.std.proofs.lemmas.Bool.{cond-true, cond-false, cond_both, cases_Bool, eqb-true}
+use Rattle.std.proofs.lemmas.Bool.{cond-true, cond-false, cond_both, cases_Bool, eqb-true, false≢true}
 use Rattle.std.proofs.lemmas.List.{drop_all, take_all}
 use Rattle.std.proofs.lemmas.List.Elements.{All-nil, All-cons, All-head, All-tail, All-append}
+use Rattle.abc_scan.specs.declared.class.LineClass.{LineClass}
+use Rattle.abc_scan.specs.declared.class.LineClass.TheVariants as classes
 use Rattle.abc_scan.specs.declared.spanned.Spanned.{Spanned}
 use Rattle.abc_scan.specs.declared.token.TokenKind.{TokenKind}
 use Rattle.abc_scan.specs.Cell.{ends_cell, IsCell, EndsWithBar, but_last, AreCells, put_first, cells_of, first_size, HasNoBar, GoOnWith}
+use Rattle.abc_scan.specs.Line.{has_tokens, tokens_in}
 
 abbrev pub Tokens : Type 0
 Tokens = List (Spanned TokenKind)
@@ -178,3 +181,11 @@ is_closed token cells all begun more plain bar e none rest =
     (λ i. e i ++ cells_of (none i ++ rest))
     ∙ append_assoc cells ((begun ++ token ∷ []) ∷ []) (cells_of rest)
     ∙ ap (λ l. cells ++ l) (sym (bar_ends begun token rest plain bar))
+
+-- a line of a class without tokens has none
+pub none_in : (class : LineClass) (text : List ℕ) → has_tokens class ≡ false → tokens_in class text ≡ []
+none_in classes.Blank text none = refl
+none_in classes.Comment text none = refl
+none_in (classes.Field letter) text none = absurd (false≢true (sym none))
+none_in classes.Directive text none = absurd (false≢true (sym none))
+none_in classes.Music text none = absurd (false≢true (sym none))

@@ -1,10 +1,11 @@
 //! The cells of a line, cut off it one by one.
 
-ghost use Rattle.std.specs.Prelude.{◌≡◌, ◌+◌, ◌<◌, ◌^◌, ◌++◌, ◌∷◌, [], IfOk, OnOk, length};
+ghost use Rattle.std.specs.Prelude.{◌≡◌, ◌+◌, ◌<◌, ◌^◌, ◌++◌, ◌∷◌, [], IfOk, IsOk, OnOk, length, false};
 ghost use Rattle.abc_fold.specs.Work.{raised};
+ghost use Rattle.abc_scan.specs.Class.{class_of};
 ghost use Rattle.abc_scan.specs.Cell.{cells_of, HasNoBar, GoOnWith};
 ghost use Rattle.abc_scan.specs.Cutting.{part_at};
-ghost use Rattle.abc_scan.specs.Line.{cutting_of, tokens_in, tokens_of};
+ghost use Rattle.abc_scan.specs.Line.{cutting_of, has_tokens, tokens_in, tokens_of};
 
 use crate::cell::Cell;
 use crate::class::{LineClass, class_of};
@@ -114,7 +115,8 @@ fn cut_cells(alloc: Global, text: &[u8]) -> Result<Vec<Shared<Cell>>, AllocError
 /// The cell of the tokens of a field or of a directive, of which there is one or none.
 fn cell_of_one(alloc: Global, tokens: Vec<Token>) -> Result<Vec<Shared<Cell>>, AllocError>
     requires { length tokens.items < 2 }
-    ensures { IfOk result (λ cells. cells.items ≡ cells_of tokens.items) }
+    ensures cells { IfOk result (λ cells. cells.items ≡ cells_of tokens.items) }
+    ensures silent { tokens.items ≡ [] → IsOk result }
 {
     if tokens.is_empty() {
         return Ok(Vec::new(alloc));
@@ -125,8 +127,10 @@ fn cell_of_one(alloc: Global, tokens: Vec<Token>) -> Result<Vec<Shared<Cell>>, A
 }
 
 /// The cells of a text of this class, which has no carriage return at its end.
+#[tactic(auto, using(crate::proofs::CellLaws::none_in))]
 fn cells_in(alloc: Global, class: LineClass, text: &[u8]) -> Result<Vec<Shared<Cell>>, AllocError>
-    ensures { IfOk result (λ cells. cells.items ≡ cells_of (tokens_in class text.now)) }
+    ensures cells { IfOk result (λ cells. cells.items ≡ cells_of (tokens_in class text.now)) }
+    ensures silent { has_tokens class ≡ false → IsOk result }
 {
     match class {
         LineClass::Music => cut_cells(alloc, short(without_comment(text))?),
@@ -137,7 +141,7 @@ fn cells_in(alloc: Global, class: LineClass, text: &[u8]) -> Result<Vec<Shared<C
 }
 
 /// The cells of a line, by its tokens, each of which its owners can share. Counts one line scanned, also where there is no
-/// memory for the cells.
+/// memory for the cells; a blank line and a comment need none.
 #[tactic(auto, unfolding(crate::specs::Line::tokens_of))]
 pub fn cells_of_line(
     alloc: Global,
@@ -145,6 +149,7 @@ pub fn cells_of_line(
     work: &mut Work,
 ) -> Result<Vec<Shared<Cell>>, AllocError>
     ensures cells { IfOk result (λ cells. cells.items ≡ cells_of (tokens_of line.now)) }
+    ensures silent { has_tokens (class_of line.now) ≡ false → IsOk result }
     ensures counted { work.new ≡ record work.old { scanned = raised work.old.scanned 1 } }
 {
     work.count_scanned();
