@@ -1,12 +1,12 @@
 -- What a chain keeps at a place is a step.
-use Rattle.std.proofs.Common.{◌≡◌, ℕ, zero, suc, ◌+◌, ◌-◌, ◌<◌, ◌≤◌, List, [], ◌∷◌, ◌++◌, Some, None, Result, Ok, Err, IfOk, slice_get, length, take, drop, get_or, refl, sym, ◌∙◌, ap, subst, arith, add-one, append_assoc, length-drop}
-use Rattle.std.proofs.lemmas.List.{take_more, get_or-drop, map-append, length-map, length-append, length-take-le}
+use Rattle.std.proofs.Common.{◌≡◌, ℕ, zero, suc, ◌+◌, ◌-◌, ◌<◌, ◌≤◌, List, [], ◌∷◌, ◌++◌, Some, None, Result, Ok, Err, IfOk, slice_get, length, take, drop, get_or, refl, sym, ◌∙◌, ap, subst, arith, add-one, length-drop}
+use Rattle.std.proofs.lemmas.List.{take_more, get_or-drop}
 use Rattle.std.proofs.lemmas.Option.{slice_get_within, get_or_from_slice_get}
 use Rattle.abc_fold.specs.declared.piece.Piece.{Piece}
 use Rattle.abc_fold.specs.declared.piece.Piece.TheVariants.{New, Kept}
-use Rattle.abc_fold.specs.Chain.{Chained, Folds, AreKeptFrom, HasKeptBehind, IsKeptAt}
+use Rattle.abc_fold.specs.Chain.{Chained, Folds, IsKeptAt}
 use Rattle.abc_fold.specs.Steps.{Steps, IsAlike, AreAlike, IsResumable, states_from, items_from}
-use Rattle.abc_fold.specs.Piece.{IsKept, IsStep, cell_of, cells_of}
+use Rattle.abc_fold.specs.Piece.{IsKept, IsStep, cell_of}
 
 -- What stands in two equal options.
 pub some_same : {X : Type 0} (x y : X) → Some x ≡ Some y → x ≡ y
@@ -74,55 +74,3 @@ one_more xs from i x order is =
     let count : i + 1 - from ≡ (i - from) + 1 = omega (arith, order) in
     let long : i - from < length (drop from xs) = rw (length-drop from xs) (omega (arith, order, inside)) in
     ap (λ n. take n (drop from xs)) count ∙ take_more (drop from xs) (i - from) x long ∙ ap (λ y. take (i - from) (drop from xs) ++ y ∷ []) at
-
--- The cells of pieces with one more behind them.
-pub more_cells : {F State Cell Items Work : Type 0} (chain : Chained State Cell Items) (old pieces : List (Piece F State Cell Items Work)) (from i : ℕ) (piece : Piece F State Cell Items Work)
-    → from ≤ i → IsKeptAt chain i piece → cells_of pieces ≡ cells_of old ++ take (i - from) (drop from chain.cells)
-    → cells_of (pieces ++ piece ∷ []) ≡ cells_of old ++ take (i + 1 - from) (drop from chain.cells)
-more_cells chain old pieces from i piece order at is =
-    map-append cell_of pieces (piece ∷ [])
-    ∙ ap (λ cells. cells ++ cell_of piece ∷ []) is
-    ∙ append_assoc (cells_of old) (take (i - from) (drop from chain.cells)) (cell_of piece ∷ [])
-    ∙ ap (λ cells. cells_of old ++ cells) (sym (one_more chain.cells from i (cell_of piece) order (kept_cell chain i piece at)))
-
--- Behind the last of them stands what the chain keeps at the next place.
-kept_behind : {F State Cell Items Work : Type 0} (chain : Chained State Cell Items) (from i : ℕ) (pieces : List (Piece F State Cell Items Work)) (piece : Piece F State Cell Items Work)
-    → i ≡ from + length pieces → IsKeptAt chain i piece → AreKeptFrom chain from pieces → AreKeptFrom chain from (pieces ++ piece ∷ [])
-kept_behind chain from i [] piece place at kept =
-    let here : i ≡ from = omega (arith, place) in
-    (subst (λ k. IsKeptAt chain k piece) here at, tt)
-kept_behind chain from i (first ∷ pieces) piece place at kept =
-    let next : i ≡ from + 1 + length pieces = omega (arith, place) in
-    (kept.0, kept_behind chain (from + 1) i pieces piece next at kept.1)
-
-kept_more : {F State Cell Items Work : Type 0} (chain : Chained State Cell Items) (from i : ℕ) (old pieces : List (Piece F State Cell Items Work)) (piece : Piece F State Cell Items Work)
-    → length pieces ≡ length old + (i - from) → from ≤ i → IsKeptAt chain i piece → HasKeptBehind chain from old pieces → HasKeptBehind chain from old (pieces ++ piece ∷ [])
-kept_more chain from i [] pieces piece count order at kept =
-    let place : i ≡ from + length pieces = omega (arith, count, order) in
-    kept_behind chain from i pieces piece place at kept
-kept_more chain from i (own ∷ old) [] piece count order at kept = absurd kept
-kept_more chain from i (own ∷ old) (first ∷ pieces) piece count order at kept =
-    let less : length pieces ≡ length old + (i - from) = omega (arith, count) in
-    (kept.0, kept_more chain from i old pieces piece less order at kept.1)
-
--- How many pieces there are where their cells are those of a run.
-count_of : {F State Cell Items Work : Type 0} (chain : Chained State Cell Items) (old pieces : List (Piece F State Cell Items Work)) (from i : ℕ)
-    → from ≤ i → i ≤ length chain.cells → cells_of pieces ≡ cells_of old ++ take (i - from) (drop from chain.cells)
-    → length pieces ≡ length old + (i - from)
-count_of chain old pieces from i order inside is =
-    let long : i - from ≤ length (drop from chain.cells) = rw (length-drop from chain.cells) (omega (arith, order, inside)) in
-    sym (length-map pieces cell_of) ∙ ap length is ∙ length-append (cells_of old) (take (i - from) (drop from chain.cells))
-    ∙ ap (λ n. n + length (take (i - from) (drop from chain.cells))) (length-map old cell_of)
-    ∙ ap (λ n. length old + n) (length-take-le (i - from) (drop from chain.cells) long)
-
--- One more kept piece behind a run of them.
-pub more_kept : {F State Cell Items Work : Type 0} (chain : Chained State Cell Items) (old pieces : List (Piece F State Cell Items Work)) (from i : ℕ) (piece : Piece F State Cell Items Work)
-    → from ≤ i → i ≤ length chain.cells → IsKeptAt chain i piece → cells_of pieces ≡ cells_of old ++ take (i - from) (drop from chain.cells)
-    → HasKeptBehind chain from old pieces → HasKeptBehind chain from old (pieces ++ piece ∷ [])
-more_kept chain old pieces from i piece order inside at is kept =
-    kept_more chain from i old pieces piece (count_of chain old pieces from i order inside is) order at kept
-
--- Behind pieces nothing stands yet.
-pub none_kept : {F State Cell Items Work : Type 0} (chain : Chained State Cell Items) (from : ℕ) (old : List (Piece F State Cell Items Work)) → HasKeptBehind chain from old old
-none_kept chain from [] = tt
-none_kept chain from (piece ∷ old) = (refl, none_kept chain from old)

@@ -1,5 +1,5 @@
 -- What contracts see of a chain, and of one that has been prepared. Our own.
-use Rattle.std.specs.Prelude.{◌≡◌, ℕ, ◌+◌, ◌-◌, List, [], ◌∷◌, length, Some, slice_get}
+use Rattle.std.specs.Prelude.{◌≡◌, ℕ, ◌+◌, ◌-◌, List, [], length, Some, slice_get}
 use Rattle.abc_fold.specs.declared.piece.Piece.{Piece}
 use Rattle.abc_fold.specs.declared.piece.Piece.TheVariants.{New, Kept}
 use Rattle.abc_fold.specs.Steps.{Steps, AreAlike, states_from, items_from}
@@ -40,14 +40,3 @@ pub record IsPlace {State Cell Items : Type 0} (chain : Chained State Cell Items
 abbrev pub IsKeptAt : {F State Cell Items Work : Type 0} → Chained State Cell Items → ℕ → Piece F State Cell Items Work → Type 0
 IsKeptAt chain i (New cell) = ⊥
 IsKeptAt chain i (Kept cell entered left items) = IsPlace chain i cell entered left items
-
--- Pieces are what a chain keeps at the places from this one on.
-abbrev pub AreKeptFrom : {F State Cell Items Work : Type 0} → Chained State Cell Items → ℕ → List (Piece F State Cell Items Work) → Type 0
-AreKeptFrom chain from [] = Unit {0}
-AreKeptFrom chain from (piece ∷ pieces) = IsKeptAt chain from piece × AreKeptFrom chain (from + 1) pieces
-
--- Behind the pieces that were there stand those that a chain keeps at the places from this one on.
-abbrev pub HasKeptBehind : {F State Cell Items Work : Type 0} → Chained State Cell Items → ℕ → List (Piece F State Cell Items Work) → List (Piece F State Cell Items Work) → Type 0
-HasKeptBehind chain from [] pieces = AreKeptFrom chain from pieces
-HasKeptBehind chain from (piece ∷ old) [] = ⊥
-HasKeptBehind chain from (piece ∷ old) (first ∷ pieces) = (first ≡ piece) × HasKeptBehind chain from old pieces

@@ -1,7 +1,7 @@
 //! Chains of cells that keep what a fold made of them, and chains that have been prepared.
 
-ghost use Rattle.std.specs.Prelude.{◌≡◌, ◌+◌, ◌-◌, ◌<◌, ◌≤◌, [], ◌++◌, All, IfOk, OnErr, OnOk, IsOk, Some, length, take, drop, option_copied, slice_get, true};
-ghost use Rattle.abc_fold.specs.Chain.{Chained, Folds, HasKeptBehind, IsKeptAt, no_cells};
+ghost use Rattle.std.specs.Prelude.{◌≡◌, ◌<◌, All, IfOk, IsOk, Some, length, option_copied, slice_get, true};
+ghost use Rattle.abc_fold.specs.Chain.{Chained, Folds, IsKeptAt, no_cells};
 ghost use Rattle.abc_fold.specs.Following.{AreMarked};
 ghost use Rattle.abc_fold.specs.Piece.{IsKept, cells_of, steps_needed};
 ghost use Rattle.abc_fold.specs.Steps.{Steps, IsResumable, steps_of};
@@ -112,51 +112,6 @@ impl<F: Resumable> Chain<F> {
         })
     }
 
-    /// Appends the cells from one place to another, with all that is kept of them. Where memory is refused the pieces
-    /// stay as they were.
-    pub fn append_kept(
-        &self,
-        fold: &F,
-        pieces: &mut Vec<Piece<F>>,
-        from: usize,
-        to: usize,
-    ) -> Result<(), AllocError>
-        requires order { from ≤ to }
-        requires inside { to ≤ length self.now.cells }
-        ensures cells { OnOk result (cells_of pieces.new.items ≡ cells_of pieces.old.items ++ take (to - from) (drop from self.now.cells)) }
-        ensures run { OnOk result (HasKeptBehind self.now from pieces.old.items pieces.new.items) }
-        ensures resumable { (steps : Steps F.State F.Cell F.Items) (opening : F.State) → IsResumable steps → Folds steps opening self.now →
-            All (IsKept steps) pieces.old.items → All (IsKept steps) pieces.new.items }
-        ensures refused { OnErr result (pieces.new.items ≡ pieces.old.items) }
-    {
-        let count = pieces.len();
-        let appended = self.append_run(fold, pieces, from, to);
-        taken_back(pieces, count, appended)
-    }
-
-    /// Appends the cells from one place to another, as far as there is memory.
-    fn append_run(
-        &self,
-        fold: &F,
-        pieces: &mut Vec<Piece<F>>,
-        from: usize,
-        to: usize,
-    ) -> Result<(), AllocError>
-        requires order { from ≤ to }
-        requires inside { to ≤ length self.now.cells }
-        ensures cells { OnOk result (cells_of pieces.new.items ≡ cells_of pieces.old.items ++ take (to - from) (drop from self.now.cells)) }
-        ensures run { OnOk result (HasKeptBehind self.now from pieces.old.items pieces.new.items) }
-        ensures resumable { (steps : Steps F.State F.Cell F.Items) (opening : F.State) → IsResumable steps → Folds steps opening self.now →
-            All (IsKept steps) pieces.old.items → All (IsKept steps) pieces.new.items }
-        ensures front { take (length pieces.old.items) pieces.new.items ≡ pieces.old.items }
-    {
-        for i in from..to {
-            let piece = self.kept(fold, i)?;
-            pieces.push(piece)?;
-        }
-        Ok(())
-    }
-
     /// Prepares the chain of a fold over pieces from an opening state. Nothing changes.
     pub fn prepare(
         &self,
@@ -241,22 +196,6 @@ impl<F: Resumable> ChainPatch<F> {
     pub fn drop_patch(self) {
         let ChainPatch { on: _, next: _ } = self;
     }
-}
-
-/// Takes away what was appended behind so many pieces, where memory was refused then.
-fn taken_back<F: Resumable>(
-    pieces: &mut Vec<Piece<F>>,
-    count: usize,
-    appended: Result<(), AllocError>,
-) -> Result<(), AllocError>
-    ensures same { result ≡ appended }
-    ensures appended { OnOk result (pieces.new.items ≡ pieces.old.items) }
-    ensures refused { OnErr result (pieces.new.items ≡ take count pieces.old.items) }
-{
-    if appended.is_err() {
-        pieces.truncate(count);
-    }
-    appended
 }
 
 /// The chain of a fold over pieces, some of which are marked as following the one before them.

@@ -10,7 +10,6 @@ pub enum Call {
     Piece,
     FollowingPiece,
     KeptPiece,
-    KeptPieces,
     PreparedChain,
     PreparedPieces,
     AbcCells,
@@ -34,11 +33,10 @@ pub enum Call {
 }
 
 /// All of them.
-pub const CALLS: [Call; 24] = [
+pub const CALLS: [Call; 23] = [
     Call::Piece,
     Call::FollowingPiece,
     Call::KeptPiece,
-    Call::KeptPieces,
     Call::PreparedChain,
     Call::PreparedPieces,
     Call::AbcCells,
@@ -67,7 +65,6 @@ impl Tried for Call {
             Call::Piece => chains::piece(rt, alloc),
             Call::FollowingPiece => chains::following_piece(rt, alloc),
             Call::KeptPiece => chains::kept_piece(rt, alloc),
-            Call::KeptPieces => chains::kept_pieces(rt, alloc),
             Call::PreparedChain => chains::prepared_chain(rt, alloc),
             Call::PreparedPieces => chains::prepared_pieces(rt, alloc),
             Call::AbcCells => tunes::abc_cells(rt, alloc),

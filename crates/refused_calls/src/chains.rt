@@ -95,19 +95,6 @@ pub fn kept_piece<R: Runtime>(rt: &R, alloc: Global) -> Result<bool, AllocError>
     Ok(is_second_line(&piece))
 }
 
-/// Both lines of a chain behind no others.
-pub fn kept_pieces<R: Runtime>(rt: &R, alloc: Global) -> Result<bool, AllocError> {
-    let chain = chain(alloc, &mut Work::mint(rt))?;
-    let mut pieces = Vec::new(alloc);
-    call(rt, "Chain::append_kept");
-    lent!(
-        rt,
-        chain.append_kept(&Toy, &mut pieces, 0, 2),
-        pieces.is_empty(),
-        pieces.len() == 2 && is_second_line(&pieces[1])
-    )
-}
-
 /// The first line of a chain, as it was kept.
 fn first_kept(chain: &Chain<Toy>) -> Result<Piece<Toy>, AllocError>
     requires some { 0 < length chain.now.cells }

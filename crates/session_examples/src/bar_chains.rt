@@ -6,6 +6,7 @@ ghost use Rattle.abc_cells.specs.declared.entry.Entry.{Entry};
 ghost use Rattle.abc_fold.specs.Chain.{Folds};
 ghost use Rattle.abc_fold.specs.Piece.{IsKept};
 
+use crate::kept_runs::append_kept;
 use abc_bars::BarFold;
 use abc_cells::Entry;
 use abc_fold::{Chain, Fold, Piece, Resumable, Shared, Work};
@@ -69,14 +70,10 @@ fn with_line(
     ensures { (opening : Entry) → Folds bars opening chain.now → All (IsKept bars) result.items }
 {
     let mut pieces = Vec::new(alloc);
-    chain
-        .append_kept(&BarFold, &mut pieces, 0, at)
-        .expect(rt, "there is memory");
+    append_kept(&BarFold, chain, &mut pieces, 0, at).expect(rt, "there is memory");
     let piece = line_piece(rt, alloc, line, work);
     pieces.push(piece).expect(rt, "there is memory");
-    chain
-        .append_kept(&BarFold, &mut pieces, at + 1, chain.len())
-        .expect(rt, "there is memory");
+    append_kept(&BarFold, chain, &mut pieces, at + 1, chain.len()).expect(rt, "there is memory");
     pieces
 }
 

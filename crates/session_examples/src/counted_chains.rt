@@ -1,5 +1,6 @@
 //! A chain of a fold is made, and what it keeps is taken up.
 
+use crate::kept_runs::append_kept;
 use abc_fold::{Chain, Piece, Work};
 use std::alloc::{AllocError, Global};
 use std::rt::HostRuntime;
@@ -51,13 +52,9 @@ fn kept_cells_are_taken_up(rt: HostRuntime) {
     );
     let mut pieces = Vec::new(alloc);
     assert!(rt; chain.len() == 5);
-    chain
-        .append_kept(&Counting, &mut pieces, 0, 1)
-        .expect(&rt, "there is memory");
+    append_kept(&Counting, &chain, &mut pieces, 0, 1).expect(&rt, "there is memory");
     pieces.push(Piece::New(9)).expect(&rt, "there is memory");
-    chain
-        .append_kept(&Counting, &mut pieces, 1, 5)
-        .expect(&rt, "there is memory");
+    append_kept(&Counting, &chain, &mut pieces, 1, 5).expect(&rt, "there is memory");
     let patch = chain
         .prepare(&Counting, &opening, &pieces, &mut work)
         .expect(&rt, "there is memory");

@@ -23,6 +23,8 @@ mod failing;
 #[cfg(test)]
 mod gap_lists;
 #[cfg(test)]
+mod kept_runs;
+#[cfg(test)]
 mod memos;
 #[cfg(test)]
 mod orders;
