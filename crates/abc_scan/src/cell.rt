@@ -32,7 +32,7 @@ fn copy_of(token: &Token) -> Result<Token, AllocError>
 }
 
 /// The cell of copies of these tokens.
-pub fn cell_of(alloc: Global, tokens: &[Token]) -> Result<Cell, AllocError>
+fn cell_of(alloc: Global, tokens: &[Token]) -> Result<Cell, AllocError>
     ensures { IfOk result (λ cell. cell ≡ tokens.now) }
 {
     let mut cell = Sequence::from(Vec::with_capacity(alloc, tokens.len())?);

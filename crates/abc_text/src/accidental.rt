@@ -15,19 +15,6 @@ pub enum Accidental {
 }
 
 impl Accidental {
-    /// The bytes that it is written with.
-    pub fn spelling(self) -> &'static [u8]
-        ensures { result.now ≡ spelling self }
-    {
-        match self {
-            Accidental::DoubleFlat => b"__",
-            Accidental::Flat => b"_",
-            Accidental::Natural => b"=",
-            Accidental::Sharp => b"^",
-            Accidental::DoubleSharp => b"^^",
-        }
-    }
-
     /// By how many semitones it alters a note, from -2 to 2.
     pub fn alteration(self) -> i8
         ensures { result ≡ alteration self }

@@ -2,7 +2,7 @@
 
 ghost use Rattle.std.specs.Prelude.{◌≡◌, ◌↔◌, ◌⊎◌, Some};
 ghost use Rattle.abc_text.specs.declared.letter.Letter.{Letter};
-ghost use Rattle.abc_text.specs.Letter.{IsLetter, letter_of, capital, small, semitones};
+ghost use Rattle.abc_text.specs.Letter.{IsLetter, letter_of, capital, semitones};
 
 /// The letter of a note, without its octave (ABC 2.1 section 4.1).
 #[derive(Clone, Copy, PartialEq, Eq)]
@@ -29,21 +29,6 @@ impl Letter {
             Letter::G => b'G',
             Letter::A => b'A',
             Letter::B => b'B',
-        }
-    }
-
-    /// The small letter.
-    pub fn small(self) -> u8
-        ensures { result ≡ small self }
-    {
-        match self {
-            Letter::C => b'c',
-            Letter::D => b'd',
-            Letter::E => b'e',
-            Letter::F => b'f',
-            Letter::G => b'g',
-            Letter::A => b'a',
-            Letter::B => b'b',
         }
     }
 

@@ -19,7 +19,6 @@ pub enum Call {
     SortedNumbers,
     CutLine,
     CellsOfTokens,
-    LineAsCell,
     LineIntoCells,
     CopiedChord,
     CopiedField,
@@ -56,7 +55,7 @@ pub enum Call {
 }
 
 /// All of them.
-pub const CALLS: [Call; 46] = [
+pub const CALLS: [Call; 45] = [
     Call::Sequence,
     Call::LongerSequence,
     Call::CopiedSequence,
@@ -69,7 +68,6 @@ pub const CALLS: [Call; 46] = [
     Call::SortedNumbers,
     Call::CutLine,
     Call::CellsOfTokens,
-    Call::LineAsCell,
     Call::LineIntoCells,
     Call::CopiedChord,
     Call::CopiedField,
@@ -120,7 +118,6 @@ impl Tried for Call {
             Call::SortedNumbers => lists::sorted_numbers(rt, alloc),
             Call::CutLine => texts::cut_line(rt, alloc),
             Call::CellsOfTokens => texts::cells_of_tokens(rt, alloc),
-            Call::LineAsCell => texts::line_as_cell(rt, alloc),
             Call::LineIntoCells => texts::line_into_cells(rt, alloc),
             Call::CopiedChord => texts::copied_chord(rt, alloc),
             Call::CopiedField => texts::copied_field(rt, alloc),

@@ -5,7 +5,7 @@ use crate::told::{call, done};
 use abc_book::{blocks, stretch_blocks};
 use abc_fold::Work;
 use abc_scan::{
-    ChordPartKind, Field, LineClass, Token, cell_of, cells, cells_of_line, class_of, scan,
+    ChordPartKind, Field, LineClass, Token, cells, cells_of_line, class_of, scan,
 };
 use abc_text::Sequence;
 use std::alloc::{AllocError, Global};
@@ -34,15 +34,6 @@ pub fn cells_of_tokens<R: Runtime>(rt: &R, alloc: Global) -> Result<bool, AllocE
     let cells = cells(alloc, &tokens)?;
     done(rt);
     Ok(cells.len() == 3)
-}
-
-/// Its tokens as one cell.
-pub fn line_as_cell<R: Runtime>(rt: &R, alloc: Global) -> Result<bool, AllocError> {
-    let tokens = tokens(rt, alloc)?;
-    call(rt, "cell_of");
-    let cell = cell_of(alloc, &tokens)?;
-    done(rt);
-    Ok(cell.len() == 28)
 }
 
 /// The line, cut into cells.
