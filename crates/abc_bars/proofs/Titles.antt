@@ -10,7 +10,7 @@ use Rattle.abc_fields.specs.declared.meter.Meter.{Meter}
 use Rattle.abc_fields.specs.declared.shift.Shift.{Shift}
 use Rattle.abc_fields.specs.declared.tempo.Tempo.{Tempo}
 use Rattle.abc_fields.specs.declared.voice.Voice.{Voice}
-use Rattle.abc_fields.specs.Key.{empty_signature, key_of}
+use Rattle.abc_fields.specs.Key.{empty_key, key_of}
 use Rattle.abc_fields.specs.Meter.{meter_of}
 use Rattle.abc_fields.specs.Parts.{parts_of}
 use Rattle.abc_fields.specs.Tempo.{tempo_of}
@@ -315,7 +315,7 @@ body_says body cell cells = ap (λ titles. titles ++ []) (body_quiet body cell)
 
 header_says : (header : Header) (cell : Cell) (line : Option HeaderLine) (cells : List Cell)
     → step_says (header_stepped header cell line) cells ≡ titles_by line (titles_of_header cells)
-header_says header cell None cells = body_says (body_from header empty_signature) cell cells
+header_says header cell None cells = body_says (body_from header empty_key) cell cells
 header_says header cell (Some line) cells =
     let own = line_own header line in
     ap (λ titles. titles ++ said_from (behind_line own.header line) cells)

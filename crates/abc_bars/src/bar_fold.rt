@@ -10,7 +10,7 @@ ghost use Rattle.abc_header.specs.HeaderLine.{DirectiveLine, FieldLine};
 ghost use Rattle.abc_cells.specs.Step.{field_line, field_in, directive_line, directive_in, line_in, body_stepped, line_stepped, header_stepped, file_header_made, file_header_stepped, stepped};
 
 use abc_cells::{BodyCopy, Entry, Given, body_from, cell_given};
-use abc_fields::{EMPTY_SIGNATURE, key_set_by};
+use abc_fields::{EMPTY_KEY, key_set_by};
 use abc_fold::{Fold, Resumable, Shared, Work};
 use abc_header::{
     Defaults, FieldKind, FileHeaderGiven, Header, HeaderGiven, file_header_directed,
@@ -121,7 +121,7 @@ fn header_stepped(alloc: Global, header: Header, cell: &[Token]) -> Stepped
         (Some(field), _) => field_stepped(alloc, header, field),
         (None, Some(directive)) => directive_stepped(alloc, header, directive),
         (None, None) => {
-            let body = body_from(alloc, &header, &EMPTY_SIGNATURE)?;
+            let body = body_from(alloc, &header, &EMPTY_KEY)?;
             body_stepped(alloc, BodyCopy::own(alloc, body)?, cell)
         }
     }

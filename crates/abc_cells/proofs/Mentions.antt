@@ -12,7 +12,7 @@ use Rattle.abc_fields.specs.declared.meter.Meter.{Meter}
 use Rattle.abc_fields.specs.declared.shift.Shift.{Shift}
 use Rattle.abc_fields.specs.declared.tempo.Tempo.{Tempo}
 use Rattle.abc_fields.specs.declared.voice.Voice.{Voice}
-use Rattle.abc_fields.specs.Key.{key_of, key_or_empty, empty_signature}
+use Rattle.abc_fields.specs.Key.{key_of, key_or_empty, empty_key}
 use Rattle.abc_fields.specs.Meter.{meter_of}
 use Rattle.abc_fields.specs.Parts.{parts_of}
 use Rattle.abc_fields.specs.Tempo.{tempo_of}
@@ -541,7 +541,7 @@ header_voice_told header value (Err fault) said = own_nothing header
 
 header_key_told : (header : Header) (key : Result Key FaultCode) → OwnTells header (header_key_by header key)
 header_key_told header (Ok key) = own_silent header (header_key_item key) refl tt
-header_key_told header (Err fault) = own_silent header (header_key_item empty_signature) refl tt
+header_key_told header (Err fault) = own_silent header (header_key_item empty_key) refl tt
 
 own_told : (header : Header) (kind : FieldKind) (value : List ℕ) → OwnTells header (own_given header kind value)
 own_told header fields.Reference value = reference_told header (reference_of value)
@@ -613,8 +613,8 @@ body_told body cell =
 
 header_told : (header : Header) (cell : List (Spanned TokenKind)) (line : Option HeaderLine) → StepTells (known_in_header header) (header_stepped header cell line)
 header_told header cell None =
-    subst (λ (known : Mentioned). StepTells known (body_stepped (body_from header empty_signature) cell)) (body_known header empty_signature)
-    (body_told (body_from header empty_signature) cell)
+    subst (λ (known : Mentioned). StepTells known (body_stepped (body_from header empty_key) cell)) (body_known header empty_key)
+    (body_told (body_from header empty_key) cell)
 header_told header cell (Some line) =
     let own = line_own header line in
     let program = line_program line header.defaults in

@@ -1,6 +1,6 @@
 -- What a cell gives where it is entered, and what holds behind it.
 use Rattle.std.specs.Prelude.{ℕ, List, [], ◌∷◌, Option, Some, None}
-use Rattle.abc_fields.specs.Key.{empty_signature, key_of, key_or_empty}
+use Rattle.abc_fields.specs.Key.{empty_key, key_of, key_or_empty}
 use Rattle.abc_scan.specs.declared.directive.Directive.{Directive}
 use Rattle.abc_scan.specs.declared.field.Field.{Field}
 use Rattle.abc_scan.specs.declared.spanned.Spanned.{Spanned}
@@ -118,7 +118,7 @@ line_stepped given line = (behind_line given.header line, record { items = given
 -- is a cell of the body. The latter is our own.
 abbrev pub header_stepped : Header → List (Spanned TokenKind) → Option HeaderLine → Entry × Items
 header_stepped header cell (Some line) = line_stepped (header_given header line) line
-header_stepped header cell None = body_stepped (body_from header empty_signature) cell
+header_stepped header cell None = body_stepped (body_from header empty_key) cell
 
 -- What holds behind a cell of a file header, and what it gives: it has no items.
 abbrev pub file_header_made : FileHeaderGiven → Entry × Items

@@ -13,7 +13,7 @@ ghost use Rattle.abc_cells.specs.BodyFields.{given_as, part_of, part_by, meter_b
 ghost use Rattle.abc_items.specs.Item.{IsCapitalLetter, IsItem};
 
 use crate::body::Body;
-use abc_fields::{EMPTY_SIGNATURE, FaultCode, Key, read_key, read_voice};
+use abc_fields::{EMPTY_KEY, FaultCode, Key, read_key, read_voice};
 use abc_header::{FieldKind, kind_of};
 use abc_items::{Item, ItemText, LocalFault, column_of};
 use abc_scan::Field;
@@ -199,8 +199,8 @@ fn key_given(body: &mut Body, value: &[u8], place: usize) -> FieldItem
             FieldItem::accepted(key_item(key))
         }
         Err(code) => {
-            begin_key(body, EMPTY_SIGNATURE);
-            FieldItem::faulty(place, key_item(EMPTY_SIGNATURE), code)
+            begin_key(body, EMPTY_KEY);
+            FieldItem::faulty(place, key_item(EMPTY_KEY), code)
         }
     }
 }

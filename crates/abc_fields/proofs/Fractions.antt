@@ -15,7 +15,7 @@ use Rattle.abc_text.specs.Number.{number_of, IsNumber}
 use Rattle.abc_text.specs.Cut.{cut_at}
 use Rattle.abc_text.specs.Power.{IsPowerUpTo}
 use Rattle.abc_text.specs.Word.{before_blank}
-use Rattle.abc_fields.specs.Tempo.{part_of, fraction_of, first_word, behind_word, added, sum_with, sum_of}
+use Rattle.abc_fields.specs.Tempo.{part_of, fraction_of, word_in_front, behind_word, added, sum_with, sum_of}
 use Rattle.abc_fields.specs.Spelling.Tempo.{IsFraction, IsSum}
 use Rattle.abc_text.proofs.Powers.{power_from, power_to}
 use Rattle.abc_fields.proofs.Readings.{bound}
@@ -137,12 +137,12 @@ fraction_of-is text part is =
 -- a word is cut off a text
 pub record IsWord (text : List ℕ) : Type 0 where
   pub gap : List ℕ
-  pub spelling : text ≡ first_word text ++ (gap ++ behind_word text)
+  pub spelling : text ≡ word_in_front text ++ (gap ++ behind_word text)
   pub gap_is : AreBlanks gap
   pub gap_some : (behind_word text ≡ []) ⊎ (1 ≤ length gap)
 
 pub word_cut : (text : List ℕ) → IsWord text
-unfolding first_word behind_word
+unfolding word_in_front behind_word
 word_cut text =
     let n = before_blank text in
     let rest = drop n text in
@@ -170,9 +170,9 @@ gap_or_end : (gap : List ℕ) → AreBlanks gap → prefix_len (λ b. not (is_bl
 gap_or_end [] h = refl
 gap_or_end (b ∷ bs) h = front_none (λ b. not (is_blank b)) b bs (blank_hidden b (All-head (λ b. is_blank b ≡ true) b bs h))
 
-first_word-is : (text word more : List ℕ) → text ≡ word ++ more → AllPass (λ b. not (is_blank b)) word → prefix_len (λ b. not (is_blank b)) more ≡ 0 → first_word text ≡ word
-unfolding first_word
-first_word-is text word more e visible stops = ap (λ t. take (before_blank t) t) e ∙ take_exact _ word more (front_exact (λ b. not (is_blank b)) word more visible stops)
+word_in_front-is : (text word more : List ℕ) → text ≡ word ++ more → AllPass (λ b. not (is_blank b)) word → prefix_len (λ b. not (is_blank b)) more ≡ 0 → word_in_front text ≡ word
+unfolding word_in_front
+word_in_front-is text word more e visible stops = ap (λ t. take (before_blank t) t) e ∙ take_exact _ word more (front_exact (λ b. not (is_blank b)) word more visible stops)
 
 behind_word-is : (text word more : List ℕ) → text ≡ word ++ more → AllPass (λ b. not (is_blank b)) word → prefix_len (λ b. not (is_blank b)) more ≡ 0 → behind_word text ≡ trim_start more
 unfolding behind_word
@@ -191,7 +191,7 @@ sum_begins (suc most) text sum (inl last) rest = begins_with text last.word last
 sum_begins (suc most) text sum (inr first) rest = begins_with text first.word (first.gap ++ first.rest) rest first.part first.spelling first.word_is
 
 -- what a text spells, and the reading of it, are one
-pub sum_of-suc : (most : ℕ) (text : List ℕ) → sum_of (suc most) text ≡ option_and_then (sum_with (sum_of most) (behind_word text)) (fraction_of (first_word text))
+pub sum_of-suc : (most : ℕ) (text : List ℕ) → sum_of (suc most) text ≡ option_and_then (sum_with (sum_of most) (behind_word text)) (fraction_of (word_in_front text))
 unfolding sum_of
 sum_of-suc most text = refl
 
@@ -205,26 +205,26 @@ added_parts part sum (Some n) e = (n, refl, cc)
 
 -- by what stands behind the first word
 sum_by : (most : ℕ) (text : List ℕ) (sum : ℕ) → ((rest : List ℕ) (n : ℕ) → sum_of most rest ≡ Some n → IsSum most rest n) → (behind : List ℕ) → behind_word text ≡ behind
-    → (part : ℕ) → IsFraction (first_word text) part → sum_with (sum_of most) (behind_word text) part ≡ Some sum → IsWord text → IsSum (suc most) text sum
+    → (part : ℕ) → IsFraction (word_in_front text) part → sum_with (sum_of most) (behind_word text) part ≡ Some sum → IsWord text → IsSum (suc most) text sum
 sum_by most text sum rest_is [] b part word total cut =
     let one : Some part ≡ Some sum = sym (ap (λ l. sum_with (sum_of most) l part) b) ∙ total in
     let same : part ≡ sum = same_Some part sum one in
     inl (record {
-      word = first_word text;
+      word = word_in_front text;
       gap = cut.gap;
-      spelling = cut.spelling ∙ ap (λ l. first_word text ++ (cut.gap ++ l)) b ∙ ap (λ l. first_word text ++ l) (append-nil cut.gap);
-      word_is = subst (IsFraction (first_word text)) same word;
+      spelling = cut.spelling ∙ ap (λ l. word_in_front text ++ (cut.gap ++ l)) b ∙ ap (λ l. word_in_front text ++ l) (append-nil cut.gap);
+      word_is = subst (IsFraction (word_in_front text)) same word;
       gap_is = cut.gap_is;
     })
 sum_by most text sum rest_is (x ∷ xs) b part word total cut =
     let more = added_parts part sum (sum_of most (x ∷ xs)) (sym (ap (λ l. sum_with (sum_of most) l part) b) ∙ total) in
     inr (record {
-      word = first_word text;
+      word = word_in_front text;
       gap = cut.gap;
       rest = x ∷ xs;
       part = part;
       rest_sum = more.0;
-      spelling = cut.spelling ∙ ap (λ l. first_word text ++ (cut.gap ++ l)) b;
+      spelling = cut.spelling ∙ ap (λ l. word_in_front text ++ (cut.gap ++ l)) b;
       word_is = word;
       gap_is = cut.gap_is;
       gap_some = ⊎_elim (λ none. let no : [] ≡ x ∷ xs = sym none ∙ b in cc) (λ some. some) cut.gap_some;
@@ -235,8 +235,8 @@ sum_by most text sum rest_is (x ∷ xs) b part word total cut =
 pub sum_of-Some : (most : ℕ) (text : List ℕ) (sum : ℕ) → sum_of most text ≡ Some sum → IsSum most text sum
 sum_of-Some zero text sum e = let none = sum_of-zero text in cc
 sum_of-Some (suc most) text sum e =
-    let found = bound (sum_with (sum_of most) (behind_word text)) (fraction_of (first_word text)) sum (sym (sum_of-suc most text) ∙ e) in
-    let word = fraction_of-Some (first_word text) found.0 found.1 in
+    let found = bound (sum_with (sum_of most) (behind_word text)) (fraction_of (word_in_front text)) sum (sym (sum_of-suc most text) ∙ e) in
+    let word = fraction_of-Some (word_in_front text) found.0 found.1 in
     sum_by most text sum (λ rest n. sum_of-Some most rest n) (behind_word text) refl found.0 word found.2 (word_cut text)
 
 more_than_none : (f : List ℕ → Option ℕ) (rest : List ℕ) (part : ℕ) → 1 ≤ length rest → sum_with f rest part ≡ added part (f rest)
@@ -248,18 +248,18 @@ sum_of-is zero text sum is = absurd is
 sum_of-is (suc most) text sum (inl last) =
     let visible = fraction_visible last.word sum last.word_is in
     let stops = gap_or_end last.gap last.gap_is in
-    let word : first_word text ≡ last.word = first_word-is text last.word last.gap last.spelling visible stops in
+    let word : word_in_front text ≡ last.word = word_in_front-is text last.word last.gap last.spelling visible stops in
     let behind : behind_word text ≡ [] = behind_word-is text last.word last.gap last.spelling visible stops ∙ trim_start-blanks last.gap last.gap_is in
-    let read : fraction_of (first_word text) ≡ Some sum = ap fraction_of word ∙ fraction_of-is last.word sum last.word_is in
+    let read : fraction_of (word_in_front text) ≡ Some sum = ap fraction_of word ∙ fraction_of-is last.word sum last.word_is in
     sum_of-suc most text ∙ ap (option_and_then (sum_with (sum_of most) (behind_word text))) read ∙ ap (λ l. sum_with (sum_of most) l sum) behind
 sum_of-is (suc most) text sum (inr first) =
     let visible = fraction_visible first.word first.part first.word_is in
     let stops = gap_hidden first.gap first.rest first.gap_is first.gap_some in
     let begins = sum_begins most first.rest first.rest_sum first.rest_is [] in
     let rest_visible : prefix_len is_blank first.rest ≡ 0 = ap (prefix_len is_blank) (sym (append-nil first.rest)) ∙ begins.0 in
-    let word : first_word text ≡ first.word = first_word-is text first.word (first.gap ++ first.rest) first.spelling visible stops in
+    let word : word_in_front text ≡ first.word = word_in_front-is text first.word (first.gap ++ first.rest) first.spelling visible stops in
     let behind : behind_word text ≡ first.rest = behind_word-is text first.word (first.gap ++ first.rest) first.spelling visible stops ∙ trim_start-gap first.gap first.rest first.gap_is rest_visible in
-    let read : fraction_of (first_word text) ≡ Some first.part = ap fraction_of word ∙ fraction_of-is first.word first.part first.word_is in
+    let read : fraction_of (word_in_front text) ≡ Some first.part = ap fraction_of word ∙ fraction_of-is first.word first.part first.word_is in
     let rest_read : sum_of most first.rest ≡ Some first.rest_sum = sum_of-is most first.rest first.rest_sum first.rest_is in
     sum_of-suc most text ∙ ap (option_and_then (sum_with (sum_of most) (behind_word text))) read ∙ ap (λ l. sum_with (sum_of most) l first.part) behind
     ∙ more_than_none (sum_of most) first.rest first.part begins.1 ∙ ap (added first.part) rest_read ∙ ap Some (sym first.total)

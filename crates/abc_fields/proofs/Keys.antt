@@ -23,7 +23,7 @@ use Rattle.abc_fields.specs.Spelling.Tonic.{IsTonic}
 use Rattle.abc_text.specs.Letter.{letter_of}
 use Rattle.abc_text.specs.Word.{IsFirstWord, words_of}
 use Rattle.abc_fields.specs.Clef.{mark_of, names_clef, without_line}
-use Rattle.abc_fields.specs.Key.{empty_signature, unchanged_signature, IsInRange, key_with, key_on, sets_properties, begins_accidental, toneless_start, tonal_start, start_by_words, start_by, start_of, key_after, completed, spelled_key, key_in, key_of}
+use Rattle.abc_fields.specs.Key.{empty_key, unchanged_key, IsInRange, key_with, key_on, sets_properties, begins_accidental, toneless_start, tonal_start, start_by_words, start_by, start_of, key_after, completed, spelled_key, key_in, key_of}
 use Rattle.abc_fields.specs.Spelling.Key.{IsKeyOn, HasNoTonic, IsStart, IsCompleted, IsSpelled, IsKey}
 use Rattle.abc_fields.specs.Spelling.Key.IsStart.{tonal, listed, properties}
 use Rattle.abc_fields.specs.Spelling.Key.IsKey.{nothing, spelled}
@@ -88,15 +88,15 @@ toneless_from : (value first behind : List ℕ) (found : Key × List ℕ) → Ha
     → option_map {T = Key} {U = Key × List ℕ} (λ key. (key, value)) (toneless_start first) ≡ Some found → IsStart value found.0 found.1
 toneless_from value first behind found toneless is e = ⊎_elim
     (λ t.
-    let known : Some (empty_signature, value) ≡ Some found = sym (ap (option_map {T = Key} {U = Key × List ℕ} (λ key. (key, value))) (cond-true (begins_accidental first) _ _ t)) ∙ e in
-    let same : (empty_signature, value) ≡ found = cc in
+    let known : Some (empty_key, value) ≡ Some found = sym (ap (option_map {T = Key} {U = Key × List ℕ} (λ key. (key, value))) (cond-true (begins_accidental first) _ _ t)) ∙ e in
+    let same : (empty_key, value) ≡ found = cc in
     subst (λ (p : Key × List ℕ). IsStart value p.0 p.1) same (listed first behind toneless is (begins_from first t) refl refl))
     (λ t.
     let later = sym (ap (option_map {T = Key} {U = Key × List ℕ} (λ key. (key, value))) (cond-false (begins_accidental first) _ _ t)) ∙ e in
     ⊎_elim
     (λ u.
-    let known : Some (unchanged_signature, value) ≡ Some found = sym (ap (option_map {T = Key} {U = Key × List ℕ} (λ key. (key, value))) (cond-true (sets_properties first) _ _ u)) ∙ later in
-    let same : (unchanged_signature, value) ≡ found = cc in
+    let known : Some (unchanged_key, value) ≡ Some found = sym (ap (option_map {T = Key} {U = Key × List ℕ} (λ key. (key, value))) (cond-true (sets_properties first) _ _ u)) ∙ later in
+    let same : (unchanged_key, value) ≡ found = cc in
     subst (λ (p : Key × List ℕ). IsStart value p.0 p.1) same
     (properties first behind toneless is (λ begins. both_ways (begins_accidental first) t (begins_to first begins)) (sets_from first u) refl refl))
     (λ u. let none : None ≡ Some found = sym (ap (option_map {T = Key} {U = Key × List ℕ} (λ key. (key, value))) (cond-false (sets_properties first) _ _ u)) ∙ later in cc)
@@ -140,9 +140,9 @@ start_to value start text (tonal major behind basis is b k) =
     ∙ ap (tonal_start major) (basis_to behind basis text b)
     ∙ ap (option_map {T = Key} {U = Key × List ℕ} (λ key. (key, text))) (key_on_to major basis start k)
 start_to value start text (listed first behind toneless is begins s t) =
-    toneless_to value first behind empty_signature toneless is (cond-true (begins_accidental first) _ _ (begins_to first begins)) ∙ (λ i. Some (sym s i, sym t i))
+    toneless_to value first behind empty_key toneless is (cond-true (begins_accidental first) _ _ (begins_to first begins)) ∙ (λ i. Some (sym s i, sym t i))
 start_to value start text (properties first behind toneless is other sets s t) =
-    toneless_to value first behind unchanged_signature toneless is
+    toneless_to value first behind unchanged_key toneless is
     (cond-false (begins_accidental first) _ _ (false_from_ne_true (begins_accidental first) (λ b. other (begins_from first b))) ∙ cond-true (sets_properties first) _ _ (sets_to first sets))
     ∙ (λ i. Some (sym s i, sym t i))
 
@@ -221,22 +221,22 @@ key_in_from : (value : List ℕ) (key : Key) → key_in value ≡ Some key → I
 unfolding key_in
 key_in_from value key e = ⊎_elim
     (λ t.
-    let known : Some empty_signature ≡ Some key = sym (cond-true _ (Some empty_signature) (spelled_key (start_of value)) t) ∙ e in
-    let same : key ≡ empty_signature = cc in
+    let known : Some empty_key ≡ Some key = sym (cond-true _ (Some empty_key) (spelled_key (start_of value)) t) ∙ e in
+    let same : key ≡ empty_key = cc in
     nothing (nothing_from value t) same)
-    (λ t. spelled (by_start value key (start_of value) refl (sym (cond-false _ (Some empty_signature) (spelled_key (start_of value)) t) ∙ e)))
+    (λ t. spelled (by_start value key (start_of value) refl (sym (cond-false _ (Some empty_key) (spelled_key (start_of value)) t) ∙ e)))
     (cases_Bool ((length value == 0) || bytes_eq value (codes "none")))
 
 key_in_to : (value : List ℕ) (key : Key) → IsKey value key → key_in value ≡ Some key
 unfolding key_in
-key_in_to value key (nothing is e) = cond-true _ (Some empty_signature) (spelled_key (start_of value)) (nothing_to value is) ∙ ap Some (sym e)
+key_in_to value key (nothing is e) = cond-true _ (Some empty_key) (spelled_key (start_of value)) (nothing_to value is) ∙ ap Some (sym e)
 key_in_to value key (spelled h) =
     let begins = start_to value h.start h.text h.begins in
     let something : ((length value == 0) || bytes_eq value (codes "none")) ≡ false = false_from_ne_true _ (λ t.
     let none : ◌≡◌ {A = Option (Key × List ℕ)} None (Some (h.start, h.text)) = sym (no_start value (nothing_from value t)) ∙ begins in cc) in
     let words : words_of h.text ≡ h.words = (words_exact h.text h.words).1 h.are_words in
     let done : completed h.start h.words ≡ Some key = completed_to h.start h.words key (record { signature = h.signature; sharps = h.sharps; minor = h.minor; shift = h.shift }) in
-    cond-false _ (Some empty_signature) (spelled_key (start_of value)) something
+    cond-false _ (Some empty_key) (spelled_key (start_of value)) something
     ∙ ap spelled_key begins
     ∙ ap (completed h.start) words
     ∙ done
@@ -248,7 +248,7 @@ no_sharps = (omega (arith, ints), omega (arith, ints))
 no_shift_small : IsSmallShift no_shift
 no_shift_small = record { clef = tt; octave = tt; transpose = tt }
 
-pub no_key_range : IsInRange empty_signature
+pub no_key_range : IsInRange empty_key
 no_key_range = record { sharps = no_sharps; signature = natural_range; shift = no_shift_small }
 
 key_on_range : (major : ℤ) (basis : Basis) (key : Key) → IsKeyOn major basis key → IsInRange key

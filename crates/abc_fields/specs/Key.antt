@@ -18,13 +18,13 @@ use Rattle.abc_fields.specs.Tonic.{tonic_at, basis_at}
 use Rattle.abc_text.specs.Word.{words_of}
 use Rattle.abc_text.specs.Byte.{equals_sign, caret, underscore}
 
--- An empty signature: it has no sharps and flats.
-abbrev pub empty_signature : Key
-empty_signature = record { signature = Some natural; sharps = pos 0; minor = false; shift = no_shift }
+-- The key of an empty signature: it has no sharps and flats.
+abbrev pub empty_key : Key
+empty_key = record { signature = Some natural; sharps = pos 0; minor = false; shift = no_shift }
 
--- The signature stays as it is.
-abbrev pub unchanged_signature : Key
-unchanged_signature = record { signature = None; sharps = pos 0; minor = false; shift = no_shift }
+-- The key that leaves the signature as it is.
+abbrev pub unchanged_key : Key
+unchanged_key = record { signature = None; sharps = pos 0; minor = false; shift = no_shift }
 
 -- The sharps of a key, the alterations of its signature and the parts of its shift lie within their
 -- bounds.
@@ -41,7 +41,7 @@ key_with sharps minor =
 
 -- The key of a basis on the tonic whose major key has these sharps.
 abbrev pub key_on : ℤ → Basis → Option Key
-key_on major Explicit = Some empty_signature
+key_on major Explicit = Some empty_key
 key_on major (Named mode) = key_with (major +ℤ added_sharps mode) (is_minor mode)
 
 -- A word sets properties, where it stands first: it has a `=`, or the mark of an octave, or is the
@@ -57,8 +57,8 @@ begins_accidental (b ∷ rest) = (b == caret) || (b == underscore) || (b == equa
 -- What a key without a tonic begins with, by its first word.
 abbrev pub toneless_start : List ℕ → Option Key
 toneless_start first =
-    if begins_accidental first then Some empty_signature
-    else (if sets_properties first then Some unchanged_signature
+    if begins_accidental first then Some empty_key
+    else (if sets_properties first then Some unchanged_key
     else None)
 
 -- What a key on a tonic begins with, and the text whose words complete it.
@@ -99,7 +99,7 @@ spelled_key (Some start) = completed start.0 (words_of start.1)
 -- The key that a value says, if it is accepted: without a signature where it is empty or `none`.
 unfoldable pub key_in : List ℕ → Option Key
 key_in value =
-    if (length value == 0) || bytes_eq value (codes "none") then Some empty_signature
+    if (length value == 0) || bytes_eq value (codes "none") then Some empty_key
     else spelled_key (start_of value)
 
 -- The key that a value says, or its fault.
@@ -110,4 +110,4 @@ key_of value = ok_or (key_in value) BadKey
 -- it is refused. Our own.
 abbrev pub key_or_empty : Result Key FaultCode → Key
 key_or_empty (Ok key) = key
-key_or_empty (Err fault) = empty_signature
+key_or_empty (Err fault) = empty_key

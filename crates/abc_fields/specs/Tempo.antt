@@ -34,9 +34,9 @@ fraction_of word =
     (λ parts. option_and_then (λ above. option_and_then (part_of above) (number_of parts.1)) (number_of parts.0))
     (cut_at slash word)
 
--- The first word of a text.
-unfoldable pub first_word : List ℕ → List ℕ
-first_word text = take (before_blank text) text
+-- What stands before the first blank of a text.
+unfoldable pub word_in_front : List ℕ → List ℕ
+word_in_front text = take (before_blank text) text
 
 -- What stands behind it and the blanks after it.
 unfoldable pub behind_word : List ℕ → List ℕ
@@ -54,7 +54,7 @@ sum_with sum_rest (b ∷ bs) part = added part (sum_rest (b ∷ bs))
 -- The sum of at most so many fractions, in 512ths.
 unfoldable pub sum_of : ℕ → List ℕ → Option ℕ
 sum_of zero text = None
-sum_of (suc most) text = option_and_then (sum_with (sum_of most) (behind_word text)) (fraction_of (first_word text))
+sum_of (suc most) text = option_and_then (sum_with (sum_of most) (behind_word text)) (fraction_of (word_in_front text))
 
 -- Both parts halved at most so many times, while the upper one is even.
 unfoldable pub halved : ℕ → ℕ → ℕ → Ratio

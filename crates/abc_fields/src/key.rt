@@ -30,17 +30,17 @@ pub struct Key {
     pub shift: Shift,
 }
 
-/// An empty signature, of no sharps and flats: what an empty value and `none` say, and what a refused
-/// value leaves.
-pub const EMPTY_SIGNATURE: Key = Key {
+/// The key of an empty signature, of no sharps and flats: what an empty value and `none` say, and what a
+/// refused value leaves.
+pub const EMPTY_KEY: Key = Key {
     signature: Some(NATURAL),
     sharps: 0,
     minor: false,
     shift: NO_SHIFT,
 };
 
-/// The signature stays as it is, since the value sets properties alone.
-const UNCHANGED_SIGNATURE: Key = Key {
+/// The key that leaves the signature as it is, since the value sets properties alone.
+const UNCHANGED_KEY: Key = Key {
     signature: None,
     sharps: 0,
     minor: false,
@@ -78,7 +78,7 @@ fn key_on(major: i8, basis: Basis) -> Option<Key>
 {
     match basis {
         Basis::Named(mode) => key_with(sharps_in(major, mode), mode.is_minor()),
-        Basis::Explicit => Some(EMPTY_SIGNATURE),
+        Basis::Explicit => Some(EMPTY_KEY),
     }
 }
 
@@ -102,9 +102,9 @@ fn toneless_start(first: &[u8]) -> Option<Key>
     ensures { result ≡ toneless_start first.now }
 {
     if begins_accidental(first) {
-        Some(EMPTY_SIGNATURE)
+        Some(EMPTY_KEY)
     } else if sets_properties(first) {
-        Some(UNCHANGED_SIGNATURE)
+        Some(UNCHANGED_KEY)
     } else {
         None
     }
@@ -155,7 +155,7 @@ fn key_in(value: &[u8]) -> Option<Key>
     ensures { result ≡ key_in value.now }
 {
     if value.is_empty() || value == b"none".as_slice() {
-        return Some(EMPTY_SIGNATURE);
+        return Some(EMPTY_KEY);
     }
     let (start, text) = start_of(value)?;
     completed(start, text)
@@ -179,6 +179,6 @@ pub fn key_set_by(value: &[u8]) -> Key
 {
     match read_key(value) {
         Ok(key) => key,
-        Err(_) => EMPTY_SIGNATURE,
+        Err(_) => EMPTY_KEY,
     }
 }

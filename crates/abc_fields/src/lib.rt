@@ -20,7 +20,7 @@ mod unit;
 mod voice;
 
 pub use fault::FaultCode;
-pub use key::{EMPTY_SIGNATURE, Key, key_set_by, read_key};
+pub use key::{EMPTY_KEY, Key, key_set_by, read_key};
 pub use meter::{Meter, read_meter};
 pub use parts::{DEEPEST_GROUP, read_parts};
 pub use shift::Shift;

@@ -3,7 +3,7 @@
 ghost use Rattle.std.specs.Prelude.{◌≡◌, ◌≤◌, ◌↔◌, ◌*◌, ok_or, IfOk, IfSome, length};
 ghost use Rattle.abc_text.specs.declared.digit.TheConstants.{LARGEST_NUMBER};
 ghost use Rattle.abc_time.specs.Ratio.{IsRatio};
-ghost use Rattle.abc_fields.specs.Tempo.{positive_of, part_of, fraction_of, sum_of, lowest, first_word, behind_word, bare_tempo, tempo_around, tempo_in, tempo_of, IsInRange};
+ghost use Rattle.abc_fields.specs.Tempo.{positive_of, part_of, fraction_of, sum_of, lowest, word_in_front, behind_word, bare_tempo, tempo_around, tempo_in, tempo_of, IsInRange};
 ghost use Rattle.abc_fields.specs.Spelling.Tempo.{IsTempo};
 
 use crate::fault::FaultCode;
@@ -62,10 +62,10 @@ fn fraction_of(word: &[u8]) -> Option<u32>
     part_of(number_of(above)?, number_of(below)?)
 }
 
-/// The first word of a text, and what stands behind it and the blanks after it.
-#[tactic(auto, unfolding(crate::specs::Tempo::first_word, crate::specs::Tempo::behind_word))]
+/// What stands before the first blank of a text, and what stands behind it and the blanks after it.
+#[tactic(auto, unfolding(crate::specs::Tempo::word_in_front, crate::specs::Tempo::behind_word))]
 fn split_word(text: &[u8]) -> (&[u8], &[u8])
-    ensures word { result.0.now ≡ first_word text.now }
+    ensures word { result.0.now ≡ word_in_front text.now }
     ensures behind { result.1.now ≡ behind_word text.now }
 {
     let size = before_blank(text);

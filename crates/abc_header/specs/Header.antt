@@ -6,7 +6,7 @@ use Rattle.abc_fields.specs.declared.fault.FaultCode.TheVariants.{TooManyVoices}
 use Rattle.abc_fields.specs.declared.key.Key.{Key}
 use Rattle.abc_fields.specs.declared.shift.Shift.{Shift}
 use Rattle.abc_fields.specs.declared.voice.Voice.{Voice}
-use Rattle.abc_fields.specs.Key.{empty_signature, key_of}
+use Rattle.abc_fields.specs.Key.{empty_key, key_of}
 use Rattle.abc_fields.specs.Parts.{parts_of}
 use Rattle.abc_fields.specs.Voice.{voice_of}
 use Rattle.abc_scan.specs.declared.directive.Directive.{Directive}
@@ -100,7 +100,7 @@ header_key_item key = items.Key true (Some (key.sharps, key.minor))
 -- What a K: gives, by its reading: one that is refused has an empty signature. Our own.
 abbrev pub header_key_by : Header → Result Key FaultCode → OwnGiven
 header_key_by header (Ok key) = unchanged header (Some (header_key_item key)) None
-header_key_by header (Err fault) = unchanged header (Some (header_key_item empty_signature)) (Some fault)
+header_key_by header (Err fault) = unchanged header (Some (header_key_item empty_key)) (Some fault)
 
 -- What a field gives of its own.
 abbrev pub own_given : Header → FieldKind → List ℕ → OwnGiven

@@ -19,7 +19,7 @@ use crate::reference::reference_of;
 use crate::tune_program::TuneProgram;
 use crate::voice_name::VoiceName;
 use crate::voices::Voices;
-use abc_fields::{EMPTY_SIGNATURE, FaultCode, Key, Shift, Voice, read_key, read_parts, read_voice};
+use abc_fields::{EMPTY_KEY, FaultCode, Key, Shift, Voice, read_key, read_parts, read_voice};
 use abc_items::{Item, ItemText, LocalFault, MOST_VOICES, program_of};
 use abc_scan::{Directive, Field};
 use abc_text::Sequence;
@@ -224,7 +224,7 @@ fn key_given(header: Header, value: &[u8]) -> OwnGiven
     match read_key(value) {
         Ok(key) => OwnGiven::unchanged(header, Some(header_key_item(key)), None),
         Err(fault) => {
-            OwnGiven::unchanged(header, Some(header_key_item(EMPTY_SIGNATURE)), Some(fault))
+            OwnGiven::unchanged(header, Some(header_key_item(EMPTY_KEY)), Some(fault))
         }
     }
 }

@@ -24,9 +24,9 @@ use Rattle.abc_scan.specs.Cutting.{alone_at, IsCuttingFrom, IsSpan, JoinFromTo}
 use Rattle.abc_scan.specs.Line.{cutting_of, directive_token, tokens_in, tokens_of, covered_in, covered_of, HasPartLength, HasLength}
 use Rattle.abc_scan.specs.Token.{Spells, opens, alone_of, is_bar, line_kinds, line_grammar, reading_at, next_token}
 use Rattle.abc_text.specs.Digit.{is_digit, decimal}
-use Rattle.abc_text.specs.Ending.{without_return}
+use Rattle.abc_text.specs.LineEnd.{without_return}
 use Rattle.abc_text.proofs.Decimals.{decimal-lt}
-use Rattle.abc_text.proofs.Endings.{without_return-le}
+use Rattle.abc_text.proofs.LineEnds.{without_return-le}
 use Rattle.abc_scan.proofs.ClassLaws.{laws, field_visible}
 use Rattle.abc_scan.proofs.Directives.{directive-read, directive-percent}
 use Rattle.abc_scan.proofs.Cuttings.{next_only, next_size, cut-all}

@@ -2,7 +2,7 @@
 use Rattle.std.specs.Prelude.{◌≡◌, ℕ, Bool, false, ◌&&◌, ◌||◌, not, Option, Some, None, List, [], ◌∷◌, ◌++◌, if◌then◌else◌, ◌==◌, nat_le, find, All, IsTrue}
 use Rattle.std.specs.Char.{is_ascii_alphabetic}
 use Rattle.abc_text.specs.Blank.{is_blank}
-use Rattle.abc_text.specs.Ending.{without_return}
+use Rattle.abc_text.specs.LineEnd.{without_return}
 use Rattle.abc_scan.specs.declared.class.LineClass.{LineClass}
 use Rattle.abc_scan.specs.declared.class.LineClass.TheVariants.{Blank, Comment, Field, Directive, Music}
 use Rattle.abc_scan.specs.Byte.{percent, plus_sign, colon, bar_stroke}

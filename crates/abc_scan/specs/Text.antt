@@ -1,6 +1,6 @@
 -- The part of a line that is read.
 use Rattle.std.specs.Prelude.{◌≡◌, ◌≢◌, ◌⊎◌, ℕ, ◌&&◌, not, List, [], ◌∷◌, ◌++◌, if◌then◌else◌, ◌==◌}
-use Rattle.abc_text.specs.Ending.{without_return}
+use Rattle.abc_text.specs.LineEnd.{without_return}
 use Rattle.abc_scan.specs.Byte.{space, percent, backslash}
 
 -- What stands before the comment in a text that follows this byte: a comment begins at a `%` that does not directly

@@ -3,7 +3,7 @@
 ghost use Rattle.std.specs.Prelude.{◌≡◌, ◌↔◌, ℕ};
 ghost use Rattle.abc_scan.specs.Class.{class_of, class_of_text, first_visible, names_field, is_music_letter, begins_bar, field_letter, IsBlankLine, IsCommentLine, IsFieldLine, IsMusicLine};
 ghost use Rattle.abc_scan.specs.Directive.{IsDirectiveLine};
-ghost use Rattle.abc_text.specs.Ending.{without_return};
+ghost use Rattle.abc_text.specs.LineEnd.{without_return};
 
 use crate::directive::is_directive;
 use abc_text::{is_blank, without_return};

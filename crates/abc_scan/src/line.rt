@@ -19,14 +19,14 @@ use abc_text::without_return;
 use std::alloc::{AllocError, Global};
 
 /// The longest text that is cut: the places in it, and the octaves of its notes, are small numbers.
-const LONGEST_LINE: usize = (1 << 31) - 1;
+const LONGEST_CUT: usize = (1 << 31) - 1;
 
 /// A text, if it is not too long to be cut.
 pub(crate) fn short(text: &[u8]) -> Result<&[u8], AllocError>
     ensures same { IfOk result (λ short. short.now ≡ text.now) }
     ensures short { IfOk result (λ short. length short.now < 2 ^ 31) }
 {
-    if text.len() > LONGEST_LINE {
+    if text.len() > LONGEST_CUT {
         Err(AllocError)
     } else {
         Ok(text)

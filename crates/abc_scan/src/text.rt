@@ -1,7 +1,7 @@
 //! The part of a line that is read.
 
 ghost use Rattle.std.specs.Prelude.{◌≡◌, ◌≤◌, length};
-ghost use Rattle.abc_text.specs.Ending.{DropsOneReturn};
+ghost use Rattle.abc_text.specs.LineEnd.{DropsOneReturn};
 ghost use Rattle.abc_scan.specs.Text.{without_comment, CutsComments};
 
 /// What stands before the first `%` of a text that begins a comment, or the whole text.

@@ -1,9 +1,9 @@
 pub mod Blanks
 pub mod Cuts
 pub mod Decimals
-pub mod Endings
 pub mod Fronts
 pub mod Letters
+pub mod LineEnds
 pub mod Numbers
 pub mod Powers
 pub mod Trims

@@ -3,8 +3,8 @@ pub mod Blank
 pub mod Byte
 pub mod Cut
 pub mod Digit
-pub mod Ending
 pub mod Letter
+pub mod LineEnd
 pub mod Number
 pub mod Power
 pub mod Word

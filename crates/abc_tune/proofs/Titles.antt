@@ -30,7 +30,7 @@ use Rattle.abc_scan.proofs.Cuttings.{cut-all}
 use Rattle.abc_scan.proofs.Laws.{cuts_each}
 use Rattle.abc_scan.proofs.Spans.{laid}
 use Rattle.abc_text.specs.Byte.{line_feed}
-use Rattle.abc_text.specs.Ending.{without_return}
+use Rattle.abc_text.specs.LineEnd.{without_return}
 use Rattle.abc_text.proofs.Blanks.{trimmed-le}
 use Rattle.abc_tune.specs.Abc.{cells_in}
 use Rattle.abc_tune.specs.Lines.{HasShortTitle, IsTooLarge, IsTooLongBySize, items_of_lines, by_sections, by_places, by_time}

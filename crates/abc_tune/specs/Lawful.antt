@@ -19,7 +19,7 @@ use Rattle.abc_scan.specs.declared.class.LineClass.TheVariants.{Blank, Comment, 
 use Rattle.abc_scan.specs.declared.directive.Directive.{Directive as DirectiveRead}
 use Rattle.abc_scan.specs.declared.spanned.Spanned.{Spanned}
 use Rattle.abc_scan.specs.declared.token.TokenKind.{TokenKind}
-use Rattle.abc_text.specs.Ending.{without_return}
+use Rattle.abc_text.specs.LineEnd.{without_return}
 use Rattle.abc_tune.specs.Abc.{cells_in, rules_of_abc}
 
 -- A class of lines without cells.

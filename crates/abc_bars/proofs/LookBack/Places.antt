@@ -1,7 +1,7 @@
 -- What each cell of a tune gives, and what holds behind it.
 use Rattle.std.proofs.Common.{◌≡◌, List, [], ◌∷◌, Option, Some, None, refl, sym, ap, ◌∙◌}
 use Rattle.abc_fields.specs.declared.key.Key.{Key}
-use Rattle.abc_fields.specs.Key.{empty_signature, key_of, key_or_empty}
+use Rattle.abc_fields.specs.Key.{empty_key, key_of, key_or_empty}
 use Rattle.abc_scan.specs.declared.field.Field.{Field}
 use Rattle.abc_scan.specs.declared.spanned.Spanned.{Spanned}
 use Rattle.abc_scan.specs.declared.token.TokenKind.{TokenKind}
@@ -68,8 +68,8 @@ in-header : (opening : Defaults) (before : List HeaderLine) (cell : List (Spanne
     → header_stepped (header_at opening before) cell line ≡ (view (behind_header opening before cell line), given_in_header opening before cell line)
 in-header opening before cell (Some line) = λ i. (behind-line opening before line i, given_in_header opening before cell (Some line))
 in-header opening before cell None =
-    ap (λ (body : Body). body_stepped body cell) (sym (begins opening before empty_signature))
-    ∙ in-body opening before empty_signature [] cell
+    ap (λ (body : Body). body_stepped body cell) (sym (begins opening before empty_key))
+    ∙ in-body opening before empty_key [] cell
 
 -- A cell gives at a place what looking back says, and the view behind it is that of the place behind it.
 pub stepped_back : (place : Place) (cell : List (Spanned TokenKind)) → stepped (view place) cell ≡ (view (place_behind place cell), given_at place cell)

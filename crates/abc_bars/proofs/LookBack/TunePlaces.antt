@@ -2,7 +2,7 @@
 use Rattle.std.proofs.Common.{◌≡◌, List, [], ◌∷◌, Option, Some, None, unwrap_or, refl, sym, ap, ◌∙◌}
 use Rattle.std.specs.Option.{option_or}
 use Rattle.abc_fields.specs.declared.key.Key.{Key}
-use Rattle.abc_fields.specs.Key.{empty_signature}
+use Rattle.abc_fields.specs.Key.{empty_key}
 use Rattle.abc_scan.specs.declared.field.Field.{Field}
 use Rattle.abc_header.specs.declared.defaults.Defaults.{Defaults}
 use Rattle.abc_header.specs.declared.field_kind.FieldKind.{FieldKind}
@@ -23,7 +23,7 @@ module _ (values opening : Defaults) (before : List HeaderLine) (same : opening 
 
   kept-field : (field : Field) (kind : FieldKind) → kind_of field.letter ≡ kind → IsOfTune values (behind_field opening before field kind)
   kept-field field fields.Key is =
-      (same, sym (ap (λ (kind : FieldKind). unwrap_or (option_or (key_said kind field.value) (key_among before)) empty_signature) is))
+      (same, sym (ap (λ (kind : FieldKind). unwrap_or (option_or (key_said kind field.value) (key_among before)) empty_key) is))
   kept-field field fields.Reference is = (same, still field fields.Reference is refl)
   kept-field field fields.Title is = (same, still field fields.Title is refl)
   kept-field field fields.Meter is = (same, still field fields.Meter is refl)
@@ -39,7 +39,7 @@ module _ (values opening : Defaults) (before : List HeaderLine) (same : opening 
 
   kept-header : (cell : CellTokens) (line : Option HeaderLine) → IsOfTune values (behind_header opening before cell line)
   kept-header cell (Some line) = kept-line line
-  kept-header cell None = (same, sym (ap (λ (key : Option Key). unwrap_or key empty_signature) keyless))
+  kept-header cell None = (same, sym (ap (λ (key : Option Key). unwrap_or key empty_key) keyless))
 
 kept-behind : (values : Defaults) (place : Place) (cell : CellTokens) → IsOfTune values place → IsOfTune values (place_behind place cell)
 kept-behind values (InFileHeader before) cell kept = absurd kept

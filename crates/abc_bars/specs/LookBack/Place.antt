@@ -2,7 +2,7 @@
 -- cell gives there.
 use Rattle.std.specs.Prelude.{List, [], ◌∷◌, Option, Some, None}
 use Rattle.abc_fields.specs.declared.key.Key.{Key}
-use Rattle.abc_fields.specs.Key.{empty_signature, key_of, key_or_empty}
+use Rattle.abc_fields.specs.Key.{empty_key, key_of, key_or_empty}
 use Rattle.abc_scan.specs.declared.field.Field.{Field}
 use Rattle.abc_scan.specs.declared.spanned.Spanned.{Spanned}
 use Rattle.abc_scan.specs.declared.token.TokenKind.{TokenKind}
@@ -69,7 +69,7 @@ behind_file_header before None = InFileHeader before
 -- The place behind a cell of a tune's header, which is this line or music: the latter is of the body.
 abbrev pub behind_header : Defaults → List HeaderLine → List (Spanned TokenKind) → Option HeaderLine → Place
 behind_header opening before cell (Some line) = behind_header_line opening before line
-behind_header opening before cell None = InBody opening before empty_signature (behind_tokens cell [])
+behind_header opening before cell None = InBody opening before empty_key (behind_tokens cell [])
 
 -- The place behind a cell.
 abbrev pub place_behind : Place → List (Spanned TokenKind) → Place
@@ -92,7 +92,7 @@ given_in_file_header before None = record { items = []; faults = [] }
 abbrev pub given_in_header : Defaults → List HeaderLine → List (Spanned TokenKind) → Option HeaderLine → Items
 given_in_header opening before cell (Some line) =
     record { items = (header_given (header_at opening before) line).items; faults = (header_given (header_at opening before) line).faults }
-given_in_header opening before cell None = given_in_body opening before empty_signature [] cell
+given_in_header opening before cell None = given_in_body opening before empty_key [] cell
 
 -- What a cell gives at a place.
 abbrev pub given_at : Place → List (Spanned TokenKind) → Items

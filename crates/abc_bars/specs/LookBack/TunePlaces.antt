@@ -2,7 +2,7 @@
 use Rattle.std.specs.Prelude.{◌≡◌, ℕ, List, [], ◌∷◌, Option, Some, None, unwrap_or}
 use Rattle.std.specs.Option.{option_or}
 use Rattle.abc_fields.specs.declared.key.Key.{Key}
-use Rattle.abc_fields.specs.Key.{empty_signature, key_of, key_or_empty}
+use Rattle.abc_fields.specs.Key.{empty_key, key_of, key_or_empty}
 use Rattle.abc_header.specs.HeaderLine.{HeaderLine}
 use Rattle.abc_bars.specs.LookBack.Defaults.{said_by_line}
 use Rattle.abc_header.specs.declared.defaults.Defaults.{Defaults}
@@ -33,4 +33,4 @@ key_among (line ∷ before) = option_or (said_by_line key_said line) (key_among 
 abbrev pub IsOfTune : Defaults → Place → Type 0
 IsOfTune values (InFileHeader before) = ⊥
 IsOfTune values (InHeader opening before) = (opening ≡ values) × (key_among before ≡ None)
-IsOfTune values (InBody opening before key elements) = (opening ≡ values) × (key ≡ unwrap_or (key_among before) empty_signature)
+IsOfTune values (InBody opening before key elements) = (opening ≡ values) × (key ≡ unwrap_or (key_among before) empty_key)

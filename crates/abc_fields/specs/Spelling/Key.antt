@@ -13,13 +13,13 @@ use Rattle.abc_fields.specs.Spelling.Shift.{IsShift}
 use Rattle.abc_fields.specs.Signature.{IsSharps, signature_of}
 use Rattle.abc_fields.specs.Spelling.Tonic.{IsTonic, IsBasis}
 use Rattle.abc_text.specs.Word.{AreWords, IsFirstWord}
-use Rattle.abc_fields.specs.Key.{empty_signature, unchanged_signature}
+use Rattle.abc_fields.specs.Key.{empty_key, unchanged_key}
 use Rattle.abc_text.specs.Byte.{equals_sign, caret, underscore}
 
 -- The key of a basis on the tonic whose major key has these sharps. That tonic and mode have at most
 -- seven sharps or flats together is our own.
 abbrev pub IsKeyOn : ℤ → Basis → Key → Type 0
-IsKeyOn major Explicit key = key ≡ empty_signature
+IsKeyOn major Explicit key = key ≡ empty_key
 IsKeyOn major (Named mode) key =
     let sharps = major +ℤ added_sharps mode in
     IsSharps sharps × (key ≡ record { signature = Some (signature_of sharps); sharps = sharps; minor = is_minor mode; shift = no_shift })
@@ -44,9 +44,9 @@ pub data IsStart (value : List ℕ) (start : Key) (text : List ℕ) : Type 0 whe
   tonal : (major : ℤ) (behind : List ℕ) (basis : Basis) → IsTonic value major behind → IsBasis behind basis text
       → IsKeyOn major basis start → IsStart value start text
   listed : (first behind : List ℕ) → HasNoTonic value → IsFirstWord value first behind → BeginsAccidental first
-      → start ≡ empty_signature → text ≡ value → IsStart value start text
+      → start ≡ empty_key → text ≡ value → IsStart value start text
   properties : (first behind : List ℕ) → HasNoTonic value → IsFirstWord value first behind → ¬ BeginsAccidental first
-      → SetsProperties first → start ≡ unchanged_signature → text ≡ value → IsStart value start text
+      → SetsProperties first → start ≡ unchanged_key → text ≡ value → IsStart value start text
 
 -- The accidentals among words complete a signature, if there is one.
 abbrev pub IsCompleted : Option Signature → List (List ℕ) → Option Signature → Type 0
@@ -67,5 +67,5 @@ pub record IsSpelled (value : List ℕ) (key : Key) : Type 0 where
 
 -- The value of a field K:. It is empty or `none`, or begins with a key that its words complete.
 pub data IsKey (value : List ℕ) (key : Key) : Type 0 where
-  nothing : (value ≡ []) ⊎ (value ≡ codes "none") → key ≡ empty_signature → IsKey value key
+  nothing : (value ≡ []) ⊎ (value ≡ codes "none") → key ≡ empty_key → IsKey value key
   spelled : IsSpelled value key → IsKey value key

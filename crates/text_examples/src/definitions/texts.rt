@@ -6,7 +6,7 @@ ghost use Rattle.std.specs.Prelude.{◌≡◌, true, false, [], ◌∷◌, codes
 ghost use Rattle.abc_text.specs.Accidental.{accidental_of};
 ghost use Rattle.abc_text.specs.Blank.{trimmed};
 ghost use Rattle.abc_text.specs.Cut.{cut_at};
-ghost use Rattle.abc_text.specs.Ending.{without_return};
+ghost use Rattle.abc_text.specs.LineEnd.{without_return};
 ghost use Rattle.abc_text.specs.Letter.{letter_of};
 ghost use Rattle.abc_text.specs.Number.{number_of};
 ghost use Rattle.abc_text.specs.Power.{is_power_up_to};

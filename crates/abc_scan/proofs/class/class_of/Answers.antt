@@ -1,7 +1,7 @@
 use Rattle.std.proofs.Common.{ap, ◌∙◌}
 use Rattle.abc_scan.specs.Class.{class_of_text, IsBlankLine, BeginsWithPercent, IsFieldLine}
 use Rattle.abc_scan.specs.Directive.{IsDirectiveLine}
-use Rattle.abc_text.specs.Ending.{without_return}
+use Rattle.abc_text.specs.LineEnd.{without_return}
 use Rattle.abc_scan.proofs.ClassLaws.{Laws, laws}
 use Rattle.abc_scan.proofs.class.class_of.Goals as goal
 use Rattle.abc_scan.proofs.class.class_of.Goals.{After-class_of_text}

@@ -1,4 +1,4 @@
-use Rattle.abc_text.proofs.Endings.{drops_one_return}
+use Rattle.abc_text.proofs.LineEnds.{drops_one_return}
 use Rattle.abc_scan.proofs.Comments.{cuts_comments}
 use Rattle.abc_scan.proofs.text.part_read.Goals as goal
 

@@ -1,7 +1,7 @@
 //! The end of a line.
 
 ghost use Rattle.std.specs.Prelude.{◌≡◌, ◌≤◌, length};
-ghost use Rattle.abc_text.specs.Ending.{without_return, IsWithoutReturn};
+ghost use Rattle.abc_text.specs.LineEnd.{without_return, IsWithoutReturn};
 
 /// The line without the carriage return at its end, of which one is dropped.
 pub fn without_return(line: &[u8]) -> &[u8]

@@ -5,7 +5,7 @@ use Rattle.std.specs.List.{ends_with}
 use Rattle.std.specs.Cmp.Lexicographic.{pointwise}
 use Rattle.std.proofs.lemmas.Bool.{cond-true, cond-false, cond_both, cases_Bool, eqb-true, eqb-false, and_left, ne_eqb}
 use Rattle.abc_text.specs.Byte.{carriage_return}
-use Rattle.abc_text.specs.Ending.{without_return, DropsOneReturn}
+use Rattle.abc_text.specs.LineEnd.{without_return, DropsOneReturn}
 use Rattle.abc_text.proofs.Fronts.{take_exact, drop_exact}
 
 no_return : (b : ℕ) → (b ≡ carriage_return → ⊥) → pointwise nat_eq (carriage_return ∷ []) (b ∷ []) ≡ false
