@@ -30,7 +30,8 @@ abbrev pub shifted : ℕ → ℕ → Block → Block
 shifted went came block = record { kind = block.kind; from = block.from - went + came; to = block.to - went + came }
 
 -- Where a stretch takes the place of another, the blocks before it stay, and those behind it move by the difference of
--- lines: a stretch is the first of the text or begins a tune, and what stands behind it begins a tune.
+-- lines: a stretch is the first of the text, begins a tune, or has no lines, and what stands behind it begins a tune or has
+-- no lines.
 abbrev pub AStretchIsEnough : Type 0
 AStretchIsEnough =
     (before old new behind : List LineClass) → IsCut before old → IsCut before new → BeginTune behind

@@ -26,8 +26,8 @@ pub fn blocks_rise()
     ensures tunes { XLinesBeginTunes }
 {}
 
-/// Where a stretch of a text takes the place of another, and both begin a tune or the text, and a tune or nothing
-/// follows them, the blocks before it stay, and those behind it move by the difference of lines.
+/// Where a stretch of a text takes the place of another, each of them begins a tune or the text, or has no lines, and a tune
+/// or nothing follows them, the blocks before it stay, and those behind it move by the difference of lines.
 pub fn a_stretch_is_enough()
     ensures { AStretchIsEnough }
 {}

@@ -31,9 +31,9 @@ pub enum FaultCode {
     TooManyVoices,
     /// A byte that begins nothing.
     BadByte,
-    /// A bracket, quote or brace that is not closed.
+    /// A `[`, `"`, `!` or `{` that nothing closes.
     Unclosed,
-    /// A length that is none.
+    /// A length that is refused: 0, too many digits or slashes, not whole in grains, or above 1,024 whole notes.
     BadLength,
     /// A tuplet that is out of range.
     BadTuplet,
@@ -41,7 +41,7 @@ pub enum FaultCode {
     NestedTuplet,
     /// A broken rhythm without two notes.
     BadBroken,
-    /// A tie that follows no note.
+    /// A tie that does not directly follow a note or chord.
     LooseTie,
     /// A chord without notes.
     EmptyChord,
@@ -49,7 +49,7 @@ pub enum FaultCode {
     BigChord,
     /// An ending that is out of range.
     BadEnding,
-    /// A rest of measures in free meter.
+    /// A rest of bars in free meter.
     FreeBarRest,
     /// A note that MIDI has no key for.
     KeyRange,
@@ -61,7 +61,7 @@ pub enum FaultCode {
     UnknownPart,
     /// Voices of a section that differ in length.
     UnevenVoices,
-    /// A tune that is too long.
+    /// A tune that passes a limit: sections or items played, or its end.
     TuneTooLong,
     /// A program that MIDI has no number for.
     BadProgram,

@@ -22,9 +22,9 @@ use abc_text::next_word;
 pub struct Key {
     /// None where the value sets properties alone, which leave the signature as it is.
     pub signature: Option<Signature>,
-    /// The sharps of the tonic in its mode, from -7 to 7, negative for flats; 0 without a tonic.
+    /// The sharps of the tonic in its mode, from -7 to 7, negative for flats; 0 without a tonic and with `exp`.
     pub sharps: i8,
-    /// Whether the mode is minor.
+    /// Whether the mode is minor; not with `exp`.
     pub minor: bool,
     /// How the notes are shifted.
     pub shift: Shift,
@@ -161,7 +161,9 @@ fn key_in(value: &[u8]) -> Option<Key>
     completed(start, text)
 }
 
-/// The value of a field K: (ABC 2.1 section 3.1.14), without blanks at its ends.
+/// Reads the value of K: (ABC 2.1 section 3.1.14), without blanks at its ends: nothing or `none`; a tonic, its mode or `exp`
+/// if any, and words; listed accidentals; or properties alone. Anything else is `BadKey`, so are more than seven sharps or
+/// flats, and a malformed number of `octave` or `transpose`. The bound and the last two forms are our own.
 pub fn read_key(value: &[u8]) -> Result<Key, FaultCode>
     ensures value { result ≡ key_of value.now }
     ensures ok { (key : Key) → (result ≡ Ok key) ↔ IsKey value.now key }

@@ -85,7 +85,9 @@ fn symbol_or_fraction(text: &[u8]) -> Option<Meter>
     }
 }
 
-/// Reads the value of M: (ABC 2.1 section 3.1.6).
+/// Reads the value of M: (ABC 2.1 section 3.1.6): empty or `none` for free meter, `C`, `C|`, or `n/d` with n a number, or a sum
+/// of several, in parentheses or not, from 1 to 255, and d a power of two up to 64 (the bounds and the empty value are our
+/// own). Anything else is `BadMeter`.
 pub fn read_meter(value: &[u8]) -> Result<Meter, FaultCode>
     ensures value { result ≡ meter_of value.now }
     ensures ok { (meter : Meter) → (result ≡ Ok meter) ↔ IsMeter value.now meter }

@@ -150,11 +150,10 @@ fn tempo_in(value: &[u8]) -> Option<Tempo>
     }
 }
 
-/// Reads the value of a tempo field (ABC 2.1 section 3.1.8): a beat, which is a fraction of a whole
-/// note or the sum of some, `=` and how many beats there are per minute; or only how many unit notes
-/// there are per minute. A quoted text may stand before or behind; alone it sets nothing.
-///
-/// Up to 16 fractions are read, above the line from 1 to 512 and below it a power of two up to 512.
+/// Reads the value of Q: (ABC 2.1 section 3.1.8): `a/b=n`, up to 16 fractions that are added to a beat, and beats per minute; or n
+/// alone, unit notes per minute; either with a quoted text before or behind it; or such a text alone, or nothing. a is 1 to
+/// 512, b a power of two up to 512, n at least 1; anything else is `BadTempo`. The bounds, n alone and the empty value are our
+/// own.
 pub fn read_tempo(value: &[u8]) -> Result<Tempo, FaultCode>
     ensures value { result ≡ tempo_of value.now }
     ensures ok { (m : Tempo) → (result ≡ Ok m) ↔ IsTempo value.now m }

@@ -1,4 +1,4 @@
-//! Folds that can be taken up again at any cell.
+//! Folds over cells, a step at a time.
 
 ghost use Rattle.std.specs.Prelude.{◌≡◌, IfOk};
 ghost use Rattle.abc_fold.specs.Work.{after_steps};
@@ -6,8 +6,8 @@ ghost use Rattle.abc_fold.specs.Work.{after_steps};
 use crate::Counts;
 use std::alloc::{AllocError, Global};
 
-/// A fold over cells that can be taken up again at each of them: what a cell gives depends on the
-/// state in which it is entered and on the cell, and on nothing else that came before.
+/// A fold over cells: what a cell gives depends on the state in which it is entered and on the cell,
+/// and on nothing else that came before.
 pub trait Fold {
     /// What is carried from one cell to the next.
     type State: Drop;

@@ -12,8 +12,9 @@ use std::alloc::{AllocError, Global};
 use std::marker::Model;
 use std::mem::replace;
 
-/// Items in order with spare room among them, the gap. It takes its memory once, and each item moves as often as the
-/// gap passes over it. Contracts see the items, the place of the gap, the room and how many places the gap has moved.
+/// Items in order with spare room among them, the gap. It takes memory where it is made, and in a splice for which its room
+/// is too little; an item moves where the gap passes over it, and into such a roomier block. Contracts see the items, the
+/// place of the gap, the room and how many places the gap has moved.
 pub struct GapList<T> {
     block: Block<T>,
     alloc: Global,

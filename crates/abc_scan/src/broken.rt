@@ -5,12 +5,12 @@ ghost use Rattle.abc_scan.specs.Broken.{direction_of, marks_at, broken_at};
 
 use crate::run::run_of;
 
-/// Which of the two notes beside a mark is the longer one.
+/// Which way marks point, away from the longer note.
 #[derive(Clone, Copy, PartialEq, Eq)]
 pub enum Direction {
-    /// The one before it: `>`.
+    /// `>`: the note before it is longer.
     Right,
-    /// The one after it: `<`.
+    /// `<`: the note after it is longer.
     Left,
 }
 

@@ -34,11 +34,9 @@ pub enum LengthFault {
     TooLong,
 }
 
-/// The unit of length times at most five factors (written, outer, tuplet, broken rhythm), exactly,
-/// in grains (ABC 2.1 section 4.3). The products of the parts may have 220 bits, so common divisors
-/// are cancelled and nothing is multiplied out.
-///
-/// A product that is not whole is `NotWhole`, however long; a whole one above 1,024 whole notes is
+/// The unit of length times at most five factors (written, outer, tuplet, and broken rhythm twice), exactly, in grains
+/// (ABC 2.1 sections 4.3, 4.4 and 4.13). The products of the parts may have 220 bits, so common divisors are cancelled and
+/// nothing is multiplied out. A product that is not whole is `NotWhole`, however long; a whole one above 1,024 whole notes is
 /// `TooLong`.
 pub fn length(unit: Ratio, factors: &[Ratio]) -> Result<Grains, LengthFault>
     requires unit { IsRatio unit }

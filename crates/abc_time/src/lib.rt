@@ -1,5 +1,6 @@
 //! Lengths and moments of a tune, exactly: whole numbers of grains, the ticks of a MIDI file that
-//! moments fall on, and the length that a unit and its factors make.
+//! moments fall on, the length that a unit and its factors make, and the microseconds of a quarter
+//! note.
 #![tactic(auto)]
 
 mod cancel;
