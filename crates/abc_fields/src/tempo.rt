@@ -150,10 +150,10 @@ fn tempo_in(value: &[u8]) -> Option<Tempo>
     }
 }
 
-/// Reads the value of Q: (ABC 2.1 section 3.1.8): `a/b=n`, up to 16 fractions that are added to a beat, and beats per minute; or n
+/// Reads the value of Q: (ABC 2.1 section 3.1.8): `a/b=n`, up to 16 fractions added to a beat, and beats per minute; or n
 /// alone, unit notes per minute; either with a quoted text before or behind it; or such a text alone, or nothing. a is 1 to
-/// 512, b a power of two up to 512, n at least 1; anything else is `BadTempo`. The bounds, n alone and the empty value are our
-/// own.
+/// 512, b a power of two up to 512, n at least 1; anything else is `BadTempo`. The bounds, n alone and the empty value are
+/// our own.
 pub fn read_tempo(value: &[u8]) -> Result<Tempo, FaultCode>
     ensures value { result ≡ tempo_of value.now }
     ensures ok { (m : Tempo) → (result ≡ Ok m) ↔ IsTempo value.now m }
