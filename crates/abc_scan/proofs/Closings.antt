@@ -1,18 +1,24 @@
 -- The first closing byte of a text, and what is known of a text without one.
-use Rattle.std.proofs.Common.{◌≡◌, ℕ, suc, ◌+◌, ◌<◌, ◌≤◌, true, false, Option, Some, None, is_some, List, [], ◌∷◌, ◌++◌, length, take, drop, refl, sym, ap, ◌∙◌, subst, ⊎_elim, arith, append-nil, length-append, length-drop, ◌-◌}
+use Rattle.std.proofs.Common.{◌≡◌, ℕ, suc, ◌+◌, ◌<◌, ◌≤◌, Bool, true, false, not, Option, Some, None, is_some, List, [], ◌∷◌, ◌++◌, length, take, drop, refl, sym, ap, ◌∙◌, subst, ⊎_elim, arith, append-nil, length-append, length-drop, ◌-◌}
+use Rattle.std.specs.Prelude.{◌==◌}
 use Rattle.std.specs.List.{prefix_len}
 use Rattle.std.proofs.lemmas.Bool.{cond-true, cond-false, cases_Bool, cases_lt, lt-ltb, le-ltb, eq-eqb, eqb-true, not-false, not_from_true, false≢true}
 use Rattle.std.proofs.lemmas.List.{take_all}
 use Rattle.std.proofs.lemmas.List.Elements.{All-drop}
 use Rattle.std.proofs.lemmas.List.{drop-drop}
+use Rattle.abc_text.specs.Cut.{Without}
 use Rattle.abc_scan.specs.declared.closing.Missing.{Missing}
 use Rattle.abc_scan.specs.Byte.{closing_brace, closing_bracket}
-use Rattle.abc_scan.specs.Closing.{is_other, Lacks, place_of, IsMissing}
+use Rattle.abc_scan.specs.Closing.{place_of, IsMissing}
 use Rattle.abc_text.proofs.Fronts.{front_passes, front_append, front_exact, front_none}
 use Rattle.abc_scan.proofs.Marks.{one_more}
 
+-- any byte but this one
+abbrev pub is_other : ℕ → ℕ → Bool
+is_other closing b = not (b == closing)
+
 -- a text without such a byte has no place of it
-pub place-none : (closing : ℕ) (text : List ℕ) → Lacks closing text → place_of closing text ≡ None
+pub place-none : (closing : ℕ) (text : List ℕ) → Without closing text → place_of closing text ≡ None
 place-none closing text lacks =
     let whole : prefix_len (is_other closing) text ≡ length text =
     sym (ap (prefix_len (is_other closing)) (append-nil text)) ∙ (let e = front_append (is_other closing) text [] lacks in omega (arith, e)) in
@@ -20,7 +26,7 @@ place-none closing text lacks =
     cond-false _ _ _ (le-ltb _ _ past)
 
 -- the first such byte behind others
-pub place-first : (closing : ℕ) (inside rest : List ℕ) → Lacks closing inside → place_of closing (inside ++ closing ∷ rest) ≡ Some (length inside)
+pub place-first : (closing : ℕ) (inside rest : List ℕ) → Without closing inside → place_of closing (inside ++ closing ∷ rest) ≡ Some (length inside)
 place-first closing inside rest lacks =
     let closes : is_other closing closing ≡ false = not_from_true _ (eq-eqb closing closing refl) in
     let size : prefix_len (is_other closing) (inside ++ closing ∷ rest) ≡ length inside =
@@ -43,7 +49,7 @@ stops closing (x ∷ xs) n e h = ⊎_elim
 -- what stands at the place that is found
 pub record IsFirst (closing : ℕ) (text : List ℕ) (place : ℕ) : Type 0 where
   pub inside : place < length text
-  pub lacks : Lacks closing (take place text)
+  pub lacks : Without closing (take place text)
   pub cut : text ≡ take place text ++ closing ∷ drop (suc place) text
 
 pub place-sound : (closing : ℕ) (text : List ℕ) (place : ℕ) → place_of closing text ≡ Some place → IsFirst closing text place
@@ -57,17 +63,17 @@ place-sound closing text place e =
     (cases_lt size (length text))
 
 -- a text that has no place of it is without it
-pub place-lacks : (closing : ℕ) (text : List ℕ) (place : Option ℕ) → place ≡ place_of closing text → is_some place ≡ false → Lacks closing text
+pub place-lacks : (closing : ℕ) (text : List ℕ) (place : Option ℕ) → place ≡ place_of closing text → is_some place ≡ false → Without closing text
 place-lacks closing text (Some place) e none = absurd (false≢true (sym none))
 place-lacks closing text None e none =
     let size = prefix_len (is_other closing) text in
     ⊎_elim
     (λ inside. let found : None ≡ Some size = e ∙ cond-true _ _ _ (lt-ltb size (length text) inside) in cc)
-    (λ past. subst (Lacks closing) (take_all size text past) (front_passes (is_other closing) text))
+    (λ past. subst (Without closing) (take_all size text past) (front_passes (is_other closing) text))
     (cases_lt size (length text))
 
 -- what is missing in a text is missing in every later part of it
-lacks-drop : (n closing : ℕ) (text : List ℕ) → Lacks closing text → Lacks closing (drop n text)
+lacks-drop : (n closing : ℕ) (text : List ℕ) → Without closing text → Without closing (drop n text)
 lacks-drop n closing text lacks = All-drop (λ b. is_other closing b ≡ true) n text lacks
 
 pub missing-drop : (n : ℕ) (missing : Missing) (text : List ℕ) → IsMissing missing text → IsMissing missing (drop n text)
@@ -88,8 +94,8 @@ pub rest_is : (text : List ℕ) → take (length text - 1) (drop 1 text) ≡ dro
 rest_is text = take_all (length text - 1) (drop 1 text) (omega (arith, length-drop 1 text))
 
 -- what is not in the rest, where the byte that closes was looked for
-pub lacks-rest : (closing : ℕ) (text : List ℕ) → Lacks closing (drop 1 text) → Lacks closing (take (length text - 1) (drop 1 text))
-lacks-rest closing text = subst (Lacks closing) (sym (rest_is text))
+pub lacks-rest : (closing : ℕ) (text : List ℕ) → Without closing (drop 1 text) → Without closing (take (length text - 1) (drop 1 text))
+lacks-rest closing text = subst (Without closing) (sym (rest_is text))
 
-pub rest-lacks : (closing : ℕ) (text : List ℕ) → Lacks closing (take (length text - 1) (drop 1 text)) → Lacks closing (drop 1 text)
-rest-lacks closing text = subst (Lacks closing) (rest_is text)
+pub rest-lacks : (closing : ℕ) (text : List ℕ) → Without closing (take (length text - 1) (drop 1 text)) → Without closing (drop 1 text)
+rest-lacks closing text = subst (Without closing) (rest_is text)

@@ -4,13 +4,14 @@ use Rattle.std.specs.Prelude.{◌==◌}
 use Rattle.std.specs.Option.{option_map}
 use Rattle.std.proofs.Math.Seq.{take-append-add}
 use Rattle.std.proofs.lemmas.Bool.{cond-true, cond-false, cases_Bool, eqb-true}
+use Rattle.abc_text.specs.Cut.{Without}
 use Rattle.abc_scan.specs.Byte.{quote, exclamation, opening_brace, closing_brace}
-use Rattle.abc_scan.specs.Closing.{Lacks, place_of}
+use Rattle.abc_scan.specs.Closing.{place_of}
 use Rattle.abc_scan.specs.Delimited.{AreDelimiters, IsDelimited, closed_by, delimited_at}
 use Rattle.abc_scan.proofs.Closings.{IsFirst, place-first, place-sound}
 use Rattle.abc_scan.proofs.Readings.{IsFront}
 
-closed_read : (closing : ℕ) (inside rest : List ℕ) → Lacks closing inside → closed_by closing (inside ++ closing ∷ rest) ≡ Some (length inside + 2)
+closed_read : (closing : ℕ) (inside rest : List ℕ) → Without closing inside → closed_by closing (inside ++ closing ∷ rest) ≡ Some (length inside + 2)
 closed_read closing inside rest lacks = ap (option_map (λ place. place + 2)) (place-first closing inside rest lacks)
 
 opened_read : (opening closing : ℕ) (rest : List ℕ) → AreDelimiters opening closing → delimited_at (opening ∷ rest) ≡ closed_by closing rest

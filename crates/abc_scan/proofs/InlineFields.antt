@@ -6,12 +6,13 @@ use Rattle.std.specs.Option.{option_map}
 use Rattle.std.proofs.Math.Seq.{take-append-add}
 use Rattle.std.proofs.lemmas.Bool.{cond-true, cond-false, cases_Bool, eqb-true, ne_eqb, and_parts, and_from, not_from_false, false≢true}
 use Rattle.std.proofs.lemmas.List.Elements.{All-cons, All-tail}
+use Rattle.abc_text.specs.Cut.{Without}
 use Rattle.abc_scan.specs.declared.field.Field.{Field}
 use Rattle.abc_scan.specs.Byte.{opening_bracket, closing_bracket, colon}
-use Rattle.abc_scan.specs.Closing.{is_other, Lacks, place_of}
+use Rattle.abc_scan.specs.Closing.{place_of}
 use Rattle.abc_scan.specs.Field.{begins_field, field_of}
 use Rattle.abc_scan.specs.InlineField.{IsInlineField, closed_field, inline_field_at}
-use Rattle.abc_scan.proofs.Closings.{IsFirst, place-first, place-sound}
+use Rattle.abc_scan.proofs.Closings.{is_other, IsFirst, place-first, place-sound}
 use Rattle.abc_text.proofs.Fronts.{take_exact}
 use Rattle.abc_scan.proofs.Readings.{Finds, IsFront}
 
@@ -19,11 +20,11 @@ use Rattle.abc_scan.proofs.Readings.{Finds, IsFront}
 letter_other : (letter : ℕ) → is_ascii_alphabetic letter ≡ true → is_other closing_bracket letter ≡ true
 letter_other letter h = not_from_false _ (ne_eqb letter closing_bracket (λ e. false≢true (sym (ap is_ascii_alphabetic e) ∙ h)))
 
-field_lacks : (letter : ℕ) (behind : List ℕ) → is_ascii_alphabetic letter ≡ true → Lacks closing_bracket behind → Lacks closing_bracket (letter ∷ colon ∷ behind)
+field_lacks : (letter : ℕ) (behind : List ℕ) → is_ascii_alphabetic letter ≡ true → Without closing_bracket behind → Without closing_bracket (letter ∷ colon ∷ behind)
 field_lacks letter behind h lacks =
     All-cons (λ b. is_other closing_bracket b ≡ true) letter (colon ∷ behind) (letter_other letter h) (All-cons (λ b. is_other closing_bracket b ≡ true) colon behind refl lacks)
 
-inline_read : (letter : ℕ) (behind rest : List ℕ) → is_ascii_alphabetic letter ≡ true → Lacks closing_bracket behind → inline_field_at (opening_bracket ∷ letter ∷ colon ∷ (behind ++ closing_bracket ∷ rest)) ≡ Some (field_of (letter ∷ colon ∷ behind), length behind + 4)
+inline_read : (letter : ℕ) (behind rest : List ℕ) → is_ascii_alphabetic letter ≡ true → Without closing_bracket behind → inline_field_at (opening_bracket ∷ letter ∷ colon ∷ (behind ++ closing_bracket ∷ rest)) ≡ Some (field_of (letter ∷ colon ∷ behind), length behind + 4)
 unfolding inline_field_at
 inline_read letter behind rest h lacks =
     let own = letter ∷ colon ∷ behind in

@@ -1,7 +1,8 @@
 //! Bytes that close what another byte opened, and the memory of searches for them that failed.
 
 ghost use Rattle.std.specs.Prelude.{◌≡◌, ◌<◌, ℕ, List, IfSome, is_none, length, true};
-ghost use Rattle.abc_scan.specs.Closing.{place_of, Lacks, IsMissing};
+ghost use Rattle.abc_text.specs.Cut.{Without};
+ghost use Rattle.abc_scan.specs.Closing.{place_of, IsMissing};
 
 /// Which closing bytes are known not to stand in the rest of a text, so that a search that failed
 /// once is not made again. A `"` or `!` that finds no other needs no memory: it is the last one.
@@ -34,10 +35,10 @@ pub(crate) fn place_of(closing: u8, text: &[u8]) -> Option<usize>
 /// The place of the first such byte in a text, unless it is known to be missing there. A search
 /// that fails is remembered.
 pub(crate) fn find(missing: &mut bool, closing: u8, text: &[u8]) -> Option<usize>
-    requires { missing.old ≡ true → Lacks closing text.now }
+    requires { missing.old ≡ true → Without closing text.now }
     ensures value { result ≡ place_of closing text.now }
     ensures inside { IfSome result (λ place. place < length text.now) }
-    ensures kept { missing.new ≡ true → Lacks closing text.now }
+    ensures kept { missing.new ≡ true → Without closing text.now }
     ensures remembered { missing.new ≡ is_none result }
 {
     if *missing {
