@@ -5,8 +5,8 @@ use Rattle.std.proofs.lemmas.Bool.{eqb-true, eq-eqb, eqb-false, and_parts, and_f
 use Rattle.std.proofs.lemmas.List.Elements.{All-nil, All-cons, All-head, All-tail}
 use Rattle.abc_scan.specs.declared.class.LineClass.{LineClass}
 use Rattle.abc_scan.specs.declared.class.LineClass.TheVariants.{Blank, Comment, Field, Directive, Music}
-use Rattle.abc_text.specs.Blank.{is_blank}
-use Rattle.abc_scan.specs.Class.{first_visible, names_field, is_music_letter, begins_bar, field_letter, field_or_music, class_by, class_of_text, IsBlankLine, BeginsWithPercent, IsFieldLine}
+use Rattle.abc_text.specs.Blank.{AreBlanks, is_blank}
+use Rattle.abc_scan.specs.Class.{first_visible, names_field, is_music_letter, begins_bar, field_letter, field_or_music, class_by, class_of_text, BeginsWithPercent, IsFieldLine}
 use Rattle.abc_scan.specs.Directive.{is_directive, IsDirectiveLine}
 use Rattle.abc_scan.proofs.Directives.{directive-line, line-directive, directive-percent}
 
@@ -18,14 +18,14 @@ visible_here : (b : ℕ) (bs : List ℕ) → is_blank b ≡ false → first_visi
 visible_here b bs e = cond-true _ _ _ (not_from_false _ e)
 
 -- nothing is visible exactly in a line of blanks
-pub blank_from : (text : List ℕ) → first_visible text ≡ None → IsBlankLine text
+pub blank_from : (text : List ℕ) → first_visible text ≡ None → AreBlanks text
 blank_from [] e = All-nil _
 blank_from (b ∷ bs) e = ⊎_elim
     (λ blank. All-cons (λ x. IsTrue (is_blank x)) b bs blank (blank_from bs (sym (visible_later b bs blank) ∙ e)))
     (λ seen. let k = visible_here b bs seen in cc)
     (cases_Bool (is_blank b))
 
-pub blank_to : (text : List ℕ) → IsBlankLine text → first_visible text ≡ None
+pub blank_to : (text : List ℕ) → AreBlanks text → first_visible text ≡ None
 blank_to [] h = refl
 blank_to (b ∷ bs) h = visible_later b bs (All-head (λ b. IsTrue (is_blank b)) b bs h) ∙ blank_to bs (All-tail (λ b. IsTrue (is_blank b)) b bs h)
 
@@ -36,7 +36,7 @@ comment_from (b ∷ bs) e = ⊎_elim
     (λ seen. let k = visible_here b bs seen in let is_percent : b ≡ 37 = cc in ([], bs, All-nil _, ap (λ x. x ∷ bs) is_percent))
     (cases_Bool (is_blank b))
 
-pub comment_to : (blanks rest : List ℕ) → IsBlankLine blanks → first_visible (blanks ++ 37 ∷ rest) ≡ Some 37
+pub comment_to : (blanks rest : List ℕ) → AreBlanks blanks → first_visible (blanks ++ 37 ∷ rest) ≡ Some 37
 comment_to [] rest h = refl
 comment_to (b ∷ bs) rest h = visible_later b (bs ++ 37 ∷ rest) (All-head (λ b. IsTrue (is_blank b)) b bs h) ∙ comment_to bs rest (All-tail (λ b. IsTrue (is_blank b)) b bs h)
 
@@ -89,7 +89,7 @@ pub record Told (seen letter : Option ℕ) (directive : Bool) (B P D : Type 0) (
   pub is_field : (l : ℕ) → F l → letter ≡ Some l
   pub is_seen : (l : ℕ) → F l → (seen ≡ Some l) × ((l == 37) ≡ false)
 
-pub told : (text : List ℕ) → Told (first_visible text) (field_letter text) (is_directive text) (IsBlankLine text) (BeginsWithPercent text) (IsDirectiveLine text) (IsFieldLine text)
+pub told : (text : List ℕ) → Told (first_visible text) (field_letter text) (is_directive text) (AreBlanks text) (BeginsWithPercent text) (IsDirectiveLine text) (IsFieldLine text)
 told text = record {
   blank_is = blank_from text;
   is_blank = blank_to text;
@@ -179,5 +179,5 @@ laws_at : (seen letter : Option ℕ) (directive : Bool) {B P D : Type 0} {F : �
 laws_at None letter directive t = laws_blank letter directive t
 laws_at (Some b) letter directive t = laws_some b letter directive (b == 37) refl t
 
-pub laws : (text : List ℕ) (r : LineClass) → r ≡ class_of_text text → Laws r (IsBlankLine text) (BeginsWithPercent text) (IsDirectiveLine text) (IsFieldLine text)
-laws text r e = subst (λ x. Laws x (IsBlankLine text) (BeginsWithPercent text) (IsDirectiveLine text) (IsFieldLine text)) (sym e) (laws_at _ _ _ (told text))
+pub laws : (text : List ℕ) (r : LineClass) → r ≡ class_of_text text → Laws r (AreBlanks text) (BeginsWithPercent text) (IsDirectiveLine text) (IsFieldLine text)
+laws text r e = subst (λ x. Laws x (AreBlanks text) (BeginsWithPercent text) (IsDirectiveLine text) (IsFieldLine text)) (sym e) (laws_at _ _ _ (told text))

@@ -1,7 +1,7 @@
 -- The class of a line, by its own bytes.
-use Rattle.std.specs.Prelude.{◌≡◌, ℕ, Bool, false, ◌&&◌, ◌||◌, not, Option, Some, None, List, [], ◌∷◌, ◌++◌, if◌then◌else◌, ◌==◌, nat_le, find, All, IsTrue}
+use Rattle.std.specs.Prelude.{◌≡◌, ℕ, Bool, false, ◌&&◌, ◌||◌, not, Option, Some, None, List, [], ◌∷◌, ◌++◌, if◌then◌else◌, ◌==◌, nat_le, find, IsTrue}
 use Rattle.std.specs.Char.{is_ascii_alphabetic}
-use Rattle.abc_text.specs.Blank.{is_blank}
+use Rattle.abc_text.specs.Blank.{AreBlanks, is_blank}
 use Rattle.abc_text.specs.LineEnd.{without_return}
 use Rattle.abc_scan.specs.declared.class.LineClass.{LineClass}
 use Rattle.abc_scan.specs.declared.class.LineClass.TheVariants.{Blank, Comment, Field, Directive, Music}
@@ -52,13 +52,9 @@ class_of_text text = class_by (first_visible text) (field_letter text) (is_direc
 abbrev pub class_of : List ℕ → LineClass
 class_of line = class_of_text (without_return line)
 
--- Nothing but blanks.
-abbrev pub IsBlankLine : List ℕ → Type 0
-IsBlankLine text = All (λ b. IsTrue (is_blank b)) text
-
 -- Blanks, a `%`, and anything. ABC 2.1 section 2.2.
 abbrev pub BeginsWithPercent : List ℕ → Type 0
-BeginsWithPercent text = (blanks : List ℕ) × (rest : List ℕ) × IsBlankLine blanks × (text ≡ blanks ++ percent ∷ rest)
+BeginsWithPercent text = (blanks : List ℕ) × (rest : List ℕ) × AreBlanks blanks × (text ≡ blanks ++ percent ∷ rest)
 
 -- Such a line that is no directive. ABC 2.1 sections 2.2 and 11: other directives than those that are read are passed
 -- over.
@@ -76,4 +72,4 @@ pub record IsFieldLine (text : List ℕ) (letter : ℕ) : Type 0 where
 -- Whatever is none of these.
 abbrev pub IsMusicLine : List ℕ → Type 0
 IsMusicLine text =
-    ¬ IsBlankLine text × ¬ IsCommentLine text × ¬ IsDirectiveLine text × ((letter : ℕ) → ¬ IsFieldLine text letter)
+    ¬ AreBlanks text × ¬ IsCommentLine text × ¬ IsDirectiveLine text × ((letter : ℕ) → ¬ IsFieldLine text letter)

@@ -1,8 +1,9 @@
 //! The class of a line.
 
 ghost use Rattle.std.specs.Prelude.{◌≡◌, ◌↔◌, ℕ};
-ghost use Rattle.abc_scan.specs.Class.{class_of, class_of_text, first_visible, names_field, is_music_letter, begins_bar, field_letter, IsBlankLine, IsCommentLine, IsFieldLine, IsMusicLine};
+ghost use Rattle.abc_scan.specs.Class.{class_of, class_of_text, first_visible, names_field, is_music_letter, begins_bar, field_letter, IsCommentLine, IsFieldLine, IsMusicLine};
 ghost use Rattle.abc_scan.specs.Directive.{IsDirectiveLine};
+ghost use Rattle.abc_text.specs.Blank.{AreBlanks};
 ghost use Rattle.abc_text.specs.LineEnd.{without_return};
 
 use crate::directive::is_directive;
@@ -90,7 +91,7 @@ fn class_of_text(text: &[u8]) -> LineClass
 /// The class of a line, whose carriage return at the end does not count.
 pub fn class_of(line: &[u8]) -> LineClass
     ensures value { result ≡ class_of line.now }
-    ensures blank { (result ≡ LineClass.Blank) ↔ IsBlankLine (without_return line.now) }
+    ensures blank { (result ≡ LineClass.Blank) ↔ AreBlanks (without_return line.now) }
     ensures comment { (result ≡ LineClass.Comment) ↔ IsCommentLine (without_return line.now) }
     ensures directive { (result ≡ LineClass.Directive) ↔ IsDirectiveLine (without_return line.now) }
     ensures field { (letter : ℕ) → (result ≡ LineClass.Field letter) ↔ IsFieldLine (without_return line.now) letter }
