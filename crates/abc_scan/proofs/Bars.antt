@@ -7,7 +7,7 @@ use Rattle.std.proofs.lemmas.List.{length-replicate}
 use Rattle.std.proofs.lemmas.List.Sums.{prefix_len-le-length}
 use Rattle.abc_scan.specs.declared.bar.BarLine.{BarLine}
 use Rattle.abc_scan.specs.Byte.{colon}
-use Rattle.abc_scan.specs.Note.{begins_with}
+use Rattle.abc_scan.specs.Note.{begins_with_byte}
 use Rattle.abc_scan.specs.Bar.{Strokes, strokes_text, middle_text, is_double, HasStrokes, HasColons, IsBar, colons, goes_on, middle_from, middle_size, colons_alone, with_middle, bar_behind, bar_at}
 use Rattle.abc_scan.proofs.Marks.{one_more, some_where_false, cut_in_three, all_same, same_pass}
 use Rattle.abc_text.proofs.Fronts.{front_passes, front_append, front_exact, take_exact, drop_exact}
@@ -217,7 +217,7 @@ inner_outer text h = record { more = 0; closed = false; groups = h.groups; spell
 outer_none : (before b : ℕ) (bs : List ℕ) → goes_on before b bs ≡ false → Outer before (b ∷ bs)
 outer_none before b bs fails = record { groups = []; spelling = ap (λ n. take n (b ∷ bs)) (cond-false _ (1 + middle_from b bs) 0 fails) }
 
-stops : (before b : ℕ) (bs : List ℕ) → (b ≡ 124 → ⊥) → ((b == 91) && begins_with 124 bs) ≡ false → ((b == 93) && (before == 124)) ≡ false → goes_on before b bs ≡ false
+stops : (before b : ℕ) (bs : List ℕ) → (b ≡ 124 → ⊥) → ((b == 91) && begins_with_byte 124 bs) ≡ false → ((b == 93) && (before == 124)) ≡ false → goes_on before b bs ≡ false
 stops before b bs no_stroke no_open no_close = or_from _ _ (or_from _ _ (ne_eqb b 124 no_stroke) no_open) no_close
 
 -- a `[` goes on with a stroke

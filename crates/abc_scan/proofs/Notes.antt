@@ -20,7 +20,7 @@ use Rattle.abc_text.proofs.Decimals.{digit_range}
 use Rattle.abc_text.proofs.Letters.{letter_of-is, letter_exact}
 use Rattle.abc_scan.specs.declared.note.Note.{Note}
 use Rattle.abc_scan.specs.Length.{IsLength, is_slash, begins_length, length_at, length_size}
-use Rattle.abc_scan.specs.Note.{accidental_text, is_octave_mark, letter_octave, octave, ends_letter, is_factor, plain_note, IsPlain, IsShort, IsNote, IsRest, begins_with, accidental_at, accidental_size, marks_size, note_of, note_behind, note_at, is_rest_letter, rest_at}
+use Rattle.abc_scan.specs.Note.{accidental_text, is_octave_mark, letter_octave, octave, ends_letter, is_factor, plain_note, IsPlain, IsShort, IsNote, IsRest, begins_with_byte, accidental_at, accidental_size, marks_size, note_of, note_behind, note_at, is_rest_letter, rest_at}
 use Rattle.abc_text.proofs.Fronts.{front_passes, front_append, take_exact, drop_exact, front_none}
 use Rattle.abc_scan.proofs.Readings.{Finds, IsFront}
 use Rattle.abc_scan.proofs.Lengths.{length_longest, length_sound, length_size-le, unwritten, one_digit}
@@ -56,7 +56,7 @@ accidental_read (Some Sharp) b rest n = cond-false _ _ _ n.no_sharp
 accidental_read (Some DoubleSharp) b rest n = refl
 
 -- what is read as an accidental stands there
-doubled : (n b : ℕ) (bs : List ℕ) → b ≡ n → begins_with n bs ≡ true → b ∷ bs ≡ n ∷ n ∷ drop 2 (b ∷ bs)
+doubled : (n b : ℕ) (bs : List ℕ) → b ≡ n → begins_with_byte n bs ≡ true → b ∷ bs ≡ n ∷ n ∷ drop 2 (b ∷ bs)
 doubled n b [] e h = cc
 doubled n b (c ∷ cs) e h = λ i. e i ∷ eqb-true c n h i ∷ cs
 
@@ -68,9 +68,9 @@ unfolding accidental_at
 accidental_sound [] = refl
 accidental_sound (b ∷ bs) =
     cond_both (b == 94) _ _ (λ a. Stands a (b ∷ bs))
-    (λ sharp. cond_both (begins_with 94 bs) _ _ (λ a. Stands a (b ∷ bs)) (λ two. doubled 94 b bs (eqb-true b 94 sharp) two) (λ _. ap (λ x. x ∷ bs) (eqb-true b 94 sharp)))
+    (λ sharp. cond_both (begins_with_byte 94 bs) _ _ (λ a. Stands a (b ∷ bs)) (λ two. doubled 94 b bs (eqb-true b 94 sharp) two) (λ _. ap (λ x. x ∷ bs) (eqb-true b 94 sharp)))
     (λ _. cond_both (b == 95) _ _ (λ a. Stands a (b ∷ bs))
-    (λ flat. cond_both (begins_with 95 bs) _ _ (λ a. Stands a (b ∷ bs)) (λ two. doubled 95 b bs (eqb-true b 95 flat) two) (λ _. ap (λ x. x ∷ bs) (eqb-true b 95 flat)))
+    (λ flat. cond_both (begins_with_byte 95 bs) _ _ (λ a. Stands a (b ∷ bs)) (λ two. doubled 95 b bs (eqb-true b 95 flat) two) (λ _. ap (λ x. x ∷ bs) (eqb-true b 95 flat)))
     (λ _. cond_both (b == 61) _ _ (λ a. Stands a (b ∷ bs)) (λ natural. ap (λ x. x ∷ bs) (eqb-true b 61 natural)) (λ _. refl)))
 
 -- behind the marks of a note stands nothing that is one

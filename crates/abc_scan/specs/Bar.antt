@@ -4,7 +4,7 @@ use Rattle.std.specs.List.{prefix_len}
 use Rattle.std.specs.Str.{bytes_eq}
 use Rattle.abc_scan.specs.declared.bar.BarLine.{BarLine}
 use Rattle.abc_scan.specs.Byte.{space, opening_bracket, closing_bracket, colon, bar_stroke}
-use Rattle.abc_scan.specs.Note.{begins_with}
+use Rattle.abc_scan.specs.Note.{begins_with_byte}
 
 -- Strokes that stand together: a `[` or none, one stroke and any more, a `]` or none.
 pub record Strokes : Type 0 where
@@ -52,7 +52,7 @@ colons text = prefix_len (λ b. b == colon) text
 -- Whether a byte between its neighbours belongs to a middle: a stroke, a `[` before one, a `]` behind one.
 abbrev pub goes_on : ℕ → ℕ → List ℕ → Bool
 goes_on before b rest =
-    (b == bar_stroke) || ((b == opening_bracket) && begins_with bar_stroke rest) || ((b == closing_bracket) && (before == bar_stroke))
+    (b == bar_stroke) || ((b == opening_bracket) && begins_with_byte bar_stroke rest) || ((b == closing_bracket) && (before == bar_stroke))
 
 -- How many bytes of a middle stand at the front of a text that follows this byte.
 abbrev pub middle_from : ℕ → List ℕ → ℕ

@@ -52,16 +52,16 @@ pub record IsRest (text : List ℕ) (value : WrittenLength) : Type 0 where
   pub length_is : IsLength written value
 
 -- Whether a text begins with this byte.
-abbrev pub begins_with : ℕ → List ℕ → Bool
-begins_with byte [] = false
-begins_with byte (b ∷ bs) = b == byte
+abbrev pub begins_with_byte : ℕ → List ℕ → Bool
+begins_with_byte byte [] = false
+begins_with_byte byte (b ∷ bs) = b == byte
 
 -- The longest accidental at the front of a text. ABC 2.1 section 4.2.
 unfoldable pub accidental_at : List ℕ → Option Accidental
 accidental_at [] = None
 accidental_at (b ∷ bs) =
-    if b == caret then (if begins_with caret bs then Some DoubleSharp else Some Sharp)
-    else (if b == underscore then (if begins_with underscore bs then Some DoubleFlat else Some Flat)
+    if b == caret then (if begins_with_byte caret bs then Some DoubleSharp else Some Sharp)
+    else (if b == underscore then (if begins_with_byte underscore bs then Some DoubleFlat else Some Flat)
     else (if b == equals_sign then Some Natural else None))
 
 -- How many bytes an accidental takes.

@@ -4,7 +4,7 @@ ghost use Rattle.std.specs.Prelude.{◌≡◌, ◌≤◌, ◌<◌, length, drop,
 ghost use Rattle.abc_scan.specs.Byte.{opening_brace};
 ghost use Rattle.abc_scan.specs.Closing.{IsMissing};
 ghost use Rattle.abc_scan.specs.Delimited.{delimited_at};
-ghost use Rattle.abc_scan.specs.Note.{begins_with};
+ghost use Rattle.abc_scan.specs.Note.{begins_with_byte};
 
 use crate::closing::{Missing, find, place_of};
 
@@ -18,7 +18,7 @@ pub(crate) fn delimited_at(text: &[u8], missing: &mut Missing) -> Option<usize>
     ensures some { IfSome result (λ size. 0 < size) }
     ensures inside { IfSome result (λ size. size ≤ length text.now) }
     ensures kept { IsMissing missing.new (drop 1 text.now) }
-    ensures remembered { result ≡ None → begins_with opening_brace text.now ≡ true → missing.new.brace ≡ true }
+    ensures remembered { result ≡ None → begins_with_byte opening_brace text.now ≡ true → missing.new.brace ≡ true }
 {
     match text {
         [b'"', rest @ ..] => Some(place_of(b'"', rest)? + 2),
