@@ -25,7 +25,7 @@ ends_item (Item digits positive) = (digits == 0) || positive
 -- Whether an item may begin behind this.
 abbrev pub begins_item : Before → Bool
 begins_item Nothing = true
-begins_item (Item digits positive) = (digits == 0) || positive
+begins_item (Item digits positive) = ends_item (Item digits positive)
 
 -- The same item with one digit more of its count.
 abbrev pub with_digit : Before → ℕ → Option Before
