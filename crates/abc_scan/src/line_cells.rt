@@ -2,8 +2,8 @@
 
 ghost use Rattle.std.specs.Prelude.{◌≡◌, ◌+◌, ◌<◌, ◌^◌, ◌++◌, ◌∷◌, [], IfOk, IsOk, OnOk, length, false};
 ghost use Rattle.abc_fold.specs.Work.{raised};
-ghost use Rattle.abc_scan.specs.Class.{class_of};
 ghost use Rattle.abc_scan.specs.Cell.{cells_of, HasNoBar, GoOnWith};
+ghost use Rattle.abc_scan.specs.Class.{class_of};
 ghost use Rattle.abc_scan.specs.Cutting.{part_at};
 ghost use Rattle.abc_scan.specs.Line.{cutting_of, has_tokens, tokens_in, tokens_of};
 
