@@ -1,5 +1,5 @@
 -- What a chain keeps at a place is a step.
-use Rattle.std.proofs.Common.{◌≡◌, ℕ, zero, suc, ◌+◌, ◌-◌, ◌<◌, ◌≤◌, List, [], ◌∷◌, ◌++◌, Some, None, Result, Ok, Err, IfOk, slice_get, length, take, drop, get_or, refl, sym, ◌∙◌, ap, subst, arith, add-one, length-drop}
+use Rattle.std.proofs.Common.{◌≡◌, ℕ, zero, suc, ◌+◌, ◌-◌, ◌<◌, ◌≤◌, List, [], ◌∷◌, ◌++◌, Some, None, Result, Ok, Err, IfOk, slice_get, length, take, drop, get_or, sym, ◌∙◌, ap, subst, arith, add-one, length-drop}
 use Rattle.std.proofs.lemmas.List.{take_more, get_or-drop}
 use Rattle.std.proofs.lemmas.Option.{slice_get_within, get_or_from_slice_get}
 use Rattle.abc_fold.specs.declared.piece.Piece.{Piece}
