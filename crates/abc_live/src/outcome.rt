@@ -98,6 +98,7 @@ pub(crate) fn book_after<C: Compiler>(
         Remembers (steps_of (C.next c) (C.gives c) (C.alike c)) (C.rules c) memo.new }
     ensures counted { IsBuiltUpTo (made_of kept.now.taken) (C.Work.counts work.old) (C.Work.counts work.new) }
 {
+    // The text has no more lines than it may have.
     let _ = text.lines().len();
     let alloc = text.lines().allocator();
     let compiler = text.compiler();

@@ -4,7 +4,8 @@
 ghost use Rattle.abc_rework.specs.EditLaws.{CellsAreThings, CarriedCells, UntouchedItems, StepsAreFresh, HeldsStand, KeptSteps, KeptAgain, KeptEdits};
 ghost use Rattle.abc_rework.specs.WorkedEdits.{WorkedEdits};
 
-/// A tune whose cells are carried, in order, from all those of an old one has the same cells.
+/// The cells of a chain are those that its lines have in the book. A chain whose cells are carried, in order, from all
+/// those of an old one has the same cells.
 pub fn carried_cells<State, Cell, Items>()
     ensures things { CellsAreThings State Cell }
     ensures carried { CarriedCells State Cell Items }
