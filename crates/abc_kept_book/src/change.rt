@@ -71,7 +71,7 @@ impl Change<'_> {
     }
 
     /// What the tune at a place gives after the change.
-    pub(crate) fn new_output(&self, place: usize) -> Option<&Output>
+    fn new_output(&self, place: usize) -> Option<&Output>
         requires { IsChange self.now }
         ensures { option_copied result ≡ slice_get (new_in self.now) place }
     {
