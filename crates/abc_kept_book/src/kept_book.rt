@@ -151,7 +151,7 @@ impl KeptBook {
             came,
         } = tunes;
         let faults = faults_after(alloc, NewLines { from, gone, came }, &self.faults, &faults)?;
-        let came = outputs.len();
+        let count = outputs.len();
         let outputs = self
             .outputs
             .splice_prepare(alloc, front, behind - front, outputs)?;
@@ -160,7 +160,7 @@ impl KeptBook {
             splice: &outputs,
             front,
             behind,
-            came,
+            came: count,
         };
         match self.differences(alloc, &change) {
             Ok(differences) => Ok(BookPatch {
