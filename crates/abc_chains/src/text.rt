@@ -19,7 +19,7 @@ use crate::place::Placed;
 use crate::renew::Folded;
 use crate::row::{Row, read};
 use crate::stretch::Stretch;
-use crate::tunes::NewTunes;
+use crate::tunes::NewPlaces;
 use abc_book::Block;
 use abc_compiler::Compiler;
 use abc_fold::{Chain, Counts, Fold, Resumable, Shared};
@@ -58,7 +58,7 @@ pub struct KeptPatch<C: Compiler> {
     pub(crate) lines: LinePatch,
     rows: SplicePatch<Row<C::Cell>>,
     header: Option<Block>,
-    tunes: NewTunes,
+    tunes: NewPlaces,
     chains: SplicePatch<Shared<Chain<C>>>,
     stretch: Stretch,
     made: Vec<Shared<Chain<C>>>,
