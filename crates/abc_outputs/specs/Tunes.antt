@@ -10,9 +10,8 @@ use Rattle.abc_outputs.specs.Output.{counts_of, output_in, placed_from}
 use Rattle.abc_rework.specs.Folded.{IsChainOf}
 use Rattle.abc_tunebook.specs.Book.{header_faults}
 use Rattle.abc_tunebook.specs.Rules.{Rules}
-use Rattle.abc_tunebook.specs.Tune.{fault_of_tune, faults_along, lines_in, tune_of}
+use Rattle.abc_tunebook.specs.Tune.{Tune, fault_of_tune, faults_along, lines_in, tune_of}
 use Rattle.abc_tunebook.specs.declared.fault.Fault.{Fault}
-use Rattle.abc_tunebook.specs.declared.tune.Tune.{Tune}
 
 -- A place in a text among the lines that are left where so many are taken away before them.
 abbrev pub lowered : ℕ → Block → Block
