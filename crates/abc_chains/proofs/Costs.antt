@@ -15,11 +15,12 @@ use Rattle.abc_rework.specs.Origins.{origins}
 use Rattle.abc_tunebook.specs.Book.{blocks_in, header_in, opening_of, tunes_in}
 use Rattle.abc_tunebook.specs.Rules.{Rules}
 use Rattle.abc_chains.specs.Holding.{class_in, origin_in, steps_taken}
-use Rattle.abc_chains.specs.Keeping.{AreChains, AreRead, IsHeader, behind_chain, header_steps}
+use Rattle.abc_chains.specs.Keeping.{AreChains, IsHeader, behind_chain, header_steps}
 use Rattle.abc_chains.specs.Rows.{CarriedRow}
 use Rattle.abc_chains.proofs.Meaning.{edit_steps}
 use Rattle.abc_chains.proofs.Opening.{own_opening}
 use Rattle.abc_chains.proofs.Scanning.{raised_more}
+use Rattle.abc_chains.proofs.WholeRows.{AreRead}
 
 pub raised_up : (j k : ℕ) (before after : Counters) → j ≤ k → IsRaisedUpTo j before after → IsRaisedUpTo k before after
 raised_up j k before after order raise = record {

@@ -2,10 +2,11 @@
 use Rattle.std.proofs.Common.{◌≡◌, ℕ, zero, suc, ◌+◌, ◌-◌, ◌≤◌, List, [], ◌∷◌, ◌++◌, map, None, length, take, drop, refl, sym, ◌∙◌, ap, arith, append_assoc, drop-drop, length-append, length-drop}
 use Rattle.std.proofs.lemmas.List.{map-append, length-take-le}
 use Rattle.abc_book.specs.declared.block.Block.{Block}
-use Rattle.abc_chains.specs.Placing.{BlocksRise, between, placed_along, placed_from, placed_until}
+use Rattle.abc_chains.specs.Placing.{BlocksRise, between, placed_along, placed_until}
 use Rattle.abc_chains.specs.Rows.{CarriedRow, placed}
 use Rattle.abc_chains.proofs.Meaning.{length-over}
 use Rattle.abc_chains.proofs.Settled.{split}
+use Rattle.abc_chains.proofs.WholeRows.{placed_from}
 
 take_none : {A : Type 0} (n : ℕ) → (let xs : List A = [] in take n xs ≡ xs)
 take_none zero = refl

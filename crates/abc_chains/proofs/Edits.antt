@@ -16,9 +16,10 @@ use Rattle.abc_rework.specs.Origins.{no_origins, origins, origins_of}
 use Rattle.abc_tunebook.specs.Book.{blocks_in, header_in, opening_of, tunes_in}
 use Rattle.abc_tunebook.specs.Rules.{Rules}
 use Rattle.abc_chains.specs.Holding.{IsCarried, IsFolded, cells_in, class_in, origin_in}
-use Rattle.abc_chains.specs.Keeping.{AreChains, AreRead, IsHeaderOf}
+use Rattle.abc_chains.specs.Keeping.{AreChains, IsHeaderOf}
 use Rattle.abc_rework.specs.Folded.{IsChainOf}
 use Rattle.abc_chains.specs.Rows.{CarriedRow, bare, new_row}
+use Rattle.abc_chains.proofs.WholeRows.{AreRead}
 
 -- A splice that is accepted lies in the text, and makes the spliced one.
 pub accepted : (text : Text) (s : Splice) (after : Text) → replaced text s ≡ Ok after → (s.at + s.removed ≤ length text) × (after ≡ spliced text s)

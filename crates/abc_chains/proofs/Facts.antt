@@ -17,7 +17,6 @@ use Rattle.abc_tunebook.specs.Book.{blocks_in, header_in, opening_of, tunes_in}
 use Rattle.abc_tunebook.specs.Rules.{Rules}
 use Rattle.abc_chains.specs.Holding.{IsCarried, IsChain, LiesWithin, cells_in, class_in, rows_in, steps_taken}
 use Rattle.abc_chains.specs.Keeping.{AreChains, behind_chain, places_of}
-use Rattle.abc_chains.specs.Placing.{placed_from}
 use Rattle.abc_chains.specs.Renewing.{IsRenewed, IsSpan, chains_after, new_parts, tunes_after}
 use Rattle.abc_chains.specs.Rows.{CarriedRow, bare}
 use Rattle.abc_chains.specs.Standing.{Keeping, LiesAmid, LiesBefore, LiesBehind, Stands, kept_numbers, parts_of, taken_after}
@@ -35,6 +34,7 @@ use Rattle.abc_chains.proofs.Renewed.{AreRenewed, all_mid, chain_moved, renewed,
 use Rattle.abc_chains.proofs.Rising.{tunes_within}
 use Rattle.abc_chains.proofs.Spans.{Ends, rise_amid}
 use Rattle.abc_chains.proofs.Untouched.{takes_untouched}
+use Rattle.abc_chains.proofs.WholeRows.{placed_from}
 use Rattle.abc_chains.proofs.WholeTunes.{zip_length}
 use Rattle.std.proofs.lemmas.List.Sums.{sum_by-cons}
 

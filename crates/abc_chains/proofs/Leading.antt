@@ -10,8 +10,8 @@ use Rattle.abc_lines.specs.Text.{Splice, Text, spliced}
 use Rattle.abc_tunebook.specs.Book.{blocks_in, header_in, tunes_in}
 use Rattle.abc_tunebook.specs.Rules.{Rules}
 use Rattle.abc_chains.specs.Holding.{class_in}
-use Rattle.abc_chains.specs.Keeping.{AreRead, header_place, places_of}
-use Rattle.abc_chains.specs.Placing.{BlocksRise, placed_from, placed_until}
+use Rattle.abc_chains.specs.Keeping.{header_place, places_of}
+use Rattle.abc_chains.specs.Placing.{BlocksRise, placed_until}
 use Rattle.abc_chains.specs.Renewing.{IsLead, start_of}
 use Rattle.abc_chains.specs.Rows.{CarriedRow, Row, bare}
 use Rattle.abc_chains.specs.Standing.{AreRows}
@@ -25,6 +25,7 @@ use Rattle.abc_chains.proofs.Outside.{StartsFrom}
 use Rattle.abc_chains.proofs.Renewed.{IsAmong, Parted, bare_read, parted, placed_read, stretch_rows}
 use Rattle.abc_chains.proofs.Rising.{places_rise}
 use Rattle.abc_chains.proofs.Spans.{rise_front, rise_to, start_inside, tunes_strict}
+use Rattle.abc_chains.proofs.WholeRows.{AreRead, placed_from}
 
 no_length : {X : Type 0} (xs : List X) → 0 ≡ length xs → xs ≡ []
 no_length [] e = refl

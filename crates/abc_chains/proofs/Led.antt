@@ -18,7 +18,7 @@ use Rattle.abc_chains.specs.Holding.{IsCarried, IsChain, LiesWithin, class_in, s
 use Rattle.abc_chains.specs.Keeping.{AreChains, IsHeader, behind_chain, header_place, header_steps, places_of}
 use Rattle.abc_rework.specs.Folded.{HasItemsOf, IsChainOf}
 use Rattle.abc_chains.specs.Leading.{BeginAlike, IsOpened, MayGoOn, lead_rows, lead_stretch, led_rows}
-use Rattle.abc_chains.specs.Placing.{BlocksRise, placed_from, placed_until}
+use Rattle.abc_chains.specs.Placing.{BlocksRise, placed_until}
 use Rattle.abc_chains.specs.Renewing.{IsLead, IsRenewed, new_parts, splice_at, start_of}
 use Rattle.abc_chains.specs.Rows.{CarriedRow, Row, bare, new_row}
 use Rattle.abc_chains.specs.Standing.{Keeping, LiesAmid, LiesBefore, LiesBehind, MayEndBy, Stands, parts_of, taken_after}
@@ -39,6 +39,7 @@ use Rattle.abc_chains.proofs.Rising.{header_within, tunes_within}
 use Rattle.abc_chains.proofs.Settled.{settled_carried}
 use Rattle.abc_chains.proofs.Spans.{rise_amid}
 use Rattle.abc_chains.proofs.Untouched.{takes_untouched}
+use Rattle.abc_chains.proofs.WholeRows.{placed_from}
 use Rattle.abc_chains.proofs.WholeTunes.{zip_length}
 
 stays : (block : Block) → moved 0 block ≡ block

@@ -1,3 +1,4 @@
+pub mod WholeRows
 pub mod Scanning
 pub mod Carrying
 pub mod Ending

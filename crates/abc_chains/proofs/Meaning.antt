@@ -23,9 +23,10 @@ use Rattle.abc_tunebook.specs.Book.{blocks_in, header_in, opening_of, tunes_in}
 use Rattle.abc_tunebook.specs.Rules.{Rules}
 use Rattle.abc_tunebook.specs.Tune.{lines_in}
 use Rattle.abc_chains.specs.Holding.{cells_in, cells_over, entries_at, helds_over, origin_in, steps_taken}
-use Rattle.abc_chains.specs.Keeping.{AreChains, AreRead, IsHeaderOf, header_steps}
+use Rattle.abc_chains.specs.Keeping.{AreChains, IsHeaderOf, header_steps}
 use Rattle.abc_rework.specs.Folded.{IsChainOf}
 use Rattle.abc_chains.specs.Rows.{CarriedRow}
+use Rattle.abc_chains.proofs.WholeRows.{AreRead}
 
 pub length-over : {A B : Type 0} (g : A → B) (xs : List A) → length (map g xs) ≡ length xs
 length-over g [] = refl

@@ -12,8 +12,8 @@ use Rattle.abc_scan.specs.declared.class.LineClass.{LineClass}
 use Rattle.abc_tunebook.specs.Book.{blocks_in, header_in, tunes_in}
 use Rattle.abc_tunebook.specs.Rules.{Rules}
 use Rattle.abc_chains.specs.Holding.{class_in}
-use Rattle.abc_chains.specs.Keeping.{AreRead, header_place, places_of}
-use Rattle.abc_chains.specs.Placing.{BlocksRise, placed_from, placed_until}
+use Rattle.abc_chains.specs.Keeping.{header_place, places_of}
+use Rattle.abc_chains.specs.Placing.{BlocksRise, placed_until}
 use Rattle.abc_chains.specs.Renewing.{IsSpan, start_of}
 use Rattle.abc_chains.specs.Rows.{CarriedRow, Row, bare}
 use Rattle.abc_chains.specs.Standing.{AreRows}
@@ -26,6 +26,7 @@ use Rattle.abc_chains.proofs.Outside.{HeaderEnds, StartsFrom}
 use Rattle.abc_chains.proofs.Renewed.{IsAmong, Parted, bare_read, parted, placed_read, stretch_rows}
 use Rattle.abc_chains.proofs.Rising.{places_rise}
 use Rattle.abc_chains.proofs.Spans.{Ends, end_start, rise_back, rise_front, start_inside, tunes_strict}
+use Rattle.abc_chains.proofs.WholeRows.{AreRead, placed_from}
 
 -- A list in three parts.
 pub three_parts : {X : Type 0} (front behind : ℕ) (xs : List X) → front ≤ behind → xs ≡ take front xs ++ (take (behind - front) (drop front xs) ++ drop behind xs)

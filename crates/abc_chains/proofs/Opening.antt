@@ -15,10 +15,11 @@ use Rattle.abc_tunebook.specs.Placed.{Placed, state_along, things}
 use Rattle.abc_tunebook.specs.Rules.{Rules}
 use Rattle.abc_tunebook.specs.Tune.{cells_in as placed_in}
 use Rattle.abc_chains.specs.Holding.{IsChain, cells_in, class_in}
-use Rattle.abc_chains.specs.Keeping.{AreChains, AreRead, IsHeader, IsHeaderOf, behind_chain}
+use Rattle.abc_chains.specs.Keeping.{AreChains, IsHeader, IsHeaderOf, behind_chain}
 use Rattle.abc_rework.specs.Folded.{IsChainOf}
 use Rattle.abc_chains.specs.Rows.{CarriedRow}
 use Rattle.abc_chains.proofs.Meaning.{block_cells}
+use Rattle.abc_chains.proofs.WholeRows.{AreRead}
 
 -- A chain is the fold from every state alike to its opening.
 pub folds_alike : {State Cell Items : Type 0} (steps : Steps State Cell Items) (a b : State) (chain : Chained State Cell Items) → IsResumable steps → IsAlike steps a b → Folds steps a chain → Folds steps b chain

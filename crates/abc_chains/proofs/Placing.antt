@@ -7,9 +7,10 @@ use Rattle.std.specs.List.{flat_map}
 use Rattle.abc_book.specs.declared.block.Block.{Block}
 use Rattle.abc_fold.proofs.Kept.{one_more}
 use Rattle.abc_chains.specs.Holding.{cells_in}
-use Rattle.abc_chains.specs.Placing.{BlocksRise, between, cell_count, placed_along, placed_from, placed_until}
+use Rattle.abc_chains.specs.Placing.{BlocksRise, between, cell_count, placed_along, placed_until}
 use Rattle.abc_chains.specs.Rows.{CarriedRow, placed}
 use Rattle.abc_chains.proofs.Carrying.{over_next}
+use Rattle.abc_chains.proofs.WholeRows.{placed_from}
 
 -- One more of a list.
 pub map_next : {A B : Type 0} (g : A → B) (xs : List A) (i : ℕ) (x : A) → x ≡ get_or xs i x → i < length xs → map g (take (i + 1) xs) ≡ map g (take i xs) ++ g x ∷ []

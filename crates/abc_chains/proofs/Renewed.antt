@@ -14,8 +14,8 @@ use Rattle.abc_rework.specs.Origins.{origins}
 use Rattle.abc_tunebook.specs.Book.{blocks_in, header_in, opening_of, tunes_in}
 use Rattle.abc_tunebook.specs.Rules.{Rules}
 use Rattle.abc_chains.specs.Holding.{IsCarried, IsChain, LiesWithin, cells_in, class_in, helds_of, origin_in, rows_in, steps_taken}
-use Rattle.abc_chains.specs.Keeping.{AreChains, AreRead, places_of}
-use Rattle.abc_chains.specs.Placing.{BlocksRise, placed_from, placed_until}
+use Rattle.abc_chains.specs.Keeping.{AreChains, places_of}
+use Rattle.abc_chains.specs.Placing.{BlocksRise, placed_until}
 use Rattle.abc_chains.specs.Rows.{CarriedRow, Row, bare}
 use Rattle.abc_chains.specs.Standing.{AreRows}
 use Rattle.abc_chains.proofs.Cutting.{BeginBehind, length-until, placed_both}
@@ -24,6 +24,7 @@ use Rattle.abc_chains.proofs.Meaning.{map-over}
 use Rattle.abc_chains.proofs.Parts.{edited_parts, part_moved}
 use Rattle.abc_chains.proofs.Rising.{places_rise}
 use Rattle.abc_chains.proofs.Settled.{all_origins, by_strip, from_origins, settled_carried, strip_from}
+use Rattle.abc_chains.proofs.WholeRows.{AreRead, placed_from}
 
 -- What is known of all rows of the edited text.
 pub record AreRenewed {State Cell Items Defaults : Type 0} (steps : Steps State Cell Items) (rules : Rules State Cell Items Defaults) (text : Text) (s : Splice) (old : List (Chained State Cell Items)) (rows : List (CarriedRow Cell)) : Type 0 where

@@ -14,10 +14,11 @@ use Rattle.abc_tunebook.specs.Rules.{Rules}
 use Rattle.abc_chains.specs.Holding.{IsCarried, cells_at, cells_in, cells_over, origin_in}
 use Rattle.abc_chains.specs.Keeping.{AreChains, IsHeaderOf, header_place, places_of}
 use Rattle.abc_rework.specs.Folded.{IsChainOf}
-use Rattle.abc_chains.specs.Placing.{BlocksRise, between, placed_along, placed_from}
+use Rattle.abc_chains.specs.Placing.{BlocksRise, between, placed_along}
 use Rattle.abc_chains.specs.Rows.{CarriedRow, placed}
 use Rattle.abc_chains.proofs.Edits.{all_both}
 use Rattle.abc_chains.proofs.Meaning.{block_cells, map-over, read_drop}
+use Rattle.abc_chains.proofs.WholeRows.{placed_from}
 
 pub split : {A : Type 0} (xs : List A) (at to : ℕ) → at ≤ to → drop at xs ≡ take (to - at) (drop at xs) ++ drop to xs
 split xs at to h =

@@ -31,11 +31,12 @@ use Rattle.abc_scan.specs.declared.class.LineClass.TheVariants.{Blank, Comment, 
 use Rattle.abc_tunebook.specs.Book.{blocks_in, is_tune, opening_of, tunes_in}
 use Rattle.abc_tunebook.specs.Rules.{Rules}
 use Rattle.abc_chains.specs.Holding.{cells_in, cells_over, entries_at, helds_of, helds_over, origin_in, rows_in}
-use Rattle.abc_chains.specs.Keeping.{AreChains, AreRead}
+use Rattle.abc_chains.specs.Keeping.{AreChains}
 use Rattle.abc_rework.specs.Folded.{IsChainOf, TakesUntouched}
 use Rattle.abc_chains.specs.Rows.{CarriedRow}
 use Rattle.abc_chains.specs.Taking.{GoesAlong, KnowsAlong, continues, first_source, is_along, is_origin}
 use Rattle.abc_chains.proofs.Meaning.{addresses_are, are_kept, beside_whole, block_steps, length-addresses, length-over, read_drop}
+use Rattle.abc_chains.proofs.WholeRows.{AreRead}
 
 -- So many cells of a chain, one after another.
 abbrev places_up : ℕ → ℕ → ℕ → List (Option (ℕ × ℕ))

@@ -8,10 +8,11 @@ use Rattle.abc_lines.specs.Text.{Text}
 use Rattle.abc_tunebook.specs.Book.{blocks_in, opening_of, tunes_in}
 use Rattle.abc_tunebook.specs.Rules.{Rules}
 use Rattle.abc_chains.specs.Holding.{IsChain, cells_in}
-use Rattle.abc_chains.specs.Keeping.{AreChains, AreRead}
+use Rattle.abc_chains.specs.Keeping.{AreChains}
 use Rattle.abc_rework.specs.Folded.{IsChainOf}
 use Rattle.abc_chains.specs.Rows.{CarriedRow}
 use Rattle.abc_chains.proofs.Meaning.{block_cells}
+use Rattle.abc_chains.proofs.WholeRows.{AreRead}
 
 pub zip_length : {A B : Type 0} (R : A → B → Type 0) (xs : List A) (ys : List B) → AllZip R xs ys → length xs ≡ length ys
 zip_length R [] [] all = refl

@@ -1,5 +1,5 @@
 -- What is kept of a text: its rows, and the chains of its file header and its tunes. Our own.
-use Rattle.std.specs.Prelude.{◌≡◌, ℕ, List, [], ◌∷◌, map, length, slice_get, Option, Some, None}
+use Rattle.std.specs.Prelude.{◌≡◌, ℕ, List, [], ◌∷◌, length, slice_get, Option, Some, None}
 use Rattle.std.specs.List.{AllZip}
 use Rattle.abc_book.specs.declared.block.Block.{Block}
 use Rattle.abc_book.specs.declared.block.BlockKind.TheVariants.{Free}
@@ -8,14 +8,9 @@ use Rattle.abc_fold.specs.Steps.{Steps}
 use Rattle.abc_lines.specs.Text.{Text}
 use Rattle.abc_tunebook.specs.Book.{blocks_in, header_in, opening_of, tunes_in}
 use Rattle.abc_tunebook.specs.Rules.{Rules}
-use Rattle.abc_chains.specs.Holding.{IsChain, cells_in, class_in, steps_taken}
+use Rattle.abc_chains.specs.Holding.{IsChain, steps_taken}
 use Rattle.abc_chains.specs.Rows.{CarriedRow}
 use Rattle.abc_rework.specs.Folded.{IsChainOf}
-
--- Rows have the classes and the cells of the lines of a text.
-pub record AreRead {State Cell Items Defaults : Type 0} (rules : Rules State Cell Items Defaults) (text : Text) (rows : List (CarriedRow Cell)) : Type 0 where
-  pub classes : map class_in rows ≡ map rules.class text
-  pub cells : map cells_in rows ≡ map rules.cells text
 
 -- The chain of a file header, by rows; where there is none, it has no cells and no states.
 abbrev pub IsHeader : {State Cell Items : Type 0} → Steps State Cell Items → State → List (CarriedRow Cell) → Chained State Cell Items → Option Block → Type 0

@@ -13,14 +13,7 @@ placed_along source first (row ∷ rows) = placed (Some (record { source = sourc
 abbrev pub between : {Cell : Type 0} → List (CarriedRow Cell) → ℕ → ℕ → List (CarriedRow Cell)
 between rows from to = take (to - from) (drop from rows)
 
--- The lines of a text from one on, where chains of these numbers hold them.
-abbrev pub placed_from : {Cell : Type 0} → List (CarriedRow Cell) → ℕ → ℕ → List Block → List (CarriedRow Cell)
-placed_from rows at source [] = map (placed None) (drop at rows)
-placed_from rows at source (block ∷ blocks) =
-    map (placed None) (between rows at block.from)
-    ++ (placed_along source 0 (between rows block.from block.to) ++ placed_from rows block.to (source + 1) blocks)
-
--- The same, up to another line.
+-- The lines of a text from one up to another, where chains of these numbers hold them.
 abbrev pub placed_until : {Cell : Type 0} → List (CarriedRow Cell) → ℕ → ℕ → ℕ → List Block → List (CarriedRow Cell)
 placed_until rows at to source [] = map (placed None) (between rows at to)
 placed_until rows at to source (block ∷ blocks) =

@@ -5,11 +5,11 @@ use Rattle.abc_lines.specs.declared.limits.TheConstants.{MOST_LINES}
 use Rattle.abc_chains.specs.Holding.{LiesWithin}
 use Rattle.abc_chains.specs.Standing.{LiesBehind, moved_on}
 use Rattle.abc_chains.specs.declared.stretch.Stretch.{Stretch}
-use Rattle.abc_chains.specs.declared.tunes.NewTunes.{NewTunes}
-use Rattle.abc_chains.specs.declared.tunes.NewTunes.TheVariants.{Whole, Among}
+use Rattle.abc_chains.specs.declared.tunes.NewPlaces.{NewPlaces}
+use Rattle.abc_chains.specs.declared.tunes.NewPlaces.TheVariants.{Whole, Among}
 
 -- The tunes after an edit: all of them, or those of the stretch in the place of old ones, and those behind it moved.
-abbrev pub tunes_put : NewTunes → Stretch → List Block → List Block → List Block
+abbrev pub tunes_put : NewPlaces → Stretch → List Block → List Block → List Block
 tunes_put (Whole tunes) stretch old places = tunes.items
 tunes_put Among stretch old places = take stretch.front old ++ (places ++ map (moved_on stretch) (drop stretch.behind old))
 
@@ -23,6 +23,6 @@ pub record FitAmong (stretch : Stretch) (old places : List Block) : Type 0 where
   pub numbers : stretch.came ≤ MOST_LINES
 
 -- Tunes that are put among others take the place of old ones.
-abbrev pub MayBePut : NewTunes → Stretch → List Block → List Block → Type 0
+abbrev pub MayBePut : NewPlaces → Stretch → List Block → List Block → Type 0
 MayBePut (Whole tunes) stretch old places = ⊤
 MayBePut Among stretch old places = FitAmong stretch old places

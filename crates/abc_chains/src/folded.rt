@@ -1,6 +1,6 @@
 //! The chains of the file header and the tunes of a text.
 
-ghost use Rattle.std.specs.Prelude.{◌≡◌, All, IfOk, IfSome, length};
+ghost use Rattle.std.specs.Prelude.{◌≡◌, All, IfOk, IfSome, length, option_copied};
 ghost use Rattle.std.specs.List.{AllZip, sum_by};
 ghost use Rattle.abc_chains.specs.Holding.{IsCarried, IsChain, IsFolded, LiesWithin, steps_taken};
 ghost use Rattle.abc_chains.specs.Keeping.{IsHeader, behind_chain, header_steps};
@@ -120,6 +120,16 @@ pub(crate) fn header_chain<C: Compiler>(
     }
 }
 
+/// The state in which a file header, if there is one, leaves its last cell.
+pub fn left_by<C: Compiler>(header: Option<Block>, chain: &Chain<C>) -> Option<&C::State>
+    ensures { option_copied result ≡ behind_chain header chain.now }
+{
+    match header {
+        Some(_) => chain.entry(chain.len()),
+        None => None,
+    }
+}
+
 /// The state in which the tunes begin, by the chain of the file header.
 pub(crate) fn opening_behind<C: Compiler>(
     alloc: Global,
@@ -129,9 +139,5 @@ pub(crate) fn opening_behind<C: Compiler>(
 ) -> C::State
     ensures { result ≡ (C.rules compiler.now).tune (behind_chain header chain.now) }
 {
-    let after = match header {
-        None => None,
-        Some(_) => chain.entry(chain.len()),
-    };
-    compiler.tune(alloc, after)
+    compiler.tune(alloc, left_by(header, chain))
 }

@@ -140,7 +140,7 @@ impl<C: Compiler> KeptText<C> {
     }
 
     /// What an edit makes anew where no tune begins before it: the file header's chain, and the tunes up to the first that
-    /// begins behind it; all tunes, where the file header sets other defaults then.
+    /// begins behind it; all tunes, where they begin in another state behind the new file header.
     pub(crate) fn early(
         &self,
         at: usize,

@@ -16,6 +16,7 @@ mod text;
 mod tunes;
 mod whole;
 
+pub use folded::left_by;
 pub use row::{Row, read};
 pub use stretch::Stretch;
 pub use text::{KeptPatch, KeptText};

@@ -13,7 +13,7 @@ use crate::made::Renewed;
 use crate::row::Row;
 use crate::stretch::Stretch;
 use crate::text::KeptText;
-use crate::tunes::NewTunes;
+use crate::tunes::NewPlaces;
 use abc_book::Block;
 use abc_compiler::Compiler;
 use abc_fold::{Chain, Resumable, Shared};
@@ -25,7 +25,7 @@ use std::alloc::{AllocError, Global};
 pub(crate) struct Placed<C: Compiler> {
     pub(crate) rows: SplicePatch<Row<C::Cell>>,
     pub(crate) chains: SplicePatch<Shared<Chain<C>>>,
-    pub(crate) tunes: NewTunes,
+    pub(crate) tunes: NewPlaces,
     pub(crate) places: Vec<Block>,
 }
 
@@ -125,7 +125,7 @@ impl<C: Compiler> KeptText<C> {
         // The text has no more lines than it may have.
         let _ = self.lines.len();
         let places = placed_tunes(alloc, &renewed.folded.tunes, stretch)?;
-        let tunes = NewTunes::of(alloc, &self.tunes, stretch, &places)?;
+        let tunes = NewPlaces::of(alloc, &self.tunes, stretch, &places)?;
         let rows = self.rows.splice_prepare(alloc, at, removed, new)?;
         match self.place_chains(stretch, &renewed.first, &renewed.folded.made) {
             Ok(chains) => Ok(Placed {

@@ -27,13 +27,6 @@ impl<K: Drop> Model for Row<K> {
 }
 
 impl<K: Drop> Row<K> {
-    /// What the line is.
-    pub fn class(&self) -> LineClass
-        ensures { result ≡ self.now.class }
-    {
-        self.class
-    }
-
     /// The cells of the line.
     pub fn cells(&self) -> &[K]
         ensures { result.now ≡ self.now.cells }

@@ -47,6 +47,7 @@ fn append_block<K: Drop>(
         let count = cells.len();
         let made_row = row.carried(Some(Origin { source, first }))?;
         made.push(made_row)?;
+        // The cells of a block are those of its chain, which fit a list: the sum does not overflow.
         match first.checked_add(count) {
             Some(next) => first = next,
             None => return Err(AllocError),

@@ -9,10 +9,15 @@ use abc_book::Block;
 /// to the other, and how many lines stand there after the edit; the tunes from `front` on, but not `behind`.
 #[derive(Clone, Copy)]
 pub struct Stretch {
+    /// How many tunes stay before the stretch.
     pub front: usize,
+    /// The first tune behind it, counted from 0 among the tunes before the edit.
     pub behind: usize,
+    /// How many lines stand before it.
     pub from: usize,
+    /// The first line behind it before the edit, counted from 0.
     pub to: usize,
+    /// How many lines it has after the edit.
     pub came: usize,
 }
 

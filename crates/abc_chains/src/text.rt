@@ -19,7 +19,7 @@ use crate::place::Placed;
 use crate::renew::Folded;
 use crate::row::{Row, read};
 use crate::stretch::Stretch;
-use crate::tunes::NewTunes;
+use crate::tunes::NewPlaces;
 use abc_book::Block;
 use abc_compiler::Compiler;
 use abc_fold::{Chain, Counts, Fold, Resumable, Shared};
@@ -58,7 +58,7 @@ pub struct KeptPatch<C: Compiler> {
     pub(crate) lines: LinePatch,
     rows: SplicePatch<Row<C::Cell>>,
     header: Option<Block>,
-    tunes: NewTunes,
+    tunes: NewPlaces,
     chains: SplicePatch<Shared<Chain<C>>>,
     stretch: Stretch,
     made: Vec<Shared<Chain<C>>>,
@@ -121,21 +121,6 @@ impl<C: Compiler> KeptText<C> {
         ensures stands { Stands (steps_of (C.next self.now.compiler) (C.gives self.now.compiler) (C.alike self.now.compiler)) (C.rules self.now.compiler) self.now.lines.text (parts_of self.now) }
     {
         &self.lines
-    }
-
-    /// Where the file header lies, if there is one.
-    pub fn header(&self) -> Option<Block>
-        ensures { result ≡ self.now.header }
-    {
-        self.header
-    }
-
-    /// The chain of this number: 0 is that of the file header, which has no states where there is none, and the tunes are
-    /// counted from 1.
-    pub fn chain(&self, i: usize) -> Option<&Shared<Chain<C>>>
-        ensures { option_copied result ≡ slice_get self.now.chains.items i }
-    {
-        self.chains.get(i)
     }
 
     /// What an edit makes anew, and what it puts in the place of what is kept, prepared. Each new line is read once, and
@@ -300,8 +285,8 @@ impl<C: Compiler> KeptPatch<C> {
         &self.taken
     }
 
-    /// The chain that would have this number: 0 is that of the file header, and the tunes are counted from 1. The patch
-    /// belongs to the text as it is now.
+    /// The chain that would have this number: 0 is that of the file header, which has no states where there is none, and
+    /// the tunes are counted from 1. The patch belongs to the text as it is now.
     pub fn chain<'a>(&'a self, text: &'a KeptText<C>, i: usize) -> Option<&'a Shared<Chain<C>>>
         requires { self.now.on ≡ text.now }
         ensures { option_copied result ≡ slice_get self.now.chains i }

@@ -12,7 +12,7 @@ use std::alloc::{AllocError, Global};
 
 /// Where the tunes of a text lie after an edit.
 #[derive(Drop)]
-pub(crate) enum NewTunes {
+pub(crate) enum NewPlaces {
     /// Where all of them lie.
     Whole(Vec<Block>),
     /// As many came as went: those of the stretch take the place of the old ones, and those behind it move.
@@ -99,7 +99,7 @@ fn move_behind(tunes: &mut Vec<Block>, stretch: Stretch)
     }
 }
 
-impl NewTunes {
+impl NewPlaces {
     /// Where the tunes of a text lie after an edit: where as many came as went, nothing of the
     /// others is needed.
     pub(crate) fn of(
@@ -107,7 +107,7 @@ impl NewTunes {
         old: &[Block],
         stretch: Stretch,
         places: &[Block],
-    ) -> Result<NewTunes, AllocError>
+    ) -> Result<NewPlaces, AllocError>
         requires order { stretch.front ≤ stretch.behind }
         requires inside { stretch.behind ≤ length old.now }
         requires beyond { All (LiesBehind stretch) (drop stretch.behind old.now) }
@@ -118,10 +118,10 @@ impl NewTunes {
         ensures put { IfOk result (λ tunes. MayBePut tunes stretch old.now places.now) }
     {
         if places.len() == stretch.behind - stretch.front {
-            return Ok(NewTunes::Among);
+            return Ok(NewPlaces::Among);
         }
         let tunes = all_tunes(alloc, old, stretch, places)?;
-        Ok(NewTunes::Whole(tunes))
+        Ok(NewPlaces::Whole(tunes))
     }
 
     /// Puts the tunes in their place, without memory.
@@ -130,8 +130,8 @@ impl NewTunes {
         ensures { tunes.new.items ≡ tunes_put self stretch tunes.old.items places.now }
     {
         match self {
-            NewTunes::Whole(whole) => *tunes = whole,
-            NewTunes::Among => {
+            NewPlaces::Whole(whole) => *tunes = whole,
+            NewPlaces::Among => {
                 put_among(tunes, stretch.front, places);
                 move_behind(tunes, stretch);
             }

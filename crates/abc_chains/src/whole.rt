@@ -58,19 +58,6 @@ fn first_source<K: Drop>(rows: &[CarriedRow<K>]) -> Option<usize>
     }
 }
 
-/// Whether nothing can tell apart the states in which two chains begin.
-fn begin_alike<F: Resumable>(fold: &F, chain: &Chain<F>, other: &Chain<F>) -> bool
-    ensures { result ≡ are_alike_both (F.alike fold.now) (slice_get chain.now.entries 0) (slice_get other.now.entries 0) }
-{
-    match chain.entry(0) {
-        None => false,
-        Some(state) => match other.entry(0) {
-            None => false,
-            Some(begun) => fold.same(state, begun),
-        },
-    }
-}
-
 /// Whether nothing can tell the state in which a chain begins from another one.
 fn begins_in<F: Resumable>(fold: &F, chain: &Chain<F>, opening: &F::State) -> bool
     ensures { result ≡ are_alike_both (F.alike fold.now) (slice_get chain.now.entries 0) (Some opening.now) }
@@ -78,6 +65,16 @@ fn begins_in<F: Resumable>(fold: &F, chain: &Chain<F>, opening: &F::State) -> bo
     match chain.entry(0) {
         None => false,
         Some(state) => fold.same(state, opening),
+    }
+}
+
+/// Whether nothing can tell apart the states in which two chains begin.
+fn begin_alike<F: Resumable>(fold: &F, chain: &Chain<F>, other: &Chain<F>) -> bool
+    ensures { result ≡ are_alike_both (F.alike fold.now) (slice_get chain.now.entries 0) (slice_get other.now.entries 0) }
+{
+    match other.entry(0) {
+        None => false,
+        Some(begun) => begins_in(fold, chain, begun),
     }
 }
 

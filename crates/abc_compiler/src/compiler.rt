@@ -35,12 +35,13 @@ pub trait Compiler: Resumable + Drop {
         ensures cells { IfOk result (λ cells. cells.items ≡ (rules self.now).cells line.now) }
         ensures counted { Self.Work.counts work.new ≡ record (Self.Work.counts work.old) { scanned = raised (Self.Work.counts work.old).scanned 1 } };
 
-    /// The state in which a file header begins. No memory is taken.
+    /// The state in which a file header begins. No memory is taken: `alloc` is for the lists that the state may come to
+    /// hold.
     fn header(&self, alloc: Global) -> Self::State
         ensures { result ≡ (rules self.now).header };
 
     /// The state in which a tune begins, by the state behind the file header, if there is one. No memory
-    /// is taken.
+    /// is taken: `alloc` is for the lists that the state may come to hold.
     fn tune(&self, alloc: Global, after: Option<&Self::State>) -> Self::State
         ensures { result ≡ (rules self.now).tune (option_copied after.entry) };
 

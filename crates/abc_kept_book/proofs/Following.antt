@@ -7,7 +7,7 @@ use Rattle.abc_outputs.specs.Tunes.{OutputTells}
 use Rattle.abc_outputs.specs.declared.output.Output.{Output}
 use Rattle.abc_tunebook.specs.Book.{title_of}
 use Rattle.abc_tunebook.specs.Files.{Files, files_by, files_from, owned}
-use Rattle.abc_tunebook.specs.declared.tune.Tune.{Tune}
+use Rattle.abc_tunebook.specs.Tune.{Tune}
 
 files_on : (files : Files) (outputs : List Output) (tunes : List Tune) → AllZip OutputTells outputs tunes
     → files_by (λ (o : Output). o.number) (λ (o : Output). o.built.bytes) files outputs ≡ files_from files tunes

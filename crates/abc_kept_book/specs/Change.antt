@@ -1,18 +1,18 @@
 -- The tunes of a book before and after a change. Our own.
 use Rattle.std.specs.Prelude.{◌≡◌, ◌+◌, ◌-◌, ◌≤◌, List, length, take, drop}
-use Rattle.abc_kept_book.specs.declared.change.Change.{Change}
+use Rattle.abc_kept_book.specs.declared.change.TuneChange.{TuneChange}
 use Rattle.abc_outputs.specs.declared.output.Output.{Output}
 
 -- What the tunes give before a change.
-abbrev pub old_in : Change → List Output
+abbrev pub old_in : TuneChange → List Output
 old_in change = change.before.now.items
 
 -- What the tunes give after a change.
-abbrev pub new_in : Change → List Output
+abbrev pub new_in : TuneChange → List Output
 new_in change = change.splice.now.after.items
 
 -- The tunes are the same but for a stretch of them, in the place of which so many came.
-pub record IsChange (change : Change) : Type 0 where
+pub record IsChange (change : TuneChange) : Type 0 where
   pub on : change.splice.now.on ≡ change.before.now
   pub order : change.front ≤ change.behind
   pub inside : change.behind ≤ length (old_in change)

@@ -10,7 +10,7 @@ use Rattle.abc_tunebook.specs.Fault.{fault_cmp}
 use Rattle.abc_tunebook.specs.Files.{files_from}
 use Rattle.abc_tunebook.specs.Sorted.{sorted_once}
 use Rattle.abc_tunebook.specs.declared.fault.Fault.{Fault}
-use Rattle.abc_tunebook.specs.declared.tune.Tune.{Tune}
+use Rattle.abc_tunebook.specs.Tune.{Tune}
 
 -- The files of tunes are those of their outputs.
 abbrev pub FilesFollow : Type 0

@@ -13,7 +13,7 @@ use abc_outputs::Output;
 
 /// What the tunes give before a change, and what takes the place of a stretch of them.
 #[derive(Drop)]
-pub(crate) struct Change<'a> {
+pub(crate) struct TuneChange<'a> {
     pub(crate) before: &'a GapList<Shared<Output>>,
     pub(crate) splice: &'a SplicePatch<Shared<Output>>,
     /// How many tunes stand before the stretch.
@@ -51,7 +51,7 @@ pub(crate) fn file_of(outputs: &GapList<Shared<Output>>, owner: Option<usize>) -
     bytes_at(outputs, owner?)
 }
 
-impl Change<'_> {
+impl TuneChange<'_> {
     /// How many tunes there are after the change.
     pub(crate) fn count(&self) -> usize
         requires { IsChange self.now }
@@ -71,7 +71,7 @@ impl Change<'_> {
     }
 
     /// What the tune at a place gives after the change.
-    pub(crate) fn new_output(&self, place: usize) -> Option<&Output>
+    fn new_output(&self, place: usize) -> Option<&Output>
         requires { IsChange self.now }
         ensures { option_copied result ≡ slice_get (new_in self.now) place }
     {

@@ -11,7 +11,7 @@ ghost use Rattle.abc_kept_book.specs.Titles.{Fit, titles_after};
 ghost use Rattle.abc_tunebook.specs.Files.{file_at};
 ghost use Rattle.abc_tunebook.specs.Report.{Reports};
 
-use crate::change::{Change, file_of};
+use crate::change::{TuneChange, file_of};
 use crate::faults::{NewLines, faults_after};
 use crate::new_tunes::NewTunes;
 use crate::owners::Owners;
@@ -151,16 +151,16 @@ impl KeptBook {
             came,
         } = tunes;
         let faults = faults_after(alloc, NewLines { from, gone, came }, &self.faults, &faults)?;
-        let came = outputs.len();
+        let count = outputs.len();
         let outputs = self
             .outputs
             .splice_prepare(alloc, front, behind - front, outputs)?;
-        let change = Change {
+        let change = TuneChange {
             before: &self.outputs,
             splice: &outputs,
             front,
             behind,
-            came,
+            came: count,
         };
         match self.differences(alloc, &change) {
             Ok(differences) => Ok(BookPatch {
@@ -177,7 +177,7 @@ impl KeptBook {
     }
 
     /// What a change of the tunes makes of the book: where they claim what the old ones did, one by one, the owners stay.
-    fn differences(&self, alloc: Global, change: &Change) -> Result<Differences, AllocError>
+    fn differences(&self, alloc: Global, change: &TuneChange) -> Result<Differences, AllocError>
         requires change { IsChange change.now }
         requires before { change.now.before.now ≡ self.now.outputs }
         ensures owners { IfOk result (λ d. unwrap_or d.owners (owners_of (old_in change.now)) ≡ owners_of (new_in change.now)) }

@@ -6,7 +6,7 @@ ghost use Rattle.std.specs.Map.{keys_of};
 ghost use Rattle.abc_kept_book.specs.Change.{IsChange, new_in};
 ghost use Rattle.abc_kept_book.specs.Owners.{claim_of, claimed, owner_at, owners_of};
 
-use crate::change::Change;
+use crate::change::TuneChange;
 use abc_outputs::Output;
 use std::alloc::{AllocError, Global};
 use std::collections::BTreeMap;
@@ -70,7 +70,7 @@ fn put_claim(
 }
 
 /// The places of the tunes that give the files after a change.
-fn places_after(alloc: Global, change: &Change) -> Result<BTreeMap<u32, usize>, AllocError>
+fn places_after(alloc: Global, change: &TuneChange) -> Result<BTreeMap<u32, usize>, AllocError>
     requires { IsChange change.now }
     ensures { IfOk result (λ places. places.entries ≡ owners_of (new_in change.now)) }
 {
@@ -93,7 +93,7 @@ impl Owners {
     }
 
     /// The owners after a change.
-    pub(crate) fn after(alloc: Global, change: &Change) -> Result<Owners, AllocError>
+    pub(crate) fn after(alloc: Global, change: &TuneChange) -> Result<Owners, AllocError>
         requires { IsChange change.now }
         ensures { IfOk result (λ owners. owners ≡ owners_of (new_in change.now)) }
     {

@@ -12,13 +12,13 @@ ghost use Rattle.abc_kept_book.specs.Report.{rewritten_at};
 ghost use Rattle.abc_tunebook.specs.Files.{file_at, written};
 ghost use Rattle.abc_tunebook.specs.Report.{Reports};
 
-use crate::change::Change;
+use crate::change::TuneChange;
 use crate::owners::Owners;
 use abc_tunebook::{Report, sorted_once};
 use std::alloc::{AllocError, Global};
 
 /// The number that the tune at a place owns, where its file has other bytes than that of the old tune there.
-fn rewritten_at(change: &Change, owners: &Owners, place: usize) -> Option<u32>
+fn rewritten_at(change: &TuneChange, owners: &Owners, place: usize) -> Option<u32>
     requires change { IsChange change.now }
     requires inside { place < length (new_in change.now) }
     ensures { result ≡ rewritten_at (old_in change.now) (new_in change.now) owners.now place }
@@ -34,7 +34,7 @@ fn rewritten_at(change: &Change, owners: &Owners, place: usize) -> Option<u32>
 }
 
 /// The numbers that tunes of the stretch own, where their files have other bytes than those of the old tunes.
-fn rewritten(alloc: Global, change: &Change, owners: &Owners) -> Result<Vec<u32>, AllocError>
+fn rewritten(alloc: Global, change: &TuneChange, owners: &Owners) -> Result<Vec<u32>, AllocError>
     requires change { IsChange change.now }
     requires claims { claims_of (old_in change.now) ≡ claims_of (new_in change.now) }
     requires owners { owners.now ≡ owners_of (old_in change.now) }
@@ -53,7 +53,7 @@ fn rewritten(alloc: Global, change: &Change, owners: &Owners) -> Result<Vec<u32>
 /// The report of a change after which the tunes claim what the old ones did, one by one.
 pub(crate) fn report_within(
     alloc: Global,
-    change: &Change,
+    change: &TuneChange,
     owners: &Owners,
 ) -> Result<Report, AllocError>
     requires change { IsChange change.now }
@@ -72,7 +72,7 @@ pub(crate) fn report_within(
 /// Whether a number has other bytes after a change, or a file in one of the two books alone. The bytes are compared only
 /// where the tune that gives them may be another one.
 #[tactic(auto, using(crate::proofs::Reporting::owner_kept, crate::proofs::Reporting::owner_tells))]
-fn differs(change: &Change, before: &Owners, after: &Owners, number: u32) -> bool
+fn differs(change: &TuneChange, before: &Owners, after: &Owners, number: u32) -> bool
     requires change { IsChange change.now }
     requires before { before.now ≡ owners_of (old_in change.now) }
     requires after { after.now ≡ owners_of (new_in change.now) }
@@ -90,7 +90,7 @@ fn differs(change: &Change, before: &Owners, after: &Owners, number: u32) -> boo
 #[tactic(auto, unfolding(abc_tunebook::specs::Files::written))]
 fn written_over(
     alloc: Global,
-    change: &Change,
+    change: &TuneChange,
     before: &Owners,
     after: &Owners,
     numbers: &[u32],
@@ -122,7 +122,7 @@ fn without_owner(alloc: Global, numbers: &[u32], owners: &Owners) -> Result<Vec<
 /// The report of a change after which numbers may have other owners.
 pub(crate) fn report_over(
     alloc: Global,
-    change: &Change,
+    change: &TuneChange,
     before: &Owners,
     after: &Owners,
 ) -> Result<Report, AllocError>

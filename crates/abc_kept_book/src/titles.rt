@@ -5,7 +5,7 @@ ghost use Rattle.abc_kept_book.specs.Change.{IsChange, new_in, old_in};
 ghost use Rattle.abc_kept_book.specs.Outputs.{title_by, titles_of};
 ghost use Rattle.abc_kept_book.specs.Titles.{Fit, titles_after};
 
-use crate::change::Change;
+use crate::change::TuneChange;
 use abc_outputs::Output;
 use abc_text::Sequence;
 use abc_tunebook::Title;
@@ -33,7 +33,7 @@ fn title_by(alloc: Global, output: &Output) -> Result<Title, AllocError>
 /// The titles after a change, from one place to another.
 fn titles_between(
     alloc: Global,
-    change: &Change,
+    change: &TuneChange,
     from: usize,
     to: usize,
 ) -> Result<Vec<Title>, AllocError>
@@ -51,7 +51,7 @@ fn titles_between(
 
 impl NewTitles {
     /// The titles of a change: those of the stretch, where as many tunes came as went.
-    pub(crate) fn of(alloc: Global, change: &Change) -> Result<NewTitles, AllocError>
+    pub(crate) fn of(alloc: Global, change: &TuneChange) -> Result<NewTitles, AllocError>
         requires { IsChange change.now }
         ensures fit { IfOk result (Fit (titles_of (old_in change.now))) }
         ensures after { IfOk result (λ titles. titles_after (titles_of (old_in change.now)) titles ≡ titles_of (new_in change.now)) }

@@ -11,7 +11,7 @@ use Rattle.abc_tunebook.specs.Book.{blocks_in, book_of, given_by}
 use Rattle.abc_tunebook.specs.Fault.{fault_cmp}
 use Rattle.abc_tunebook.specs.Files.{Files, file_at, first_file}
 use Rattle.abc_tunebook.specs.Rules.{Rules}
-use Rattle.abc_tunebook.specs.declared.tune.Tune.{Tune}
+use Rattle.abc_tunebook.specs.Tune.{Tune}
 use Rattle.abc_tunebook.proofs.Order.{faults_rise}
 use Rattle.abc_tunebook.proofs.Owners.{first_owner}
 

@@ -30,9 +30,8 @@ use Rattle.abc_tunebook.specs.Book.{behind_header, blocks_in, book_of, header_fa
 use Rattle.abc_tunebook.specs.Fault.{fault_cmp}
 use Rattle.abc_tunebook.specs.Rules.{Rules}
 use Rattle.abc_tunebook.specs.Sorted.{sorted_once}
-use Rattle.abc_tunebook.specs.Tune.{tune_of}
+use Rattle.abc_tunebook.specs.Tune.{Tune, tune_of}
 use Rattle.abc_tunebook.specs.declared.fault.Fault.{Fault}
-use Rattle.abc_tunebook.specs.declared.tune.Tune.{Tune}
 use Rattle.abc_tunebook.proofs.Order.{no_fault_lost}
 
 if_below : {A : Type 0} (a b : ℕ) (x y : A) → a < b → (if nat_lt a b then x else y) ≡ x

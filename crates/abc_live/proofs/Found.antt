@@ -14,9 +14,8 @@ use Rattle.abc_tunebook.specs.Book.{behind_header, header_faults}
 use Rattle.abc_tunebook.specs.Laws.{fault_moved}
 use Rattle.abc_tunebook.specs.Placed.{cells_from, items_along, state_along, things}
 use Rattle.abc_tunebook.specs.Rules.{Rules}
-use Rattle.abc_tunebook.specs.Tune.{fault_of_tune, faults_along, lines_in, tune_from, tune_of}
+use Rattle.abc_tunebook.specs.Tune.{Tune, fault_of_tune, faults_along, lines_in, tune_from, tune_of}
 use Rattle.abc_tunebook.specs.declared.fault.Fault.{Fault}
-use Rattle.abc_tunebook.specs.declared.tune.Tune.{Tune}
 use Rattle.abc_tunebook.proofs.Moves.{tunes_move}
 use Rattle.abc_tunebook.proofs.Within.{faults_in_lines}
 

@@ -6,7 +6,7 @@ use Rattle.abc_lines.specs.Text.{Text}
 use Rattle.abc_tunebook.specs.Book.{Book, blocks_in, book_of, given_by}
 use Rattle.abc_tunebook.specs.Rules.{Rules}
 use Rattle.abc_tunebook.specs.declared.report.Report.{Report}
-use Rattle.abc_tunebook.specs.declared.tune.Tune.{Tune}
+use Rattle.abc_tunebook.specs.Tune.{Tune}
 
 -- A compiler of tunes, a text, and both with all that is kept of the text and of its book.
 pub record Live (C State Cell Items : Type 0) : Type 0 where

@@ -1,8 +1,7 @@
 //! What a prepared text gives to the book: what the tunes of its stretch give, and their faults.
 
-ghost use Rattle.std.specs.Prelude.{◌≡◌, ◌+◌, ◌≤◌, ◌++◌, IfOk, Some, drop, length, map, option_copied, slice_get};
+ghost use Rattle.std.specs.Prelude.{◌≡◌, ◌+◌, ◌≤◌, ◌++◌, IfOk, Some, drop, length, map, slice_get};
 ghost use Rattle.std.specs.List.{AllZip};
-ghost use Rattle.abc_chains.specs.Keeping.{behind_chain};
 ghost use Rattle.abc_fold.specs.Steps.{steps_of};
 ghost use Rattle.abc_kept_book.specs.Outputs.{files_of};
 ghost use Rattle.abc_lines.specs.declared.limits.TheConstants.{MOST_LINES};
@@ -17,7 +16,7 @@ ghost use Rattle.abc_tunebook.specs.Report.{Reports};
 use crate::change::Change;
 use crate::stretch::{counts_of, lines_of};
 use abc_book::Block;
-use abc_chains::{KeptPatch, KeptText};
+use abc_chains::{KeptPatch, KeptText, left_by};
 use abc_compiler::Compiler;
 use abc_fold::{Chain, Shared};
 use abc_kept_book::{BookPatch, KeptBook, NewTunes};
@@ -33,16 +32,6 @@ fn first_chain<'a, C: Compiler>(text: &'a KeptText<C>, kept: &'a KeptPatch<C>) -
     ensures { slice_get kept.now.chains 0 ≡ Some result.now }
 {
     kept.chain(text, 0).unwrap().get()
-}
-
-/// The state in which a file header, if there is one, leaves its last cell.
-fn left_by<C: Compiler>(header: Option<Block>, chain: &Chain<C>) -> Option<&C::State>
-    ensures { option_copied result ≡ behind_chain header chain.now }
-{
-    match header {
-        Some(_) => chain.entry(chain.len()),
-        None => None,
-    }
 }
 
 /// The faults of a stretch: those of the file header, if it lies there, and those of the tunes, which give these.
@@ -98,6 +87,7 @@ pub(crate) fn book_after<C: Compiler>(
         Remembers (steps_of (C.next c) (C.gives c) (C.alike c)) (C.rules c) memo.new }
     ensures counted { IsBuiltUpTo (made_of kept.now.taken) (C.Work.counts work.old) (C.Work.counts work.new) }
 {
+    // The text has no more lines than it may have.
     let _ = text.lines().len();
     let alloc = text.lines().allocator();
     let compiler = text.compiler();

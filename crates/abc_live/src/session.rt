@@ -119,6 +119,7 @@ impl<C: Compiler> LiveSession<C> {
         ensures uncounted { IfErr result (λ e. e ≢ EditError.OutOfMemory → work.new ≡ work.old) }
         ensures counted { MayCost (cost_of (steps_of (C.next self.old.compiler) (C.gives self.old.compiler) (C.alike self.old.compiler)) (C.rules self.old.compiler) self.old.text (Some (splice_in change.now))) (C.Work.counts work.old) (C.Work.counts work.new) }
     {
+        // What is kept is that of the text.
         let _ = self.text.lines();
         let kept = self
             .text
@@ -195,7 +196,7 @@ impl<C: Compiler> LiveSession<C> {
         self.book.faults()
     }
 
-    /// The bytes of the line of a number, counted from 1.
+    /// The bytes of the line of a number, counted from 1. None for 0 and behind the last line.
     pub fn line(&self, n: u32) -> Option<&[u8]>
         ensures { option_copied result ≡ line_at self.now.text n }
     {

@@ -17,6 +17,7 @@ fn line_after<'a>(text: &'a LineBuffer, change: &Change<'a>, i: usize) -> Option
     requires inside { i < length (spliced text.now.text (splice_in change.now)) }
     ensures { option_copied result ≡ slice_get (spliced text.now.text (splice_in change.now)) i }
 {
+    // The text has no more lines than it may have.
     let _ = text.len();
     let came = change.lines.len();
     if i < change.at {

@@ -11,6 +11,6 @@ use Rattle.abc_tunebook.specs.Tune.{lines_in}
 abbrev pub defaults_by : {State Cell Items Defaults : Type 0} → Rules State Cell Items Defaults → Option State → Defaults
 defaults_by rules left = rules.defaults (unwrap_or left rules.header)
 
--- What the tune of a place among lines is known by: that, and the bytes of all its lines that are no comments.
+-- What the tune of a place among lines is known by: what the file header sets, and the bytes of all its lines that are no comments.
 abbrev pub key_by : {State Cell Items Defaults : Type 0} → Rules State Cell Items Defaults → Option State → Text → Block → TuneKey Defaults
 key_by rules left lines place = record { defaults = defaults_by rules left; bytes = bytes_of_lines rules.class (lines_in lines place) }

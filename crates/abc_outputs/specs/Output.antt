@@ -33,6 +33,6 @@ placed_from line (count ∷ counts) all = map (placed_at line) (take count all) 
 abbrev pub counts_of : {Cell : Type 0} → (List ℕ → List Cell) → List (List ℕ) → List ℕ
 counts_of read lines = map (λ line. length (read line)) lines
 
--- A tune that takes over what an old one gives has its items.
+-- Where an old tune is named for a chain, what that tune gives is what the chain gives.
 abbrev pub TakesOver : {State Cell Items Defaults : Type 0} → Rules State Cell Items Defaults → List Output → Chained State Cell Items → Option ℕ → Type 0
 TakesOver rules outputs chain taken = IfSome taken (λ old. slice_get outputs old ≡ Some (output_in rules chain))

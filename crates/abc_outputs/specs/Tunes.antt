@@ -10,9 +10,8 @@ use Rattle.abc_outputs.specs.Output.{counts_of, output_in, placed_from}
 use Rattle.abc_rework.specs.Folded.{IsChainOf}
 use Rattle.abc_tunebook.specs.Book.{header_faults}
 use Rattle.abc_tunebook.specs.Rules.{Rules}
-use Rattle.abc_tunebook.specs.Tune.{fault_of_tune, faults_along, lines_in, tune_of}
+use Rattle.abc_tunebook.specs.Tune.{Tune, fault_of_tune, faults_along, lines_in, tune_of}
 use Rattle.abc_tunebook.specs.declared.fault.Fault.{Fault}
-use Rattle.abc_tunebook.specs.declared.tune.Tune.{Tune}
 
 -- A place in a text among the lines that are left where so many are taken away before them.
 abbrev pub lowered : ℕ → Block → Block
@@ -80,12 +79,13 @@ CellsFollow State Cell Items =
     → IsChainOf steps read opening text chain place → LiesAmong before count place → before + count ≤ length text
     → HasCells before (counts_among read text before count) chain place
 
--- What it gives, wherever the lines stand, is what the definition's tune of the place has.
+-- The number, the title and the bytes of an output are those of a tune.
 pub record OutputTells (output : Output) (tune : Tune) : Type 0 where
   pub number : output.number ≡ tune.number
   pub title : output.title ≡ tune.title
   pub bytes : output.built.bytes ≡ tune.bytes
 
+-- What it gives, wherever the lines stand, is what the definition's tune of the place has.
 abbrev pub OutputFollows : Type 0 → Type 0 → Type 0 → Type 0 → Type 0
 OutputFollows State Cell Items Defaults =
     (steps : Steps State Cell Items) (rules : Rules State Cell Items Defaults) (opening : State) (text : Text) (chain : Chained State Cell Items) (place : Block)

@@ -71,6 +71,7 @@ pub(crate) fn put_of_lines<C: Compiler>(
     ensures put { OnOk result (faults.new.items ≡ faults.old.items ++ faults_along (C.rules compiler.now).faults (placed_from first counts.now chain.now.items)) }
     ensures front { StayInFront faults.old.items faults.new.items }
 {
+    // A chain has no more cells than a number can say.
     let _ = chain.len();
     let mut from = 0;
     for (at, count) in counts.iter().enumerate() {

@@ -3,9 +3,10 @@
 #![tactic(auto)]
 
 mod job;
-pub mod laws;
+mod laws;
 mod publisher;
 mod slot;
 
 pub use job::Job;
+pub use laws::{job_once, settled_is_current};
 pub use publisher::Publisher;

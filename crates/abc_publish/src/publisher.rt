@@ -9,15 +9,16 @@ ghost use Rattle.abc_publish.specs.declared.slot.Stored.TheVariants.{Unknown};
 
 use crate::job::Job;
 use crate::slot::{Slot, Stored};
+use abc_compiler::Compiler;
 use abc_live::LiveSession;
 use abc_text::Sequence;
-use abc_tune::Compiler;
 use std::alloc::{AllocError, Global};
 use std::collections::BTreeMap;
 use std::marker::Model;
 
 /// A directory with the file of each reference number, as the jobs that have ended left it, and the jobs that are under
-/// way. Contracts read both by `maps_of`, as maps from numbers; what else they see says nothing.
+/// way. Contracts read both by `maps_of`, as maps from numbers; they see a list of slots, and several lists may say the
+/// same maps.
 #[derive(Drop)]
 pub struct Publisher {
     alloc: Global,
@@ -44,8 +45,8 @@ impl Publisher {
         })
     }
 
-    /// A job for the least pending number that has none under way. After an error nothing is changed. What `done` and
-    /// `failed` need is allocated here.
+    /// A job for the least pending number that has none under way. None where there is no such number. After an error
+    /// nothing is changed. What `done` and `failed` need is allocated here.
     pub fn take<C: Compiler>(&mut self, session: &LiveSession<C>) -> Result<Option<Job>, AllocError>
         ensures job { IfOk result (IsNextJob (maps_of self.old) (book_in C.next C.gives C.rules session.now).files 0) }
         ensures after { IfOk result (HasBegun self.old self.new) }
@@ -54,7 +55,8 @@ impl Publisher {
         self.take_from(session, 0)
     }
 
-    /// The same from a number on, for a caller who goes on from the number of the last job.
+    /// The same of the numbers from `from` on, itself included, for a caller who goes on behind the number of the last
+    /// job.
     pub fn take_from<C: Compiler>(
         &mut self,
         session: &LiveSession<C>,
@@ -73,7 +75,8 @@ impl Publisher {
         }
     }
 
-    /// Ends a job whose file was written, or removed.
+    /// Ends a job whose file was written, or removed. The job is one of this publisher that is still under way. No memory
+    /// is taken.
     pub fn done(&mut self, job: Job)
         requires { (maps_of self.old).jobs job.number ≡ Some job.bytes }
         ensures { maps_of self.new ≡ ended (maps_of self.old) job.number (stored_as job.bytes) }
@@ -87,7 +90,8 @@ impl Publisher {
         }
     }
 
-    /// Ends a job of which nobody knows what it left in the directory.
+    /// Ends a job of which nobody knows what it left in the directory. The job is one of this publisher that is still
+    /// under way. No memory is taken.
     pub fn failed(&mut self, job: Job)
         requires { (maps_of self.old).jobs job.number ≡ Some job.bytes }
         ensures { maps_of self.new ≡ ended (maps_of self.old) job.number (Some Unknown) }

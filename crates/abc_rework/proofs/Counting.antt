@@ -1,14 +1,14 @@
 -- Counted along the rows, the fresh cells are those of the definition.
-use Rattle.std.proofs.Common.{◌≡◌, ℕ, suc, ◌+◌, ◌≤◌, cond, Bool, List, [], ◌∷◌, ◌++◌, drop, length, slice_get, Option, sum_by, count_by, flat_map, refl, sym, ap, ◌∙◌, arith, zero-add}
+use Rattle.std.proofs.Common.{◌≡◌, ℕ, suc, ◌+◌, ◌≤◌, cond, Bool, List, [], ◌∷◌, drop, length, slice_get, Option, sum_by, count_by, flat_map, refl, sym, ap, ◌∙◌, arith, zero-add}
 use Rattle.std.proofs.lemmas.List.Sums.{sum_by-append, sum_by-cons}
 use Rattle.abc_lines.specs.Text.{Text, Splice, spliced}
 use Rattle.abc_tunebook.specs.Tune.{lines_in}
 use Rattle.abc_fold.specs.Steps.{Steps}
 use Rattle.abc_rework.specs.Laid.{Laid, laid_in, Chain, chains_of, LiesInOrder}
 use Rattle.abc_rework.specs.Entered.{Spot, spot_at, state_behind, entered_in_line, entered_along, entered_of}
-use Rattle.abc_rework.specs.Fresh.{is_fresh_after, is_fresh, fresh_in}
+use Rattle.abc_rework.specs.Fresh.{is_fresh_after, is_fresh}
 use Rattle.abc_rework.specs.Pasts.{Past, pasts, flat_option, row_at, past_at, entered_past, first_past, first_row, rest, fresh_in_line, fresh_along, fresh_of}
-use Rattle.abc_rework.specs.Laws.{RowsCount, StretchesCount, EditsCount}
+use Rattle.abc_rework.specs.Laws.{RowsCount, EditsCount}
 use Rattle.abc_rework.proofs.Words.{chains_lie}
 use Rattle.abc_rework.proofs.Lists.{row_drop}
 use Rattle.abc_rework.proofs.Rows.{rows_tell}
@@ -69,14 +69,6 @@ pub rows_count : {State Cell Items : Type 0} → RowsCount State Cell Items
 rows_count steps read old new s h inside =
     count_chains steps read new.text (pasts steps read old s) (chains_of new)
     ∙ counted_alike (by_look_up steps read (past_at (pasts steps read old s))) (is_fresh steps read old s) (flat_map (entered_of steps read new.text) (chains_of new)) (λ spot. ap (is_fresh_after steps.alike spot.entered) (rows_tell steps read old s spot.line spot.nth h inside))
-
-pub stretches_count : {State Cell Items : Type 0} → StretchesCount State Cell Items
-stretches_count steps read old new s before stretch behind h inside e =
-    let count = fresh_of steps read new.text (pasts steps read old s) in
-    let whole : sum_by count (chains_of new) ≡ fresh_in steps read old s new = rows_count steps read old new s h inside in
-    let a : sum_by count (chains_of new) ≡ sum_by count before + sum_by count (stretch ++ behind) = ap (sum_by count) e ∙ sum_by-append count before (stretch ++ behind) in
-    let b : sum_by count (stretch ++ behind) ≡ sum_by count stretch + sum_by count behind = sum_by-append count stretch behind in
-    omega arith
 
 pub edits_count : {State Cell Items Defaults : Type 0} → EditsCount State Cell Items Defaults
 edits_count steps rules text s inside = rows_count steps rules.cells (laid_in steps rules text) (laid_in steps rules (spliced text s)) s (chains_lie steps rules text) inside

@@ -1,23 +1,19 @@
 -- What is held by addresses stands for pasts.
-use Rattle.std.proofs.Common.{◌≡◌, ℕ, zero, suc, ◌+◌, ◌≤◌, IsTrue, List, [], ◌∷◌, map, length, cond, true, false, slice_get, Contains, Option, Some, None, refl, sym, ap, ◌∙◌, subst, ⊎_elim, arith}
-use Rattle.std.specs.List.{AllZip, sum_by}
+use Rattle.std.proofs.Common.{◌≡◌, ℕ, zero, suc, ◌+◌, ◌≤◌, IsTrue, List, [], ◌∷◌, map, length, slice_get, Contains, Option, Some, None, refl, sym, ap, ◌∙◌, subst, ⊎_elim, arith}
+use Rattle.std.specs.List.{AllZip}
 use Rattle.abc_rework.proofs.Rows.{carried_rows}
 use Rattle.abc_rework.proofs.Rising.{In}
 use Rattle.abc_rework.proofs.Pieces.{look, pieces_are}
-use Rattle.abc_rework.proofs.Steps.{found_past, source_is, same_test, steps_are_fresh}
-use Rattle.abc_rework.proofs.Words.{chains_lie}
-use Rattle.abc_rework.proofs.Counting.{edits_count, fresh_of_chain}
-use Rattle.std.proofs.lemmas.Bool.{cases_Bool}
+use Rattle.abc_rework.proofs.Steps.{found_past, source_is}
 use Rattle.abc_lines.specs.Text.{Text, Splice, spliced}
-use Rattle.abc_fold.specs.Steps.{Steps, IsAlike, IsResumable, states_from}
-use Rattle.abc_rework.specs.Laid.{laid_in, Laid, Chain, chains_of, LiesInOrder}
+use Rattle.abc_fold.specs.Steps.{Steps, IsAlike}
+use Rattle.abc_rework.specs.Laid.{Laid, Chain, chains_of, LiesInOrder}
 use Rattle.abc_rework.specs.Entered.{Spot, entered_of}
-use Rattle.abc_rework.specs.Fresh.{carried, is_fresh_after}
-use Rattle.abc_rework.specs.Pasts.{fresh_of, Past, rows_of, pasts, past_at, first_past, rest}
-use Rattle.abc_rework.specs.Pieces.{pieces_of}
+use Rattle.abc_rework.specs.Fresh.{carried}
+use Rattle.abc_rework.specs.Pasts.{Past, rows_of, pasts, past_at}
 use Rattle.abc_rework.specs.Origins.{address_of}
-use Rattle.abc_rework.specs.Kept.{steps_over, held_over, cells_of, states_of, Held, entry_of, behind, made_over, StandsFor, StandFor, both_held, held_at, AreKept}
-use Rattle.abc_rework.specs.EditLaws.{KeptEdits, HeldsStand, KeptSteps, KeptAgain}
+use Rattle.abc_rework.specs.Kept.{cells_of, states_of, Held, StandsFor, StandFor, both_held, held_at, AreKept}
+use Rattle.abc_rework.specs.EditLaws.{HeldsStand}
 use Rattle.abc_rework.proofs.Same.{cell_at, cells_of_chain}
 use Rattle.abc_rework.proofs.Origins.{pasts_held, some_through}
 
@@ -74,38 +70,3 @@ helds_stand {State = State} steps read old s chain kept h inside k =
     let flat = stand_along steps read text (past_at (pasts steps read old s)) hold (entered_of steps read text chain) (cells_of read text chain) (cells_of_chain steps read text chain)
     (λ spot cell c. stands_spot steps read old s kept spot cell (look (past_at (pasts steps read old s)) spot) h inside k c refl) in
     subst (λ pieces. StandFor steps (cells_of read text chain) (map hold pieces) pieces) (sym (pieces_are steps read text (pasts steps read old s) chain)) flat
-
--- the state that a program goes on in is the same as the one from scratch
-goes_on : {State Cell Items : Type 0} (steps : Steps State Cell Items) (a b : State) (cell : Cell) (held : Option (Held State)) (past : Option (Past State)) → IsResumable steps → IsTrue (steps.alike a b) → StandsFor steps cell held past → IsTrue (steps.alike (cond (is_fresh_after steps.alike a (entry_of held)) (steps.next a cell) (behind a held)) (steps.next b cell))
-goes_on steps a b cell None past one h m = one.alike_states a b cell h
-goes_on steps a b cell (Some held) None one h m = absurd m
-goes_on steps a b cell (Some held) (Some past) one h m = ⊎_elim
-    (λ (e : steps.alike held.entry a ≡ true).
-    let first : IsTrue (steps.alike past.entered b) = sym (same_test steps held.entry past.entered a b one m.0 h) ∙ e in
-    simp e (one.transitive held.after (steps.next past.entered cell) (steps.next b cell) m.1 (one.alike_states past.entered b cell first)))
-    (λ (e : steps.alike held.entry a ≡ false). simp e (one.alike_states a b cell h))
-    (cases_Bool (steps.alike held.entry a))
-
-made_alike : {State Cell Items : Type 0} (steps : Steps State Cell Items) (a b : State) (cells : List Cell) (helds : List (Option (Held State))) (pieces : List (Option (Past State))) → IsResumable steps → IsTrue (steps.alike a b) → StandFor steps cells helds pieces → AllZip (λ a b. IsTrue (steps.alike a b)) (made_over steps a cells helds) (states_from steps b cells)
-made_alike steps a b [] helds pieces one h k = (h, tt)
-made_alike steps a b (cell ∷ cells) helds pieces one h k =
-    (h, made_alike steps (cond (is_fresh_after steps.alike a (entry_of (first_past helds))) (steps.next a cell) (behind a (first_past helds))) (steps.next b cell) cells (rest helds) (rest pieces) one (goes_on steps a b cell (first_past helds) (first_past pieces) one h k.0) k.1)
-
-pub kept_again : {State Cell Items : Type 0} → KeptAgain State Cell Items
-kept_again steps read old s chain kept state h inside one k e =
-    made_alike steps state chain.opening (cells_of read (spliced old.text s) chain) _ (pieces_of read (spliced old.text s) (pasts steps read old s) chain) one e (helds_stand steps read old s chain kept h inside k)
-
-pub kept_steps : {State Cell Items : Type 0} → KeptSteps State Cell Items
-kept_steps steps read old s chain kept state h inside one k e =
-    steps_are_fresh steps read (spliced old.text s) (pasts steps read old s) chain state _ one e (helds_stand steps read old s chain kept h inside k)
-    ∙ fresh_of_chain steps read old s (spliced old.text s) chain h inside
-
-pub kept_edits : {State Cell Items Defaults : Type 0} → KeptEdits State Cell Items Defaults
-kept_edits {State = State} steps rules text s kept begins inside one k alike =
-    let old = laid_in steps rules text in
-    let new = spliced text s in
-    let walked : Chain State → ℕ = λ chain. steps_over steps (begins chain) (cells_of rules.cells new chain) (held_over kept (pieces_of rules.cells new (pasts steps rules.cells old s) chain)) in
-    let each : (chain : Chain State) → walked chain ≡ fresh_of steps rules.cells new (pasts steps rules.cells old s) chain =
-    λ chain. steps_are_fresh steps rules.cells new (pasts steps rules.cells old s) chain (begins chain) _ one (alike chain) (helds_stand steps rules.cells old s chain kept (chains_lie steps rules text) inside k) in
-    ap (λ (count : Chain State → ℕ). sum_by count (chains_of (laid_in steps rules new))) (λ i chain. each chain i)
-    ∙ edits_count steps rules text s inside

@@ -9,6 +9,5 @@ pub mod Steps
 pub mod Words
 pub mod Origins
 pub mod ByLines
-pub mod OneTune
 pub mod Kept
 pub mod WorkedEdits

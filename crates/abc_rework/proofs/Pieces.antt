@@ -1,23 +1,22 @@
 -- A tune is untouched by its pieces where it is by its lines.
-use Rattle.std.proofs.Common.{◌≡◌, ℕ, suc, ◌+◌, ◌≤◌, ◌==◌, ◌&&◌, ◌||◌, not, inl, inr, true, false, Bool, List, [], ◌∷◌, ◌++◌, map, drop, length, slice_get, Option, Some, None, option_map, option_and_then, find, flat_map, refl, sym, ap, ◌∙◌, subst, ⊎_elim, arith, add-zero, zero-add}
+use Rattle.std.proofs.Common.{◌≡◌, ℕ, suc, ◌+◌, ◌≤◌, ◌==◌, ◌&&◌, ◌||◌, inl, inr, true, false, Bool, List, [], ◌∷◌, ◌++◌, map, drop, length, slice_get, Option, Some, None, option_map, option_and_then, find, flat_map, refl, sym, ap, ◌∙◌, subst, ⊎_elim, arith, add-zero, zero-add}
 use Rattle.std.specs.List.{list_any}
 use Rattle.std.proofs.lemmas.Bool.{cases_Bool, eq-eqb, eqb-true, and_from, and_parts, false_from_ne_true}
 use Rattle.std.proofs.lemmas.List.{map-append, length-map}
-use Rattle.abc_lines.specs.Text.{Text, Splice, spliced}
+use Rattle.abc_lines.specs.Text.{Text, Splice}
 use Rattle.abc_tunebook.specs.Tune.{lines_in}
 use Rattle.abc_book.specs.declared.block.Block.{Block}
 use Rattle.abc_fold.specs.Steps.{Steps}
-use Rattle.abc_rework.specs.Laid.{Laid, laid_in, Chain, header_chain, tune_chains, chains_of, LiesInOrder}
+use Rattle.abc_rework.specs.Laid.{Laid, Chain, header_chain, tune_chains, chains_of, LiesInOrder}
 use Rattle.abc_rework.specs.Entered.{Spot, state_behind, entered_in_line, entered_along, entered_of}
-use Rattle.abc_rework.specs.Fresh.{carried, is_line, is_carried_from, are_carried_from, is_untouched}
+use Rattle.abc_rework.specs.Fresh.{carried, is_line, is_carried_from, are_carried_from}
 use Rattle.abc_rework.specs.Pasts.{Past, rows_of, pasts, flat_option, past_at, first_past, first_row, rest}
-use Rattle.abc_rework.specs.Pieces.{pasts_beside, pasts_over, pieces_of, is_place, are_places, is_untouched_by, rowed}
-use Rattle.abc_rework.specs.Laws.{PiecesTell, PiecesCount, EditsTouch}
-use Rattle.abc_rework.proofs.Words.{chains_lie}
+use Rattle.abc_rework.specs.Pieces.{pasts_beside, pasts_over, pieces_of, is_place, are_places}
+use Rattle.abc_rework.specs.Laws.{PiecesTell}
 use Rattle.abc_rework.proofs.Lists.{row_drop}
 use Rattle.abc_rework.proofs.Full.{Full, as_past, as_spot, is_at, full_line, full_along, full_of, along_spots}
 use Rattle.abc_rework.proofs.Rows.{rows_hold, carried_rows}
-use Rattle.abc_rework.proofs.Counting.{first_get, rest_get, rest_row, first_row_at, fresh_of_chain, counted_alike}
+use Rattle.abc_rework.proofs.Counting.{first_get, rest_get, rest_row, first_row_at, fresh_of_chain}
 use Rattle.abc_rework.proofs.Rising.{In, Rising, SourcesRise, in_left, in_right, chains_rise, found_in, found_at_line, found_at_place, is_of}
 
 -- the pieces are the look-ups of the spots
@@ -172,14 +171,3 @@ pieces_tell steps read old s text chain h inside =
     tunes
     (λ was m. tune_pieces steps read old s text chain was h inside (in_right was (header_chain old.first old.header) tunes m)) in
     λ i. (count i == 0) && any i
-
-pub pieces_count : {State Cell Items : Type 0} → PiecesCount State Cell Items
-pieces_count steps read old new s h inside =
-    counted_alike
-    (λ tune. not (is_untouched_by steps read old (rowed new.text (pasts steps read old s)) tune))
-    (λ tune. not (is_untouched steps read old s (entered_of steps read new.text tune)))
-    (tune_chains 1 new.opening new.tunes)
-    (λ tune. ap not (pieces_tell steps read old s new.text tune h inside))
-
-pub edits_touch : {State Cell Items Defaults : Type 0} → EditsTouch State Cell Items Defaults
-edits_touch steps rules text s inside = pieces_count steps rules.cells (laid_in steps rules text) (laid_in steps rules (spliced text s)) s (chains_lie steps rules text) inside

@@ -1,14 +1,13 @@
 -- What an edit may take over, and the steps where the states of the old chains are kept. Our own.
-use Rattle.std.specs.Prelude.{◌≡◌, ℕ, ◌+◌, ◌≤◌, true, List, length, count_by, Option}
-use Rattle.std.specs.List.{AllZip, Any, sum_by}
+use Rattle.std.specs.Prelude.{◌≡◌, ℕ, ◌+◌, ◌≤◌, true, List, length, Option}
+use Rattle.std.specs.List.{Any}
 use Rattle.abc_lines.specs.Text.{Splice, Text, spliced}
 use Rattle.abc_tunebook.specs.Placed.{cells_from, things}
-use Rattle.abc_tunebook.specs.Rules.{Rules}
 use Rattle.abc_tunebook.specs.Tune.{lines_in}
 use Rattle.abc_rework.specs.Entered.{entered_of}
-use Rattle.abc_rework.specs.Fresh.{are_carried_from, fresh_after, is_fresh, is_untouched}
-use Rattle.abc_rework.specs.Kept.{AreKept, Held, StandFor, cells_of, held_over, items_of, made_over, states_of, steps_over}
-use Rattle.abc_rework.specs.Laid.{Chain, Laid, LiesInOrder, chains_of, laid_in, tune_chains}
+use Rattle.abc_rework.specs.Fresh.{are_carried_from, is_untouched}
+use Rattle.abc_rework.specs.Kept.{AreKept, Held, StandFor, cells_of, held_over, items_of, steps_over}
+use Rattle.abc_rework.specs.Laid.{Chain, Laid, LiesInOrder, tune_chains}
 use Rattle.abc_rework.specs.Pasts.{Past, fresh_of, pasts}
 use Rattle.abc_rework.specs.Pieces.{pieces_of}
 use Rattle.abc_fold.specs.Steps.{IsAlike, IsResumable, Steps}
@@ -49,29 +48,3 @@ HeldsStand State Cell Items =
     (steps : Steps State Cell Items) (read : List ℕ → List Cell) (old : Laid State) (s : Splice) (chain : Chain State) (kept : ℕ → List State)
     → LiesInOrder old → s.at + s.removed ≤ length old.text → AreKept steps read old kept
     → StandFor steps (cells_of read (spliced old.text s) chain) (held_over kept (pieces_of read (spliced old.text s) (pasts steps read old s) chain)) (pieces_of read (spliced old.text s) (pasts steps read old s) chain)
-
--- With the states of the old chains kept, the steps along a new chain are exactly its fresh cells.
-abbrev pub KeptSteps : Type 0 → Type 0 → Type 0 → Type 0
-KeptSteps State Cell Items =
-    (steps : Steps State Cell Items) (read : List ℕ → List Cell) (old : Laid State) (s : Splice) (chain : Chain State) (kept : ℕ → List State) (state : State)
-    → LiesInOrder old → s.at + s.removed ≤ length old.text → IsResumable steps → AreKept steps read old kept → IsAlike steps state chain.opening
-    → steps_over steps state (cells_of read (spliced old.text s) chain) (held_over kept (pieces_of read (spliced old.text s) (pasts steps read old s) chain))
-    ≡ count_by (is_fresh steps read old s) (entered_of steps read (spliced old.text s) chain)
-
--- The states made along it are alike to those from scratch, one by one: they may be kept for the next edit.
-abbrev pub KeptAgain : Type 0 → Type 0 → Type 0 → Type 0
-KeptAgain State Cell Items =
-    (steps : Steps State Cell Items) (read : List ℕ → List Cell) (old : Laid State) (s : Splice) (chain : Chain State) (kept : ℕ → List State) (state : State)
-    → LiesInOrder old → s.at + s.removed ≤ length old.text → IsResumable steps → AreKept steps read old kept → IsAlike steps state chain.opening
-    → AllZip (IsAlike steps)
-    (made_over steps state (cells_of read (spliced old.text s) chain) (held_over kept (pieces_of read (spliced old.text s) (pasts steps read old s) chain)))
-    (states_of steps read (spliced old.text s) chain)
-
--- For every text and every splice of it: begun in states alike to their openings, the steps along all its chains are
--- exactly its fresh cells.
-abbrev pub KeptEdits : Type 0 → Type 0 → Type 0 → Type 0 → Type 0
-KeptEdits State Cell Items Defaults =
-    (steps : Steps State Cell Items) (rules : Rules State Cell Items Defaults) (text : Text) (s : Splice) (kept : ℕ → List State) (begins : Chain State → State)
-    → s.at + s.removed ≤ length text → IsResumable steps → AreKept steps rules.cells (laid_in steps rules text) kept → ((chain : Chain State) → IsAlike steps (begins chain) chain.opening)
-    → sum_by (λ chain. steps_over steps (begins chain) (cells_of rules.cells (spliced text s) chain) (held_over kept (pieces_of rules.cells (spliced text s) (pasts steps rules.cells (laid_in steps rules text) s) chain))) (chains_of (laid_in steps rules (spliced text s)))
-    ≡ fresh_after steps rules text s

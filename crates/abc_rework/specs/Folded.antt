@@ -16,7 +16,7 @@ pub record IsChainOf {State Cell Items : Type 0} (steps : Steps State Cell Items
   pub folds : Folds steps opening chain
   pub cells : chain.cells ≡ flat_map read (lines_in text block)
 
--- An old chain of this number has the items of a chain.
+-- Where an old chain is named by its number, it has the items of a chain.
 abbrev pub HasItemsOf : {State Cell Items : Type 0} → List (Chained State Cell Items) → Chained State Cell Items → Option ℕ → Type 0
 HasItemsOf {State = State} {Cell = Cell} {Items = Items} olds chain taken = IfSome taken (λ old. (was : Chained State Cell Items) × (slice_get olds old ≡ Some was) × (was.items ≡ chain.items))
 

@@ -46,12 +46,6 @@ steps_over steps state (cell ∷ cells) helds =
     (1 + steps_over steps (steps.next state cell) cells (rest helds))
     (steps_over steps (behind state (first_past helds)) cells (rest helds))
 
--- The states that it comes through, and the one behind the last cell.
-abbrev pub made_over : {State Cell Items : Type 0} → Steps State Cell Items → State → List Cell → List (Option (Held State)) → List State
-made_over steps state [] helds = state ∷ []
-made_over steps state (cell ∷ cells) helds =
-    state ∷ made_over steps (cond (is_fresh_after steps.alike state (entry_of (first_past helds))) (steps.next state cell) (behind state (first_past helds))) cells (rest helds)
-
 -- What is held of a cell stands for its past, up to states that are alike.
 abbrev pub StandsFor : {State Cell Items : Type 0} → Steps State Cell Items → Cell → Option (Held State) → Option (Past State) → Type 0
 StandsFor steps cell None None = Unit {0}

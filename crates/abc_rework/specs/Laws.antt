@@ -1,17 +1,17 @@
 -- What ties the rows along which code walks to the meaning of fresh cells and touched tunes. Our own.
-use Rattle.std.specs.Prelude.{◌≡◌, ℕ, ◌+◌, ◌≤◌, ◌==◌, not, false, List, ◌∷◌, ◌++◌, map, filter, length, slice_get, count_by, Contains, Option, Some, IfSome}
+use Rattle.std.specs.Prelude.{◌≡◌, ℕ, ◌+◌, ◌≤◌, ◌==◌, List, map, filter, length, slice_get, Contains, Some}
 use Rattle.std.specs.List.{sum_by}
 use Rattle.std.specs.Option.{option_map}
 use Rattle.abc_lines.specs.Text.{Splice, Text, spliced}
 use Rattle.abc_tunebook.specs.Placed.{cells_from, items_along, placed_at}
 use Rattle.abc_tunebook.specs.Rules.{Rules}
 use Rattle.abc_rework.specs.Entered.{entered_along, entered_at, entered_in, entered_of}
-use Rattle.abc_rework.specs.Fresh.{are_carried_from, cell_at, entered_before, fresh_after, fresh_in, is_untouched, touched_after, touched_in}
+use Rattle.abc_rework.specs.Fresh.{are_carried_from, cell_at, entered_before, fresh_after, fresh_in, is_untouched}
 use Rattle.abc_rework.specs.Kept.{states_of}
-use Rattle.abc_rework.specs.Laid.{Chain, Laid, LiesInOrder, chain_at, chains_of, laid_in, tune_chains}
+use Rattle.abc_rework.specs.Laid.{Chain, Laid, LiesInOrder, chains_of, laid_in}
 use Rattle.abc_rework.specs.Origins.{address_of, addresses_beside, origins}
 use Rattle.abc_rework.specs.Pasts.{Past, entered_past, fresh_of, past_at, pasts, row_at, rows_of}
-use Rattle.abc_rework.specs.Pieces.{are_of_one, are_of_tune, have_lines_of, is_untouched_by, rowed}
+use Rattle.abc_rework.specs.Pieces.{have_lines_of, is_untouched_by, rowed}
 use Rattle.abc_fold.specs.Steps.{Steps}
 
 -- The file header and the tunes of every text follow one another within it.
@@ -46,13 +46,6 @@ RowsCount State Cell Items =
     → LiesInOrder old → s.at + s.removed ≤ length old.text
     → sum_by (fresh_of steps read new.text (pasts steps read old s)) (chains_of new) ≡ fresh_in steps read old s new
 
--- Those of some chains that follow one another are at most as many.
-abbrev pub StretchesCount : Type 0 → Type 0 → Type 0 → Type 0
-StretchesCount State Cell Items =
-    (steps : Steps State Cell Items) (read : List ℕ → List Cell) (old new : Laid State) (s : Splice) (before stretch behind : List (Chain State))
-    → LiesInOrder old → s.at + s.removed ≤ length old.text → chains_of new ≡ before ++ (stretch ++ behind)
-    → sum_by (fresh_of steps read new.text (pasts steps read old s)) stretch ≤ fresh_in steps read old s new
-
 -- For every text and every splice of it, the fresh cells counted along the rows are those of the definition.
 abbrev pub EditsCount : Type 0 → Type 0 → Type 0 → Type 0 → Type 0
 EditsCount State Cell Items Defaults =
@@ -66,34 +59,6 @@ PiecesTell State Cell Items =
     (steps : Steps State Cell Items) (read : List ℕ → List Cell) (old : Laid State) (s : Splice) (text : Text) (chain : Chain State)
     → LiesInOrder old → s.at + s.removed ≤ length old.text
     → is_untouched_by steps read old (rowed text (pasts steps read old s)) chain ≡ is_untouched steps read old s (entered_of steps read text chain)
-
--- Counted by pieces, the touched tunes are those of the definition.
-abbrev pub PiecesCount : Type 0 → Type 0 → Type 0 → Type 0
-PiecesCount State Cell Items =
-    (steps : Steps State Cell Items) (read : List ℕ → List Cell) (old new : Laid State) (s : Splice)
-    → LiesInOrder old → s.at + s.removed ≤ length old.text
-    → count_by (λ tune. not (is_untouched_by steps read old (rowed new.text (pasts steps read old s)) tune)) (tune_chains 1 new.opening new.tunes) ≡ touched_in steps read old s new
-
--- For every text and every splice of it, the touched tunes counted by pieces are those of the definition.
-abbrev pub EditsTouch : Type 0 → Type 0 → Type 0 → Type 0 → Type 0
-EditsTouch State Cell Items Defaults =
-    (steps : Steps State Cell Items) (rules : Rules State Cell Items Defaults) (text : Text) (s : Splice) → s.at + s.removed ≤ length text
-    → count_by (λ tune. not (is_untouched_by steps rules.cells (laid_in steps rules text) (rowed (spliced text s) (pasts steps rules.cells (laid_in steps rules text) s)) tune)) (tune_chains 1 (laid_in steps rules (spliced text s)).opening (laid_in steps rules (spliced text s)).tunes)
-    ≡ touched_after steps rules text s
-
--- Pieces whose first is a cell of the tune of this number can be those of that tune alone.
-abbrev pub OneTune : Type 0 → Type 0 → Type 0 → Type 0
-OneTune State Cell Items =
-    (steps : Steps State Cell Items) (read : List ℕ → List Cell) (old : Laid State) (number : ℕ) (past : Past State) (pieces : List (Option (Past State)))
-    → past.source ≡ number + 1
-    → are_of_one steps read old (Some past ∷ pieces) ≡ are_of_tune steps read old.text (Some past ∷ pieces) (option_map (chain_at past.source old.opening) (slice_get old.tunes number))
-
--- Those whose first is new, or a cell of the file header, are of none.
-abbrev pub NoTune : Type 0 → Type 0 → Type 0 → Type 0
-NoTune State Cell Items =
-    (steps : Steps State Cell Items) (read : List ℕ → List Cell) (old : Laid State) (past : Option (Past State)) (pieces : List (Option (Past State)))
-    → IfSome past (λ was. was.source ≡ 0)
-    → are_of_one steps read old (past ∷ pieces) ≡ false
 
 -- That the cells of a chain are those of an old one is said by their lines alone.
 abbrev pub LinesSuffice : Type 0 → Type 0 → Type 0 → Type 0

@@ -52,11 +52,6 @@ abbrev pub is_untouched_by : {State Cell Items : Type 0} → Steps State Cell It
 is_untouched_by steps read old new chain =
     (fresh_of steps read new.text new.rows chain == 0) && are_of_one steps read old (pieces_of read new.text new.rows chain)
 
--- Whether pieces are all the cells of a tune of the old text, if there is one.
-abbrev pub are_of_tune : {State Cell Items : Type 0} → Steps State Cell Items → (List ℕ → List Cell) → Text → List (Option (Past State)) → Option (Chain State) → Bool
-are_of_tune steps read old pieces None = false
-are_of_tune steps read old pieces (Some tune) = are_places tune.source 0 (length (entered_of steps read old tune)) pieces
-
 -- Whether the lines of these cells of the new text are carried, in order, from those of these of the old.
 abbrev pub have_lines_of : {State : Type 0} → Splice → List (Spot State) → List (Spot State) → Bool
 have_lines_of s [] [] = true

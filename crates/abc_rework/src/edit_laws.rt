@@ -1,10 +1,11 @@
 //! What an edit may take over, and how many steps it takes where the states of the old chains are kept.
 //! Each function has no body: its contract is the law.
 
-ghost use Rattle.abc_rework.specs.EditLaws.{CellsAreThings, CarriedCells, UntouchedItems, StepsAreFresh, HeldsStand, KeptSteps, KeptAgain, KeptEdits};
+ghost use Rattle.abc_rework.specs.EditLaws.{CellsAreThings, CarriedCells, UntouchedItems, StepsAreFresh, HeldsStand};
 ghost use Rattle.abc_rework.specs.WorkedEdits.{WorkedEdits};
 
-/// A tune whose cells are carried, in order, from all those of an old one has the same cells.
+/// The cells of a chain are those that its lines have in the book. A chain whose cells are carried, in order, from all
+/// those of an old one has the same cells.
 pub fn carried_cells<State, Cell, Items>()
     ensures things { CellsAreThings State Cell }
     ensures carried { CarriedCells State Cell Items }
@@ -20,13 +21,10 @@ pub fn steps_are_fresh<State, Cell, Items>()
     ensures { StepsAreFresh State Cell Items }
 {}
 
-/// With the states of the old chains kept, alike to those from scratch, the steps along a new chain are
-/// exactly its fresh cells, and the states made may be kept again.
-pub fn kept_states_serve<State, Cell, Items, Defaults>()
-    ensures stand { HeldsStand State Cell Items }
-    ensures steps { KeptSteps State Cell Items }
-    ensures again { KeptAgain State Cell Items }
-    ensures edits { KeptEdits State Cell Items Defaults }
+/// With the states of the old chains kept, alike to those from scratch, what is held of a new chain's cells
+/// stands for their pasts.
+pub fn helds_stand<State, Cell, Items>()
+    ensures { HeldsStand State Cell Items }
 {}
 
 /// The counts of edits of small texts, worked by hand.

@@ -1,7 +1,7 @@
 //! What ties the rows along which code walks to the meaning of fresh cells and touched tunes. Each
 //! function has no body: its contract is the law.
 
-ghost use Rattle.abc_rework.specs.Laws.{ChainsLie, EnteredAreItems, NthOfLine, RowsTell, RowsCount, StretchesCount, EditsCount, PiecesTell, PiecesCount, EditsTouch, OneTune, NoTune, LinesSuffice, OriginsStand, PastsName, PastsHeld};
+ghost use Rattle.abc_rework.specs.Laws.{ChainsLie, EnteredAreItems, NthOfLine, RowsTell, RowsCount, EditsCount, PiecesTell, LinesSuffice, OriginsStand, PastsName, PastsHeld};
 
 /// The file header and the tunes of a text follow one another within it.
 pub fn chains_lie<State, Cell, Items, Defaults>()
@@ -23,22 +23,12 @@ pub fn rows_tell<State, Cell, Items>()
 /// Counted along the rows, the fresh cells are those of the definition.
 pub fn rows_count<State, Cell, Items, Defaults>()
     ensures count { RowsCount State Cell Items }
-    ensures stretch { StretchesCount State Cell Items }
     ensures edits { EditsCount State Cell Items Defaults }
 {}
 
-/// A tune is untouched by its pieces where it is by its lines, and so counted the touched tunes are
-/// those of the definition.
-pub fn pieces_tell<State, Cell, Items, Defaults>()
-    ensures tell { PiecesTell State Cell Items }
-    ensures count { PiecesCount State Cell Items }
-    ensures edits { EditsTouch State Cell Items Defaults }
-{}
-
-/// The first piece names the only old tune that all of them can be of.
-pub fn one_tune<State, Cell, Items>()
-    ensures one { OneTune State Cell Items }
-    ensures none { NoTune State Cell Items }
+/// A tune is untouched by its pieces where it is by its lines.
+pub fn pieces_tell<State, Cell, Items>()
+    ensures { PiecesTell State Cell Items }
 {}
 
 /// That the cells of a tune are all those of an old one is said by their lines alone.

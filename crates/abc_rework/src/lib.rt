@@ -5,10 +5,8 @@
 mod edit_laws;
 mod laws;
 
-pub use edit_laws::{
-    carried_cells, kept_states_serve, steps_are_fresh, untouched_items, worked_edits,
-};
+pub use edit_laws::{carried_cells, helds_stand, steps_are_fresh, untouched_items, worked_edits};
 pub use laws::{
-    chains_lie, entered_states, lines_suffice, one_tune, origins_stand, pasts_name, pieces_tell,
-    rows_count, rows_tell,
+    chains_lie, entered_states, lines_suffice, origins_stand, pasts_name, pieces_tell, rows_count,
+    rows_tell,
 };

@@ -5,7 +5,7 @@ use Rattle.std.specs.Ordering.{nat_cmp}
 use Rattle.std.proofs.lemmas.Bool.Decides.{nat_tests}
 use Rattle.abc_tunebook.specs.Files.{Files, file_at, owned, files_from, first_file}
 use Rattle.abc_tunebook.specs.Laws.{FirstOwner}
-use Rattle.abc_tunebook.specs.declared.tune.Tune.{Tune}
+use Rattle.abc_tunebook.specs.Tune.{Tune}
 
 -- the first of two files, if there is one
 abbrev pub either : Option (List ℕ) → Option (List ℕ) → Option (List ℕ)

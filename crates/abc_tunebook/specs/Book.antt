@@ -8,13 +8,12 @@ use Rattle.abc_book.specs.declared.block.BlockKind.TheVariants as kinds
 use Rattle.abc_lines.specs.Text.{Text}
 use Rattle.abc_tunebook.specs.declared.fault.Fault.{Fault}
 use Rattle.abc_tunebook.specs.declared.title.Title.{Title}
-use Rattle.abc_tunebook.specs.declared.tune.Tune.{Tune}
 use Rattle.abc_tunebook.specs.Fault.{fault_cmp}
 use Rattle.abc_tunebook.specs.Files.{Files, files_from}
 use Rattle.abc_tunebook.specs.Placed.{items_along, state_along}
 use Rattle.abc_tunebook.specs.Rules.{Rules}
 use Rattle.abc_tunebook.specs.Sorted.{sorted_once}
-use Rattle.abc_tunebook.specs.Tune.{cells_in, faults_along, tune_of}
+use Rattle.abc_tunebook.specs.Tune.{Tune, cells_in, faults_along, tune_of}
 
 -- Whether a block is a file header.
 abbrev pub is_file_header : BlockKind → Bool

@@ -9,9 +9,8 @@ use Rattle.abc_tunebook.specs.Files.{file_at, files_from, first_file}
 use Rattle.abc_tunebook.specs.Placed.{Placed, placed_at, cells_from, items_along}
 use Rattle.abc_tunebook.specs.Rules.{Rules}
 use Rattle.abc_tunebook.specs.Sorted.{sorted_once}
-use Rattle.abc_tunebook.specs.Tune.{faults_along, tune_from}
+use Rattle.abc_tunebook.specs.Tune.{Tune, faults_along, tune_from}
 use Rattle.abc_tunebook.specs.declared.fault.Fault.{Fault}
-use Rattle.abc_tunebook.specs.declared.tune.Tune.{Tune}
 
 -- The file of a number is that of the first tune of the number that has one.
 abbrev pub FirstOwner : Type 0

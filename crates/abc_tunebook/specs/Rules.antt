@@ -20,7 +20,7 @@ pub record Rules (State Cell Items Defaults : Type 0) : Type 0 where
   pub title : Items → Option (List ℕ)
   -- the faults of a cell: their columns, counted from 1, and their codes
   pub faults : Items → List (ℕ × FaultCode)
-  -- the bytes of a tune's file, of what all its cells give; a tune that is too long has none
+  -- the bytes of a tune's file, of what all its cells give; a tune may have none
   pub bytes : List Items → Option (List ℕ)
   -- the faults of a tune as a whole
   pub build_faults : List Items → List FaultCode

@@ -5,9 +5,19 @@ use Rattle.abc_book.specs.declared.block.Block.{Block}
 use Rattle.abc_fields.specs.declared.fault.FaultCode.{FaultCode}
 use Rattle.abc_lines.specs.Text.{Text}
 use Rattle.abc_tunebook.specs.declared.fault.Fault.{Fault}
-use Rattle.abc_tunebook.specs.declared.tune.Tune.{Tune}
 use Rattle.abc_tunebook.specs.Placed.{Placed, things, cells_from, items_along}
 use Rattle.abc_tunebook.specs.Rules.{Rules}
+
+-- A tune, by what it gives to the book.
+pub record Tune : Type 0 where
+  -- the reference number, 0 where the tune has none
+  pub number : ℕ
+  -- the title's bytes, empty where the tune has none
+  pub title : List ℕ
+  -- the bytes of its file, if it has one
+  pub bytes : Option (List ℕ)
+  -- its faults, in the lines of the text, in no order
+  pub faults : List Fault
 
 -- The value of the first that has one, or another where none has.
 abbrev pub first_of : {A V : Type 0} → (A → Option V) → V → List A → V

@@ -7,11 +7,9 @@ mod laws;
 mod report;
 mod sorted;
 mod title;
-mod tune;
 
 pub use fault::Fault;
 pub use laws::{each_fault_once, faults_stand_in_tunes, first_owner, no_lines_no_book, tunes_move};
 pub use report::Report;
 pub use sorted::sorted_once;
 pub use title::Title;
-pub use tune::Tune;

@@ -13,8 +13,8 @@ item_at-chain-requires g c = source_there c.args.chains.now.items c.args.row.now
 pub overflow_add-origin-inside : goal.overflow_add-origin-inside
 overflow_add-origin-inside g c =
     let within = place_within c.args.chains.now.items c.args.row.now.cells c.args.row.now.origin c.in-Some.origin c.origin.inside.source c.origin.inside.first c.args.k c.item_at-chain.result.now (ap (λ (l : CarriedRow g.row.F-Cell.Denot). l.origin) (sym c.row.view_is) ∙ c.in-Some.is) (sym c.origin.view_is) c.requires.carried c.requires.inside c.item_at-chain.ensures in
-    let count = c.count_of-count.ensures in
-    let fits = c.count_of-count.type_inv in
+    let count = c.count_of.ensures in
+    let fits = c.count_of.type_inv in
     omega arith
 
 pub kept_at-requires : goal.kept_at-requires

@@ -1,4 +1,4 @@
-use Rattle.abc_rework.proofs.Counting.{rows_count, stretches_count, edits_count}
+use Rattle.abc_rework.proofs.Counting.{rows_count, edits_count}
 use Rattle.abc_rework.proofs.laws.rows_count.Goals as goal
 
 pub returns-clause-count : goal.returns-clause-count
@@ -6,6 +6,3 @@ returns-clause-count g c = rows_count
 
 pub returns-clause-edits : goal.returns-clause-edits
 returns-clause-edits g c = edits_count
-
-pub returns-clause-stretch : goal.returns-clause-stretch
-returns-clause-stretch g c = stretches_count

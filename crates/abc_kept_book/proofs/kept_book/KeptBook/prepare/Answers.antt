@@ -12,7 +12,7 @@ differences-requires-clause-change c =
     let after = c.in_ok-outputs.outputs.after in
     let same : before ≡ c.args.self.now.outputs = ap (λ (b : Kept). b.outputs) c.self.view_is in
     let inside : tunes.behind ≤ length before.items = subst (λ (g : Gapped Output). tunes.behind ≤ length g.items) (sym same) c.requires.inside in
-    let many : length tunes.outputs.items ≡ c.len-came.result = omega (arith, c.len-came.ensures, tunes.outputs.ok.0) in
+    let many : length tunes.outputs.items ≡ c.len-count.result = omega (arith, c.len-count.ensures, tunes.outputs.ok.0) in
     let is = c.in_ok-outputs.ensures.after in
     record {
       on = c.in_ok-outputs.ensures.on;

@@ -2,7 +2,7 @@ use Rattle.std.proofs.Common.{◌++◌, ◌∙◌, ap, sym, subst, drop, map, ta
 use Rattle.abc_chains.specs.Putting.{FitAmong, MayBePut, tunes_put}
 use Rattle.abc_chains.specs.Standing.{moved_on}
 use Rattle.abc_chains.proofs.Putting.{put_and_moved}
-use Rattle.abc_chains.proofs.tunes.NewTunes.put_in_place.Goals as goal
+use Rattle.abc_chains.proofs.tunes.NewPlaces.put_in_place.Goals as goal
 
 pub returns-in-Among : goal.returns-in-Among
 returns-in-Among c =

@@ -1,7 +1,7 @@
 use Rattle.std.proofs.Common.{◌≡◌, ◌+◌, ◌-◌, eqb-true, arith}
 use Rattle.abc_kept_book.proofs.Lists.{same_behind}
 use Rattle.abc_kept_book.specs.Change.{new_in, old_in}
-use Rattle.abc_kept_book.proofs.change.Change.keeps_tune.Goals as goal
+use Rattle.abc_kept_book.proofs.change.TuneChange.keeps_tune.Goals as goal
 
 pub returns : goal.returns
 returns c = λ e.

@@ -1,6 +1,6 @@
 use Rattle.abc_kept_book.proofs.Building.{claims_end, claims_front, claims_on}
 use Rattle.abc_kept_book.specs.Change.{new_in, old_in}
-use Rattle.abc_kept_book.proofs.change.Change.keeps_claims.Goals as goal
+use Rattle.abc_kept_book.proofs.change.TuneChange.keeps_claims.Goals as goal
 
 pub loop-place-init : goal.loop-place-init
 loop-place-init c = claims_front (old_in c.args.self.now) (new_in c.args.self.now) c.args.self.now.front c.requires.front

@@ -1,7 +1,7 @@
 use Rattle.std.proofs.Common.{◌≡◌, take}
 use Rattle.abc_kept_book.specs.Change.{new_in, old_in}
 use Rattle.abc_kept_book.specs.Owners.{claims_of}
-use Rattle.abc_kept_book.proofs.change.Change.keeps_claims.Given as goal
+use Rattle.abc_kept_book.proofs.change.TuneChange.keeps_claims.Given as goal
 
 -- the claims so far are the same
 abbrev pub invariant-loop-place : goal.invariant-loop-place
