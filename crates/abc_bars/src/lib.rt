@@ -18,16 +18,13 @@ mod voice_laws;
 
 pub use abc_cells::{Body, Entry};
 pub use abc_header::{Defaults, TuneProgram, VoiceName, Voices};
-pub use abc_items::{
-    HIGHEST_KEY, Item, ItemText, Items, LentTones, LocalFault, MOST_CHORD_NOTES, MOST_VOICES, Tone,
-    Tones,
-};
+pub use abc_items::{Item, ItemText, Items, LentTones, LocalFault, Tone, Tones};
 pub use abc_settings::{TuneMeter, TuneTempo, UnitLength};
 pub use along_laws::{alike_views, tune_places, views_along, views_decide};
 pub use bar_fold::BarFold;
 pub use body_laws::mentioned_voices;
 pub use cell_laws::{cell_views, left_by_tokens};
-pub use header_laws::{declared_voices, entries_apart, entry_views, header_views};
+pub use header_laws::{declared_voices, header_views, places_apart};
 pub use heard_laws::held_views;
 pub use item_laws::{titles_of_items, voices_of_items};
 pub use key_laws::{alterations_of_notes, keys_at_places};
