@@ -10,6 +10,7 @@ pub mod Keys
 pub mod Known
 pub mod Lengths
 pub mod Named
+pub mod Openings
 pub mod Placed
 pub mod Places
 pub mod Step

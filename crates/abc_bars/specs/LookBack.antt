@@ -10,6 +10,7 @@ pub mod Header
 pub mod Held
 pub mod Keys
 pub mod Lengths
+pub mod Openings
 pub mod Place
 pub mod Ties
 pub mod TunePlaces
