@@ -6,6 +6,7 @@ pub mod CellPlace
 pub mod Cells
 pub mod Defaults
 pub mod Element
+pub mod Faults
 pub mod Header
 pub mod Held
 pub mod Keys
