@@ -6,6 +6,7 @@ pub mod CellPlace
 pub mod Cells
 pub mod Faults
 pub mod FieldFaults
+pub mod Flags
 pub mod Heard
 pub mod Held
 pub mod Keys

@@ -7,6 +7,7 @@ pub mod Cells
 pub mod Defaults
 pub mod Element
 pub mod Faults
+pub mod Flags
 pub mod Header
 pub mod Held
 pub mod Keys

@@ -29,7 +29,7 @@ pub use cell_laws::{cell_views, left_by_tokens};
 pub use fault_laws::{bad_marks_of_cells, empty_chords, faults_at_places};
 pub use header_laws::{declared_voices, header_views, places_apart};
 pub use heard_laws::held_views;
-pub use item_laws::{titles_of_items, voices_of_items};
+pub use item_laws::{openings_of_items, titles_of_items, voices_of_items};
 pub use key_laws::{alterations_of_notes, keys_at_places};
 pub use length_laws::lengths_at_places;
 pub use name_laws::named_voices;
