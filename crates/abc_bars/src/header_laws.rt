@@ -35,8 +35,8 @@ pub fn header_views()
         header_view opening (line ∷ before) ≡ entries.Header (header_at opening (line ∷ before)) }
 {}
 
-/// What holds at two places of different kinds is never the same: in a file header, at a tune's first line, in its header
-/// behind that line, and in its body.
+/// What holds at two places of different kinds is never the same: in a file header, at a tune's first line, in its
+/// header behind that line, and in its body.
 pub fn places_apart()
     ensures { KindsApart }
 {}

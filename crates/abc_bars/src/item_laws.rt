@@ -19,8 +19,8 @@ pub fn titles_of_items()
     ensures { SaysTitlesOfHeader }
 {}
 
-/// No tempo, meter, key, voice or program that a cell of a body gives says that a header gives it, and none that a line of a
-/// header gives says that a body does: so it is told apart whether a V: declares a voice or makes it the current one.
+/// No tempo, meter, key, voice or program that a cell of a body gives says that a header gives it, and none that a line of
+/// a header gives says that a body does: so it is told apart whether a V: declares a voice or makes it the current one.
 pub fn openings_of_items()
     ensures body { BodiesSaySo }
     ensures header { HeadersSaySo }
