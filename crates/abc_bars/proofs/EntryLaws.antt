@@ -1,13 +1,27 @@
 -- Places of different kinds.
-use Rattle.std.proofs.Common.{◌≡◌, ◌↔◌, Bool, true, ap}
+use Rattle.std.proofs.Common.{◌≡◌, ◌∙◌, ◌↔◌, ℕ, Bool, true, [], ◌∷◌, refl, sym, ap}
 use Rattle.std.proofs.lemmas.Bool.Decides.{same_from_decides}
-use Rattle.abc_cells.specs.Entry.{AreApart, kind_of_place}
 use Rattle.abc_cells.specs.SameEntry.{same_entry, same_entry_tells}
 use Rattle.abc_cells.specs.declared.entry.Entry.{Entry}
+use Rattle.abc_cells.specs.declared.entry.Entry.TheVariants as entries
+use Rattle.abc_bars.specs.LookBack.Place.{InBody, InFileHeader, InHeader, KindsApart, Place, kind_of_place, view}
+
+-- The kind of a place, by what holds there.
+abbrev kind_held : Entry → ℕ
+kind_held (entries.FileHeader defaults) = 0
+kind_held (entries.Opening defaults) = 1
+kind_held (entries.Header header) = 2
+kind_held (entries.Body body) = 3
+
+kind-seen : (place : Place) → kind_of_place place ≡ kind_held (view place)
+kind-seen (InFileHeader before) = refl
+kind-seen (InHeader opening []) = refl
+kind-seen (InHeader opening (line ∷ before)) = refl
+kind-seen (InBody opening before key elements) = refl
 
 -- What holds at places of different kinds is never the same.
-pub entries_apart : (a b : Entry) → AreApart a b → ¬ (a ≡ b)
-entries_apart a b apart same = apart (ap kind_of_place same)
+pub kinds_apart : KindsApart
+kinds_apart here there same = kind-seen here ∙ ap kind_held same ∙ sym (kind-seen there)
 
 -- What tells exactly whether what holds at two places is equal is the test of it.
 pub told_by : (told : Bool) (a b : Entry) → (told ≡ true → a ≡ b) × (a ≡ b → told ≡ true) → told ≡ same_entry a b

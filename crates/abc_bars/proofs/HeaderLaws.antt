@@ -1,5 +1,5 @@
 -- What holds behind one more line of a header is what the line gives from what held before it.
-use Rattle.std.proofs.Common.{◌≡◌, ℕ, nat_lt, Bool, true, false, cond, List, [], ◌∷◌, ◌++◌, length, map, Option, Some, None, Result, Ok, Err, refl, ap, sym, ◌∙◌}
+use Rattle.std.proofs.Common.{◌≡◌, ℕ, nat_lt, Bool, true, false, cond, List, [], ◌∷◌, ◌++◌, length, map, Option, Some, None, Result, Ok, Err, refl, ◌∙◌}
 use Rattle.std.specs.Option.{option_map, option_or}
 use Rattle.std.specs.Result.{result_ok}
 use Rattle.abc_fields.specs.declared.fault.FaultCode.{FaultCode}
@@ -10,16 +10,14 @@ use Rattle.abc_fields.specs.declared.voice.Voice.{Voice}
 use Rattle.abc_fields.specs.Key.{key_of}
 use Rattle.abc_fields.specs.Parts.{parts_of}
 use Rattle.abc_fields.specs.Voice.{voice_of}
-use Rattle.abc_cells.specs.Entry.{header_in}
 use Rattle.abc_header.specs.FieldKind.{kind_of}
 use Rattle.abc_header.specs.Header.{declared_by, declared_given, header_given, header_key_by, header_voice_by, order_by, own_given, reference_by}
 use Rattle.abc_header.specs.HeaderLine.{HeaderLine, FieldLine, DirectiveLine}
-use Rattle.abc_bars.specs.LookBack.Header.{declared_names, declared_shift, header_at, header_view, named_in, part_said, voice_said, voices_at, with_named}
+use Rattle.abc_bars.specs.LookBack.Header.{declared_names, declared_shift, header_at, named_in, part_said, voice_said, voices_at, with_named}
 use Rattle.abc_header.specs.Reference.{reference_of}
 use Rattle.abc_header.specs.Voices.{place_of}
 use Rattle.abc_items.specs.declared.item.TheConstants.{MOST_VOICES}
 use Rattle.abc_header.specs.declared.defaults.Defaults.{Defaults}
-use Rattle.abc_cells.specs.declared.entry.Entry.TheVariants as entries
 use Rattle.abc_header.specs.declared.field_kind.FieldKind.{FieldKind}
 use Rattle.abc_header.specs.declared.field_kind.FieldKind.TheVariants as kinds
 use Rattle.abc_header.specs.declared.header.Header.{Header}
@@ -107,15 +105,3 @@ pub header_behind : (opening : Defaults) (before : List HeaderLine) (line : Head
 header_behind opening before (FieldLine field) = behind_kind opening before (kind_of field.letter) field.value
 header_behind opening before (DirectiveLine directive) =
     let set = defaults_behind opening before (DirectiveLine directive) in λ i. record { defaults = set i; voices = voices_at before }
-
--- The header of a view is that which looking back finds.
-pub header_view_is : (opening : Defaults) (before : List HeaderLine) → header_in (header_view opening before) ≡ header_at opening before
-header_view_is opening [] = refl
-header_view_is opening (line ∷ before) = refl
-
--- The view behind one more line of a tune's header.
-pub header_view_behind : (opening : Defaults) (before : List HeaderLine) (line : HeaderLine) →
-    header_view opening (line ∷ before) ≡ entries.Header (header_given (header_in (header_view opening before)) line).header
-header_view_behind opening before line =
-    ap entries.Header (header_behind opening before line
-    ∙ ap (λ header. (header_given header line).header) (sym (header_view_is opening before)))

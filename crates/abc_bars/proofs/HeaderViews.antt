@@ -1,5 +1,5 @@
 -- The values behind one more line are those that the line gives from the ones before it.
-use Rattle.std.proofs.Common.{◌≡◌, ℕ, List, ◌∷◌, Option, Some, None, Result, Ok, Err, refl, ap}
+use Rattle.std.proofs.Common.{◌≡◌, ℕ, List, ◌∷◌, Option, Some, None, Result, Ok, Err, refl}
 use Rattle.std.specs.Option.{option_or}
 use Rattle.std.specs.Result.{result_ok}
 use Rattle.abc_fields.specs.declared.fault.FaultCode.{FaultCode}
@@ -12,14 +12,12 @@ use Rattle.abc_fields.specs.Unit.{unit_of}
 use Rattle.abc_items.specs.Program.{program_of}
 use Rattle.abc_scan.specs.declared.directive.Directive.TheVariants as directives
 use Rattle.abc_time.specs.declared.ratio.Ratio.{Ratio}
-use Rattle.abc_header.specs.Defaults.{no_defaults, program_set, set_or_refused, tempo_or, setting_given}
+use Rattle.abc_header.specs.Defaults.{program_set, set_or_refused, tempo_or, setting_given}
 use Rattle.abc_header.specs.FieldKind.{kind_of}
 use Rattle.abc_header.specs.FileHeader.{line_given}
 use Rattle.abc_header.specs.HeaderLine.{HeaderLine, FieldLine, DirectiveLine}
 use Rattle.abc_bars.specs.LookBack.Defaults.{if_set, meter_said, unit_said, tempo_said, defaults_at}
-use Rattle.abc_bars.specs.LookBack.Header.{file_header_view}
 use Rattle.abc_header.specs.declared.defaults.Defaults.{Defaults}
-use Rattle.abc_cells.specs.declared.entry.Entry.TheVariants as entries
 use Rattle.abc_header.specs.declared.field_kind.FieldKind.{FieldKind}
 use Rattle.abc_header.specs.declared.field_kind.FieldKind.TheVariants as kinds
 
@@ -81,8 +79,3 @@ pub defaults_behind : (opening : Defaults) (before : List HeaderLine) (line : He
 defaults_behind opening before (FieldLine field) = setting_said (defaults_at opening before) (kind_of field.letter) field.value
 defaults_behind opening before (DirectiveLine (directives.Program written)) = program_read (defaults_at opening before) (program_of written)
 defaults_behind opening before (DirectiveLine (directives.Reach reach)) = refl
-
--- The view behind one more line of a file header.
-pub file_header_view_behind : (before : List HeaderLine) (line : HeaderLine) →
-    file_header_view (line ∷ before) ≡ entries.FileHeader (line_given (defaults_at no_defaults before) line).defaults
-file_header_view_behind before line = ap entries.FileHeader (defaults_behind no_defaults before line)

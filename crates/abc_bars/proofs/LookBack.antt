@@ -4,12 +4,17 @@ pub mod ByName
 pub mod ByPlace
 pub mod CellPlace
 pub mod Cells
+pub mod Faults
+pub mod FieldFaults
+pub mod Flags
 pub mod Heard
 pub mod Held
 pub mod Keys
 pub mod Known
 pub mod Lengths
+pub mod Marks
 pub mod Named
+pub mod Openings
 pub mod Placed
 pub mod Places
 pub mod Step

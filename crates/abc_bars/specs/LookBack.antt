@@ -6,10 +6,13 @@ pub mod CellPlace
 pub mod Cells
 pub mod Defaults
 pub mod Element
+pub mod Faults
+pub mod Flags
 pub mod Header
 pub mod Held
 pub mod Keys
 pub mod Lengths
+pub mod Openings
 pub mod Place
 pub mod Ties
 pub mod TunePlaces

@@ -1,10 +1,9 @@
 //! The fold over the cells of file headers and of tunes.
 
-ghost use Rattle.std.specs.Prelude.{◌≡◌, All, IfOk};
+ghost use Rattle.std.specs.Prelude.{◌≡◌, IfOk};
 ghost use Rattle.std.specs.Option.{option_copied};
 ghost use Rattle.abc_cells.specs.Cell.{cell_given};
 ghost use Rattle.abc_cells.specs.SameEntry.{bars_resumable, same_entry};
-ghost use Rattle.abc_items.specs.Item.{IsItem};
 ghost use Rattle.abc_header.specs.Header.{header_given};
 ghost use Rattle.abc_header.specs.HeaderLine.{DirectiveLine, FieldLine};
 ghost use Rattle.abc_cells.specs.Step.{field_line, field_in, directive_line, directive_in, line_in, body_stepped, line_stepped, header_stepped, file_header_made, file_header_stepped, stepped};

@@ -1,6 +1,7 @@
 //! Laws of what the cells of a tune give to the score.
 
 ghost use Rattle.abc_cells.specs.Mentioned.{MentionsFew, NamesVoices};
+ghost use Rattle.abc_bars.specs.LookBack.Flags.{BodiesSaySo, HeadersSaySo};
 ghost use Rattle.abc_bars.specs.Titles.{SaysTitlesOfHeader};
 
 /// What the cells of a tune give mentions at most fifteen voices, the one without a name among them where a note,
@@ -16,4 +17,11 @@ pub fn voices_of_items()
 #[tactic(auto, using(crate::proofs::Titles::says_titles_of_header))]
 pub fn titles_of_items()
     ensures { SaysTitlesOfHeader }
+{}
+
+/// No tempo, meter, key, voice or program that a cell of a body gives says that a header gives it, and none that a line of
+/// a header gives says that a body does: so it is told apart whether a V: declares a voice or makes it the current one.
+pub fn openings_of_items()
+    ensures body { BodiesSaySo }
+    ensures header { HeadersSaySo }
 {}

@@ -6,33 +6,34 @@ mod along_laws;
 mod bar_fold;
 mod body_laws;
 mod cell_laws;
+mod fault_laws;
 mod header_laws;
 mod heard_laws;
 mod item_laws;
 mod key_laws;
 mod length_laws;
 mod name_laws;
+mod opening_laws;
 mod tie_laws;
 mod velocity_laws;
 mod voice_laws;
 
 pub use abc_cells::{Body, Entry};
 pub use abc_header::{Defaults, TuneProgram, VoiceName, Voices};
-pub use abc_items::{
-    HIGHEST_KEY, Item, ItemText, Items, LentTones, LocalFault, MOST_CHORD_NOTES, MOST_VOICES, Tone,
-    Tones,
-};
+pub use abc_items::{Item, ItemText, Items, LentTones, LocalFault, Tone, Tones};
 pub use abc_settings::{TuneMeter, TuneTempo, UnitLength};
 pub use along_laws::{alike_views, tune_places, views_along, views_decide};
 pub use bar_fold::BarFold;
 pub use body_laws::mentioned_voices;
 pub use cell_laws::{cell_views, left_by_tokens};
-pub use header_laws::{declared_voices, entries_apart, entry_views, header_views};
+pub use fault_laws::{bad_marks_of_cells, empty_chords, faults_at_places};
+pub use header_laws::{declared_voices, header_views, places_apart};
 pub use heard_laws::held_views;
-pub use item_laws::{titles_of_items, voices_of_items};
+pub use item_laws::{openings_of_items, titles_of_items, voices_of_items};
 pub use key_laws::{alterations_of_notes, keys_at_places};
 pub use length_laws::lengths_at_places;
 pub use name_laws::named_voices;
+pub use opening_laws::openings_of_voices;
 pub use tie_laws::{loose_ties_of_cells, ties_of_voices};
 pub use velocity_laws::velocities_at_places;
 pub use voice_laws::voice_views;

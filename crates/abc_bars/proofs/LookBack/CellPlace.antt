@@ -39,15 +39,15 @@ tie-next [] ahead token e = e
 tie-next (first ∷ front) ahead token e = refl
 
 -- The items of a token come behind those before it.
-fault-items : (given : Given) (place : ℕ) (code : Option FaultCode) → (with_some_fault given place code).items.items ≡ given.items.items
+pub fault-items : (given : Given) (place : ℕ) (code : Option FaultCode) → (with_some_fault given place code).items.items ≡ given.items.items
 fault-items given place None = refl
 fault-items given place (Some code) = refl
 
-fault-if-items : (given : Given) (b : Bool) (place : ℕ) (code : FaultCode) → (with_fault_if given b place code).items.items ≡ given.items.items
+pub fault-if-items : (given : Given) (b : Bool) (place : ℕ) (code : FaultCode) → (with_fault_if given b place code).items.items ≡ given.items.items
 fault-if-items given true place code = refl
 fault-if-items given false place code = refl
 
-tie-items : (given : Given) (b : Bool) (place : ℕ) (code : FaultCode) → (cond b given (with_fault given place code)).items.items ≡ given.items.items
+pub tie-items : (given : Given) (b : Bool) (place : ℕ) (code : FaultCode) → (cond b given (with_fault given place code)).items.items ≡ given.items.items
 tie-items given true place code = refl
 tie-items given false place code = refl
 
@@ -128,7 +128,7 @@ as-many one other body place kind ahead further same =
 
 -- What stands before a token that is no tie, whatever follows it, what stands nearest before it of what matters to broken
 -- rhythm, and how many items were given: as many as where its cell ends before it.
-split-behind : (opening : Body) (before : List Element) (given alone : Given) (front ahead : List (Spanned TokenKind)) (token : Spanned TokenKind)
+pub split-behind : (opening : Body) (before : List Element) (given alone : Given) (front ahead : List (Spanned TokenKind)) (token : Spanned TokenKind)
     → is_tie_token token.kind ≡ false → length given.items.items ≡ length alone.items.items
     → (start : Given) × (looked_back opening before given (front ++ token ∷ ahead) ≡ looked_back opening (behind_tokens front before) start (token ∷ ahead))
     × (start.behind ≡ behind_from given.behind front)
@@ -147,7 +147,7 @@ split-behind opening before given alone (first ∷ front) ahead token e same =
       rest.3 ∙ ap (λ b. length (looked_back opening (record { kind = first.kind; tied = b } ∷ before) other front).items.items) (tie-next front ahead token e),
     )
 
-take-front : (front rest : List (Spanned TokenKind)) → take (length front) (front ++ rest) ≡ front
+pub take-front : (front rest : List (Spanned TokenKind)) → take (length front) (front ++ rest) ≡ front
 take-front [] rest = refl
 take-front (first ∷ front) rest = ap (λ l. first ∷ l) (take-front front rest)
 
@@ -155,7 +155,7 @@ drop-behind : (front ahead : List (Spanned TokenKind)) (token : Spanned TokenKin
 drop-behind [] ahead token = refl
 drop-behind (first ∷ front) ahead token = drop-behind front ahead token
 
-drop-front : (front ahead : List (Spanned TokenKind)) (token : Spanned TokenKind) → drop (length front + 1) (front ++ token ∷ ahead) ≡ ahead
+pub drop-front : (front ahead : List (Spanned TokenKind)) (token : Spanned TokenKind) → drop (length front + 1) (front ++ token ∷ ahead) ≡ ahead
 drop-front front ahead token = rw add-one (drop-behind front ahead token)
 
 -- The factors that are read at the place of a token are those of its cell.
@@ -168,7 +168,7 @@ factors-there front ahead token start e = λ i.
 abbrev pub body-at : CellPlace → Body
 body-at place = held_at (opening_at place.values place.fields place.key) (before_place place)
 
-mentioned-in : (body : Body) (current : Current) → here (mentioned (record body { current = current })) ≡ here (record body { current = current })
+pub mentioned-in : (body : Body) (current : Current) → here (mentioned (record body { current = current })) ≡ here (record body { current = current })
 mentioned-in body (Unnamed settings) = refl
 mentioned-in body (At place) = refl
 

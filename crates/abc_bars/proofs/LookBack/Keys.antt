@@ -142,7 +142,7 @@ module _ (opening : Settings) (before : List Element) (broken : List Ratio) (out
   abbrev here_at : Standing
   here_at = record { opening = opening; before = before }
 
-  key-is : (accidentals : Accidentals) (earlier : List Note) (note : Note) → AreBehind opening before accidentals earlier
+  pub key-is : (accidentals : Accidentals) (earlier : List Note) (note : Note) → AreBehind opening before accidentals earlier
       → midi_key (pitch_of (settings_at opening before).shift note (alteration_of (settings_at opening before) accidentals note)) ≡ key_at here_at earlier note
   key-is accidentals earlier note h = λ i. midi_key (pitch_of (same-shift opening before i) note (alteration-at opening before accidentals earlier note h i))
 
@@ -211,7 +211,7 @@ same-accidentals : (opening : Settings) (before : List Element) → (settings_at
 unfolding settings_at
 same-accidentals opening before = refl
 
-note-key : (at : Standing) (note : Note)
+pub note-key : (at : Standing) (note : Note)
     → midi_key (pitch_of (settings_at at.opening at.before).shift note (alteration_of (settings_at at.opening at.before) (settings_at at.opening at.before).accidentals note)) ≡ key_at at [] note
 note-key at note =
     ap (λ accidentals. midi_key (pitch_of (settings_at at.opening at.before).shift note (alteration_of (settings_at at.opening at.before) accidentals note))) (same-accidentals at.opening at.before)

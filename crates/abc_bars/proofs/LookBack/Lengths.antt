@@ -1,9 +1,10 @@
 -- Notes, rests and chords last as the rule says at their places, by the marks that act on them in their cell.
-use Rattle.std.proofs.Common.{◌≡◌, ◌∙◌, List, ◌++◌, length, refl, ap}
+use Rattle.std.proofs.Common.{◌≡◌, ◌∙◌, List, [], ◌∷◌, ◌++◌, length, refl, ap}
 use Rattle.abc_scan.specs.declared.spanned.Spanned.{Spanned}
 use Rattle.abc_scan.specs.declared.token.TokenKind.{TokenKind}
 use Rattle.abc_scan.specs.declared.token.TokenKind.TheVariants as kinds
 use Rattle.abc_settings.specs.declared.settings.Settings.{Settings}
+use Rattle.abc_music.specs.BarRest.{bar_rest_of}
 use Rattle.abc_music.specs.TimeTokens.{chord_played, note_played, rest_played}
 use Rattle.abc_music.specs.TokenRole.{has_note}
 use Rattle.abc_music.proofs.ChordNotes.{chords_sound}
@@ -11,8 +12,8 @@ use Rattle.abc_music.proofs.Lasting.{notes_last, rests_last}
 use Rattle.abc_cells.specs.Body.{here}
 use Rattle.abc_cells.specs.Cell.{mentioned_by_chord, tie_ahead}
 use Rattle.abc_bars.specs.LookBack.CellPlace.{cell_with}
-use Rattle.abc_bars.specs.LookBack.Lengths.{ChordsLastThere, LastsAsNote, LastsAsRest, NotesLastThere, RestsLastThere, SoundsAsChord, held_there}
-use Rattle.abc_bars.proofs.LookBack.CellPlace.{between, body-at, here-in-chord, here-is}
+use Rattle.abc_bars.specs.LookBack.Lengths.{BarRestsLastThere, ChordsLastThere, LastsAsNote, LastsAsRest, NotesLastThere, RestsLastThere, SoundsAsChord, held_there}
+use Rattle.abc_bars.proofs.LookBack.CellPlace.{between, body-at, fault-items, here-in-chord, here-is}
 
 pub notes_last_there : NotesLastThere
 notes_last_there place note is =
@@ -38,6 +39,16 @@ rests_last_there place written is =
       (λ i. start.items.items ++ (rest_played (here-is place i) (factors i) place.from written).items)
           ∙ ap (λ l. start.items.items ++ l) lasts.1,
       (lasts.0, refl, lasts.2),
+    ))
+
+pub bar_rests_last_there : BarRestsLastThere
+bar_rests_last_there place bars =
+    let settings : Settings = held_there place in
+    between place (kinds.BarRest bars) refl (λ item. item ≡ (bar_rest_of settings.meter bars).0)
+    (λ start factors. (
+      (bar_rest_of settings.meter bars).0,
+      fault-items _ place.from _ ∙ ap (λ (s : Settings). start.items.items ++ (bar_rest_of s.meter bars).0 ∷ []) (here-is place),
+      refl,
     ))
 
 pub chords_last_there : ChordsLastThere

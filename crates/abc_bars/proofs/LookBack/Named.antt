@@ -260,7 +260,7 @@ found-at names at name distinct there =
     let same : place.0 ≡ at = grind (arith, nat_tests) in
     place.1 ∙ ap Some same
 
-no-place-by : (name : List ℕ) (names : List (List ℕ)) (o : Option ℕ) → position (bytes_eq name) names ≡ o → list_any (bytes_eq name) names ≡ false → position (bytes_eq name) names ≡ None
+pub no-place-by : (name : List ℕ) (names : List (List ℕ)) (o : Option ℕ) → position (bytes_eq name) names ≡ o → list_any (bytes_eq name) names ≡ false → position (bytes_eq name) names ≡ None
 no-place-by name names None is apart = is
 no-place-by name names (Some place) is apart =
     let found = finds (bytes_eq name) names place is in

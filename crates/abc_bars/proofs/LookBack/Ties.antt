@@ -1,20 +1,13 @@
 -- Loose ties are those that have no note or chord directly before them, and tied notes are those of the last time token.
-use Rattle.std.proofs.Common.{◌≡◌, ◌∙◌, ℕ, Bool, true, false, ◌||◌, cond, List, [], ◌∷◌, ◌++◌, map, Option, Some, None, slice_range, refl, sym, ap, append-nil, append_assoc}
+use Rattle.std.proofs.Common.{◌≡◌, ◌∙◌, ◌==◌, ℕ, Bool, true, false, ◌||◌, cond, List, [], ◌∷◌, ◌++◌, map, Option, Some, None, refl, sym, ap, append-nil, append_assoc}
 use Rattle.std.specs.Prelude.{All, filter, is_none}
-use Rattle.std.specs.Option.{ok_or}
-use Rattle.std.proofs.lemmas.List.Elements.{All-head, All-tail, filter-append}
+use Rattle.std.proofs.lemmas.List.Elements.{All-head, All-tail}
 use Rattle.abc_fields.specs.declared.fault.FaultCode.{FaultCode}
-use Rattle.abc_fields.specs.declared.fault.FaultCode.TheVariants.{BadBroken, BadKey, BadProgram, BadLength, BadMeter, BadTempo, BadUnit, BadVoice, KeyRange, LooseTie, TempoRange}
+use Rattle.abc_fields.specs.declared.fault.FaultCode.TheVariants.{BadBroken, BadLength, BadProgram, KeyRange, LooseTie}
 use Rattle.abc_fields.specs.declared.key.Key.{Key}
 use Rattle.abc_fields.specs.declared.meter.Meter.{Meter}
 use Rattle.abc_fields.specs.declared.meter.Meter.TheVariants.{Free, Of}
-use Rattle.abc_fields.specs.declared.tempo.Tempo.{Tempo}
-use Rattle.abc_fields.specs.declared.voice.Voice.{Voice}
-use Rattle.abc_fields.specs.Key.{key_in}
-use Rattle.abc_fields.specs.Meter.{symbol_or_fraction}
-use Rattle.abc_fields.specs.Tempo.{tempo_in, tempo_of}
-use Rattle.abc_fields.specs.Unit.{unit_in}
-use Rattle.abc_fields.specs.Voice.{voice_in, voice_of}
+use Rattle.abc_fields.specs.Fault.{number_of}
 use Rattle.abc_scan.specs.declared.directive.Directive.{Directive}
 use Rattle.abc_scan.specs.declared.directive.Directive.TheVariants as directives
 use Rattle.abc_scan.specs.declared.note.Note.{Note}
@@ -22,13 +15,11 @@ use Rattle.abc_scan.specs.declared.spanned.Spanned.{Spanned}
 use Rattle.abc_scan.specs.declared.token.TokenKind.{TokenKind}
 use Rattle.abc_scan.specs.declared.token.TokenKind.TheVariants as kinds
 use Rattle.abc_time.specs.declared.grains.Grains.{Grains}
-use Rattle.abc_time.specs.declared.ratio.Ratio.{Ratio}
 use Rattle.abc_header.specs.HeaderLine.{HeaderLine}
 use Rattle.abc_cells.specs.declared.body.Body.{Body}
 use Rattle.abc_cells.specs.declared.cell.Given.{Given}
 use Rattle.abc_header.specs.declared.defaults.Defaults.{Defaults}
 use Rattle.abc_header.specs.declared.field_kind.FieldKind.{FieldKind}
-use Rattle.abc_header.specs.declared.field_kind.FieldKind.TheVariants as fields
 use Rattle.abc_items.specs.declared.item.Item.{Item}
 use Rattle.abc_items.specs.declared.item.Item.TheVariants as items
 use Rattle.abc_settings.specs.declared.settings.Settings.{Settings}
@@ -40,29 +31,33 @@ use Rattle.abc_music.specs.Sound.{fault_if}
 use Rattle.abc_music.specs.TokenRole.{has_note}
 use Rattle.abc_settings.specs.Tuplet.{OpenTuplet, opened, tuplet_by}
 use Rattle.abc_music.proofs.LooseTies.{ties_behind_notes}
-use Rattle.abc_cells.specs.Body.{here, made_current, mentioned}
-use Rattle.abc_cells.specs.BodyFields.{accepted, faulty, kind_given, meter_by, key_by, part_by, part_of, tempo_by, unit_by, voice_by, voice_made}
+use Rattle.abc_cells.specs.Body.{here, mentioned}
+use Rattle.abc_cells.specs.BodyFields.{kind_given}
 use Rattle.abc_cells.specs.Cell.{mentioned_by_chord, nothing_given, tie_ahead, with_directive, with_ending, with_fault, with_fault_if, with_item, with_kind, with_some_fault, with_token}
 use Rattle.abc_items.specs.Column.{column_of}
 use Rattle.abc_items.specs.Program.{program_of}
 use Rattle.abc_header.specs.FieldKind.{kind_of}
-use Rattle.abc_settings.specs.TempoItem.{is_out}
 use Rattle.abc_bars.specs.LookBack.Cells.{looked_back}
 use Rattle.abc_bars.specs.LookBack.Element.{Element}
 use Rattle.abc_bars.specs.LookBack.Held.{held_at}
 use Rattle.abc_bars.specs.LookBack.Place.{given_in_body, opening_at}
 use Rattle.abc_bars.specs.LookBack.Ties.{IsTimeBefore, is_behind_note, loose_from, loose_in, loose_ties, tied_in_chord, tied_notes}
 use Rattle.abc_bars.specs.LookBack.Voice.{alteration_at, as_tied, counted_notes, settings_at, tied_among, tied_at, tied_said}
+use Rattle.abc_bars.proofs.LookBack.FieldFaults.{Told, more as some-more, none-more as nothing-more, of-field as no-field}
+
+-- Whether a fault of this code is LooseTie.
+abbrev is_loose_code : FaultCode → Bool
+is_loose_code code = number_of code == number_of LooseTie
 
 -- the loose ties among faults
 abbrev Ties : List (ℕ × FaultCode) → List (ℕ × FaultCode)
-Ties faults = filter is_loose_tie faults
+Ties faults = Told is_loose_code faults
 
 more : (faults others l : List (ℕ × FaultCode)) → Ties others ≡ l → Ties (faults ++ others) ≡ Ties faults ++ l
-more faults others l is = filter-append is_loose_tie faults others ∙ ap (λ f. Ties faults ++ f) is
+more = some-more is_loose_code
 
 none-more : (faults : List (ℕ × FaultCode)) → Ties faults ≡ Ties faults ++ []
-none-more faults = sym (append-nil _)
+none-more = nothing-more is_loose_code
 
 none-if : (b : Bool) (column : ℕ) → Ties (fault_if b column BadLength) ≡ []
 none-if true column = refl
@@ -75,51 +70,9 @@ none-of-note false true column = refl
 none-of-note false false column = refl
 
 -- No field has a loose tie.
-of-meter : (body : Body) (place : ℕ) (o : Option Meter) → Ties (meter_by body place (ok_or o BadMeter)).faults ≡ []
-of-meter body place (Some meter) = refl
-of-meter body place None = refl
-
-of-unit : (body : Body) (place : ℕ) (o : Option Ratio) → Ties (unit_by body place (ok_or o BadUnit)).faults ≡ []
-of-unit body place (Some unit) = refl
-of-unit body place None = refl
-
-of-key : (body : Body) (place : ℕ) (o : Option Key) → Ties (key_by body place (ok_or o BadKey)).faults ≡ []
-of-key body place (Some key) = refl
-of-key body place None = refl
-
-of-part : (body : Body) (place : ℕ) (part : Option ℕ) → Ties (part_by body place part).faults ≡ []
-of-part body place (Some letter) = refl
-of-part body place None = refl
-
-of-out : (body : Body) (place : ℕ) (b : Bool) (item : Item) → Ties (cond b (faulty body place item TempoRange) (accepted body item)).faults ≡ []
-of-out body place true item = refl
-of-out body place false item = refl
-
-of-tempo : (body : Body) (place : ℕ) (o : Option Tempo) → Ties (tempo_by body place (ok_or o BadTempo)).faults ≡ []
-of-tempo body place (Some tempo) = of-out body place (is_out (here body).unit tempo) _
-of-tempo body place None = refl
-
-of-made : (body : Body) (place : ℕ) (name : List ℕ) (made : Option Body) → Ties (voice_made body place name made).faults ≡ []
-of-made body place name (Some made) = refl
-of-made body place name None = refl
-
-of-voice : (body : Body) (place : ℕ) (value : List ℕ) (o : Option Voice) → Ties (voice_by body place value (ok_or o BadVoice)).faults ≡ []
-of-voice body place value (Some voice) =
-    let name : List ℕ = slice_range value voice.from voice.to in
-    of-made body place name (made_current body name voice.shift)
-of-voice body place value None = refl
-
 of-field : (body : Body) (place : ℕ) (kind : FieldKind) (value : List ℕ) → Ties (kind_given body kind value place).faults ≡ []
-unfolding tempo_of voice_of
-of-field body place fields.Meter value = of-meter body place (symbol_or_fraction value)
-of-field body place fields.UnitLength value = of-unit body place (unit_in value)
-of-field body place fields.Key value = of-key body place (key_in value)
-of-field body place fields.Parts value = of-part body place (part_of value)
-of-field body place fields.Voice value = of-voice body place value (voice_in value)
-of-field body place fields.Tempo value = of-tempo body place (tempo_in value)
-of-field body place fields.Reference value = refl
-of-field body place fields.Title value = refl
-of-field body place fields.Other value = refl
+of-field body place kind value =
+    no-field is_loose_code (record { meter = refl; unit = refl; tempo = refl; range = refl; key = refl; part = refl; voice = refl; many = refl }) body place kind value
 
 of-bar-rest-by : (given : Given) (place num den : ℕ) (o : Option Grains) (item : Item) → Ties (with_some_fault (with_item given item) place (or_one_bar num den o).1).items.faults ≡ Ties given.items.faults
 of-bar-rest-by given place num den None item = more given.items.faults _ [] refl ∙ append-nil _

@@ -1,6 +1,5 @@
 -- What a token of a cell leaves is what an element leaves.
-use Rattle.std.proofs.Common.{◌≡◌, ℕ, zero, suc, ◌+◌, ◌≤◌, nat_lt, Bool, true, false, cond, ◌||◌, List, [], ◌∷◌, ◌++◌, length, Option, Some, None, unwrap_or, slice_range, Result, Ok, Err, refl, sym, ap, ◌∙◌, subst, arith, length-append}
-use Rattle.std.proofs.lemmas.Bool.Decides.{nat_tests}
+use Rattle.std.proofs.Common.{◌≡◌, ℕ, ◌+◌, nat_lt, Bool, true, false, cond, ◌||◌, List, [], ◌∷◌, ◌++◌, length, Option, Some, None, slice_range, Result, Ok, Err, refl, ap, ◌∙◌, subst, arith, length-append}
 use Rattle.std.specs.Prelude.{is_none}
 use Rattle.abc_fields.specs.declared.fault.FaultCode.{FaultCode}
 use Rattle.abc_fields.specs.declared.fault.FaultCode.TheVariants.{BadBroken, BadProgram, BigChord, LooseTie}
@@ -25,8 +24,6 @@ use Rattle.abc_scan.specs.declared.token.TokenKind.{TokenKind}
 use Rattle.abc_scan.specs.declared.token.TokenKind.TheVariants as kinds
 use Rattle.abc_time.specs.declared.ratio.Ratio.{Ratio}
 use Rattle.abc_cells.specs.declared.body.Body.{Body}
-use Rattle.abc_cells.specs.declared.body.Current.{Current}
-use Rattle.abc_cells.specs.declared.body.Current.TheVariants.{Unnamed, At}
 use Rattle.abc_cells.specs.declared.cell.Given.{Given}
 use Rattle.abc_music.specs.declared.chords.Outside.{Outside}
 use Rattle.abc_header.specs.declared.field_kind.FieldKind.{FieldKind}
@@ -39,7 +36,7 @@ use Rattle.abc_settings.specs.declared.settings.Settings.{Settings}
 use Rattle.abc_music.specs.declared.sound.Inside.{Inside}
 use Rattle.abc_settings.specs.Alteration.{with_own}
 use Rattle.abc_music.specs.BarRest.{bar_rest_of}
-use Rattle.abc_cells.specs.Body.{here, here_in, made_current, mentioned, with_here, with_here_in}
+use Rattle.abc_cells.specs.Body.{here, made_current, mentioned, with_here}
 use Rattle.abc_cells.specs.BodyFields.{accepted, faulty, key_by, kind_given, meter_by, part_by, part_of, tempo_by, unit_by, voice_by, voice_made}
 use Rattle.abc_music.specs.Broken.{factors_of, is_bad_mark}
 use Rattle.abc_cells.specs.Cell.{mentioned_by_chord, tie_ahead, with_directive, with_ending, with_fault, with_fault_if, with_item, with_kind, with_some_fault}

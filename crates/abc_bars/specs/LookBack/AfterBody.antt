@@ -35,7 +35,7 @@ abbrev pub mentioned_if : Bool → Body → Body
 mentioned_if true body = mentioned body
 mentioned_if false body = body
 
--- Behind a note, a rest or a mark, which is the current voice's.
+-- Behind a token that is no field, which is the current voice's.
 abbrev pub after_sound : Body → Element → Body
 after_sound body element =
     let body = mentioned_if (mentions element.kind) body in

@@ -1,6 +1,6 @@
 -- The lengths of notes, rests and chords at the places of a tune, by what stands round them in their cell and before them in
--- their voice. ABC 2.1 sections 4.3, 4.4, 4.13 and 4.17.
-use Rattle.std.specs.Prelude.{◌≡◌, ℕ, true, false, List, length, None}
+-- their voice. ABC 2.1 sections 4.3, 4.4, 4.5, 4.13 and 4.17.
+use Rattle.std.specs.Prelude.{◌≡◌, ℕ, true, false, List, length, Option, None}
 use Rattle.abc_scan.specs.declared.chord.Chord.{Chord}
 use Rattle.abc_scan.specs.declared.length.WrittenLength.{WrittenLength}
 use Rattle.abc_scan.specs.declared.note.Note.{Note}
@@ -12,6 +12,7 @@ use Rattle.abc_items.specs.declared.item.Item.{Item}
 use Rattle.abc_items.specs.declared.item.Item.TheVariants as items
 use Rattle.abc_items.specs.declared.item.Tone.{Tone}
 use Rattle.abc_settings.specs.declared.settings.Settings.{Settings}
+use Rattle.abc_music.specs.BarRest.{bar_rest_of}
 use Rattle.abc_music.specs.ChordNotes.{SoundsTogether}
 use Rattle.abc_music.specs.Lasting.{IsGiven, IsOneTone, IsPlace, Lasts}
 use Rattle.abc_music.specs.TokenRole.{has_note}
@@ -51,6 +52,12 @@ RestsLastThere =
     (place : CellPlace) (written : WrittenLength)
     → IsPlace (held_there place) (cell_with place (kinds.Rest written)) (length place.front)
     → GivesItem place (kinds.Rest written) (LastsAsRest (held_there place) (cell_with place (kinds.Rest written)) (length place.front) written)
+
+-- A rest of bars gives what it gives in the meter of its voice there. ABC 2.1 section 4.5.
+abbrev pub BarRestsLastThere : Type 0
+BarRestsLastThere =
+    (place : CellPlace) (bars : Option ℕ)
+    → GivesItem place (kinds.BarRest bars) (λ item. item ≡ (bar_rest_of (held_there place).meter bars).0)
 
 -- Of a chord its first sixteen notes do, and it lasts as long as its first note.
 abbrev pub ChordsLastThere : Type 0

@@ -1,6 +1,6 @@
 -- What holds at a place of a file header or of a tune, by looking back over what stands before it, and what a
 -- cell gives there.
-use Rattle.std.specs.Prelude.{List, [], ◌∷◌, Option, Some, None}
+use Rattle.std.specs.Prelude.{◌≡◌, ℕ, List, [], ◌∷◌, Option, Some, None}
 use Rattle.abc_fields.specs.declared.key.Key.{Key}
 use Rattle.abc_fields.specs.Key.{empty_key, key_of, key_or_empty}
 use Rattle.abc_scan.specs.declared.field.Field.{Field}
@@ -43,6 +43,18 @@ abbrev pub view : Place → Entry
 view (InFileHeader before) = file_header_view before
 view (InHeader opening before) = header_view opening before
 view (InBody opening before key elements) = entries.Body (held_at (opening_at opening before key) elements)
+
+-- The kind of a place, by a number: in a file header, at a tune's first line, in its header behind that line, in its body.
+-- Our own.
+abbrev pub kind_of_place : Place → ℕ
+kind_of_place (InFileHeader before) = 0
+kind_of_place (InHeader opening []) = 1
+kind_of_place (InHeader opening (line ∷ before)) = 2
+kind_of_place (InBody opening before key elements) = 3
+
+-- Where the views at two places are the same, both are of one kind. Our own.
+abbrev pub KindsApart : Type 0
+KindsApart = (here there : Place) → view here ≡ view there → kind_of_place here ≡ kind_of_place there
 
 -- The place behind a field of a tune's header, of this kind: behind a K: the body begins.
 abbrev pub behind_field : Defaults → List HeaderLine → Field → FieldKind → Place
