@@ -1,5 +1,5 @@
 -- Laws of a machine that is fed pieces of an input.
-use Rattle.std.proofs.Common.{◌≡◌, ℕ, ◌+◌, ◌<◌, ◌≤◌, Bool, true, false, List, [], ◌∷◌, ◌++◌, length, take, Option, Some, None, refl, sym, ap, ◌∙◌, subst, arith, append_assoc, append-nil, length-append, length-take, if◌then◌else◌, ◌==◌, Result, Ok, Err, MatchResult, option_map}
+use Rattle.std.proofs.Common.{◌≡◌, ℕ, ◌+◌, ◌<◌, ◌≤◌, Bool, true, false, List, [], ◌∷◌, ◌++◌, length, take, Option, Some, None, inl, inr, refl, sym, ap, ◌∙◌, subst, arith, append_assoc, append-nil, length-append, length-take, if◌then◌else◌, ◌==◌, Result, Ok, Err, MatchResult, option_map}
 use Rattle.std.specs.Prelude.{IsErr, IsErrAnd, IfSome}
 use Rattle.std.specs.Borrow.{Bor}
 use Rattle.std.proofs.lemmas.Grind.{common_steps}
@@ -11,8 +11,8 @@ use Rattle.abc_fold.specs.Work.{raised}
 use Rattle.abc_publish.specs.Publisher.{Directory}
 use Rattle.abc2midi_live.specs.Cut.{IsCut}
 use Rattle.abc2midi_live.specs.Machine.{Future, telling, IsClean, Answers, ahead}
-use Rattle.abc2midi_live.specs.Outcome.{Ends, Outlets, outlets, Serves, Tells, TellsFirst, BrokenOff, Unserved, Ended, Turn, Leaves, read_counts, Reads, Failed, read_faults}
-use Rattle.abc2midi_live.specs.Storing.{StoreAnswer, Follows, IsAsked}
+use Rattle.abc2midi_live.specs.Outcome.{Ends, Outlets, outlets, CarriesOut, Serves, Tells, TellsFirst, BrokenOff, Unserved, EndUnserved, Ended, Turn, Leaves, Within, AtTheEnd, read_counts, Reads, Failed, read_faults}
+use Rattle.abc2midi_live.specs.Storing.{StoreAnswer, StoreSeen, Follows, IsAsked}
 use Rattle.abc2midi_live.specs.Told.{Told, told, behind, nothing_more}
 use Rattle.abc2midi_live.specs.Transcript.{input_lines, most_kept}
 use Rattle.abc2midi_live.specs.declared.fault.RunFault.{RunFault}
@@ -53,6 +53,15 @@ line_ended before after d begun piece line begun' stored text goes_on clean clea
     ∙ served ended (input_lines ended rest) later
     ∙ ap (λ t. behind text (if goes_on then t else nothing_more d later)) (sym next)
 
+-- what is told to a line that a piece ends, where nothing comes behind it
+line_alone : (future : OfLines) (begun piece line : List ℕ) (stored : List StoreAnswer) → IsClean begun → IsClean piece → line ≡ take most_kept (begun ++ piece)
+    → ahead future begun false (piece ++ 10 ∷ []) stored ≡ future false (line ∷ []) stored
+line_alone future begun piece line stored clean clean_piece e =
+    ahead_is future begun false (piece ++ 10 ∷ []) ((begun ++ piece) ++ 10 ∷ []) stored (sym (append_assoc begun piece (10 ∷ [])))
+    ∙ ap (λ l. future false l stored) (input_lines-line false (begun ++ piece) [] (All-append (λ b. (b == 10) ≡ false) begun piece clean clean_piece))
+    ∙ ap (λ l. future false (take most_kept (begun ++ piece) ∷ l) stored) (input_lines-nil false)
+    ∙ ap (λ l. future false (l ∷ []) stored) (sym e)
+
 -- a piece without the end of a line is kept
 pub piece_kept : (future : OfLines) (d : Directory) (begun piece begun' : List ℕ) → IsClean begun → IsClean piece → begun' ≡ take most_kept (begun ++ piece)
     → Answers (telling (ahead future begun) (ahead future begun') d) piece [] [] true
@@ -71,6 +80,14 @@ nothing_ahead future d begun clean waits =
 last_ahead : (future : OfLines) (begun : List ℕ) (stored : List StoreAnswer) → IsClean begun → 0 < length begun → length begun ≤ most_kept → ahead future begun true [] stored ≡ future true (begun ∷ []) stored
 last_ahead future begun stored clean some short =
     ahead_is future begun true [] begun stored (append-nil begun) ∙ ap (λ l. future true l stored) (input_lines-last begun clean some) ∙ ap (λ l. future true (l ∷ []) stored) (take_short most_kept begun short)
+
+-- it ends that line as a line feed does
+last_alone : (future : OfLines) (begun line : List ℕ) (stored : List StoreAnswer) → IsClean begun → length begun ≤ most_kept → line ≡ begun → ahead future begun false (10 ∷ []) stored ≡ future false (line ∷ []) stored
+last_alone future begun line stored clean short e =
+    ahead_is future begun false (10 ∷ []) (begun ++ 10 ∷ []) stored refl
+    ∙ ap (λ l. future false l stored) (input_lines-line false begun [] clean)
+    ∙ ap (λ l. future false (take most_kept begun ∷ l) stored) (input_lines-nil false)
+    ∙ ap (λ l. future false (l ∷ []) stored) (take_short most_kept begun short ∙ sym e)
 
 none_ahead : (future : OfLines) (begun : List ℕ) (stored : List StoreAnswer) → length begun ≤ 0 → ahead future begun true [] stored ≡ future true [] stored
 none_ahead future begun stored none = ahead_is future begun true [] [] stored (append-nil begun ∙ no_length begun none) ∙ ap (λ l. future true l stored) (input_lines-nil true)
@@ -123,6 +140,27 @@ tells_all : {X : Type 0} (before mid : Future X) (d e : Directory) (piece : List
 tells_all before mid d e piece old new served none =
     subst (λ p. Tells d (before false p) old new) (append-nil piece)
     (tells_behind before mid d e piece false [] old new new served ([], told [] e, none, Appends-nil new.output, follows_none new.store e))
+
+-- a piece that the store has answered is carried out, where nothing is to be told yet behind it
+pub carried_all : {X : Type 0} (before after : Future X) (d e : Directory) (piece : List X) (stored : List StoreAnswer) (text : List ℕ) (old new : StoreSeen)
+    → Answers (telling before after e) piece stored text true → Follows old new stored d e → after false [] [] ≡ Some (told [] e) → CarriesOut d (before false piece) old new
+carried_all before after d e piece stored text old new says follows none =
+    subst (λ p. CarriesOut d (before false p) old new) (append-nil piece) (
+      stored ++ [],
+      told (text ++ []) e,
+      continued_with before after e piece stored [] text (told [] e) false [] says none,
+      follows_both old new new stored [] d e e follows (follows_none new e),
+    )
+
+-- a piece behind one that is served is carried out
+carried_behind : {X : Type 0} (before mid : Future X) (d e : Directory) (piece rest : List X) (old w new : Outlets) → Serves d (telling before mid e) piece old w true → CarriesOut e (mid false rest) w.store new.store
+    → CarriesOut d (before false (piece ++ rest)) old.store new.store
+carried_behind before mid d e piece rest old w new (text, stored, wrote, says, follows) (stored', t, is, follows') = (
+  stored ++ stored',
+  told (text ++ t.text) t.directory,
+  continued_with before mid e piece stored stored' text t false rest says is,
+  follows_both old.store w.store new.store stored stored' d e t.directory follows follows',
+)
 
 -- Of a piece, a front has been served: what is left of it, and what that led to.
 pub record Fed (before now : Ahead) (d e : Directory) (piece rest : List ℕ) (old new : Outlets) : Type 0 where
@@ -189,8 +227,8 @@ fed_broken before mid d e piece rest old w new fed kept asked none =
 -- a line that a piece ends is served, or a fault comes
 pub serve_line : (r : Result Bool RunFault) (before before' after : OfLines) (d d' e : Directory) (begun piece line begun' : List ℕ) (old new : Outlets) → before' ≡ before → d' ≡ d → IsClean begun → IsClean piece
     → line ≡ take most_kept (begun ++ piece) → begun' ≡ []
-    → MatchResult r (Served before' after d' e line old new) (Unserved d' old new)
-    → MatchResult r (Serves d (telling (ahead before begun) (ahead after begun') e) (piece ++ 10 ∷ []) old new) (Unserved d old new)
+    → MatchResult r (Served before' after d' e line old new) (Unserved d' (before' false (line ∷ [])) old new)
+    → MatchResult r (Serves d (telling (ahead before begun) (ahead after begun') e) (piece ++ 10 ∷ []) old new) (Unserved d (ahead before begun false (piece ++ 10 ∷ [])) old new)
 serve_line (Ok goes_on) before before' after d d' e begun piece line begun' old new same same' clean clean_piece is none (text, stored, wrote, says, follows) = (
   text,
   stored,
@@ -198,7 +236,14 @@ serve_line (Ok goes_on) before before' after d d' e begun piece line begun' old 
   line_ended before after e begun piece line begun' stored text goes_on clean clean_piece is none (subst (λ f. Answers (telling f after e) (line ∷ []) stored text goes_on) same says),
   subst (λ d. Follows old.store new.store stored d e) same' follows,
 )
-serve_line (Err fault) before before' after d d' e begun piece line begun' old new same same' clean clean_piece is none h = subst (λ d. Unserved d old new fault) same' h
+serve_line (Err Read) before before' after d d' e begun piece line begun' old new same same' clean clean_piece is none h = absurd h
+serve_line (Err Write) before before' after d d' e begun piece line begun' old new same same' clean clean_piece is none (stored, t, says, follows) = (
+  stored,
+  t,
+  line_alone before begun piece line stored clean clean_piece is ∙ sym (ap (λ f. f false (line ∷ []) stored) same) ∙ says,
+  subst (λ d. Follows old.store new.store stored d t.directory) same' follows,
+)
+serve_line (Err Memory) before before' after d d' e begun piece line begun' old new same same' clean clean_piece is none h = (h.0, subst (IsAsked old.store new.store) same' h.1)
 
 -- the last line is served: what is then told is what is told behind the line that has begun
 last_line : (before before' : OfLines) (d d' : Directory) (begun line : List ℕ) (old new : Outlets) → before' ≡ before → d' ≡ d → line ≡ begun → IsClean begun → 0 < length begun → length begun ≤ most_kept
@@ -239,27 +284,48 @@ cut_none text front None c e = c.joined
 cut_none text front (Some b) c e = cc
 
 -- a fault while a line is served breaks the piece off
-pub fed_fault : (before mid : Ahead) (d e : Directory) (piece rest : List ℕ) (old w new : Outlets) (fault : RunFault) → Fed before mid d e piece rest old w → Unserved e w new fault
-    → mid false [] [] ≡ Some (told [] e) → BrokenOff d before piece old new fault
-fed_fault before mid d e piece rest old w new Read fed h none = h
-fed_fault before mid d e piece rest old w new Write fed h none = tt
-fed_fault before mid d e piece rest old w new Memory fed h none = fed_broken before mid d e piece rest old w new fed h.0 h.1 none
+pub fed_fault : (before mid : Ahead) (d e : Directory) (piece rest line behind : List ℕ) (old w new : Outlets) (fault : RunFault) → Fed before mid d e piece rest old w → rest ≡ line ++ 10 ∷ behind
+    → Unserved e (mid false (line ++ 10 ∷ [])) w new fault → mid false [] [] ≡ Some (told [] e) → BrokenOff d before piece old new fault
+fed_fault before mid d e piece rest line behind old w new Read fed is h none = h
+fed_fault before mid d e piece rest line behind old w new Write fed is h none = (
+  fed.front ++ (line ++ 10 ∷ []),
+  behind,
+  fed_split piece fed.front rest line behind fed.split is,
+  carried_behind before mid d e fed.front (line ++ 10 ∷ []) old w new fed.served h,
+)
+fed_fault before mid d e piece rest line behind old w new Memory fed is h none = fed_broken before mid d e piece rest old w new fed h.0 h.1 none
+
+-- a fault while the last line is served leaves the end of the input unserved
+pub last_fault : (fault : RunFault) (before before' : OfLines) (d d' : Directory) (begun line : List ℕ) (old new : Outlets) → before' ≡ before → d' ≡ d → line ≡ begun → IsClean begun → length begun ≤ most_kept
+    → Unserved d' (before' false (line ∷ [])) old new fault → EndUnserved d (ahead before begun) old new fault
+last_fault Read before before' d d' begun line old new same same' is clean short h = h
+last_fault Write before before' d d' begun line old new same same' is clean short (stored, t, says, follows) = inr (
+  stored,
+  t,
+  last_alone before begun line stored clean short is ∙ sym (ap (λ f. f false (line ∷ []) stored) same) ∙ says,
+  subst (λ d. Follows old.store new.store stored d t.directory) same' follows,
+)
+last_fault Memory before before' d d' begun line old new same same' is clean short h = (h.0, subst (IsAsked old.store new.store) same' h.1)
 
 -- where nothing has come of a last line, the last words are written
 pub finish_none : (r : Result (Unit {0}) RunFault) (future : OfLines) (d : Directory) (begun words : List ℕ) (old : Outlets) (new : Option (List ℕ)) → length begun ≤ 0 → future true [] [] ≡ Some (told words d)
-    → MatchResult r (λ _. Appends old.output new words) (λ fault. fault ≡ Write)
-    → MatchResult r (λ _. Tells d (ahead future begun true []) old (outlets new old.store)) (Unserved d old (outlets new old.store))
-finish_none (Ok x) future d begun words old new none e said = ([], told words d, none_ahead future begun [] none ∙ e, said, follows_none old.store d)
-finish_none (Err fault) future d begun words old new none e said = subst (Unserved d old (outlets new old.store)) (sym said) tt
+    → ahead future begun false [] [] ≡ Some (told [] d) → MatchResult r (λ _. Appends old.output new words) (λ fault. fault ≡ Write)
+    → MatchResult r (λ _. Tells d (ahead future begun true []) old (outlets new old.store)) (EndUnserved d (ahead future begun) old (outlets new old.store))
+finish_none (Ok x) future d begun words old new none e waits said = ([], told words d, none_ahead future begun [] none ∙ e, said, follows_none old.store d)
+finish_none (Err fault) future d begun words old new none e waits said =
+    subst (EndUnserved d (ahead future begun) old (outlets new old.store)) (sym said) (inl ([], told [] d, waits, follows_none old.store d))
 
 -- else they are written behind the answer to the last line
 pub finish_said : (r : Result (Unit {0}) RunFault) (before before' after : OfLines) (d d' e : Directory) (begun line words : List ℕ) (old w : Outlets) (new : Option (List ℕ)) → before' ≡ before → d' ≡ d → line ≡ begun → IsClean begun → 0 < length begun → length begun ≤ most_kept
-    → Served before' after d' e line old w true → after true [] [] ≡ Some (told words e)
+    → Served before' after d' e line old w true → after true [] [] ≡ Some (told words e) → after false [] [] ≡ Some (told [] e)
     → MatchResult r (λ _. Appends w.output new words) (λ fault. fault ≡ Write)
-    → MatchResult r (λ _. Tells d (ahead before begun true []) old (outlets new w.store)) (Unserved d old (outlets new w.store))
-finish_said (Ok x) before before' after d d' e begun line words old w new same same' is clean some short served are said =
+    → MatchResult r (λ _. Tells d (ahead before begun true []) old (outlets new w.store)) (EndUnserved d (ahead before begun) old (outlets new w.store))
+finish_said (Ok x) before before' after d d' e begun line words old w new same same' is clean some short served are waits said =
     last_said before before' after d d' e begun line words old w new same same' is clean some short served are said
-finish_said (Err fault) before before' after d d' e begun line words old w new same same' is clean some short served are said = subst (Unserved d old (outlets new w.store)) (sym said) tt
+finish_said (Err fault) before before' after d d' e begun line words old w new same same' is clean some short served are waits said =
+    subst (EndUnserved d (ahead before begun) old (outlets new w.store)) (sym said)
+    (last_fault Write before before' d d' begun line old (outlets new w.store) same same' is clean short
+    (carried_all before' after d' e (line ∷ []) served.1 served.0 old.store w.store served.3 served.4 waits))
 
 -- a test of whether anything has come
 pub is_empty : (begun : List ℕ) (len : ℕ) → len ≡ length begun → (len == 0) ≡ true → length begun ≤ 0
@@ -326,7 +392,12 @@ heard_left before mid d e input left left' old w new Read h (taken, took, tells)
   Consumes-trans input left left' h.taken taken h.took took,
   tells_behind before mid d e h.taken false taken old w new h.served tells,
 )
-heard_left before mid d e input left left' old w new Write h l = tt
+heard_left before mid d e input left left' old w new Write h (Within front behind took carried) =
+    Within (h.taken ++ front) behind (subst (Consumes input left') (sym (append_assoc h.taken front behind)) (Consumes-trans input left left' h.taken (front ++ behind) h.took took))
+    (carried_behind before mid d e h.taken front old w new h.served carried)
+heard_left before mid d e input left left' old w new Write h (AtTheEnd taken took end carried) =
+    AtTheEnd (h.taken ++ taken) (Consumes-trans input left left' h.taken taken h.took took) end
+    (subst (λ b. CarriesOut d (before false b) old.store new.store) (sym (append_assoc h.taken taken (10 ∷ []))) (carried_behind before mid d e h.taken (taken ++ 10 ∷ []) old w new h.served carried))
 heard_left before mid d e input left left' old w new Memory h (front, behind, took, (stored, t, between, is, wrote, follows, asked)) = (
   h.taken ++ front,
   behind,
@@ -380,7 +451,8 @@ turn_fed (Ok false) before after d e piece input left old new some took (text, s
   all_told (λ bytes. before true bytes stored) piece (told text e) input left old.output new.output took wrote (λ rest. ended_with before after e piece stored text true rest says),
 )
 turn_fed (Err Read) before after d e piece input left old new some took h = absurd h
-turn_fed (Err Write) before after d e piece input left old new some took h = tt
+turn_fed (Err Write) before after d e piece input left old new some took (front, back, split, carried) =
+    Within front back (subst (Consumes input left) split took) carried
 turn_fed (Err Memory) before after d e piece input left old new some took (front, back, split, first) =
     (front, back, subst (Consumes input left) split took, first)
 
@@ -395,11 +467,12 @@ pub turn_ended : (before : Ahead) (d : Directory) (input left : Option (List ℕ
 turn_ended before d input left old new took end (stored, t, is, wrote, follows) =
     (stored, t, follows, end_told (λ bytes. before true bytes stored) t input left old.output new.output took end wrote is)
 
-pub turn_unserved : (before : Ahead) (d : Directory) (input left : Option (List ℕ)) (old new : Outlets) (fault : RunFault) → Consumes input left [] → before false [] [] ≡ Some (told [] d) → Unserved d old new fault
-    → Leaves d (before false) (at input old) (at left new) fault
-turn_unserved before d input left old new Read took none h = absurd h
-turn_unserved before d input left old new Write took none h = tt
-turn_unserved before d input left old new Memory took none h = (
+pub turn_unserved : (before : Ahead) (d : Directory) (input left : Option (List ℕ)) (old new : Outlets) (fault : RunFault) → Consumes input left [] → IsAtEnd left → before false [] [] ≡ Some (told [] d)
+    → EndUnserved d before old new fault → Leaves d (before false) (at input old) (at left new) fault
+turn_unserved before d input left old new Read took end none h = absurd h
+turn_unserved before d input left old new Write took end none (inl carried) = Within [] [] took carried
+turn_unserved before d input left old new Write took end none (inr carried) = AtTheEnd [] took end carried
+turn_unserved before d input left old new Memory took end none h = (
   [],
   [],
   took,

@@ -1,5 +1,5 @@
 -- Laws of whole runs.
-use Rattle.std.proofs.Common.{◌≡◌, ℕ, true, false, List, [], ◌++◌, Option, Some, None, Result, Ok, Err, MatchResult, inl, inr, refl, sym, ap, ◌∙◌, subst}
+use Rattle.std.proofs.Common.{◌≡◌, ℕ, true, false, List, [], ◌∷◌, ◌++◌, Option, Some, None, Result, Ok, Err, MatchResult, inl, inr, refl, sym, ap, ◌∙◌, subst}
 use Rattle.std.specs.Prelude.{IfSome}
 use Rattle.std.specs.Io.KnownBytes.{Appends, Keeps}
 use Rattle.std.specs.Result.{result_unwrap_or}
@@ -9,7 +9,7 @@ use Rattle.abc_lines.specs.Edits.{edited, insertion}
 use Rattle.abc_publish.specs.Publisher.{Directory}
 use Rattle.abc2midi_live.specs.Transcript.{book_lines, input_lines, requests, answered, answers, edit_answer, no_directory, transcript, transcript_so_far}
 use Rattle.abc2midi_live.specs.Dialogue.{Begun, awaited, Opens}
-use Rattle.abc2midi_live.specs.Outcome.{Ends, Outlets, outlets, Completes, Ended, Leaves, LeavesRun, Unopened}
+use Rattle.abc2midi_live.specs.Outcome.{Ends, Outlets, outlets, CarriesOut, Completes, Ended, Leaves, LeavesRun, Unopened, Within, AtTheEnd}
 use Rattle.abc2midi_live.specs.Storing.{StoreAnswer, StoreSeen, Follows}
 use Rattle.abc2midi_live.specs.Told.{holding, Told, told, behind}
 use Rattle.abc2midi_live.specs.declared.fault.RunFault.{RunFault}
@@ -81,6 +81,12 @@ module _ (book : Option (List ℕ)) (text : List ℕ) (session : Text) (director
         contents = λ none. tied.contents old.store.contents (mirrors_first old.store.contents none);
       }
 
+  -- what is carried out, behind the tune book
+  carried_run : (bytes : List ℕ) (old new : StoreSeen) → CarriesOut directory (awaited (holding session directory) begun false (input_lines false bytes)) old new
+      → CarriesOut no_directory (transcript_so_far book bytes) old new
+  carried_run bytes old new (stored, t, is, follows) =
+      (stored, told (text ++ t.text) t.directory, sym (so_far bytes stored) ∙ ap (behind text) is, from_empty old new stored t.directory follows)
+
   told_fault : (fault : RunFault) (input left : Option (List ℕ)) (old new : Outlets) (mid : Option (List ℕ)) → Appends old.output mid text
       → Leaves directory (λ bytes. awaited (holding session directory) begun false (input_lines false bytes)) (at input (outlets mid old.store)) (at left new) fault
       → LeavesRun book (transcript_so_far book) (at input old) (at left new) fault
@@ -95,7 +101,8 @@ module _ (book : Option (List ℕ)) (text : List ℕ) (session : Text) (director
       from_empty old.store new.store stored t.directory follows,
     ),
   )
-  told_fault Write input left old new mid wrote h = tt
+  told_fault Write input left old new mid wrote (Within front behind_it took carried) = Within front behind_it took (carried_run front old.store new.store carried)
+  told_fault Write input left old new mid wrote (AtTheEnd taken took end carried) = AtTheEnd taken took end (carried_run (taken ++ 10 ∷ []) old.store new.store carried)
   told_fault Memory input left old new mid wrote (front, behind_it, took, (stored, t, between, is, wrote', follows, asked)) = inl (
     front,
     behind_it,
@@ -141,9 +148,15 @@ not_begun None input old new kept = inl (
 )
 not_begun (Some bytes) input old new kept = inr (refl, Keeps-refl input, kept, refl)
 
+-- a tune book asks the store for nothing
+book_carried : (book : Option (List ℕ)) (s : StoreSeen) → CarriesOut no_directory (transcript_so_far book []) s s
+unfolding transcript_so_far input_lines requests answers answered
+book_carried None s = ([], told [] no_directory, refl, follows_none s no_directory)
+book_carried (Some bytes) s = ([], told (edit_answer [] (edited [] (insertion 1 (book_lines bytes))) ++ []) no_directory, refl, follows_none s no_directory)
+
 -- a run that cannot answer the tune book
 pub not_opened : (fault : RunFault) (book input : Option (List ℕ)) (old : Outlets) (new : Option (List ℕ)) → Unopened old.output new fault
     → LeavesRun book (transcript_so_far book) (at input old) (at input (outlets new old.store)) fault
 not_opened Read book input old new h = absurd h
-not_opened Write book input old new h = tt
+not_opened Write book input old new h = Within [] [] (Consumes-nil input) (book_carried book old.store)
 not_opened Memory book input old new h = not_begun book input old new h

@@ -1,7 +1,8 @@
 -- How a run ends, and what it leaves. Our own.
-use Rattle.std.specs.Prelude.{◌≡◌, ℕ, ◌<◌, ◌≤◌, Bool, true, false, List, [], ◌++◌, length, Option, Some, Result, Ok, Err, ⊤, ◌⊎◌, IfSome, IsSome, MatchResult}
-use Rattle.std.specs.Io.KnownBytes.{Appends, Consumes, Keeps}
+use Rattle.std.specs.Prelude.{◌≡◌, ℕ, ◌<◌, ◌≤◌, Bool, true, false, List, [], ◌∷◌, ◌++◌, length, Option, Some, Result, Ok, Err, ⊤, ◌⊎◌, IfSome, IsSome, MatchResult}
+use Rattle.std.specs.Io.KnownBytes.{Appends, Consumes, IsAtEnd, Keeps}
 use Rattle.abc_publish.specs.Publisher.{Directory}
+use Rattle.abc_text.specs.Byte.{line_feed}
 use Rattle.abc2midi_live.specs.Machine.{between, Answers, Future, Standing, Telling}
 use Rattle.abc2midi_live.specs.Storing.{Follows, HasNoFiles, IsAsked, MirrorsWhereTold, StoreAnswer, StoreSeen, faults_among}
 use Rattle.abc2midi_live.specs.Told.{Told}
@@ -32,12 +33,18 @@ Unopened old new Read = ⊥
 Unopened old new Write = ⊤
 Unopened old new Memory = Keeps old new
 
--- What a fault leaves where a line is served: want of memory comes before anything is written of its answer, and the
--- store may have been asked for some of what the line asks for. Of what the directory was known to hold before it.
-abbrev pub Unserved : Directory → Outlets → Outlets → RunFault → Type 0
-Unserved before old new Read = ⊥
-Unserved before old new Write = ⊤
-Unserved before old new Memory = Keeps old.output new.output × IsAsked old.store new.store before
+-- What is told for the answers of a store is carried out: these are its answers. Nothing is said of what is written.
+abbrev pub CarriesOut : Directory → (List StoreAnswer → Option Told) → StoreSeen → StoreSeen → Type 0
+CarriesOut before answered old new =
+    (stored : List StoreAnswer) × (told : Told) × (answered stored ≡ Some told) × Follows old new stored before told.directory
+
+-- What a fault leaves where a line is served, of what is told for all of it: where its answer cannot be written, it is
+-- carried out; want of memory comes before anything is written of its answer, and the store may have been asked for some
+-- of what the line asks for. Of what the directory was known to hold before it.
+abbrev pub Unserved : Directory → (List StoreAnswer → Option Told) → Outlets → Outlets → RunFault → Type 0
+Unserved before answered old new Read = ⊥
+Unserved before answered old new Write = CarriesOut before answered old.store new.store
+Unserved before answered old new Memory = Keeps old.output new.output × IsAsked old.store new.store before
 
 -- A piece is served: a text is written and the store gives answers, which are what is told to the piece. Of what the
 -- directory was known to hold before it.
@@ -49,7 +56,8 @@ Serves before t piece old new goes_on =
 -- What comes of a piece that is served, or of the fault that it ends in.
 abbrev pub ServesOrFails : {X : Type 0} → Standing X → Standing X → List X → Outlets → Outlets → Result Bool RunFault → Type 0
 ServesOrFails before after piece old new result =
-    MatchResult result (Serves before.directory (between before after) piece old new) (Unserved before.directory old new)
+    MatchResult result (Serves before.directory (between before after) piece old new)
+    (Unserved before.directory (before.future false piece) old new)
 
 -- What is told for the answers of a store is written, and these are its answers.
 abbrev pub Tells : Directory → (List StoreAnswer → Option Told) → Outlets → Outlets → Type 0
@@ -57,10 +65,18 @@ Tells before answered old new =
     (stored : List StoreAnswer) × (told : Told) × (answered stored ≡ Some told) × Appends old.output new.output told.text
     × Follows old.store new.store stored before told.directory
 
+-- What a fault leaves where the end of the input is served, which ends a line that has begun as a line feed does: where
+-- something cannot be written, that line is carried out, where there is one.
+abbrev pub EndUnserved : Directory → Future ℕ → Outlets → Outlets → RunFault → Type 0
+EndUnserved before future old new Read = ⊥
+EndUnserved before future old new Write =
+    CarriesOut before (future false []) old.store new.store ⊎ CarriesOut before (future false (line_feed ∷ [])) old.store new.store
+EndUnserved before future old new Memory = Keeps old.output new.output × IsAsked old.store new.store before
+
 -- What comes of the end of the input, or of the fault that serving it ends in.
 abbrev pub TellsOrFails : Standing ℕ → Outlets → Outlets → Result Unit RunFault → Type 0
 TellsOrFails before old new result =
-    MatchResult result (λ _. Tells before.directory (before.future true []) old new) (Unserved before.directory old new)
+    MatchResult result (λ _. Tells before.directory (before.future true []) old new) (EndUnserved before.directory before.future old new)
 
 -- What is told for answers of a store is written, and these are the answers that it gave first; it may have been asked
 -- for more since, of which nothing is written.
@@ -69,10 +85,12 @@ TellsFirst before answered old new =
     (stored : List StoreAnswer) × (told : Told) × (between : StoreSeen) × (answered stored ≡ Some told) × Appends old.output new.output told.text
     × Follows old.store between stored before told.directory × IsAsked between new.store told.directory
 
--- What a fault leaves where a piece of the input is served: for want of memory the answers to a front of it.
+-- What a fault leaves where a piece of the input is served: where an answer cannot be written, a front of it is carried
+-- out; for want of memory a front of it is answered.
 abbrev pub BrokenOff : Directory → Future ℕ → List ℕ → Outlets → Outlets → RunFault → Type 0
 BrokenOff before future piece old new Read = ⊥
-BrokenOff before future piece old new Write = ⊤
+BrokenOff before future piece old new Write =
+    (front : List ℕ) × (back : List ℕ) × (piece ≡ front ++ back) × CarriesOut before (future false front) old.store new.store
 BrokenOff before future piece old new Memory =
     (front : List ℕ) × (back : List ℕ) × (piece ≡ front ++ back) × TellsFirst before (future false front) old new
 
@@ -90,22 +108,35 @@ pub record Ends : Type 0 where
 abbrev pub ends : Option (List ℕ) → Option (List ℕ) → StoreSeen → Ends
 ends input output store = record { input = input; out = outlets output store }
 
+-- Which commands were carried out where an answer could not be written, the one in hand among them: the store was asked
+-- for what these ask for, and for nothing else. Nothing is said of what was written.
+pub data Unwritten (before : Directory) (answered : List ℕ → List StoreAnswer → Option Told) (old new : Ends) : Type 0 where
+  -- those that stand wholly within a front of what was read
+  Within :
+      (front : List ℕ) → (behind : List ℕ) → Consumes old.input new.input (front ++ behind)
+      → CarriesOut before (answered front) old.out.store new.out.store → Unwritten before answered old new
+  -- those of the whole input, whose end ends its last line as a line feed does
+  AtTheEnd :
+      (taken : List ℕ) → Consumes old.input new.input taken → IsAtEnd new.input
+      → CarriesOut before (answered (taken ++ line_feed ∷ [])) old.out.store new.out.store → Unwritten before answered old new
+
 -- What a fault leaves of a run, from its ends at first to those at last; `answered` is what is to be told for the
 -- beginning of an input and answers of the store, and `before` what the directory is known to hold at first.
 abbrev pub Leaves : Directory → (List ℕ → List StoreAnswer → Option Told) → Ends → Ends → RunFault → Type 0
 -- the answers to the commands wholly read
 Leaves before answered old new Read = (taken : List ℕ) × Consumes old.input new.input taken × Tells before (answered taken) old.out new.out
--- nothing is said of the bytes
-Leaves before answered old new Write = ⊤
+-- the store as the commands up to the one in hand leave it
+Leaves before answered old new Write = Unwritten before answered old new
 -- the answers to the commands before the one in hand
 Leaves before answered old new Memory =
     (front : List ℕ) × (behind : List ℕ) × Consumes old.input new.input (front ++ behind) × TellsFirst before (answered front) old.out new.out
 
--- What a fault leaves of a run that a tune book came before. The book counts as a command: for want of memory its
--- answer may not come, and then nothing is read or written, and the store is not called.
+-- What a fault leaves of a run that a tune book came before. The book counts as a command: where its answer cannot be
+-- written, no other command is carried out; for want of memory its answer may not come, and then nothing is read or
+-- written, and the store is not called.
 abbrev pub LeavesRun : Option (List ℕ) → (List ℕ → List StoreAnswer → Option Told) → Ends → Ends → RunFault → Type 0
 LeavesRun book answered old new Read = Leaves no_directory answered old new Read
-LeavesRun book answered old new Write = ⊤
+LeavesRun book answered old new Write = Leaves no_directory answered old new Write
 LeavesRun book answered old new Memory =
     Leaves no_directory answered old new Memory
     ⊎ (IsSome book × Keeps old.input new.input × Keeps old.out.output new.out.output × (new.out.store ≡ old.out.store))

@@ -13,7 +13,7 @@ use crate::book_lines::without_mark;
 use crate::cut::cut;
 use abc_lines::{EditError, LONGEST_LINE, MOST_LINES};
 
-// Why so many lines are no text.
+// Why a text of so many lines is refused, where it is.
 #[tactic(auto, unfolding(crate::specs::Refusal::refused))]
 fn fault_of(count: usize) -> Option<EditError>
     ensures { result ≡ refused true count }
@@ -25,7 +25,7 @@ fn fault_of(count: usize) -> Option<EditError>
     }
 }
 
-// Why so many lines, and one that no line feed ends, are no text.
+// The same where this last line, which no line feed ends, stands behind them.
 fn fault_behind(count: usize, last: &[u8]) -> Option<EditError>
     requires clean { IsClean last.now }
     requires room { count < 2 ^ 63 }

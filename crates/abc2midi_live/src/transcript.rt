@@ -81,8 +81,8 @@ pub fn run<R: Source, W: Sink, S: Store>(
     work: &mut Work,
 ) -> Result<(), RunFault>
 
-    // What is written is the transcript of the book, of all that there is to read and of what the store answers,
-    // which mirrors what this tells of it; or what a fault leaves of these.
+    // What is written is the transcript of the book, of all that there is to read, and of the store's answers; the
+    // store then holds what the transcript says. Or what a fault leaves of these.
     ensures transcript { let before = ends (R.remaining reader.old) (W.contents writer.old) (S.seen store.old) in
         let after = ends (R.remaining reader.new) (W.contents writer.new) (S.seen store.new) in
         Transcribes (option_copied book.entry) before after result }

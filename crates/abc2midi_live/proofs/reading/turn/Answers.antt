@@ -24,6 +24,8 @@ returns-then-count-gt0-clause-answers g c =
 pub returns-in_err-finish-clause-answers : goal.returns-in_err-finish-clause-answers
 returns-in_err-finish-clause-answers g c =
     let now = c.args.listener.now in
+    let none : c.in-Ok.count ≡ 0 = omega arith in
+    let room : 0 < length c.read.new.buf = omega arith in
     let d = g.M.Machine.directory now.machine in
     let input = g.R.Source.remaining c.args.reader.now in
     let left = g.R.Source.remaining c.read.new.self in
@@ -32,6 +34,7 @@ returns-in_err-finish-clause-answers g c =
     fault_exit c.from_residual.result _ (Leaves d (ahead (g.M.Machine.future now.machine) now.begun.items false) (ends input old.output old.store) (ends left new.output new.store)) c.in_err-finish.field-0.0 c.from_residual.ensures
     (turn_unserved (ahead (g.M.Machine.future now.machine) now.begun.items) d input left old new c.in_err-finish.field-0.0
     (nothing_read c.in-Ok.count c.read.new.buf input left c.if-count-gt0.false c.in-Ok.ensures.bytes.0)
+    (c.in-Ok.ensures.bytes.1 none room)
     (nothing_ahead (g.M.Machine.future now.machine) d now.begun.items now.whole (g.met.M.Machine.waits now.machine)) c.in_err-finish.ensures.answer)
 
 pub returns-clause-answers : goal.returns-clause-answers

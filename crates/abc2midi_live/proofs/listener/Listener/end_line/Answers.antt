@@ -1,5 +1,6 @@
-use Rattle.std.proofs.Common.{ap, ◌∙◌}
+use Rattle.std.proofs.Common.{[], ◌∷◌, ◌++◌, false, ap, ◌∙◌}
 use Rattle.std.proofs.KnownBytes.{Keeps-refl}
+use Rattle.abc2midi_live.specs.Machine.{ahead}
 use Rattle.abc2midi_live.specs.Outcome.{outlets, Unserved}
 use Rattle.abc2midi_live.specs.declared.fault.RunFault.TheVariants.{Memory}
 use Rattle.abc2midi_live.proofs.Feeding.{fault_exit, serve_line}
@@ -17,6 +18,7 @@ returns-clause-answer g c =
 
 pub returns-in_err-keep-clause-answer : goal.returns-in_err-keep-clause-answer
 returns-in_err-keep-clause-answer g c =
-    let d = g.M.Machine.directory c.args.self.now.machine in
+    let now = c.args.self.now in
+    let d = g.M.Machine.directory now.machine in
     let old = outlets (g.W.Sink.contents c.args.writer.now) (g.S.Store.seen c.args.store.now) in
-    fault_exit c.from_residual.result _ (Unserved d old old) Memory c.from_residual.ensures (Keeps-refl old.output, asked_none old.store d)
+    fault_exit c.from_residual.result _ (Unserved d (ahead (g.M.Machine.future now.machine) now.begun.items false (c.args.piece.now ++ 10 ∷ [])) old old) Memory c.from_residual.ensures (Keeps-refl old.output, asked_none old.store d)

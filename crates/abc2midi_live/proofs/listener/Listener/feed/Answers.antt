@@ -29,7 +29,8 @@ returns-in_err-end_line-in_default-Some-clause-answer g c =
     let first = outlets (g.W.Sink.contents c.args.writer.now) (g.S.Store.seen c.args.store.now) in
     let new = outlets (g.W.Sink.contents c.end_line.new.writer) (g.S.Store.seen c.end_line.new.store) in
     fault_exit c.from_residual.result _ (BrokenOff from start c.args.piece.now first new) c.in_err-end_line-in_default-Some.field-0.0 c.from_residual.ensures
-    (fed_fault start (ahead (g.M.Machine.future now.machine) now.begun.items) from d c.args.piece.now c.lines.rest.now first out new c.in_err-end_line-in_default-Some.field-0.0 c.lines.invariant.fed c.in_err-end_line-in_default-Some.ensures.answer
+    (fed_fault start (ahead (g.M.Machine.future now.machine) now.begun.items) from d c.args.piece.now c.lines.rest.now c.cut.result.0.now c.in_default-Some.behind.now first out new c.in_err-end_line-in_default-Some.field-0.0 c.lines.invariant.fed
+    (cut_some c.lines.rest.now c.cut.result.0.now c.cut.result.1 c.in_default-Some.behind c.cut.ensures c.in_default-Some.is-1) c.in_err-end_line-in_default-Some.ensures.answer
     (nothing_ahead (g.M.Machine.future now.machine) d now.begun.items now.whole (g.met.M.Machine.waits now.machine)))
 
 pub returns-then-not-branch-clause-answer : goal.returns-then-not-branch-clause-answer
