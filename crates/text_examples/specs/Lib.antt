@@ -1,4 +1,7 @@
+pub mod Bars
 pub mod Blocks
 pub mod Counting
+pub mod Headers
 pub mod Repeats
+pub mod Settings
 pub mod Values

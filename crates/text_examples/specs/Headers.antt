@@ -1,0 +1,42 @@
+-- What is set in headers of the worked examples, and what holds where their bodies begin. Our own.
+use Rattle.std.specs.Prelude.{ℕ, pos, negsuc, [], ◌∷◌, codes, Option}
+use Rattle.abc_cells.specs.declared.body.Current.TheVariants.{At}
+use Rattle.abc_cells.specs.declared.entry.Entry.{Entry}
+use Rattle.abc_cells.specs.declared.entry.Entry.TheVariants.{Body}
+use Rattle.abc_fields.specs.Signature.{natural}
+use Rattle.abc_fields.specs.declared.meter.Meter.{Meter}
+use Rattle.abc_fields.specs.declared.meter.Meter.TheVariants.{Free}
+use Rattle.abc_fields.specs.declared.signature.Signature.{Signature}
+use Rattle.abc_fields.specs.declared.tempo.Tempo.{Tempo}
+use Rattle.abc_header.specs.declared.defaults.Defaults.{Defaults}
+use Rattle.abc_scan.specs.declared.directive.Reach.{Reach}
+use Rattle.abc_scan.specs.declared.directive.Reach.TheVariants.{Pitch}
+use Rattle.abc_settings.specs.declared.settings.Settings.{Settings}
+use Rattle.abc_settings.specs.declared.voice_shift.VoiceShift.{VoiceShift}
+use Rattle.abc_time.specs.declared.ratio.Ratio.{Ratio}
+use Rattle.text_examples.specs.Bars.{settings_in}
+use Rattle.text_examples.specs.Values.{ratio}
+
+-- The values that a file header sets.
+abbrev pub defaults : Option Meter → Option Ratio → Option Tempo → Option ℕ → Reach → Defaults
+defaults meter unit tempo program reach = record { meter = meter; unit = unit; tempo = tempo; program = program; reach = reach }
+
+-- The signature of one sharp, and of one flat.
+abbrev pub in_g : Signature
+in_g = record natural { f = pos 1 }
+
+abbrev pub in_f : Signature
+in_f = record natural { b = negsuc 0 }
+
+-- What holds for a voice with this signature and shift behind a header that sets neither meter nor unit.
+abbrev pub keyed_so : Signature → VoiceShift → Settings
+keyed_so signature shift = record (settings_in Free (ratio 1 8) Pitch) { signature = signature; shift = shift }
+
+-- The same without sharps and flats.
+abbrev pub begun : VoiceShift → Settings
+begun shift = keyed_so natural shift
+
+-- In a body behind a header that declares the voices `1` and `2`, by their shifts and by that of another voice.
+abbrev pub two_voices : VoiceShift → VoiceShift → VoiceShift → Entry
+two_voices first second another =
+    Body (record { voices = (codes "1", begun first) ∷ (codes "2", begun second) ∷ []; current = At 0; another = begun another })

@@ -1,0 +1,24 @@
+-- Values of what holds for a voice, and of a header, as the worked examples write them. Our own.
+use Rattle.std.specs.Prelude.{ℕ, List, [], ◌∷◌, codes, map, Option}
+use Rattle.abc_fields.specs.Shift.{no_shift}
+use Rattle.abc_fields.specs.declared.shift.Shift.{Shift}
+use Rattle.abc_scan.specs.declared.broken.BrokenRhythm.{BrokenRhythm}
+use Rattle.abc_scan.specs.declared.broken.Direction.{Direction}
+use Rattle.abc_scan.specs.declared.tuplet.Tuplet.{Tuplet}
+use Rattle.abc_settings.specs.Tuplet.{OpenTuplet}
+
+-- A tuplet mark of these numbers, of which the last two may be left out.
+abbrev pub mark : ℕ → Option ℕ → Option ℕ → Tuplet
+mark p q r = record { p = p; q = q; r = r }
+
+-- An open tuplet of p notes in the time of q, of which so many are left.
+abbrev pub open_tuplet : ℕ → ℕ → ℕ → OpenTuplet
+open_tuplet p q left = record { p = p; q = q; left = left }
+
+-- So many marks of broken rhythm.
+abbrev pub broken : Direction → ℕ → BrokenRhythm
+broken direction marks = record { direction = direction; marks = marks }
+
+-- Fifteen voices, `a` to `o`, of whose shifts nothing is said.
+abbrev pub fifteen_voices : List (List ℕ × Shift)
+fifteen_voices = map (λ letter. (letter ∷ [], no_shift)) (codes "abcdefghijklmno")
