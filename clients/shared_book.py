@@ -13,7 +13,7 @@ from live_book import LiveBook, ProgramEnded, common_front, files_of, span_of, u
 
 MARK = b"\xef\xbb\xbf"
 MOST_CHANGES = 200  # that are kept for windows which did not see them yet
-CONTROLS = {byte: 0xDC00 + byte for byte in range(32) if byte != 9}  # shown by halves of pairs, which no text has
+CONTROLS = {byte: 0xDC00 + byte for byte in range(32) if byte not in b"\t\n"}  # shown by halves of pairs, which no text has
 BYTES = {half: byte for byte, half in CONTROLS.items()}
 
 

@@ -135,6 +135,13 @@ class Requests(Page):
             self.assertIn(self.request("edit", data)[0], (400, 409), data[:9])
         self.assertEqual(self.book()["lines"], ["% new", *BOOK.decode().split("\n")])
 
+    def test_a_half_that_is_no_line_feed(self):
+        """It would make a command of what stands behind it."""
+        self.edit(3, 4, "a\udc0aquit")
+        self.assertEqual(self.book()["lines"][3], "a?quit")
+        self.assertEqual(self.edit(3, 4, "G")["written"], [1])
+        self.finish()
+
     def test_midi_files(self):
         files = trial.fresh(BOOK).files
         for number in (1, 2):
