@@ -170,6 +170,8 @@ class LiveBook:
 
     def _ask(self, command: str, lines=()) -> bytes:
         """The line that answers a command, which is handed as many lines as it says: none is taken for a command."""
+        if self.process.stdin.closed:
+            raise ProgramEnded(f"the program ended with status {self.process.returncode}")
         try:
             self.process.stdin.write(b"\n".join([command.encode(), *lines, b""]))
             self.process.stdin.flush()

@@ -185,6 +185,8 @@ class Program(trial.Folder):
         with self.assertRaisesRegex(live_book.ProgramEnded, "status 3"):
             book.faults()
         self.assertEqual(book.close(), 3)
+        with self.assertRaisesRegex(live_book.ProgramEnded, "status 3"):
+            book.replace(0, 0, [b"C"])
         with self.assertRaises(live_book.ProgramMissing):
             LiveBook(str(self.folder / "none"), str(self.files))
 

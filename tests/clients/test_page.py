@@ -259,6 +259,16 @@ class Requests(Page):
         self.assertEqual(self.book()["lines"][3], "A")
         self.finish()
 
+    def test_no_program_for_a_while(self):
+        starter, away = self.folder / "program", self.folder / "away"
+        starter.rename(away)
+        os.kill(int((self.folder / "pid").read_text()), signal.SIGKILL)
+        self.assertEqual([self.edit(3, 4, "A")["status"] for _ in range(2)], [503, 503])
+        away.rename(starter)
+        self.assertEqual(self.edit(3, 4, "A")["status"], 503)
+        self.assertEqual(self.edit(3, 4, "A")["written"], [1])
+        self.finish()
+
     @contextmanager
     def window(self):
         """What a window is told, one after another, while it is open."""
