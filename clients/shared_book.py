@@ -181,10 +181,11 @@ class SharedBook:
         return start, stop, lines
 
     def put(self, start: int, stop: int, lines: list):
-        """Puts lines in the place of others, with the carriage returns of the book: the last line has none."""
+        """Puts lines in the place of others, with the carriage returns of the book: the last line has none. So the one before
+        them changes where it was the last one, or becomes it."""
         at_end = stop == len(self.lines)
         if self.returns:
-            if at_end and start > 0:
+            if at_end and start > 0 and (not lines or start == len(self.lines)):
                 start -= 1
                 lines = [self.lines[start].removesuffix(b"\r"), *lines]
             lines = [line + b"\r" for line in lines[:-1]] + [line + (b"" if at_end else b"\r") for line in lines[-1:]]

@@ -251,6 +251,24 @@ class Requests(Page):
         self.save()
         self.assertEqual(self.path.read_bytes(), b"% words\r\nX:1\r\nK:C\r\nC")
 
+    def test_lines_of_mixed_ends(self):
+        """The line before the last one changes only where it was the last one, or becomes it."""
+        self.finish()
+        self.path.write_bytes(b"X:1\r\nK:C\nC")
+        self.start(str(self.path))
+        for edit, book in (
+            ((2, 3, "CD"), b"X:1\r\nK:C\nCD"),
+            ((2, 3, "CD", "E"), b"X:1\r\nK:C\nCD\r\nE"),
+            ((4, 4, "F"), b"X:1\r\nK:C\nCD\r\nE\r\nF"),
+            ((2, 5), b"X:1\r\nK:C"),
+            ((1, 2), b"X:1"),
+        ):
+            self.edit(*edit)
+            self.save()
+            self.assertEqual(self.path.read_bytes(), book)
+            self.assertEqual(self.book()["lines"], book.decode().replace("\r", "").split("\n"))
+        self.finish()
+
     def test_the_program_ends(self):
         self.edit(3, 4, "G")
         os.kill(int((self.folder / "pid").read_text()), signal.SIGKILL)
