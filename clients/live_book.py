@@ -208,7 +208,11 @@ def files_of(tunes: list, faults: list) -> dict:
 
 def lines_of(book: bytes) -> list:
     """The lines of a tune book as the program cuts them: without a mark at its start, at line feeds."""
-    lines = book[3 if book.startswith(b"\xef\xbb\xbf") else 0 :].split(b"\n")
+    return held(book[3 if book.startswith(b"\xef\xbb\xbf") else 0 :].split(b"\n"))
+
+
+def held(lines: list) -> list:
+    """The lines that the program holds of a text's: an empty last one is none."""
     return lines if lines[-1] else lines[:-1]
 
 

@@ -352,6 +352,26 @@ class Requests(Page):
             self.assertEqual(self.request(f"midi/{name[:-4]}")[2], data)
 
 
+class Faults(trial.Folder):
+    """Faults as windows see them."""
+
+    def test_places(self):
+        """A line is made ready to be shown once, for all its faults; a byte that is no text is a character of its own."""
+        path = self.folder / "book.abc"
+        path.write_bytes(b"X:1\nK:C\n" + "é𝄞".encode() + b"\xff\xbf&\x1bC\n" + b"&" * 1000 + b"\n[]2 C0 \"")
+        book = shared_book.SharedBook(str(path), trial.program, str(self.files))
+        self.addCleanup(book.book.process.stdout.close)
+        self.addCleanup(book.close)
+        shown, show = [], book.shown
+        book.shown = lambda line: shown.append(line) or show(line)
+        found = [row[:3] for row in book.rows(book.faults)]
+        self.assertEqual(len(shown), 3)
+        first = [[2, 0, 1]] * 2 + [[2, 1, 3]] * 4 + [[2, 3, 4], [2, 4, 5], [2, 5, 6], [2, 6, 7]]
+        self.assertEqual(found[:10], first)
+        self.assertEqual(found[10:1010], [[3, n, n + 1] for n in range(1000)])
+        self.assertEqual(found[1010:], [[4, 0, 3], [4, 4, 6], [4, 7, 8]])
+
+
 def followed(rows: list, change: dict, start: int, stop: int, count: int) -> list:
     """The rows of a window after a change."""
     moved = [row if row[0] < start else [row[0] + count - (stop - start), *row[1:]] for row in rows if not start <= row[0] < stop]
