@@ -324,10 +324,22 @@ class Requests(Page):
         taken = [sys.executable, str(trial.CLIENTS / "page"), "--program", trial.program, "--port", str(port)]
         again = subprocess.run(taken, capture_output=True, timeout=trial.SECONDS)
         self.assertEqual((again.returncode, again.stderr.count(b"\n")), (1, 1))
-        (self.folder / "state/abc2midi_live/token").chmod(0o644)
+        kept = self.folder / "state/abc2midi_live/token"
+        kept.chmod(0o644)
         self.finish()
         self.start(str(self.path))
         self.assertNotEqual(self.token, token)
+        kept.write_bytes(b"\xff" * 32)
+        kept.chmod(0o600)
+        self.finish()
+        self.start(str(self.path))
+        self.finish()
+
+    def test_the_terminal_is_closed(self):
+        self.finish()
+        trial.hear_of_the_terminal(self)
+        self.start(str(self.path))
+        self.finish(signal.SIGHUP)
 
     def test_random_edits(self):
         """What a window makes of the answers is what a fresh run gives."""
