@@ -100,6 +100,13 @@ class Requests(Page):
             self.assertNotIn(b"http", data)
         self.finish()
 
+    def test_an_address_without_its_last_slash(self):
+        """It goes to the page, which would not find its files from there."""
+        status, headers, data = self.request("", path=f"/{self.token}")
+        self.assertEqual((status, headers["Location"], data), (308, f"/{self.token}/", b""))
+        self.assertEqual(self.request("", {}, path=f"/{self.token}")[0], 404)
+        self.finish()
+
     def test_a_book(self):
         book = self.book()
         self.assertEqual(book["lines"], BOOK.decode().split("\n"))
