@@ -4,6 +4,7 @@ another; faults in sentences; places in UTF-16 and in bytes. Python 3.9 or later
 import difflib
 import os
 import re
+import signal
 import subprocess
 from bisect import bisect_left
 from collections import Counter
@@ -365,3 +366,10 @@ class Player:
                 self.process.kill()
                 self.process.wait()
             self.process = None
+
+
+def when_told_to_end(end):
+    """Has this called where the client is told to end, also by its terminal that is closed, but for one behind `nohup`."""
+    signal.signal(signal.SIGTERM, end)
+    if signal.getsignal(signal.SIGHUP) is not signal.SIG_IGN:
+        signal.signal(signal.SIGHUP, end)

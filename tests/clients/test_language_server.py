@@ -3,6 +3,7 @@
 import json
 import os
 import random
+import signal
 import subprocess
 import sys
 
@@ -303,6 +304,16 @@ class Protocol(Editor):
         self.server.stdin.close()
         self.server.stdin = None
         self.assertEqual((self.server.wait(trial.SECONDS), os.listdir(self.files)), (1, []))
+
+    def test_the_terminal_is_closed(self):
+        self.notify("exit")
+        self.server.wait(trial.SECONDS)
+        trial.hear_of_the_terminal(self)
+        self.start()
+        self.ask("initialize", {})
+        self.open(BOOK)
+        self.server.send_signal(signal.SIGHUP)
+        self.assertEqual((self.server.wait(trial.SECONDS), os.listdir(self.files), self.server.stderr.read()), (1, [], b""))
 
     def test_a_player(self):
         self.server.kill()

@@ -74,9 +74,9 @@ class Page(trial.Folder):
         state = self.ask("state")
         return self.ask("save", {"run": state["run"], "version": state["version"], **more})
 
-    def finish(self):
+    def finish(self, by=signal.SIGTERM):
         """Ends the server, which leaves nothing."""
-        self.server.send_signal(signal.SIGTERM)
+        self.server.send_signal(by)
         said = self.server.communicate(timeout=trial.SECONDS)
         self.assertEqual((said, self.server.returncode, os.listdir(self.files)), ((b"", b""), 0, []))
 
