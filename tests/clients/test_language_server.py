@@ -208,6 +208,8 @@ class Session(Editor):
             asked = {"textDocument": {"uri": URI}, "range": span(line, 0, line, 1), "context": {"diagnostics": []}}
             action = self.ask("textDocument/codeAction", asked)[0]
             self.assertEqual((action["command"], action["arguments"]), ("play", [place]))
+            for only, count in ([], 1), ([""], 1), (["quickfix", ""], 1), (["quickfix"], 0), (["source.organizeImports"], 0):
+                self.assertEqual(len(self.ask("textDocument/codeAction", {**asked, "context": {"only": only}})), count, only)
             with open(self.play(URI, line), "rb") as file:
                 self.assertEqual(file.read(), trial.fresh(BOOK.encode()).files[f"{number}.mid"])
         for line in (4, 9):
