@@ -16,7 +16,7 @@ MOST_BYTES = 65_535  # of a line that the program takes
 MOST_LINES = 1_048_576  # of a text that it takes
 STANDARD_ERROR = 2
 SECONDS_TO_END = 1  # for a player that is told to
-MOST_EDITS = 8  # that a change of the text is handed over by
+MOST_EDITS = 1_000  # that a change of the text is handed over by
 LONGEST_SEARCH = 2_000  # lines without a line of its own among them in which it is still looked for what stayed
 LEFT_OUT = b"%"  # handed in for a line of more bytes: a comment, which is as if it were not there
 
@@ -275,12 +275,17 @@ def longest_rise(numbers: list) -> list:
 
 
 def joined(found: list, old: list, most: int) -> list:
-    """At most so many edits in the place of these: the lines that stay stand between those that are far from each
-    other, and are handed over with the others. An edit costs some work for each tune of the book, however little it
-    changes, so that many cost more than all tunes between them; and a text may have too many lines on the way."""
-    gaps = [after.start - before.stop for before, after in zip(found, found[1:])]
-    far = sorted(range(len(gaps)), key=gaps.__getitem__, reverse=True)[: most - 1]
-    cuts = [0, *(n + 1 for n in sorted(far)), len(found)]
+    """At most so many edits in the place of these, and one in the place of those of one tune. An edit takes some half of what
+    its tune takes when the book is opened, so that two cost as much as the whole tune; where lines come or go it also takes
+    a little for each tune behind it. And a text may have too many lines on the way. Lines that stay between edits which
+    become one are handed over too: between those that are far from each other they stay where they are."""
+    gaps = [
+        (after.start - before.stop, n)
+        for n, (before, after) in enumerate(zip(found, found[1:]), 1)
+        if any(line.startswith(b"X:") for line in old[before.stop : after.start])
+    ]
+    far = sorted(gaps, reverse=True)[: most - 1]
+    cuts = [0, *sorted(n for _, n in far), len(found)]
     return [as_one(found[a:b], old) for a, b in zip(cuts, cuts[1:])] if found else []
 
 
