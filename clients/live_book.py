@@ -4,6 +4,7 @@ another; faults in sentences; places in UTF-16 and in bytes. Python 3.9 or later
 import difflib
 import os
 import re
+import signal
 import subprocess
 from bisect import bisect_left
 from collections import Counter
@@ -15,7 +16,7 @@ MOST_BYTES = 65_535  # of a line that the program takes
 MOST_LINES = 1_048_576  # of a text that it takes
 STANDARD_ERROR = 2
 SECONDS_TO_END = 1  # for a player that is told to
-MOST_EDITS = 8  # that a change of the text is handed over by
+MOST_EDITS = 1_000  # that a change of the text is handed over by
 LONGEST_SEARCH = 2_000  # lines without a line of its own among them in which it is still looked for what stayed
 LEFT_OUT = b"%"  # handed in for a line of more bytes: a comment, which is as if it were not there
 
@@ -170,6 +171,8 @@ class LiveBook:
 
     def _ask(self, command: str, lines=()) -> bytes:
         """The line that answers a command, which is handed as many lines as it says: none is taken for a command."""
+        if self.process.stdin.closed:
+            raise ProgramEnded(f"the program ended with status {self.process.returncode}")
         try:
             self.process.stdin.write(b"\n".join([command.encode(), *lines, b""]))
             self.process.stdin.flush()
@@ -206,7 +209,11 @@ def files_of(tunes: list, faults: list) -> dict:
 
 def lines_of(book: bytes) -> list:
     """The lines of a tune book as the program cuts them: without a mark at its start, at line feeds."""
-    lines = book[3 if book.startswith(b"\xef\xbb\xbf") else 0 :].split(b"\n")
+    return held(book[3 if book.startswith(b"\xef\xbb\xbf") else 0 :].split(b"\n"))
+
+
+def held(lines: list) -> list:
+    """The lines that the program holds of a text's: an empty last one is none."""
     return lines if lines[-1] else lines[:-1]
 
 
@@ -268,12 +275,17 @@ def longest_rise(numbers: list) -> list:
 
 
 def joined(found: list, old: list, most: int) -> list:
-    """At most so many edits in the place of these: the lines that stay stand between those that are far from each
-    other, and are handed over with the others. An edit costs some work for each tune of the book, however little it
-    changes, so that many cost more than all tunes between them; and a text may have too many lines on the way."""
-    gaps = [after.start - before.stop for before, after in zip(found, found[1:])]
-    far = sorted(range(len(gaps)), key=gaps.__getitem__, reverse=True)[: most - 1]
-    cuts = [0, *(n + 1 for n in sorted(far)), len(found)]
+    """At most so many edits in the place of these, and one in the place of those of one tune. An edit takes some half of what
+    its tune takes when the book is opened, so that two cost as much as the whole tune; where lines come or go it also takes
+    a little for each tune behind it. And a text may have too many lines on the way. Lines that stay between edits which
+    become one are handed over too: between those that are far from each other they stay where they are."""
+    gaps = [
+        (after.start - before.stop, n)
+        for n, (before, after) in enumerate(zip(found, found[1:]), 1)
+        if any(line.startswith(b"X:") for line in old[before.stop : after.start])
+    ]
+    far = sorted(gaps, reverse=True)[: most - 1]
+    cuts = [0, *sorted(n for _, n in far), len(found)]
     return [as_one(found[a:b], old) for a, b in zip(cuts, cuts[1:])] if found else []
 
 
@@ -359,3 +371,10 @@ class Player:
                 self.process.kill()
                 self.process.wait()
             self.process = None
+
+
+def when_told_to_end(end):
+    """Has this called where the client is told to end, also by its terminal that is closed, but for one behind `nohup`."""
+    signal.signal(signal.SIGTERM, end)
+    if signal.getsignal(signal.SIGHUP) is not signal.SIG_IGN:
+        signal.signal(signal.SIGHUP, end)

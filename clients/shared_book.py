@@ -6,14 +6,16 @@ import secrets
 import tempfile
 import threading
 import time
+from bisect import bisect_right
 from collections import deque
 from contextlib import suppress
+from itertools import accumulate, groupby
 
-from live_book import LiveBook, ProgramEnded, common_front, files_of, span_of, utf16
+from live_book import LiveBook, ProgramEnded, common_front, files_of, held, span_of, utf8
 
 MARK = b"\xef\xbb\xbf"
 MOST_CHANGES = 200  # that are kept for windows which did not see them yet
-CONTROLS = {byte: 0xDC00 + byte for byte in range(32) if byte != 9}  # shown by halves of pairs, which no text has
+CONTROLS = {byte: 0xDC00 + byte for byte in range(32) if byte not in b"\t\n"}  # shown by halves of pairs, which no text has
 BYTES = {half: byte for byte, half in CONTROLS.items()}
 
 
@@ -88,7 +90,7 @@ class SharedBook:
                 "name": os.path.basename(self.path) if self.path else "",
                 "id": digest((self.path or "").encode())[:16],
                 "lines": [self.shown(line) for line in self.lines],
-                "faults": [self.row(fault) for fault in self.faults],
+                "faults": self.rows(self.faults),
                 "tunes": self.tunes,
                 **self.state(),
             }
@@ -144,7 +146,7 @@ class SharedBook:
                 raise self.ended(error) from error
             grown = len(lines) - (stop - start)
             faults, tunes = (spliced(*both, start, stop, grown) for both in zip(before, (self.faults, self.tunes)))
-            faults["put"] = [self.row(fault) for fault in faults["put"]]
+            faults["put"] = self.rows(faults["put"])
             self.version += 1
             change = {
                 "version": self.version,
@@ -181,10 +183,11 @@ class SharedBook:
         return start, stop, lines
 
     def put(self, start: int, stop: int, lines: list):
-        """Puts lines in the place of others, with the carriage returns of the book: the last line has none."""
+        """Puts lines in the place of others, with the carriage returns of the book: the last line has none. So the one before
+        them changes where it was the last one, or becomes it."""
         at_end = stop == len(self.lines)
         if self.returns:
-            if at_end and start > 0:
+            if at_end and start > 0 and (not lines or start == len(self.lines)):
                 start -= 1
                 lines = [self.lines[start].removesuffix(b"\r"), *lines]
             lines = [line + b"\r" for line in lines[:-1]] + [line + (b"" if at_end else b"\r") for line in lines[-1:]]
@@ -203,16 +206,16 @@ class SharedBook:
         line = line.removesuffix(b"\r") if self.returns else line
         return line.decode("utf-8", "surrogateescape").translate(CONTROLS)
 
-    def row(self, fault: tuple) -> list:
-        """A fault as windows see it: its line, where it begins and ends there in UTF-16, and its name."""
-        number, column, name = fault
-        line = self.lines[number]
-        at = min(column - 1, len(line))
-        while 0 < at < len(line) and line[at] & 0xC0 == 0x80:
-            at -= 1
-        text = self.shown(line)
-        ends = span_of(text, len(self.shown(line[:at])), name)
-        return [number, *(len(utf16(text[:end])) // 2 for end in ends), name]
+    def rows(self, faults: list) -> list:
+        """Faults as windows see them, in order: the line of each, where it begins and ends there in UTF-16, and its name."""
+        found = []
+        for number, those in groupby(faults, lambda fault: fault[0]):
+            text = self.shown(self.lines[number])
+            bytes_before, units_before = places(text)
+            for _, column, name in those:
+                start = min(bisect_right(bytes_before, column - 1) - 1, len(text))
+                found.append([number, *(units_before[end] for end in span_of(text, start, name)), name])
+        return found
 
     def save(self, asked: dict) -> dict:
         """Writes the book, as a new file that takes the old one's place. Where the file is not the one that was read
@@ -234,9 +237,13 @@ class SharedBook:
             return self.state()
 
 
-def held(lines: list) -> list:
-    """The lines that the program holds of these: an empty last one is none."""
-    return lines if lines[-1] else lines[:-1]
+def places(text: str) -> tuple:
+    """How many bytes and how many UTF-16 units stand before each character of a line that windows see, and before its end."""
+    if text.isascii():
+        return range(len(text) + 1), range(len(text) + 1)
+    sizes = (1 if "\udc00" <= character <= "\udcff" else len(utf8(character)) for character in text)
+    units = (2 if character > "\uffff" else 1 for character in text)
+    return [0, *accumulate(sizes)], [0, *accumulate(units)]
 
 
 def spliced(old: list, new: list, start: int, stop: int, grown: int) -> dict:

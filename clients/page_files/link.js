@@ -10,7 +10,8 @@ export class Link {
     this.text = text;
     this.window = crypto.randomUUID?.() ?? String(Math.random());
     this.state = null; // of the server: run, version, saved, savedVersion, windows
-    this.sent = null; // the edit on its way
+    this.sent = null; // the edit on its way, or one that was not answered: whether it arrived is not known
+    this.stuck = null; // the lines of the text that the server did not take
     this.tries = 0;
     this.away = false;
     this.opened = () => {}; // a whole book came
@@ -24,6 +25,11 @@ export class Link {
   /** Whether the server has all that was typed. */
   get settled() {
     return !this.sent && !this.text.pending;
+  }
+
+  /** Whether the server refused the text as it stands: it is not sent again until it is another one. */
+  get isStuck() {
+    return this.stuck === this.text.lines;
   }
 
   /** Asks the server; its answer, or an error with its status. */
@@ -97,16 +103,17 @@ export class Link {
     if (change.version > this.state.version + 1) return this.open();
     this.state.version = change.version;
     if (change.window === this.window) {
+      if (!isSame(change.edit, this.sent)) return this.open(); // one that was given up, and did arrive
       this.sent = null;
       this.whole = false;
     } else {
-      if (this.sent) this.text.giveBack(this.sent);
-      this.sent = null;
+      this.giveBack();
       if (this.whole) return this.open();
       if (this.text.others(change.edit.start, change.edit.stop, change.edit.lines)) this.twice();
     }
     this.changed(change, change.window === this.window);
     this.told();
+    this.soon();
   }
 
   /** Something was typed: it is sent soon, and at once when the edit before it arrived. */
@@ -118,7 +125,7 @@ export class Link {
   }
 
   async send() {
-    if (this.sent || !this.text.pending || !this.state || this.away) return;
+    if (this.sent || !this.text.pending || !this.state || this.away || this.isStuck) return;
     this.sent = this.text.take();
     const { run, version } = this.state;
     try {
@@ -129,10 +136,10 @@ export class Link {
     if (this.text.pending && !this.away) this.soon();
   }
 
-  /** An edit did not arrive: it is kept. */
+  /** An edit was refused, and is kept. One that was not answered may have arrived: what happens to the book will tell. */
   failed(error) {
-    if (this.sent) this.text.giveBack(this.sent);
-    this.sent = null;
+    if (!error.status) return this.absent(error);
+    this.giveBack();
     if (error.status === 409 && error.told.run === this.state.run) {
       const next = error.told.changes ?? [];
       if (next.length && next[0].version <= this.state.version + 1) next.forEach((change) => this.advance(change));
@@ -140,11 +147,18 @@ export class Link {
     } else if (error.status === 409) {
       this.open();
     } else if (error.status === 413 || error.status === 400) {
+      this.stuck = this.text.lines;
       this.refused(error.message);
-      this.absent(error);
+      this.told();
     } else {
       this.absent(error);
     }
+  }
+
+  /** The edit on its way did not arrive: it is pending again. */
+  giveBack() {
+    if (this.sent) this.text.giveBack(this.sent);
+    this.sent = null;
   }
 
   /** The server is away: it is tried again. */
@@ -164,6 +178,7 @@ export class Link {
       const book = await this.ask("state");
       this.away = false;
       if (book.run !== run || book.version < version) return this.open();
+      if (book.version === version) this.giveBack();
       this.listen();
       this.present();
     } catch (error) {
@@ -181,11 +196,11 @@ export class Link {
 
   /** Waits till the server has all that was typed. */
   async flush() {
-    while (!this.settled && !this.away) {
+    while (!this.settled && !this.away && !this.isStuck) {
       this.send();
       await new Promise((done) => setTimeout(done, 30));
     }
-    if (!this.settled) throw new Error(this.away);
+    if (!this.settled) throw new Error(this.away || "the server does not take the last edit");
   }
 
   /** Saves the book; `over` names the file on disk that is replaced though it was changed. */
@@ -196,6 +211,12 @@ export class Link {
     this.state = { ...state, version: this.state.version };
     this.told();
   }
+}
+
+/** Whether a change is the one that an edit asks for. */
+function isSame({ start, stop, lines }, edit) {
+  if (edit?.start !== start || edit.stop !== stop || edit.lines.length !== lines.length) return false;
+  return lines.every((line, n) => line === edit.lines[n]);
 }
 
 const START = { start: { line: 0, column: 0 }, end: { line: 0, column: 0 }, direction: "forward" };

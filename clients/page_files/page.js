@@ -250,7 +250,10 @@ link.told = () => {
   footer.dataset.away = link.away ? "away" : "";
   if (link.state && !link.away && link.settled && !find("notice").dataset.asks) drafts?.forget();
 };
-link.refused = (why) => ask(`The server does not take this edit: ${why}. Undo it.`, { Undo: () => sheet.history(true) });
+link.refused = (why) => {
+  keep();
+  ask(`The server does not take this edit: ${why}. Undo it.`, { Undo: () => sheet.history(true) });
+};
 link.twice = () => say("Another window changed the same lines: both are there.");
 link.doubted = (mine) => {
   drafts.keep(mine);

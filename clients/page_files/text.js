@@ -95,14 +95,15 @@ export class Text {
   }
 
   /** An edit of another window, of the text that the server had. Where this window has changed the same lines too, both
-   * are kept, the other's first; then true is answered. */
+   * are kept, the other's first; then true is answered. Lines put in before a line are not that line; two windows that put
+   * lines in at one place have the other's first, too. */
   others(start, stop, put) {
     const own = this.pending;
     this.past = [];
     this.future = [];
     const more = own ? own.count - (own.stop - own.start) : 0;
     const shift = put.length - (stop - start);
-    if (!own || start > own.stop || (start === own.stop && start > own.start)) {
+    if (!own || start > own.stop || (start === own.stop && (start > own.start || stop > start))) {
       this.lines = replaced(this.lines, start + more, stop + more, put);
       this.edited(start + more, stop + more, put.length);
     } else if (stop <= own.start) {

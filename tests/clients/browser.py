@@ -33,8 +33,23 @@ def lacking() -> str:
     return why
 
 
+class NotStarted(Exception):
+    """No browser started."""
+
+
 def started():
     """A browser."""
+    from selenium.common.exceptions import WebDriverException
+    from urllib3.exceptions import HTTPError
+
+    try:
+        return made_ready()
+    except (WebDriverException, HTTPError) as error:
+        raise NotStarted(str(error)) from error
+
+
+def made_ready():
+    """A browser whose windows are as large as the tests want, and whose pages begin with the script above."""
     from selenium import webdriver
     from selenium.webdriver.chrome.service import Service
     from selenium.webdriver.remote.remote_connection import RemoteConnection
@@ -92,8 +107,9 @@ def release_button(driver):
 
 
 def broke(error: Exception) -> bool:
-    """Whether it is the browser or its driver that failed, and not what the page did there."""
-    from selenium.common.exceptions import JavascriptException, WebDriverException
-    from urllib3.exceptions import HTTPError
+    """Whether it is the browser or its driver that failed, and not what the page did there: no browser started, or it, its
+    session or its window is gone. That an element is not there, or that the page does not answer, is the page's fault."""
+    from selenium.common.exceptions import InvalidSessionIdException, NoSuchWindowException, WebDriverException
 
-    return isinstance(error, (WebDriverException, HTTPError)) and not isinstance(error, JavascriptException)
+    gone = (NotStarted, InvalidSessionIdException, NoSuchWindowException)
+    return isinstance(error, gone) or type(error) is WebDriverException

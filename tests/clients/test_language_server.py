@@ -3,6 +3,7 @@
 import json
 import os
 import random
+import signal
 import subprocess
 import sys
 
@@ -207,6 +208,8 @@ class Session(Editor):
             asked = {"textDocument": {"uri": URI}, "range": span(line, 0, line, 1), "context": {"diagnostics": []}}
             action = self.ask("textDocument/codeAction", asked)[0]
             self.assertEqual((action["command"], action["arguments"]), ("play", [place]))
+            for only, count in ([], 1), ([""], 1), (["quickfix", ""], 1), (["quickfix"], 0), (["source.organizeImports"], 0):
+                self.assertEqual(len(self.ask("textDocument/codeAction", {**asked, "context": {"only": only}})), count, only)
             with open(self.play(URI, line), "rb") as file:
                 self.assertEqual(file.read(), trial.fresh(BOOK.encode()).files[f"{number}.mid"])
         for line in (4, 9):
@@ -248,6 +251,67 @@ class Session(Editor):
         self.finish()
 
 
+class Programs(Editor):
+    """The programs that the server starts, each of which tells its process."""
+
+    def setUp(self):
+        super(Editor, self).setUp()
+        self.starter = self.folder / "program"
+        self.starter.write_text(f'#!/bin/sh\necho $$ >>"{self.folder}/pids"\nexec "{trial.program}" "$@"\n')
+        self.starter.chmod(0o755)
+        self.start("--program", str(self.starter))
+        self.ask("initialize", {})
+
+    def programs(self) -> list:
+        """The processes that were started, one after another."""
+        return [int(line) for line in (self.folder / "pids").read_text().split()]
+
+    def test_a_book_that_is_opened_twice(self):
+        self.open("X:1\nK:C\n&")
+        self.assertEqual(starts(self.open("X:1\nK:C\nC-")), [])
+        self.assertEqual(starts(self.change(1, (span(2, 2, 2, 2), "&"))), [(2, 2, "BadByte")])
+        first, second = self.programs()
+        with self.assertRaises(ProcessLookupError):
+            os.kill(first, 0)
+        os.kill(second, 0)
+        self.finish()
+
+    def test_a_program_that_ends(self):
+        """It is started again, with the text as it stands then, and the other books stay."""
+        other = "file:///other"
+        self.open(BOOK)
+        self.open("X:2\nK:C\nC", other)
+        os.kill(self.programs()[0], signal.SIGKILL)
+        changes = (span(3, 4, 3, 6), ""), (span(0, 0, 0, 0), "X:9\nK:C\n-\n\n")
+        self.assertEqual(starts(self.change(1, *changes)), [(2, 0, "LooseTie"), (11, 4, "LooseTie")])
+        self.assertEqual([os.path.basename(self.play(*place)) for place in ((URI, 0), (URI, 5), (other, 0))], ["9.mid", "1.mid", "2.mid"])
+        os.kill(self.programs()[2], signal.SIGKILL)
+        symbols = self.ask("textDocument/documentSymbol", {"textDocument": {"uri": URI}})
+        self.assertEqual([symbol["name"] for symbol in symbols], ["9", "1 Kesh", "2"])
+        self.ask("shutdown")
+        self.notify("exit")
+        told = b"language_server: the program ended with status -9; it is started again\n"
+        self.assertEqual((self.server.wait(trial.SECONDS), self.server.stderr.read(), len(self.programs())), (0, 2 * told, 4))
+
+    def test_no_program_for_a_while(self):
+        """The session goes on, and the book is there again with the program."""
+        other = "file:///other"
+        self.open("X:1\nK:C\nC")
+        self.open("X:2\nK:C\nC", other)
+        self.starter.rename(self.folder / "away")
+        os.kill(self.programs()[0], signal.SIGKILL)
+        told = [{"text": "&", "range": span(2, 1, 2, 1)}]
+        self.notify("textDocument/didChange", {"textDocument": {"uri": URI, "version": 1}, "contentChanges": told})
+        message = self.read()
+        self.assertEqual((message["method"], message["params"]["type"]), ("window/showMessage", 1))
+        self.assertEqual(self.ask("textDocument/documentSymbol", {"textDocument": {"uri": URI}}), -32803)
+        self.assertEqual(os.path.basename(self.play(other, 0)), "2.mid")
+        (self.folder / "away").rename(self.starter)
+        self.assertEqual(starts(self.change(2, (span(2, 0, 2, 0), "-"))), [(2, 0, "LooseTie"), (2, 2, "BadByte")])
+        self.assertIsNone(self.ask("shutdown"))
+        self.assertEqual(os.listdir(self.files), [])
+
+
 class Documents(trial.Folder):
     """A document by itself."""
 
@@ -283,13 +347,17 @@ class Protocol(Editor):
         self.assertEqual(self.ask("textDocument/documentSymbol"), -32602)
         self.assertIsNone(self.ask("shutdown"))
         self.assertEqual(self.ask("shutdown"), -32600)
+        self.notify("textDocument/didOpen", {"textDocument": {"uri": URI, "version": 1, "text": "&"}})
+        self.notify("textDocument/didClose", {"textDocument": {"uri": URI}})
         self.notify("exit")
         self.assertEqual((self.server.wait(trial.SECONDS), os.listdir(self.files)), (0, []))
+        self.assertEqual((self.server.stdout.read(), self.server.stderr.read()), (b"", b""))
 
     def test_what_is_no_request(self):
-        for data, code in (b"{", -32700), (b"\xff", -32700), (b"", -32700), (b"[]", -32600), (b'{"id": 1, "method": 2}', -32600):
+        deep = b"[" * 100_000
+        for data, code in (b"{", -32700), (b"\xff", -32700), (b"", -32700), (deep, -32700), (b"[]", -32600), (b'{"id": 1, "method": 2}', -32600):
             self.send(data)
-            self.assertEqual([self.read()["error"]["code"] for _ in range(1)], [code])
+            self.assertEqual(self.read()["error"]["code"], code)
         data = b'{"id": "a", "method": "initialize", "params": {}}'
         self.server.stdin.write(b"content-length:%d\r\nContent-Type: x\r\n\r\n" % len(data) + data)
         self.server.stdin.flush()
@@ -303,6 +371,16 @@ class Protocol(Editor):
         self.server.stdin.close()
         self.server.stdin = None
         self.assertEqual((self.server.wait(trial.SECONDS), os.listdir(self.files)), (1, []))
+
+    def test_the_terminal_is_closed(self):
+        self.notify("exit")
+        self.server.wait(trial.SECONDS)
+        trial.hear_of_the_terminal(self)
+        self.start()
+        self.ask("initialize", {})
+        self.open(BOOK)
+        self.server.send_signal(signal.SIGHUP)
+        self.assertEqual((self.server.wait(trial.SECONDS), os.listdir(self.files), self.server.stderr.read()), (1, [], b""))
 
     def test_a_player(self):
         self.server.kill()

@@ -55,14 +55,18 @@ class Edits(trial.Folder):
         self.check(old, [line for line in old for _ in range(2)])
 
     def test_edits_that_are_joined(self):
-        old, new = lines("abcdefghijkl"), lines("XbcYefghZjklW")
+        """Those of one tune, and those nearest to each other where there are too many. Here `T` begins a tune."""
+        old, new = ([b"X:" if line == b"T" else line for line in lines(text)] for text in ("aTcdefgTijkTmn", "ATcDeFgTIjkTmN"))
         found = self.check(old, new)
-        self.assertEqual([edit.start for edit in found], [0, 3, 8, 12])
-        self.assertEqual(live_book.joined(found, old, 9), found)
-        self.assertEqual(live_book.joined(found, old, 3), [Edit(0, 4, lines("XbcY")), *found[2:]])
-        self.assertEqual(live_book.joined(found, old, 2), [Edit(0, 4, lines("XbcY")), Edit(8, 12, lines("ZjklW"))])
-        self.assertEqual(live_book.joined(found, old, 1), [Edit(0, 12, new)])
+        self.assertEqual([edit.start for edit in found], [0, 3, 5, 8, 13])
+        inside = Edit(3, 6, lines("DeF"))
+        self.assertEqual(live_book.joined(found, old, 9), [found[0], inside, *found[3:]])
+        self.assertEqual(live_book.joined(found, old, 3), [Edit(0, 6, new[:6]), *found[3:]])
+        self.assertEqual(live_book.joined(found, old, 2), [Edit(0, 9, new[:9]), found[4]])
+        self.assertEqual(live_book.joined(found, old, 1), [Edit(0, 14, new)])
         self.assertEqual(live_book.joined([], old, 1), [])
+        found = self.check(old, [line for line in old if line != b"X:"])
+        self.assertEqual((len(found), live_book.joined(found, old, 9)), (3, [Edit(1, 12, lines("cdefgijk"))]))
 
 
 class Texts(trial.Folder):
@@ -185,6 +189,8 @@ class Program(trial.Folder):
         with self.assertRaisesRegex(live_book.ProgramEnded, "status 3"):
             book.faults()
         self.assertEqual(book.close(), 3)
+        with self.assertRaisesRegex(live_book.ProgramEnded, "status 3"):
+            book.replace(0, 0, [b"C"])
         with self.assertRaises(live_book.ProgramMissing):
             LiveBook(str(self.folder / "none"), str(self.files))
 

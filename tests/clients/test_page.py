@@ -74,9 +74,9 @@ class Page(trial.Folder):
         state = self.ask("state")
         return self.ask("save", {"run": state["run"], "version": state["version"], **more})
 
-    def finish(self):
+    def finish(self, by=signal.SIGTERM):
         """Ends the server, which leaves nothing."""
-        self.server.send_signal(signal.SIGTERM)
+        self.server.send_signal(by)
         said = self.server.communicate(timeout=trial.SECONDS)
         self.assertEqual((said, self.server.returncode, os.listdir(self.files)), ((b"", b""), 0, []))
 
@@ -98,6 +98,13 @@ class Requests(Page):
             self.assertIn("default-src 'none'", headers["Content-Security-Policy"])
             self.assertEqual(headers["Referrer-Policy"], "no-referrer")
             self.assertNotIn(b"http", data)
+        self.finish()
+
+    def test_an_address_without_its_last_slash(self):
+        """It goes to the page, which would not find its files from there."""
+        status, headers, data = self.request("", path=f"/{self.token}")
+        self.assertEqual((status, headers["Location"], data), (308, f"/{self.token}/", b""))
+        self.assertEqual(self.request("", {}, path=f"/{self.token}")[0], 404)
         self.finish()
 
     def test_a_book(self):
@@ -134,6 +141,13 @@ class Requests(Page):
         for data in (b"", b"[]", b"{", b"\xff", b"[" * 100_000, b'{"run": 1}'):
             self.assertIn(self.request("edit", data)[0], (400, 409), data[:9])
         self.assertEqual(self.book()["lines"], ["% new", *BOOK.decode().split("\n")])
+
+    def test_a_half_that_is_no_line_feed(self):
+        """It would make a command of what stands behind it."""
+        self.edit(3, 4, "a\udc0aquit")
+        self.assertEqual(self.book()["lines"][3], "a?quit")
+        self.assertEqual(self.edit(3, 4, "G")["written"], [1])
+        self.finish()
 
     def test_midi_files(self):
         files = trial.fresh(BOOK).files
@@ -244,12 +258,40 @@ class Requests(Page):
         self.save()
         self.assertEqual(self.path.read_bytes(), b"% words\r\nX:1\r\nK:C\r\nC")
 
+    def test_lines_of_mixed_ends(self):
+        """The line before the last one changes only where it was the last one, or becomes it."""
+        self.finish()
+        self.path.write_bytes(b"X:1\r\nK:C\nC")
+        self.start(str(self.path))
+        for edit, book in (
+            ((2, 3, "CD"), b"X:1\r\nK:C\nCD"),
+            ((2, 3, "CD", "E"), b"X:1\r\nK:C\nCD\r\nE"),
+            ((4, 4, "F"), b"X:1\r\nK:C\nCD\r\nE\r\nF"),
+            ((2, 5), b"X:1\r\nK:C"),
+            ((1, 2), b"X:1"),
+        ):
+            self.edit(*edit)
+            self.save()
+            self.assertEqual(self.path.read_bytes(), book)
+            self.assertEqual(self.book()["lines"], book.decode().replace("\r", "").split("\n"))
+        self.finish()
+
     def test_the_program_ends(self):
         self.edit(3, 4, "G")
         os.kill(int((self.folder / "pid").read_text()), signal.SIGKILL)
         self.assertEqual(self.edit(3, 4, "A")["status"], 503)
         self.assertEqual(self.edit(3, 4, "A")["written"], [1])
         self.assertEqual(self.book()["lines"][3], "A")
+        self.finish()
+
+    def test_no_program_for_a_while(self):
+        starter, away = self.folder / "program", self.folder / "away"
+        starter.rename(away)
+        os.kill(int((self.folder / "pid").read_text()), signal.SIGKILL)
+        self.assertEqual([self.edit(3, 4, "A")["status"] for _ in range(2)], [503, 503])
+        away.rename(starter)
+        self.assertEqual(self.edit(3, 4, "A")["status"], 503)
+        self.assertEqual(self.edit(3, 4, "A")["written"], [1])
         self.finish()
 
     @contextmanager
@@ -289,10 +331,22 @@ class Requests(Page):
         taken = [sys.executable, str(trial.CLIENTS / "page"), "--program", trial.program, "--port", str(port)]
         again = subprocess.run(taken, capture_output=True, timeout=trial.SECONDS)
         self.assertEqual((again.returncode, again.stderr.count(b"\n")), (1, 1))
-        (self.folder / "state/abc2midi_live/token").chmod(0o644)
+        kept = self.folder / "state/abc2midi_live/token"
+        kept.chmod(0o644)
         self.finish()
         self.start(str(self.path))
         self.assertNotEqual(self.token, token)
+        kept.write_bytes(b"\xff" * 32)
+        kept.chmod(0o600)
+        self.finish()
+        self.start(str(self.path))
+        self.finish()
+
+    def test_the_terminal_is_closed(self):
+        self.finish()
+        trial.hear_of_the_terminal(self)
+        self.start(str(self.path))
+        self.finish(signal.SIGHUP)
 
     def test_random_edits(self):
         """What a window makes of the answers is what a fresh run gives."""
@@ -315,6 +369,26 @@ class Requests(Page):
         self.assertEqual({f"{number}.mid" for _, number, _, has_file in tunes if has_file}, set(fresh.files))
         for name, data in fresh.files.items():
             self.assertEqual(self.request(f"midi/{name[:-4]}")[2], data)
+
+
+class Faults(trial.Folder):
+    """Faults as windows see them."""
+
+    def test_places(self):
+        """A line is made ready to be shown once, for all its faults; a byte that is no text is a character of its own."""
+        path = self.folder / "book.abc"
+        path.write_bytes(b"X:1\nK:C\n" + "é𝄞".encode() + b"\xff\xbf&\x1bC\n" + b"&" * 1000 + b"\n[]2 C0 \"")
+        book = shared_book.SharedBook(str(path), trial.program, str(self.files))
+        self.addCleanup(book.book.process.stdout.close)
+        self.addCleanup(book.close)
+        shown, show = [], book.shown
+        book.shown = lambda line: shown.append(line) or show(line)
+        found = [row[:3] for row in book.rows(book.faults)]
+        self.assertEqual(len(shown), 3)
+        first = [[2, 0, 1]] * 2 + [[2, 1, 3]] * 4 + [[2, 3, 4], [2, 4, 5], [2, 5, 6], [2, 6, 7]]
+        self.assertEqual(found[:10], first)
+        self.assertEqual(found[10:1010], [[3, n, n + 1] for n in range(1000)])
+        self.assertEqual(found[1010:], [[4, 0, 3], [4, 4, 6], [4, 7, 8]])
 
 
 def followed(rows: list, change: dict, start: int, stop: int, count: int) -> list:

@@ -212,6 +212,16 @@ class Program(trial.Folder):
             os.kill(int((self.folder / "pid").read_text()), 0)
         self.assertEqual(sorted(os.listdir(self.files)), ["1.mid", "2.mid"])
 
+    def test_the_terminal_is_closed(self):
+        self.path.write_bytes(TUNE)
+        trial.hear_of_the_terminal(self)
+        self.start()
+        self.line()
+        self.process.send_signal(signal.SIGHUP)
+        self.assertEqual((self.process.communicate(timeout=trial.SECONDS), self.process.returncode), ((b"", b""), 0))
+        with self.assertRaises(ProcessLookupError):
+            os.kill(int((self.folder / "pid").read_text()), 0)
+
     def wait_for(self, comes):
         """Waits till something comes about."""
         until = time.monotonic() + trial.SECONDS

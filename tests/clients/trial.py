@@ -4,6 +4,7 @@ import importlib.machinery
 import importlib.util
 import os
 import random
+import signal
 import subprocess
 import sys
 import tempfile
@@ -54,6 +55,12 @@ def client(name: str):
     module = importlib.util.module_from_spec(importlib.util.spec_from_loader(name, loader))
     loader.exec_module(module)
     return module
+
+
+def hear_of_the_terminal(test: unittest.TestCase):
+    """Lets the processes that a test starts hear when their terminal is closed, also where this one was started by `nohup`."""
+    before = signal.signal(signal.SIGHUP, signal.SIG_DFL)
+    test.addCleanup(signal.signal, signal.SIGHUP, before)
 
 
 class Folder(unittest.TestCase):

@@ -19,7 +19,7 @@ Commands, one on a line of standard input:
 
 An edit is answered 'ok written' and the tunes whose files are new or changed, then 'removed' and those
 that have no file any more; or 'error' and why it was refused. A line that is no command is answered
-'error command'. Each answer is a line of standard output, there before the next command is read.";
+'error command'. Answers are lines of standard output, each complete before the next command is read.";
 
 /// What the program takes from its command line.
 pub(crate) fn command<'a>(alloc: Global) -> Result<Command<'a>, AllocError> {
@@ -27,7 +27,7 @@ pub(crate) fn command<'a>(alloc: Global) -> Result<Command<'a>, AllocError> {
         .long("dir")
         .value_name("DIR")
         .required(true)
-        .help("The folder for the MIDI files; tune number N has the file N.mid");
+        .help("The folder for the MIDI files, which must exist; tune number N has the file N.mid");
     let book = Arg::new(alloc, "book").value_name("BOOK").help(
         "A file of tunes; its lines are put before line 1, and answered as an edit",
     );

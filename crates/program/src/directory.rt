@@ -9,12 +9,14 @@ use std::io::{self, ErrorKind, Write};
 use std::rt::Runtime;
 
 /// What stands under a name.
-#[derive(Clone, Copy)]
+#[derive(Drop)]
 pub(crate) enum Place {
     Folder,
     /// A file, or something else that is no folder.
     NoFolder,
     Nothing,
+    /// It cannot be seen, as where a folder in the path may not be entered.
+    Hidden(io::Error),
 }
 
 /// Files by their names in one folder. Each file that cannot be stored or removed is told on standard error, with the
@@ -42,7 +44,8 @@ impl<'a, R: Runtime + AllocGlobal> Directory<'a, R> {
         match fs::metadata(self.rt, self.path) {
             Ok(metadata) if metadata.is_dir() => Place::Folder,
             Ok(_) => Place::NoFolder,
-            Err(_) => Place::Nothing,
+            Err(error) if error.kind() == ErrorKind::NotFound => Place::Nothing,
+            Err(error) => Place::Hidden(error),
         }
     }
 

@@ -94,6 +94,11 @@ fn warn<R: Runtime + AllocGlobal>(rt: &R, dir: &str, place: Place) {
                 "warning: there is no folder '{dir}', so no MIDI file can be stored in it"
             )
         }
+        Place::Hidden(error) => {
+            eprintln!(rt;
+                "warning: the folder '{dir}' cannot be reached, so no MIDI file can be stored in it: {error}"
+            )
+        }
     };
 }
 
@@ -104,7 +109,7 @@ fn warn_of_book<R: Runtime + AllocGlobal>(rt: &R, path: &str, book: &[u8]) {
     }
 }
 
-/// The bytes of the tune book, if there is one. Where it cannot be read, or is refused, that is said on standard error.
+/// The bytes of the tune book, if there is one. Where it cannot be read, or is refused, standard error says why.
 fn book_of<R: Runtime + Files + AllocGlobal>(
     rt: &R,
     path: Option<&str>,
@@ -120,8 +125,8 @@ fn book_of<R: Runtime + Files + AllocGlobal>(
         Err(error) if error.kind() == io::ErrorKind::OutOfMemory => {
             Err(Failure::Run(RunFault::Memory))
         }
-        Err(_) => {
-            let _ = eprintln!(rt; "error: the tune book '{path}' cannot be read");
+        Err(error) => {
+            let _ = eprintln!(rt; "error: the tune book '{path}' cannot be read: {error}");
             Err(Failure::Run(RunFault::Read))
         }
     }
@@ -132,7 +137,7 @@ fn converse<R: Runtime + AllocGlobal>(rt: &R) -> Result<(), Failure> {
     let alloc = rt.alloc();
     let words = words_of(rt)?;
     let matches = command(alloc)?.try_get_matches_from(words.as_slice())?;
-    let dir = matches.get_str("dir").unwrap_or(".");
+    let dir = matches.get_str("dir").unwrap_or("");
     let mut reader = Piped::new(rt.reader());
     let mut writer = Piped::new(io::writer(rt));
     let mut store = Directory::new(rt, dir);
