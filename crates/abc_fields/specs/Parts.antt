@@ -7,7 +7,6 @@ use Rattle.abc_fields.specs.declared.fault.FaultCode.TheVariants.{BadOrder}
 use Rattle.abc_fields.specs.declared.parts.Before.{Before}
 use Rattle.abc_fields.specs.declared.parts.Before.TheVariants.{Nothing, Item}
 use Rattle.abc_fields.specs.declared.parts.Place.{Place}
-use Rattle.abc_text.specs.declared.digit.TheConstants.{LONGEST_NUMBER}
 use Rattle.abc_text.specs.Byte.{open_parenthesis, close_parenthesis, dot, digit_zero}
 
 -- A dot or a blank, which is ignored wherever it stands in an order, also inside a count.
@@ -32,7 +31,7 @@ begins_item (Item digits positive) = ends_item (Item digits positive)
 abbrev pub with_digit : Before → ℕ → Option Before
 with_digit Nothing digit = None
 with_digit (Item digits positive) digit =
-    if nat_lt digits LONGEST_NUMBER then Some (Item (digits + 1) (positive || not (digit == digit_zero))) else None
+    if nat_lt digits 9 then Some (Item (digits + 1) (positive || not (digit == digit_zero))) else None
 
 -- The place at this depth with this before it.
 abbrev pub at : ℕ → Before → Place

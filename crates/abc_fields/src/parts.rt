@@ -6,10 +6,13 @@ ghost use Rattle.abc_fields.specs.Parts.{is_ignored, ends_item, begins_item, wit
 ghost use Rattle.abc_fields.specs.Spelling.Parts.{IsParts};
 
 use crate::fault::FaultCode;
-use abc_text::{LONGEST_NUMBER, is_blank};
+use abc_text::is_blank;
 
 /// How many groups of an order stand within one another at most. Our own.
 pub const DEEPEST_GROUP: u8 = 32;
+
+/// How many digits a count has at most.
+const LONGEST_COUNT: u8 = 9;
 
 /// What stands before a place of an order, in the group of that place.
 #[derive(Clone, Copy)]
@@ -51,7 +54,7 @@ impl Before {
         ensures { result ≡ with_digit self digit }
     {
         match self {
-            Before::Item { digits, positive } if usize::from(digits) < LONGEST_NUMBER => Some(Before::Item {
+            Before::Item { digits, positive } if digits < LONGEST_COUNT => Some(Before::Item {
                 digits: digits + 1,
                 positive: positive || digit != b'0',
             }),

@@ -4,9 +4,7 @@ use crate::notes::chord_of;
 use crate::told::{call, done};
 use abc_book::{blocks, stretch_blocks};
 use abc_fold::Work;
-use abc_scan::{
-    ChordPartKind, Field, LineClass, Token, cells, cells_of_line, class_of, scan,
-};
+use abc_scan::{ChordPartKind, Field, LineClass, Token, cells, cells_of_line, class_of, scan};
 use abc_text::Sequence;
 use std::alloc::{AllocError, Global};
 use std::rt::Runtime;
