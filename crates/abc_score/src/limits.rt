@@ -13,19 +13,20 @@ use abc_time::{Grains, LATEST_END};
 /// How many bytes a title has at most.
 pub const LONGEST_TITLE: usize = 65_535;
 
-/// How many changes of tempo, meter and key a score has at most.
+/// How many changes of tempo, meter and key a score has at most: each place that is played sets at most one, and three
+/// stand at the beginning.
 pub const MOST_CHANGES: usize = 1_000_003;
 
-/// How many notes a voice has at most.
+/// How many notes a voice has at most: each place that is played has at most sixteen tones.
 pub const MOST_NOTES: usize = 16_000_000;
 
-/// How many changes of program a voice has at most.
+/// How many changes of program a voice has at most: each place that is played sets at most one, and one stands at the
+/// beginning.
 pub const MOST_PROGRAMS: usize = 1_000_001;
 
-/// The limits are these numbers. A title is as long as sixteen bits can say. A score has no more voices than a
-/// tune may have, so each has a channel of MIDI's sixteen without the drums'.
-/// A chord has sixteen tones at most, and MIDI's keys go to 127. Each place that is played changes a voice's program
-/// once at most, and what stands in front of them once.
+/// The limits are these numbers. A title is as long as sixteen bits can say. A score has no more voices than a tune may
+/// have, so each has a channel of MIDI's sixteen without the drums'. A chord has sixteen tones at most, and MIDI's keys go
+/// to 127.
 pub fn score_limits()
     ensures title { LONGEST_TITLE ≡ 2 ^ 16 - 1 }
     ensures changes { MOST_CHANGES ≡ 1000003 }

@@ -71,8 +71,7 @@ chain_end at tone key number (token ∷ tokens) =
     end_by (at + tone.length.0) (λ other. chain_end token.at other.0 key other.1 tokens) (joined_with tone key number token.tones)
 
 -- The note of a chain that a tone begins behind these tones of its time token, the last of these first, as loud as that
--- tone; none where
--- the tone is joined with one of the time token before, which has so many tied ones of each key.
+-- tone; none where the tone is joined with one of the time token before, which has so many tied ones of each key.
 abbrev pub begun_by : (ℕ → ℕ) → ℕ → List Tone → Tone → List TimeToken → Option ℕ → List Sounding
 begun_by tied at past tone tokens None = []
 begun_by tied at past tone tokens (Some key) =

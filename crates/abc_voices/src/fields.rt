@@ -26,7 +26,7 @@ fn is_change(item: &Item) -> bool
     is_field(item) && is_step(item)
 }
 
-/// Whether none of a tune's fields changes its tempo, its meter, its key or a program while it is played.
+/// Whether no item of a tune changes its tempo, its meter, its key or a program while it is played.
 pub(crate) fn is_steady(given: &[&Item]) -> bool
     ensures { result ≡ is_steady (items_of given.now) }
 {
@@ -45,7 +45,7 @@ fn sets_program(item: &Item) -> bool
     Programs::value_of(item).is_some()
 }
 
-/// Whether none of a tune's fields sets a program while it is played.
+/// Whether no item of a tune sets a program while it is played.
 pub(crate) fn keeps_programs(given: &[&Item]) -> bool
     ensures { result ≡ keeps_programs (items_of given.now) }
 {

@@ -8,8 +8,8 @@ ghost use Rattle.abc_voices.specs.Ties.{PlaysChains, VoicesPlayChains};
 ghost use Rattle.abc_voices.specs.Tracks.{HaveTracksByMention};
 ghost use Rattle.abc_voices.specs.Voices.{AreOfVoices};
 
-/// Each item is played by the voice of the last V: before it, else by the first declared one, else by the one
-/// without a name.
+/// Each item is played by the voice of the last V: of the body before it, else by the first declared one, else by the
+/// one without a name.
 #[tactic(auto, using(crate::proofs::Voices::are_of_voices))]
 pub fn voices_by_looking_back()
     ensures { AreOfVoices }
@@ -33,8 +33,8 @@ pub fn ties_in_play()
     ensures voices { VoicesPlayChains }
 {}
 
-/// Of the fields of tempo, meter and key and the directives of programs those that stand between a bar that ended an ending and the sign of the
-/// strain's next ending are played with that one, and nothing else is moved.
+/// Of the fields of tempo, meter and key and the directives of programs those that stand between a bar that ended an
+/// ending and the sign of the strain's next ending are played with that one, and nothing else is moved. Our own.
 #[tactic(auto, using(crate::proofs::Endings::moves_by_strains))]
 pub fn fields_before_endings()
     ensures { MovesByStrains }

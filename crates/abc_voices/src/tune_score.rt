@@ -54,7 +54,7 @@ fn changes_along(
     changes_that_stand(alloc, &tempos, &meters, &keys)
 }
 
-/// When a moment and the last of the notes of some voices are over.
+/// The later of a moment and the last end of the notes of some voices.
 fn last_of_all(at: Grains, voices: &[Sequence<Sounding>]) -> Grains
     ensures { result.0 ≡ last_off at.0 (flat_map (λ notes. notes) voices.now) }
 {
