@@ -52,7 +52,7 @@ impl Mark {
     }
 
     /// Whether it is a bar line that neither repeats nor is double.
-    pub fn is_single(self) -> bool
+    pub(crate) fn is_single(self) -> bool
         ensures { result ≡ is_single self }
     {
         match self {

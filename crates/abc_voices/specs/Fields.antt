@@ -31,6 +31,6 @@ sets_program item = is_some (program_of item)
 abbrev pub keeps_programs : List Item → Bool
 keeps_programs tune = list_all (λ step. not (sets_program step && is_step step)) tune
 
--- The steps of a tune that are no music.
-abbrev pub fields : List Item → List Item
-fields tune = filter (λ step. not (is_music step)) tune
+-- The items of a tune that are no music.
+abbrev pub without_music : List Item → List Item
+without_music tune = filter (λ step. not (is_music step)) tune
