@@ -5,7 +5,7 @@ use Rattle.abc_text.specs.declared.passes.TheConstants.{LAST_PASS}
 use Rattle.abc_repeat.specs.declared.mark.Mark.{Mark}
 use Rattle.abc_repeat.specs.declared.mark.Mark.TheVariants as marks
 
--- A note, chord, rest, bar rest or field.
+-- A note, a chord, a rest, a bar rest, a field or a program.
 abbrev pub is_play : Mark → Bool
 is_play marks.Play = true
 is_play (marks.Bar closes opens double) = false
@@ -23,7 +23,7 @@ is_repeat marks.Play = false
 is_repeat (marks.Bar closes opens double) = nat_lt 0 closes || nat_lt 0 opens
 is_repeat (marks.Ending numbers) = false
 
--- A bar line of more than one thin line. ABC 2.1 section 4.8.
+-- A bar line whose middle is not a single thin line. ABC 2.1 section 4.8; what double means is our own.
 abbrev pub is_double : Mark → Bool
 is_double marks.Play = false
 is_double (marks.Bar closes opens double) = double
@@ -35,7 +35,7 @@ is_single marks.Play = false
 is_single (marks.Bar closes opens double) = (closes == 0) && (opens == 0) && not double
 is_single (marks.Ending numbers) = false
 
--- A repeat bar with colons behind it opens the strain that follows. ABC 2.1 section 4.8.
+-- A repeat bar with colons behind it opens the strain that follows. ABC 2.1 section 4.8; strains are our own.
 abbrev pub opens_next : Mark → Bool
 opens_next marks.Play = false
 opens_next (marks.Bar closes opens double) = nat_lt 0 opens

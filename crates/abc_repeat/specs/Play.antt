@@ -57,7 +57,7 @@ abbrev pub plays_from : ℕ → List Strain → List ℕ
 plays_from at [] = []
 plays_from at (strain ∷ strains) = strain_play at strain ++ plays_from (at + length (text_of strain)) strains
 
--- The play of a section: the places of its notes, chords, rests and fields in order of play.
+-- The play of a section: the places of its notes, chords, rests, bar rests, fields and programs in order of play.
 unfoldable pub play_of : List Mark → List ℕ
 play_of ms = plays_from 0 (strains_of ms)
 

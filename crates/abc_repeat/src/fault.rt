@@ -10,7 +10,7 @@ use thiserror::Error;
 #[derive(Clone, Copy, Debug, PartialEq, Eq, Error)]
 pub enum RepeatFault {
     /// More than 1,000,000 places would be played.
-    #[error("more than 1,000,000 notes, rests and fields would be played")]
+    #[error("more than 1,000,000 notes, chords, rests, fields and programs would be played")]
     TooLong,
     /// There is no memory.
     #[error("out of memory")]

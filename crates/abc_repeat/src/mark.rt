@@ -8,9 +8,9 @@ use abc_text::LAST_PASS;
 /// A mark of one voice in one section, which says how it is played (ABC 2.1 sections 4.8 to 4.10).
 #[derive(Clone, Copy, Debug, PartialEq, Eq)]
 pub enum Mark {
-    /// What takes its turn in the play: a note, a chord, a rest, a bar rest or a field.
+    /// What takes its turn in the play: a note, a chord, a rest, a bar rest, a field or a program.
     Play,
-    /// A bar line with so many colons before and behind it; double where it is more than one thin line.
+    /// A bar line with so many colons before and behind it; double where its middle is not a single thin line.
     Bar {
         closes: usize,
         opens: usize,
@@ -52,7 +52,7 @@ impl Mark {
     }
 
     /// Whether it is a bar line that neither repeats nor is double.
-    pub fn is_single(self) -> bool
+    pub(crate) fn is_single(self) -> bool
         ensures { result ≡ is_single self }
     {
         match self {

@@ -102,8 +102,8 @@ fn put_play(alloc: Global, play: &mut Vec<usize>, marks: &[Mark]) -> Result<(), 
     Ok(())
 }
 
-/// The places of what is played, in order of play (ABC 2.1 sections 4.8 to 4.10), where there is room for so many.
-/// Fields that are played with an ending are to stand behind its sign.
+/// The places of what is played, in order of play (ABC 2.1 sections 4.8 to 4.10); `TooLong` where there are more than
+/// `room` or `MOST_PLACES`. Fields that are played with an ending are to stand behind its sign.
 ///
 /// No contract says how long it takes. As it is written, it goes through the marks and through the places that are played.
 #[inline(never)]

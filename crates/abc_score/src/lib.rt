@@ -4,8 +4,5 @@
 mod limits;
 mod score;
 
-pub use limits::{
-    LONGEST_TITLE, MOST_CHANGES, MOST_NOTES, MOST_PROGRAMS, are_voices_and_title_within,
-    is_within_limits, score_limits,
-};
+pub use limits::{LONGEST_TITLE, MOST_CHANGES, MOST_NOTES, MOST_PROGRAMS, score_limits};
 pub use score::{Change, ChangeKind, ProgramChange, Score, Sounding};

@@ -11,19 +11,21 @@ pub struct Score {
     pub end: Grains,
     /// Tempos, meters and keys, in any order.
     pub conductor: Sequence<Change>,
-    /// The notes of each voice, in any order.
+    /// For each voice with a track, in the order of the tracks, its notes in any order.
     pub voices: Sequence<Sequence<Sounding>>,
-    /// The programs of each voice, in any order.
+    /// For each of these voices, at the same place, its changes of program in any order.
     pub programs: Sequence<Sequence<ProgramChange>>,
 }
 
 /// A change of tempo, meter or key.
 #[derive(Clone, Copy, Debug, PartialEq, Eq)]
 pub struct Change {
+    /// In grains from the start of the tune.
     pub at: Grains,
     pub what: ChangeKind,
 }
 
+/// What a change sets.
 #[derive(Clone, Copy, Debug, PartialEq, Eq)]
 pub enum ChangeKind {
     /// Microseconds to a quarter note, 1 to 16,777,215.
@@ -37,6 +39,7 @@ pub enum ChangeKind {
 /// A program that a voice changes to.
 #[derive(Clone, Copy, Debug, PartialEq, Eq)]
 pub struct ProgramChange {
+    /// In grains from the start of the tune.
     pub at: Grains,
     /// 0 to 127.
     pub number: u8,
@@ -45,7 +48,9 @@ pub struct ProgramChange {
 /// A note that sounds from one moment to another.
 #[derive(Clone, Copy, Debug, PartialEq, Eq)]
 pub struct Sounding {
+    /// When it begins, in grains from the start of the tune.
     pub on: Grains,
+    /// When it is over, in grains from the start of the tune.
     pub off: Grains,
     /// 0 to 127, 60 the middle C.
     pub key: u8,

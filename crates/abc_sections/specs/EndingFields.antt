@@ -36,7 +36,7 @@ abbrev pub set_down : List Item → Item → List Item
 set_down held step =
     if is_ending (mark_of step) then step ∷ held else held ++ step ∷ []
 
--- The order of steps behind those that wait: what each step is to the play is its item.
+-- The steps from a place on in the order of their play, behind those that wait.
 abbrev pub with_fields_in_endings_from : Region → List Item → List Item → List Item
 with_fields_in_endings_from region held [] = held
 with_fields_in_endings_from region held (step ∷ steps) =

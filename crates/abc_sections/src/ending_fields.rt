@@ -6,7 +6,7 @@ ghost use Rattle.abc_sections.specs.Stretches.{runs_of, items_in, IsRun};
 ghost use Rattle.abc_sections.specs.declared.ending_fields.Region.TheVariants as regions;
 ghost use Rattle.abc_sections.specs.EndingFields.{waits, past_bar, past, region_past, nothing_waits, set_down, with_fields_in_endings};
 
-use crate::step::{is_field, mark_of};
+use crate::step::{is_field, is_single_bar, mark_of};
 use crate::stretches::Stretch;
 use abc_items::Item;
 use abc_repeat::Mark;
@@ -29,7 +29,7 @@ impl Region {
         ensures { result ≡ waits self item.now }
     {
         match self {
-            Region::Behind => is_field(item) || mark_of(item).is_single(),
+            Region::Behind => is_field(item) || is_single_bar(item),
             _ => false,
         }
     }

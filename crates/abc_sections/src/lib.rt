@@ -10,5 +10,5 @@ mod stretches;
 
 pub use ending_fields::Region;
 pub use section::{Section, is_step, letters, opening_voice, sections};
-pub use stage::{Part, Stage, StageFault, Turn};
+pub use stage::{Part, Stage, StageFault};
 pub use step::{is_field, length_of};

@@ -41,12 +41,6 @@ pub struct Stage<'t> {
     pub longest: Grains,
 }
 
-/// A stage where it is played.
-#[derive(Clone, Copy)]
-pub struct Turn<'s, 't> {
-    pub stage: &'s Stage<'t>,
-}
-
 /// Why the stages of a tune are not given.
 #[derive(Clone, Copy)]
 pub enum StageFault {

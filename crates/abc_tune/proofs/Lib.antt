@@ -1,3 +1,4 @@
 pub mod Mentions
+pub mod OneTitle
 pub mod Titles
 pub mod WholeFaults

@@ -1,6 +1,7 @@
 -- The compiler of ABC, by definition.
 use Rattle.std.specs.Prelude.{ℕ, List, [], ◌∷◌, Option, Some, None}
 use Rattle.std.specs.Option.{option_or}
+use Rattle.abc_bars.specs.Titles.{title_said}
 use Rattle.abc_header.specs.declared.defaults.Defaults.{Defaults}
 use Rattle.abc_cells.specs.declared.entry.Entry.{Entry}
 use Rattle.abc_cells.specs.declared.entry.Entry.TheVariants as entries
@@ -22,11 +23,6 @@ abbrev pub number_of : Item → Option ℕ
 number_of (items.Number number) = Some number
 number_of _ = None
 
--- The title that an item is, if it is one. ABC 2.1 section 3.1.2.
-abbrev pub title_of : Item → Option (List ℕ)
-title_of (items.Title text) = Some text
-title_of _ = None
-
 -- The first value that items have, if one has one.
 abbrev pub first_value : {V : Type 0} → (Item → Option V) → List Item → Option V
 first_value value_of [] = None
@@ -46,7 +42,7 @@ rules_of_abc = record {
   tune = opening_after;
   defaults = defaults_of;
   number = λ given. first_value number_of given.items;
-  title = λ given. first_value title_of given.items;
+  title = λ given. first_value title_said given.items;
   faults = λ given. given.faults;
   bytes = bytes_of;
   build_faults = build_faults_of;

@@ -4,34 +4,25 @@ use Rattle.abc_items.specs.declared.item.Item.{Item}
 use Rattle.abc_items.specs.Item.{Items}
 use Rattle.abc_fields.specs.declared.fault.FaultCode.{FaultCode}
 use Rattle.abc_tune.specs.WholeFaults.{faults_with}
-use Rattle.abc_voices.specs.declared.arranged.Arranged.{Arranged}
 use Rattle.abc_voices.specs.Arrange.{arranged_of, is_too_long, items_in}
 use Rattle.smf_bytes.specs.File.{file_bytes}
 
--- The layout of a tune.
-abbrev pub layout_of : List Item → Arranged
-layout_of tune = arranged_of tune
-
--- Whether a tune is too long for a file. Our own.
-abbrev pub is_long : List Item → Bool
-is_long tune = is_too_long tune
-
 -- Whether the order of the parts names one that the tune does not have, also where the tune is too long. Our own.
 abbrev pub names_unknown_part : List Item → Bool
-names_unknown_part tune = (layout_of tune).unknown
+names_unknown_part tune = (arranged_of tune).unknown
 
 -- Whether voices differ in length in a section that is played; it is said of a tune with a file alone. Our own.
 abbrev pub has_uneven_voices : List Item → Bool
-has_uneven_voices tune = not (is_long tune) && (layout_of tune).uneven
+has_uneven_voices tune = not (is_too_long tune) && (arranged_of tune).uneven
 
 -- The faults of a tune as a whole, of what its cells give.
 unfoldable pub build_faults_of : List Items → List FaultCode
 build_faults_of cells =
     let tune = items_in cells in
-    faults_with tune (names_unknown_part tune) (has_uneven_voices tune) (is_long tune)
+    faults_with tune (names_unknown_part tune) (has_uneven_voices tune) (is_too_long tune)
 
 -- The bytes of a tune's file, of what its cells give: that of its score. A tune that is too long has none.
 unfoldable pub bytes_of : List Items → Option (List ℕ)
 bytes_of cells =
     let tune = items_in cells in
-    if is_long tune then None else Some (file_bytes (layout_of tune).score)
+    if is_too_long tune then None else Some (file_bytes (arranged_of tune).score)

@@ -2,4 +2,5 @@ pub mod Abc
 pub mod Built
 pub mod Lawful
 pub mod Lines
+pub mod Title
 pub mod WholeFaults

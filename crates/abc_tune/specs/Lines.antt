@@ -10,8 +10,7 @@ use Rattle.abc_repeat.specs.declared.order.TheConstants.{MOST_SECTIONS}
 use Rattle.abc_repeat.specs.declared.play.TheConstants.{MOST_PLACES}
 use Rattle.abc_time.specs.Grains.{grains_of_the_latest_end}
 use Rattle.abc_tune.specs.Abc.{cells_in}
-use Rattle.abc_tune.specs.Built.{is_long}
-use Rattle.abc_voices.specs.Arrange.{end_of, places_played, sections_played}
+use Rattle.abc_voices.specs.Arrange.{end_of, is_too_long, places_played, sections_played}
 use Rattle.abc_voices.specs.Opening.{title_of}
 use Rattle.abc_voices.specs.Track.{tracks}
 use Rattle.abc_score.specs.declared.limits.TheConstants.{LONGEST_TITLE}
@@ -39,4 +38,4 @@ pub data IsTooLarge (tune : List Item) : Type 0 where
 -- A tune of lines is too long exactly where it is, never for its voices or its title.
 abbrev pub IsTooLongBySize : Type 0
 IsTooLongBySize = (opening : Defaults) (lines : List (List ℕ)) → list_all is_line lines ≡ true
-    → (is_long (items_of_lines opening lines) ≡ true) ↔ IsTooLarge (items_of_lines opening lines)
+    → (is_too_long (items_of_lines opening lines) ≡ true) ↔ IsTooLarge (items_of_lines opening lines)

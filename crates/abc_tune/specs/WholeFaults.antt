@@ -8,7 +8,7 @@ use Rattle.abc_fields.specs.declared.fault.FaultCode.TheVariants as codes
 use Rattle.abc_fields.specs.Fault.{number_of}
 use Rattle.abc_voices.specs.Opening.{past_all}
 
--- The key of a tune, which the K: says that ends its header, whatever it says. ABC 2.1 section 3.1.14.
+-- Whether an item is the key of the K: that ends a header, accepted or not. ABC 2.1 section 3.1.14.
 abbrev pub is_opening_key : Item → Bool
 is_opening_key (items.Key opening key) = opening
 is_opening_key _ = false

@@ -3,7 +3,8 @@
 ghost use Rattle.std.specs.Prelude.{◌≡◌, option_copied};
 ghost use Rattle.abc_cells.specs.Step.{stepped};
 ghost use Rattle.abc_cells.specs.SameEntry.{same_entry, bars_resumable};
-ghost use Rattle.abc_tune.specs.Abc.{rules_of_abc, number_of, title_of, first_value};
+ghost use Rattle.abc_bars.specs.Titles.{title_said};
+ghost use Rattle.abc_tune.specs.Abc.{rules_of_abc, number_of, first_value};
 ghost use Rattle.abc_tune.specs.Lawful.{abc_lawful, abc_told_apart};
 
 use crate::built::build;
@@ -90,7 +91,7 @@ fn number_among(items: &[Item]) -> Option<u32>
 
 /// The first title among items.
 fn title_among<'a>(items: &'a [Item]) -> Option<&'a [u8]>
-    ensures { option_copied result ≡ first_value title_of items.now }
+    ensures { option_copied result ≡ first_value title_said items.now }
 {
     for item in items {
         if let Item::Title(text) = item {

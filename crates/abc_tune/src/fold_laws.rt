@@ -1,4 +1,4 @@
-//! The law of what the cells of a tune give.
+//! Laws of what the cells of a tune give.
 
 ghost use Rattle.std.specs.Prelude.{List, Option};
 ghost use Rattle.std.specs.Option.{option_map};
@@ -6,6 +6,7 @@ ghost use Rattle.abc_header.specs.Defaults.{no_defaults};
 ghost use Rattle.abc_cells.specs.Entry.{opening_after};
 ghost use Rattle.abc_bars.specs.LookBack.Along.{CellTokens, IsLookBack, file_header_begins, state_after, tune_begins};
 ghost use Rattle.abc_cells.specs.declared.entry.Entry.TheVariants as entries;
+ghost use Rattle.abc_tune.specs.Title.{HasOneTitle};
 ghost use Rattle.abc_tune.specs.declared.abc.Abc.{Abc};
 
 use crate::abc::Abc;
@@ -20,4 +21,10 @@ pub fn tunes_looked_back()
     ensures tune { (abc : Abc) (header : Option (List CellTokens)) →
         IsLookBack (⟦<Abc as Fold>⟧.next abc) (⟦<Abc as Fold>⟧.gives abc)
         (opening_after (option_map (state_after (⟦<Abc as Fold>⟧.next abc) (entries.FileHeader no_defaults)) header)) (tune_begins header) }
+{}
+
+/// The title in the file of a tune is the one under which it stands in the list of titles: the first that a cell gives.
+#[tactic(auto, using(crate::proofs::OneTitle::has_one_title))]
+pub fn one_title()
+    ensures { HasOneTitle }
 {}

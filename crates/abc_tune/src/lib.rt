@@ -11,5 +11,5 @@ pub use abc::Abc;
 pub use abc_compiler::{Built, Compiler};
 pub use abc_memo::{TuneKey, TuneMemo, put_line};
 pub use built::build;
-pub use fold_laws::tunes_looked_back;
+pub use fold_laws::{one_title, tunes_looked_back};
 pub use line_laws::tunes_of_lines;

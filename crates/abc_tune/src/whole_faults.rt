@@ -12,7 +12,7 @@ use abc_items::{Item, Items};
 use abc_text::Sequence;
 use std::alloc::{AllocError, Global};
 
-/// Whether it is the key of a K: that ends a header.
+/// Whether it is the key of the K: that ends a header, accepted or not.
 fn is_opening_key(item: &Item) -> bool
     ensures { result ≡ is_opening_key item.now }
 {
@@ -22,7 +22,7 @@ fn is_opening_key(item: &Item) -> bool
     }
 }
 
-/// Whether the header of a tune ends in a cell with a K:.
+/// Whether one of a cell's items is the key of a K: that ends the header.
 fn has_opening_key(items: &[Item]) -> bool
     ensures { result ≡ list_any is_opening_key items.now }
 {

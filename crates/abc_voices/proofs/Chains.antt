@@ -5,7 +5,7 @@ use Rattle.std.proofs.lemmas.Bool.{and_parts, eqb-true, ltb-true, ltb-false}
 use Rattle.std.proofs.Math.Seq.{take-append_seam}
 use Rattle.abc_items.specs.declared.item.Tone.{Tone}
 use Rattle.abc_score.specs.declared.score.Sounding.{Sounding}
-use Rattle.abc_voices.specs.Ties.{TimeToken, is_key, tones_with, tied_with, tone_at, joined_with, end_by, chain_end, begun_by, begun_at, chains}
+use Rattle.abc_voices.specs.Ties.{TimeToken, has_key, tones_with, tied_with, tone_at, joined_with, end_by, chain_end, begun_by, begun_at, chains}
 use Rattle.abc_voices.specs.Chains.{IsJoined, IsChain, length_if, end_of_chain, IsBegun, AreBegun, AreHeard, HearsChains, HearsNoOthers, silent, goes_on, begins}
 
 -- counts of more tones
@@ -13,34 +13,34 @@ move_count : (b : Bool) (p r : ℕ) → p + cond b (suc r) r ≡ cond b (suc p) 
 move_count true p r = omega arith
 move_count false p r = omega arith
 
-key_of_is : (key : ℕ) (tone : Tone) → is_key key tone.key ≡ true → tone.key ≡ Some key
+key_of_is : (key : ℕ) (tone : Tone) → has_key key tone.key ≡ true → tone.key ≡ Some key
 key_of_is key tone is = by tone.key refl is
   where
-    by : (own : Option ℕ) → tone.key ≡ own → is_key key own ≡ true → tone.key ≡ Some key
+    by : (own : Option ℕ) → tone.key ≡ own → has_key key own ≡ true → tone.key ≡ Some key
     by None same none = absurd (cc)
     by (Some own) same equal = same ∙ ap Some (eqb-true own key equal)
 
-is_of_key : (key : ℕ) (tone : Tone) → tone.key ≡ Some key → is_key key tone.key ≡ true
-is_of_key key tone same = ap (is_key key) same ∙ eq-eqb key key refl
+is_of_key : (key : ℕ) (tone : Tone) → tone.key ≡ Some key → has_key key tone.key ≡ true
+is_of_key key tone same = ap (has_key key) same ∙ eq-eqb key key refl
 
 -- where a tone of a key stands
 record Found (key number : ℕ) (past tones : List Tone) (found : Tone × ℕ) : Type 0 where
   place : ℕ
   stands : slice_get tones place ≡ Some found.0
-  is : is_key key found.0.key ≡ true
+  is : has_key key found.0.key ≡ true
   in_turn : tones_with key past + tones_with key (take place tones) ≡ number
   tied : found.1 ≡ tied_with key past + tied_with key (take place tones)
 
 tone_found : (key number : ℕ) (past tones : List Tone) (found : Tone × ℕ) → tone_at key number past tones ≡ Some found → Found key number past tones found
 tone_found key number past [] found none = absurd (cc)
 tone_found key number past (tone ∷ tones) found there =
-    by (tone_found key number (tone ∷ past) tones found) (is_key key tone.key && (tones_with key past == number)) refl there
+    by (tone_found key number (tone ∷ past) tones found) (has_key key tone.key && (tones_with key past == number)) refl there
   where
     by : (tone_at key number (tone ∷ past) tones ≡ Some found → Found key number (tone ∷ past) tones found)
-        → (b : Bool) → (is_key key tone.key && (tones_with key past == number)) ≡ b
+        → (b : Bool) → (has_key key tone.key && (tones_with key past == number)) ≡ b
         → cond b (Some (tone, tied_with key past)) (tone_at key number (tone ∷ past) tones) ≡ Some found → Found key number past (tone ∷ tones) found
     by again true here same =
-        let both = and_parts (is_key key tone.key) (tones_with key past == number) here in
+        let both = and_parts (has_key key tone.key) (tones_with key past == number) here in
         let is_it : (tone, tied_with key past) ≡ found = cc in
         let first : tone ≡ found.0 = ap (λ (x : Tone × ℕ). x.0) is_it in
         let second : tied_with key past ≡ found.1 = ap (λ (x : Tone × ℕ). x.1) is_it in
@@ -48,14 +48,14 @@ tone_found key number past (tone ∷ tones) found there =
         record {
           place = 0;
           stands = ap Some first;
-          is = subst (λ (t : Tone). is_key key t.key ≡ true) first both.0;
+          is = subst (λ (t : Tone). has_key key t.key ≡ true) first both.0;
           in_turn = omega (arith, count);
           tied = omega (arith, second);
         }
     by again false here same =
         let rest = again same in
-        let b = is_key key tone.key in
-        let c = tone.tied && is_key key tone.key in
+        let b = has_key key tone.key in
+        let c = tone.tied && has_key key tone.key in
         record {
           place = suc rest.place;
           stands = rest.stands;
@@ -73,19 +73,19 @@ not_first true x other none = absurd (cc)
 not_first false x other none = none
 
 none_there : (key number : ℕ) (past tones : List Tone) → tone_at key number past tones ≡ None → (place : ℕ) (other : Tone) → slice_get tones place ≡ Some other
-    → is_key key other.key ≡ true → tones_with key past + tones_with key (take place tones) ≡ number → ⊥
+    → has_key key other.key ≡ true → tones_with key past + tones_with key (take place tones) ≡ number → ⊥
 none_there key number past [] none place other stands is count = cc
 none_there key number past (tone ∷ tones) none zero other stands is count =
     let same : tone ≡ other = cc in
-    let here : is_key key tone.key ≡ true = subst (λ (t : Tone). is_key key t.key ≡ true) (sym same) is in
+    let here : has_key key tone.key ≡ true = subst (λ (t : Tone). has_key key t.key ≡ true) (sym same) is in
     let reached : (tones_with key past == number) ≡ true = eq-eqb (tones_with key past) number (omega (arith, count)) in
-    let found : (is_key key tone.key && (tones_with key past == number)) ≡ true = ap (λ b. b && (tones_with key past == number)) here ∙ reached in
-    first_there (is_key key tone.key && (tones_with key past == number)) (tone, tied_with key past) (tone_at key number (tone ∷ past) tones) found none
+    let found : (has_key key tone.key && (tones_with key past == number)) ≡ true = ap (λ b. b && (tones_with key past == number)) here ∙ reached in
+    first_there (has_key key tone.key && (tones_with key past == number)) (tone, tied_with key past) (tone_at key number (tone ∷ past) tones) found none
 none_there key number past (tone ∷ tones) none (suc place) other stands is count =
     none_there key number (tone ∷ past) tones
-    (not_first (is_key key tone.key && (tones_with key past == number)) (tone, tied_with key past) (tone_at key number (tone ∷ past) tones) none)
+    (not_first (has_key key tone.key && (tones_with key past == number)) (tone, tied_with key past) (tone_at key number (tone ∷ past) tones) none)
     place other stands is
-    (sym (move_count (is_key key tone.key) (tones_with key past) (tones_with key (take place tones))) ∙ count)
+    (sym (move_count (has_key key tone.key) (tones_with key past) (tones_with key (take place tones))) ∙ count)
 
 -- the tone that one is joined with
 record Follows (tones next : List Tone) (place key : ℕ) (found : Tone × ℕ) : Type 0 where
@@ -172,14 +172,14 @@ record Tied (key number : ℕ) (tones : List Tone) : Type 0 where
   tone : Tone
   stands : slice_get tones place ≡ Some tone
   tied : tone.tied ≡ true
-  is : is_key key tone.key ≡ true
+  is : has_key key tone.key ≡ true
   in_turn : tied_with key (take place tones) ≡ number
 
 tied_there : (key number : ℕ) (tones : List Tone) → number < tied_with key tones → Tied key number tones
 tied_there key number [] below = absurd (omega arith)
-tied_there key number (tone ∷ tones) below = by (λ n. tied_there key n tones) (tone.tied && is_key key tone.key) refl number below
+tied_there key number (tone ∷ tones) below = by (λ n. tied_there key n tones) (tone.tied && has_key key tone.key) refl number below
   where
-    more : (b : Bool) → (tone.tied && is_key key tone.key) ≡ b → (m n : ℕ) → cond b (suc m) m ≡ n → Tied key m tones → Tied key n (tone ∷ tones)
+    more : (b : Bool) → (tone.tied && has_key key tone.key) ≡ b → (m n : ℕ) → cond b (suc m) m ≡ n → Tied key m tones → Tied key n (tone ∷ tones)
     more b is m n same rest = record {
       place = suc rest.place;
       tone = rest.tone;
@@ -189,9 +189,9 @@ tied_there key number (tone ∷ tones) below = by (λ n. tied_there key n tones)
       in_turn = ap (λ x. cond x (suc (tied_with key (take rest.place tones))) (tied_with key (take rest.place tones))) is ∙ ap (λ k. cond b (suc k) k) rest.in_turn ∙ same;
     }
 
-    by : ((n : ℕ) → n < tied_with key tones → Tied key n tones) → (b : Bool) → (tone.tied && is_key key tone.key) ≡ b → (n : ℕ) → n < cond b (suc (tied_with key tones)) (tied_with key tones) → Tied key n (tone ∷ tones)
+    by : ((n : ℕ) → n < tied_with key tones → Tied key n tones) → (b : Bool) → (tone.tied && has_key key tone.key) ≡ b → (n : ℕ) → n < cond b (suc (tied_with key tones)) (tied_with key tones) → Tied key n (tone ∷ tones)
     by again true here zero few =
-        let both = and_parts tone.tied (is_key key tone.key) here in
+        let both = and_parts tone.tied (has_key key tone.key) here in
         record { place = 0; tone = tone; stands = refl; tied = both.0; is = both.1; in_turn = refl }
     by again true here (suc n) few = more true here n (suc n) refl (again n (omega arith))
     by again false here n few = more false here n n refl (again n few)
@@ -200,17 +200,17 @@ both_more : (b : Bool) (m n : ℕ) → m < n → cond b (suc m) m < cond b (suc 
 both_more true m n less = omega (arith, less)
 both_more false m n less = less
 
-tied_below : (key : ℕ) (tones : List Tone) (place : ℕ) (tone : Tone) → slice_get tones place ≡ Some tone → (tone.tied && is_key key tone.key) ≡ true
+tied_below : (key : ℕ) (tones : List Tone) (place : ℕ) (tone : Tone) → slice_get tones place ≡ Some tone → (tone.tied && has_key key tone.key) ≡ true
     → tied_with key (take place tones) < tied_with key tones
 tied_below key [] place tone stands is = absurd (cc)
 tied_below key (first ∷ tones) zero tone stands is =
     let same : first ≡ tone = cc in
-    let here : (first.tied && is_key key first.key) ≡ true = subst (λ (t : Tone). (t.tied && is_key key t.key) ≡ true) (sym same) is in
-    let whole : cond (first.tied && is_key key first.key) (suc (tied_with key tones)) (tied_with key tones) ≡ suc (tied_with key tones) =
+    let here : (first.tied && has_key key first.key) ≡ true = subst (λ (t : Tone). (t.tied && has_key key t.key) ≡ true) (sym same) is in
+    let whole : cond (first.tied && has_key key first.key) (suc (tied_with key tones)) (tied_with key tones) ≡ suc (tied_with key tones) =
     ap (λ b. cond b (suc (tied_with key tones)) (tied_with key tones)) here in
     omega (arith, whole)
 tied_below key (first ∷ tones) (suc place) tone stands is =
-    both_more (first.tied && is_key key first.key) (tied_with key (take place tones)) (tied_with key tones) (tied_below key tones place tone stands is)
+    both_more (first.tied && has_key key first.key) (tied_with key (take place tones)) (tied_with key tones) (tied_below key tones place tone stands is)
 
 -- some tones as often as others, by their keys
 record Fronts (past front : List Tone) : Type 0 where
@@ -246,7 +246,7 @@ module _ (previous : List Tone) (token : TimeToken) (tokens : List TimeToken) wh
       let same : tone ≡ is.follower = some_same tone is.follower (sym stands ∙ is.follows) in
       let keys : is.key ≡ key = some_same is.key key (sym is.same_key ∙ ap (λ (t : Tone). t.key) (sym same) ∙ own_key) in
       let own : is.tone.key ≡ Some key = is.own_key ∙ ap Some keys in
-      let both : (is.tone.tied && is_key key is.tone.key) ≡ true = ap (λ b. b && is_key key is.tone.key) is.tied ∙ is_of_key key is.tone own in
+      let both : (is.tone.tied && has_key key is.tone.key) ≡ true = ap (λ b. b && has_key key is.tone.key) is.tied ∙ is_of_key key is.tone own in
       let turn : tied_with key (take before previous) ≡ tones_with key (take place token.tones) = subst (λ (k : ℕ). tied_with k (take before previous) ≡ tones_with k (take place token.tones)) keys is.in_turn in
       let below = tied_below key previous before is.tone is.stands both in
       omega (arith, above, turn, below)
@@ -282,23 +282,23 @@ swapped false true n = refl
 swapped false false n = refl
 
 tones_end : (key : ℕ) (front : List Tone) (tone : Tone)
-    → tones_with key (front ++ tone ∷ []) ≡ cond (is_key key tone.key) (suc (tones_with key front)) (tones_with key front)
+    → tones_with key (front ++ tone ∷ []) ≡ cond (has_key key tone.key) (suc (tones_with key front)) (tones_with key front)
 tones_end key [] tone = refl
 tones_end key (first ∷ front) tone =
-    ap (λ n. cond (is_key key first.key) (suc n) n) (tones_end key front tone)
-    ∙ swapped (is_key key tone.key) (is_key key first.key) (tones_with key front)
+    ap (λ n. cond (has_key key first.key) (suc n) n) (tones_end key front tone)
+    ∙ swapped (has_key key tone.key) (has_key key first.key) (tones_with key front)
 
 tied_end : (key : ℕ) (front : List Tone) (tone : Tone)
-    → tied_with key (front ++ tone ∷ []) ≡ cond (tone.tied && is_key key tone.key) (suc (tied_with key front)) (tied_with key front)
+    → tied_with key (front ++ tone ∷ []) ≡ cond (tone.tied && has_key key tone.key) (suc (tied_with key front)) (tied_with key front)
 tied_end key [] tone = refl
 tied_end key (first ∷ front) tone =
-    ap (λ n. cond (first.tied && is_key key first.key) (suc n) n) (tied_end key front tone)
-    ∙ swapped (tone.tied && is_key key tone.key) (first.tied && is_key key first.key) (tied_with key front)
+    ap (λ n. cond (first.tied && has_key key first.key) (suc n) n) (tied_end key front tone)
+    ∙ swapped (tone.tied && has_key key tone.key) (first.tied && has_key key first.key) (tied_with key front)
 
 fronts_more : (past front : List Tone) (tone : Tone) → Fronts past front → Fronts (tone ∷ past) (front ++ tone ∷ [])
 fronts_more past front tone same = record {
-  tones = λ key. ap (λ n. cond (is_key key tone.key) (suc n) n) (same.tones key) ∙ sym (tones_end key front tone);
-  tied = λ key. ap (λ n. cond (tone.tied && is_key key tone.key) (suc n) n) (same.tied key) ∙ sym (tied_end key front tone);
+  tones = λ key. ap (λ n. cond (has_key key tone.key) (suc n) n) (same.tones key) ∙ sym (tones_end key front tone);
+  tied = λ key. ap (λ n. cond (tone.tied && has_key key tone.key) (suc n) n) (same.tied key) ∙ sym (tied_end key front tone);
 }
 
 behind_front : (front : List Tone) (tone : Tone) (tones : List Tone) → slice_get (front ++ tone ∷ tones) (length front) ≡ Some tone
@@ -345,17 +345,17 @@ one_more false m is none = cc
 
 -- two tones of a key that as many of it stand before are one
 same_place : (key : ℕ) (tones : List Tone) (a b : ℕ) (x y : Tone) → slice_get tones a ≡ Some x → slice_get tones b ≡ Some y
-    → is_key key x.key ≡ true → is_key key y.key ≡ true → tones_with key (take a tones) ≡ tones_with key (take b tones) → a ≡ b
+    → has_key key x.key ≡ true → has_key key y.key ≡ true → tones_with key (take a tones) ≡ tones_with key (take b tones) → a ≡ b
 same_place key [] a b x y first second own other same = absurd (cc)
 same_place key (tone ∷ tones) zero zero x y first second own other same = refl
 same_place key (tone ∷ tones) zero (suc b) x y first second own other same =
     let is : tone ≡ x = some_same tone x first in
-    absurd (one_more (is_key key tone.key) (tones_with key (take b tones)) (ap (λ (t : Tone). is_key key t.key) is ∙ own) same)
+    absurd (one_more (has_key key tone.key) (tones_with key (take b tones)) (ap (λ (t : Tone). has_key key t.key) is ∙ own) same)
 same_place key (tone ∷ tones) (suc a) zero x y first second own other same =
     let is : tone ≡ y = some_same tone y second in
-    absurd (one_more (is_key key tone.key) (tones_with key (take a tones)) (ap (λ (t : Tone). is_key key t.key) is ∙ other) (sym same))
+    absurd (one_more (has_key key tone.key) (tones_with key (take a tones)) (ap (λ (t : Tone). has_key key t.key) is ∙ other) (sym same))
 same_place key (tone ∷ tones) (suc a) (suc b) x y first second own other same =
-    ap suc (same_place key tones a b x y first second own other (same_count (is_key key tone.key) (tones_with key (take a tones)) (tones_with key (take b tones)) same))
+    ap suc (same_place key tones a b x y first second own other (same_count (has_key key tone.key) (tones_with key (take a tones)) (tones_with key (take b tones)) same))
 
 same_follower : (tones next : List Tone) (place a b : ℕ) → IsJoined tones next place a → IsJoined tones next place b → a ≡ b
 same_follower tones next place a b first second =
@@ -399,7 +399,7 @@ joined_below previous tones before place key tone stands own_key is =
     let same : tone ≡ is.follower = some_same tone is.follower (sym stands ∙ is.follows) in
     let keys : is.key ≡ key = some_same is.key key (sym is.same_key ∙ ap (λ (t : Tone). t.key) (sym same) ∙ own_key) in
     let own : is.tone.key ≡ Some key = is.own_key ∙ ap Some keys in
-    let both : (is.tone.tied && is_key key is.tone.key) ≡ true = ap (λ b. b && is_key key is.tone.key) is.tied ∙ is_of_key key is.tone own in
+    let both : (is.tone.tied && has_key key is.tone.key) ≡ true = ap (λ b. b && has_key key is.tone.key) is.tied ∙ is_of_key key is.tone own in
     let turn : tied_with key (take before previous) ≡ tones_with key (take place tones) = subst (λ (k : ℕ). tied_with k (take before previous) ≡ tones_with k (take place tones)) keys is.in_turn in
     let below = tied_below key previous before is.tone is.stands both in
     omega (arith, turn, below)

@@ -1,5 +1,5 @@
 -- The changes that stand are on each tick, of each kind, the last that is set there.
-use Rattle.std.proofs.Common.{◌≡◌, ℕ, ℤ, pos, ◌+◌, Bool, true, false, cond, List, [], ◌∷◌, ◌++◌, map, take, Option, Some, None, refl, sym, ap, ◌∙◌, append-nil}
+use Rattle.std.proofs.Common.{◌≡◌, ℕ, ℤ, pos, ◌+◌, Bool, true, false, cond, List, [], ◌∷◌, ◌++◌, map, take, Option, Some, None, refl, ap, ◌∙◌, append-nil}
 use Rattle.std.proofs.lemmas.List.Elements.{filter-append}
 use Rattle.std.specs.Prelude.{◌==◌, filter, filter_map, option_map, option_and_then, unwrap_or}
 use Rattle.std.specs.List.{cons_option, flat_map}
@@ -14,33 +14,15 @@ use Rattle.abc_score.specs.declared.score.Change.{Change}
 use Rattle.abc_score.specs.declared.score.ChangeKind.TheVariants as kinds
 use Rattle.abc_voices.specs.Arrange.{first_of, or_else, played_sections, set_in, usual_tempo}
 use Rattle.abc_sections.specs.PlayedSection.{longest, play_in}
-use Rattle.abc_voices.specs.Change.{at_moment, tempo_of, meter_of, key_of, set_from}
-use Rattle.abc_voices.specs.Conductor.{opening_tempo_of, opening_meter_of, opening_key_of, opening_by, set_on, last_played, sections_at, last_beside, last_set, set_or_opening, leader, is_tempo, is_meter, is_key, is_there, IsConductedOnTicks}
+use Rattle.abc_voices.specs.Change.{tempo_of, meter_of, key_of, set_from}
+use Rattle.abc_voices.specs.Conductor.{opening_tempo_of, opening_meter_of, opening_key_of, opening_by, sections_in_time, last_beside, last_set, set_or_opening, at_120, leader, is_tempo, is_meter, is_key, is_there, IsConductedOnTicks}
 use Rattle.abc_voices.specs.Opening.{past_all, tempo_past, meter_past, key_past}
-use Rattle.abc_voices.specs.OnTicks.{last_said}
+use Rattle.abc_voices.specs.OnTicks.{last_said, set_on}
 use Rattle.abc_voices.specs.ScoreChanges.{tempo_change, meter_change, key_change, changes_that_stand}
-use Rattle.abc_sections.specs.Step.{length_of}
 use Rattle.abc_voices.specs.Ticks.{last_of_each_tick}
 use Rattle.abc_voices.specs.Track.{everyone, tracks}
 use Rattle.abc_voices.specs.Voices.{or_said}
-use Rattle.abc_voices.proofs.OnTicks.{or_none, last_append, set_if_on, is_on, last_stands, neither, as_list}
-
--- what is set last on a tick, of changes in order
-abbrev last_on : {V : Type 0} → ℕ → List (Grains × V) → Option (Grains × V)
-last_on tick sets = last_said (set_if_on tick) sets
-
-one_more : {V : Type 0} (tick at : ℕ) (value : Option V) (sets : List (Grains × V))
-    → last_on tick (cons_option (at_moment at value) sets) ≡ or_said (last_on tick sets) (set_on tick at value)
-one_more tick at None sets =
-    or_none (last_on tick sets) ∙ ap (or_said (last_on tick sets)) (sym (neither (tick_at at == tick)))
-one_more tick at (Some value) sets = refl
-
-play_said : {V : Type 0} (value_of : Item → Option V) (tick at : ℕ) (play : List Item)
-    → last_on tick (set_from value_of at play) ≡ last_played value_of tick at play
-play_said value_of tick at [] = refl
-play_said value_of tick at (item ∷ play) =
-    one_more tick at (value_of item) (set_from value_of (at + length_of item) play)
-    ∙ ap (λ last. or_said last (set_on tick at (value_of item))) (play_said value_of tick (at + length_of item) play)
+use Rattle.abc_voices.proofs.OnTicks.{last_append, set_if_on, is_on, last_on, last_stands, as_list, play_said}
 
 voices_said : {V : Type 0} (value_of : Item → Option V) (those : List (List ℕ)) (tick at : ℕ) (section : List ℕ × List Item)
     → last_on tick (flat_map (λ voice. set_from value_of at (play_in section voice)) those)
@@ -54,7 +36,7 @@ voices_said value_of (voice ∷ those) tick at section =
 
 sections_said : {V : Type 0} (value_of : Item → Option V) (voices those : List (List ℕ)) (tick at : ℕ) (sections : List (List ℕ × List Item))
     → last_on tick (set_in value_of voices those at sections)
-    ≡ last_said (last_beside value_of those tick) (sections_at voices at sections)
+    ≡ last_said (last_beside value_of those tick) (sections_in_time voices at sections)
 sections_said value_of voices those tick at [] = refl
 sections_said value_of voices those tick at (section ∷ rest) =
     let next : ℕ = at + longest voices section in
@@ -254,8 +236,8 @@ is_conducted tune tick =
       tempo = tempos_stand tick (tempos_in tune) (meters_in tune) (keys_in tune)
           ∙ ap (λ last. option_to_list (option_map tempo_change last))
           (behind_opening tempo_of (everyone tune) (everyone tune) tune tick
-          (or_else usual_tempo (past_all tempo_past None tune)) (opening_by opening_tempo_of usual_tempo tune) refl
-          (opens tempo_past opening_tempo_of usual_tempo tempo_said tune));
+          (or_else usual_tempo (past_all tempo_past None tune)) (opening_by opening_tempo_of at_120 tune) refl
+          (opens tempo_past opening_tempo_of at_120 tempo_said tune));
       meter = meters_stand tick (tempos_in tune) (meters_in tune) (keys_in tune)
           ∙ ap (λ last. option_to_list (option_and_then meter_change last))
           (behind_opening meter_of (first_of (tracks tune)) (leader tune) tune tick

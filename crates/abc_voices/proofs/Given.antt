@@ -13,7 +13,7 @@ use Rattle.abc_time.specs.declared.grains.Grains.{Grains}
 use Rattle.abc_voices.specs.Turns.{set_by_all, set_by_one, programs_along, score_along}
 use Rattle.abc_voices.specs.Arrange.{or_else, usual_tempo}
 use Rattle.abc_voices.specs.Change.{tempo_of, meter_of, key_of}
-use Rattle.abc_voices.specs.Fields.{is_music, fields}
+use Rattle.abc_voices.specs.Fields.{is_music, without_music}
 use Rattle.abc_voices.specs.Opening.{tempo_past, meter_past, key_past, program_past, order_past, past_all, title_before, title_of}
 use Rattle.abc_sections.specs.Section.{letter_of, letters, declared_or, opening_voice}
 use Rattle.abc_sections.specs.declared.stage.Stage.{Stage}
@@ -34,18 +34,18 @@ of_music f v tone rest bar ending _ h = cc
 left_step : {V W : Type 0} (f : V → List Item → W) (past : V → Item → V)
     → ((v : V) (step : Item) (tune : List Item) → f v (step ∷ tune) ≡ f (past v step) tune)
     → ((item : Item) → is_music item ≡ true → (v : V) → past v item ≡ v)
-    → (v : V) (step : Item) (tune : List Item) → ((w : V) → f w (fields tune) ≡ f w tune)
+    → (v : V) (step : Item) (tune : List Item) → ((w : V) → f w (without_music tune) ≡ f w tune)
     → (music : Bool) → is_music step ≡ music
-    → f v (cond (not music) (step ∷ fields tune) (fields tune)) ≡ f v (step ∷ tune)
+    → f v (cond (not music) (step ∷ without_music tune) (without_music tune)) ≡ f v (step ∷ tune)
 left_step f past goes kept v step tune rest true music =
     rest v ∙ sym (goes v step tune ∙ ap (λ w. f w tune) (kept step music v))
 left_step f past goes kept v step tune rest false music =
-    goes v step (fields tune) ∙ rest (past v step) ∙ sym (goes v step tune)
+    goes v step (without_music tune) ∙ rest (past v step) ∙ sym (goes v step tune)
 
 from_left : {V W : Type 0} (f : V → List Item → W) (past : V → Item → V)
     → ((v : V) (step : Item) (tune : List Item) → f v (step ∷ tune) ≡ f (past v step) tune)
     → ((item : Item) → is_music item ≡ true → (v : V) → past v item ≡ v)
-    → (v : V) (tune : List Item) → f v (fields tune) ≡ f v tune
+    → (v : V) (tune : List Item) → f v (without_music tune) ≡ f v tune
 from_left f past goes kept v [] = refl
 from_left f past goes kept v (step ∷ tune) =
     left_step f past goes kept v step tune (λ w. from_left f past goes kept w tune) (is_music step) refl
@@ -54,17 +54,17 @@ from_left f past goes kept v (step ∷ tune) =
 right_step : {V : Type 0} (f : List Item → V) (before : V → Item → V)
     → ((step : Item) (tune : List Item) → f (step ∷ tune) ≡ before (f tune) step)
     → ((item : Item) → is_music item ≡ true → (v : V) → before v item ≡ v)
-    → (step : Item) (tune : List Item) → f (fields tune) ≡ f tune → (music : Bool) → is_music step ≡ music
-    → f (cond (not music) (step ∷ fields tune) (fields tune)) ≡ f (step ∷ tune)
+    → (step : Item) (tune : List Item) → f (without_music tune) ≡ f tune → (music : Bool) → is_music step ≡ music
+    → f (cond (not music) (step ∷ without_music tune) (without_music tune)) ≡ f (step ∷ tune)
 right_step f before goes kept step tune rest true music =
     rest ∙ sym (goes step tune ∙ kept step music (f tune))
 right_step f before goes kept step tune rest false music =
-    goes step (fields tune) ∙ ap (λ v. before v step) rest ∙ sym (goes step tune)
+    goes step (without_music tune) ∙ ap (λ v. before v step) rest ∙ sym (goes step tune)
 
 from_right : {V : Type 0} (f : List Item → V) (before : V → Item → V)
     → ((step : Item) (tune : List Item) → f (step ∷ tune) ≡ before (f tune) step)
     → ((item : Item) → is_music item ≡ true → (v : V) → before v item ≡ v)
-    → (tune : List Item) → f (fields tune) ≡ f tune
+    → (tune : List Item) → f (without_music tune) ≡ f tune
 from_right f before goes kept [] = refl
 from_right f before goes kept (step ∷ tune) =
     right_step f before goes kept step tune (from_right f before goes kept tune) (is_music step) refl
@@ -73,28 +73,28 @@ from_right f before goes kept (step ∷ tune) =
 order_kept : (item : Item) → is_music item ≡ true → (v : Option (List ℕ)) → order_past v item ≡ v
 order_kept item music v = of_music (order_past v) v (λ _ _. refl) (λ _ _. refl) (λ _. refl) (λ _. refl) item music
 
-order_given : (tune : List Item) → past_all order_past None (fields tune) ≡ past_all order_past None tune
+order_given : (tune : List Item) → past_all order_past None (without_music tune) ≡ past_all order_past None tune
 order_given tune = from_left (past_all order_past) order_past (λ _ _ _. refl) order_kept None tune
 
 -- the letters of the parts
 letter_kept : (item : Item) → is_music item ≡ true → (v : List ℕ) → cons_option (letter_of item) v ≡ v
 letter_kept item music v = of_music (λ i. cons_option (letter_of i) v) v (λ _ _. refl) (λ _ _. refl) (λ _. refl) (λ _. refl) item music
 
-letters_given : (tune : List Item) → letters (fields tune) ≡ letters tune
+letters_given : (tune : List Item) → letters (without_music tune) ≡ letters tune
 letters_given tune = from_right (letters) (λ v item. cons_option (letter_of item) v) (λ _ _. refl) letter_kept tune
 
 -- the voices
 names_kept : (item : Item) → is_music item ≡ true → (v : List (List ℕ)) → names_past v item ≡ v
 names_kept item music v = of_music (names_past v) v (λ _ _. refl) (λ _ _. refl) (λ _. refl) (λ _. refl) item music
 
-pub everyone_given : (tune given : List Item) → given ≡ fields tune → everyone given ≡ everyone tune
+pub everyone_given : (tune given : List Item) → given ≡ without_music tune → everyone given ≡ everyone tune
 everyone_given tune given is =
     ap (everyone) is ∙ from_left (names_from) names_past (λ _ _ _. refl) names_kept ([] ∷ []) tune
 
 declared_kept : (item : Item) → is_music item ≡ true → (v : List ℕ) → declared_or v item ≡ v
 declared_kept item music v = of_music (declared_or v) v (λ _ _. refl) (λ _ _. refl) (λ _. refl) (λ _. refl) item music
 
-pub opening_given : (tune given : List Item) → given ≡ fields tune → opening_voice given ≡ opening_voice tune
+pub opening_given : (tune given : List Item) → given ≡ without_music tune → opening_voice given ≡ opening_voice tune
 opening_given tune given is =
     ap (opening_voice) is ∙ from_right (opening_voice) declared_or (λ _ _. refl) declared_kept tune
 
@@ -102,37 +102,37 @@ opening_given tune given is =
 tempo_kept : (item : Item) → is_music item ≡ true → (v : Option ℕ) → tempo_past v item ≡ v
 tempo_kept item music v = of_music (tempo_past v) v (λ _ _. refl) (λ _ _. refl) (λ _. refl) (λ _. refl) item music
 
-tempo_given : (tune : List Item) → past_all tempo_past None (fields tune) ≡ past_all tempo_past None tune
+tempo_given : (tune : List Item) → past_all tempo_past None (without_music tune) ≡ past_all tempo_past None tune
 tempo_given tune = from_left (past_all tempo_past) tempo_past (λ _ _ _. refl) tempo_kept None tune
 
 meter_kept : (item : Item) → is_music item ≡ true → (v : Option Meter) → meter_past v item ≡ v
 meter_kept item music v = of_music (meter_past v) v (λ _ _. refl) (λ _ _. refl) (λ _. refl) (λ _. refl) item music
 
-meter_given : (tune : List Item) → past_all meter_past None (fields tune) ≡ past_all meter_past None tune
+meter_given : (tune : List Item) → past_all meter_past None (without_music tune) ≡ past_all meter_past None tune
 meter_given tune = from_left (past_all meter_past) meter_past (λ _ _ _. refl) meter_kept None tune
 
 key_kept : (item : Item) → is_music item ≡ true → (v : Option (ℤ × Bool)) → key_past v item ≡ v
 key_kept item music v = of_music (key_past v) v (λ _ _. refl) (λ _ _. refl) (λ _. refl) (λ _. refl) item music
 
-key_given : (tune : List Item) → past_all key_past None (fields tune) ≡ past_all key_past None tune
+key_given : (tune : List Item) → past_all key_past None (without_music tune) ≡ past_all key_past None tune
 key_given tune = from_left (past_all key_past) key_past (λ _ _ _. refl) key_kept None tune
 
 -- the program with which the tune opens
 program_kept : (item : Item) → is_music item ≡ true → (v : Option ℕ) → program_past v item ≡ v
 program_kept item music v = of_music (program_past v) v (λ _ _. refl) (λ _ _. refl) (λ _. refl) (λ _. refl) item music
 
-program_given : (tune : List Item) → past_all program_past None (fields tune) ≡ past_all program_past None tune
+program_given : (tune : List Item) → past_all program_past None (without_music tune) ≡ past_all program_past None tune
 program_given tune = from_left (past_all program_past) program_past (λ _ _ _. refl) program_kept None tune
 
 -- the title
 title_kept : (item : Item) → is_music item ≡ true → (v : List ℕ) → title_before v item ≡ v
 title_kept item music v = of_music (title_before v) v (λ _ _. refl) (λ _ _. refl) (λ _. refl) (λ _. refl) item music
 
-title_given : (tune : List Item) → title_of (fields tune) ≡ title_of tune
+title_given : (tune : List Item) → title_of (without_music tune) ≡ title_of tune
 title_given tune = from_right (title_of) title_before (λ _ _. refl) title_kept tune
 
 -- the score of stages
-score_fields : (tune : List Item) (first count : ℕ) (stages : List Stage) → score_along (fields tune) first count stages ≡ score_along tune first count stages
+score_fields : (tune : List Item) (first count : ℕ) (stages : List Stage) → score_along (without_music tune) first count stages ≡ score_along tune first count stages
 score_fields tune first count stages =
     score_same _ _ _ _ _ _ _ _ _ _ (title_given tune) refl
     (conductor_same _ _ _ _ _ _
@@ -142,26 +142,26 @@ score_fields tune first count stages =
     refl
     (ap (λ v. programs_along v stages first (count - first)) (program_given tune))
 
-pub score_given : (tune given : List Item) (first count : ℕ) (stages : List Stage) → given ≡ fields tune
+pub score_given : (tune given : List Item) (first count : ℕ) (stages : List Stage) → given ≡ without_music tune
     → score_along given first count stages ≡ score_along tune first count stages
 score_given tune given first count stages is =
     ap (λ g. score_along g first count stages) is ∙ score_fields tune first count stages
 
 -- the sections that are played, and whether the order has a letter without one
-pub played_given : (tune given : List Item) → given ≡ fields tune
+pub played_given : (tune given : List Item) → given ≡ without_music tune
     → sections_of (past_all order_past None given) (letters given) ≡ sections_of (past_all order_past None tune) (letters tune)
 played_given tune given is =
     ap (λ g. sections_of (past_all order_past None g) (letters g)) is
-    ∙ ap (λ order. sections_of order (letters (fields tune))) (order_given tune)
+    ∙ ap (λ order. sections_of order (letters (without_music tune))) (order_given tune)
     ∙ ap (sections_of (past_all order_past None tune)) (letters_given tune)
 
-pub unknown_given : (tune given : List Item) → given ≡ fields tune
+pub unknown_given : (tune given : List Item) → given ≡ without_music tune
     → has_unknown (past_all order_past None given) (letters given) ≡ has_unknown (past_all order_past None tune) (letters tune)
 unknown_given tune given is =
     ap (λ g. has_unknown (past_all order_past None g) (letters g)) is
-    ∙ ap (λ order. has_unknown order (letters (fields tune))) (order_given tune)
+    ∙ ap (λ order. has_unknown order (letters (without_music tune))) (order_given tune)
     ∙ ap (has_unknown (past_all order_past None tune)) (letters_given tune)
 
 -- each field is an item of the tune
-pub items_given : (P : Item → Type 0) (tune given : List Item) → given ≡ fields tune → All P tune → All P given
+pub items_given : (P : Item → Type 0) (tune given : List Item) → given ≡ without_music tune → All P tune → All P given
 items_given P tune given is all = subst (All P) (sym is) (All-filter (λ step. not (is_music step)) P tune all)

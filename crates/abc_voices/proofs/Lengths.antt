@@ -9,7 +9,7 @@ use Rattle.abc_items.specs.declared.item.Item.{Item}
 use Rattle.abc_time.specs.declared.grains.Grains.{Grains}
 use Rattle.abc_score.specs.declared.score.Sounding.{Sounding}
 use Rattle.abc_sections.specs.declared.stage.Stage.{Stage}
-use Rattle.abc_sections.specs.declared.stage.Turn.{Turn}
+use Rattle.abc_voices.specs.declared.turns.Turn.{Turn}
 use Rattle.abc_voices.specs.Turns.{IsStage, stages_in, length_along, for_voices, set_at, set_by_one}
 use Rattle.abc_voices.specs.Arrange.{last_off}
 use Rattle.abc_voices.specs.Change.{behind}

@@ -13,7 +13,7 @@ use Rattle.abc_voices.specs.Arrange.{played_sections, programs_in, set_in}
 use Rattle.abc_sections.specs.PlayedSection.{longest, play_in}
 use Rattle.abc_voices.specs.Change.{at_moment, behind, program_of, set_from}
 use Rattle.abc_voices.specs.Opening.{past_all, program_past}
-use Rattle.abc_voices.specs.OnTicks.{last_said, opening_program_of, at_moments, moments_in, on_tick, set_on_tick, program_on, HaveProgramsOnTicks}
+use Rattle.abc_voices.specs.OnTicks.{last_said, opening_program_of, at_moments, moments_in, set_on, set_by, program_on, HaveProgramsOnTicks}
 use Rattle.abc_voices.specs.ScoreChanges.{program_change}
 use Rattle.abc_sections.specs.Step.{length_of}
 use Rattle.abc_voices.specs.Ticks.{has_tick, last_of_each_tick}
@@ -28,10 +28,6 @@ or_none (Some value) = refl
 or_all : {V : Type 0} (a b c : Option V) → or_said (or_said a b) c ≡ or_said a (or_said b c)
 or_all None b c = refl
 or_all (Some value) b c = refl
-
-or_map : {V W : Type 0} (f : V → W) (a b : Option V) → option_map f (or_said a b) ≡ or_said (option_map f a) (option_map f b)
-or_map f None b = refl
-or_map f (Some value) b = refl
 
 pub last_append : {X V : Type 0} (says : X → Option V) (xs ys : List X) → last_said says (xs ++ ys) ≡ or_said (last_said says ys) (last_said says xs)
 last_append says [] ys = or_none (last_said says ys)
@@ -104,63 +100,59 @@ pub as_list : {X Y : Type 0} (f : X → Y) (value : Option X) → map f (option_
 as_list f None = refl
 as_list f (Some value) = refl
 
--- the last program of changes on a tick
-abbrev last_change : ℕ → List (Grains × ℕ) → Option ProgramChange
-last_change tick sets = option_map program_change (last_said (set_if_on tick) sets)
+-- what is set last on a tick, of changes in order
+abbrev pub last_on : {V : Type 0} → ℕ → List (Grains × V) → Option (Grains × V)
+last_on tick sets = last_said (set_if_on tick) sets
 
-pub neither : {X : Type 0} (here : Bool) → ◌≡◌ {A = Option X} (cond here None None) None
+neither : {X : Type 0} (here : Bool) → ◌≡◌ {A = Option X} (cond here None None) None
 neither true = refl
 neither false = refl
 
-of_last : (here : Bool) (set : Grains × ℕ) (last : Option (Grains × ℕ))
-    → option_map program_change (or_said last (cond here (Some set) None)) ≡ or_said (option_map program_change last) (cond here (Some (program_change set)) None)
-of_last true set None = refl
-of_last false set None = refl
-of_last true set (Some value) = refl
-of_last false set (Some value) = refl
-
-one_more : (tick at : ℕ) (program : Option ℕ) (sets : List (Grains × ℕ))
-    → last_change tick (cons_option (at_moment at program) sets) ≡ or_said (last_change tick sets) (on_tick tick at program)
+one_more : {V : Type 0} (tick at : ℕ) (value : Option V) (sets : List (Grains × V))
+    → last_on tick (cons_option (at_moment at value) sets) ≡ or_said (last_on tick sets) (set_on tick at value)
 one_more tick at None sets =
-    or_none (last_change tick sets) ∙ ap (or_said (last_change tick sets)) (sym (neither (tick_at at == tick)))
-one_more tick at (Some number) sets =
-    of_last (tick_at at == tick) (record { 0 = at }, number) (last_said (set_if_on tick) sets)
+    or_none (last_on tick sets) ∙ ap (or_said (last_on tick sets)) (sym (neither (tick_at at == tick)))
+one_more tick at (Some value) sets = refl
 
-play_said : (tick at : ℕ) (play : List Item)
-    → last_change tick (set_from program_of at play) ≡ last_said (set_on_tick tick) (at_moments at play)
-play_said tick at [] = refl
-play_said tick at (item ∷ play) =
-    one_more tick at (program_of item) (set_from program_of (at + length_of item) play)
-    ∙ ap (λ last. or_said last (on_tick tick at (program_of item))) (play_said tick (at + length_of item) play)
+pub play_said : {V : Type 0} (value_of : Item → Option V) (tick at : ℕ) (play : List Item)
+    → last_on tick (set_from value_of at play) ≡ last_said (set_by value_of tick) (at_moments at play)
+play_said value_of tick at [] = refl
+play_said value_of tick at (item ∷ play) =
+    one_more tick at (value_of item) (set_from value_of (at + length_of item) play)
+    ∙ ap (λ last. or_said last (set_on tick at (value_of item))) (play_said value_of tick (at + length_of item) play)
 
 sections_said : (tick : ℕ) (voices : List (List ℕ)) (voice : List ℕ) (at : ℕ) (sections : List (List ℕ × List Item))
-    → last_change tick (set_in program_of voices (voice ∷ []) at sections) ≡ last_said (set_on_tick tick) (moments_in voices voice at sections)
+    → last_on tick (set_in program_of voices (voice ∷ []) at sections) ≡ last_said (set_by program_of tick) (moments_in voices voice at sections)
 sections_said tick voices voice at [] = refl
 sections_said tick voices voice at (section ∷ rest) =
     let play : List Item = play_in section voice in
     let next : ℕ = at + longest voices section in
     let own : List (Grains × ℕ) = set_from program_of at play in
     let others : List (Grains × ℕ) = set_in program_of voices (voice ∷ []) next rest in
-    ap (λ sets. last_change tick (sets ++ others)) (append-nil own)
-    ∙ ap (option_map program_change) (last_append (set_if_on tick) own others)
-    ∙ or_map program_change (last_said (set_if_on tick) others) (last_said (set_if_on tick) own)
-    ∙ (λ i. or_said (sections_said tick voices voice next rest i) (play_said tick at play i))
-    ∙ sym (last_append (set_on_tick tick) (at_moments at play) (moments_in voices voice next rest))
+    ap (λ sets. last_on tick (sets ++ others)) (append-nil own)
+    ∙ last_append (set_if_on tick) own others
+    ∙ (λ i. or_said (sections_said tick voices voice next rest i) (play_said program_of tick at play i))
+    ∙ sym (last_append (set_by program_of tick) (at_moments at play) (moments_in voices voice next rest))
 
 -- what a tune opens with is the last program of its header
 one_past : (program : Option ℕ) (item : Item) → program_past program item ≡ or_said (opening_program_of item) program
 one_past program (items.Program true (Some number)) = refl
 one_past program _ = refl
 
-all_past : (program : Option ℕ) (tune : List Item) → past_all program_past program tune ≡ or_said (last_said opening_program_of tune) program
-all_past program [] = refl
-all_past program (item ∷ tune) =
-    all_past (program_past program item) tune
-    ∙ ap (or_said (last_said opening_program_of tune)) (one_past program item)
-    ∙ sym (or_all (last_said opening_program_of tune) (opening_program_of item) program)
+-- what holds behind a tune is what is said last in it
+all_past : {V : Type 0} (past : Option V → Item → Option V) (says : Item → Option V)
+    → ((value : Option V) (item : Item) → past value item ≡ or_said (says item) value)
+    → (value : Option V) (tune : List Item) → past_all past value tune ≡ or_said (last_said says tune) value
+all_past past says one value [] = refl
+all_past past says one value (item ∷ tune) =
+    all_past past says one (past value item) tune
+    ∙ ap (or_said (last_said says tune)) (one value item)
+    ∙ sym (or_all (last_said says tune) (says item) value)
 
-opens : (tune : List Item) → past_all program_past None tune ≡ last_said opening_program_of tune
-opens tune = all_past None tune ∙ sym (or_none (last_said opening_program_of tune))
+pub opens : {V : Type 0} (past : Option V → Item → Option V) (says : Item → Option V)
+    → ((value : Option V) (item : Item) → past value item ≡ or_said (says item) value)
+    → (tune : List Item) → past_all past None tune ≡ last_said says tune
+opens past says one tune = all_past past says one None tune ∙ sym (or_none (last_said says tune))
 
 -- the program of a voice on a tick
 voice_on : (tune : List Item) (tick : ℕ) (voice : List ℕ)
@@ -172,8 +164,8 @@ voice_on tune tick voice =
     those_there tick (last_of_each_tick (behind opening sets))
     ∙ ap (map program_change) (last_stands tick (behind opening sets))
     ∙ as_list program_change (last_said (set_if_on tick) (behind opening sets))
-    ∙ ap option_to_list (one_more tick 0 opening sets
-    ∙ (λ i. or_said (sections_said tick (everyone tune) voice 0 (played_sections tune) i) (on_tick tick 0 (opens tune i))))
+    ∙ ap (λ last. option_to_list (option_map program_change last)) (one_more tick 0 opening sets
+    ∙ (λ i. or_said (sections_said tick (everyone tune) voice 0 (played_sections tune) i) (set_on tick 0 (opens program_past opening_program_of one_past tune i))))
 
 voices_on : {X Y Z : Type 0} (f : Y → Z) (g : X → Y) (h : X → Z) → ((x : X) → f (g x) ≡ h x) → (xs : List X) → map f (map g xs) ≡ map h xs
 voices_on f g h same [] = refl

@@ -13,7 +13,7 @@ use Rattle.abc_voices.specs.Turns.{IsSteady, PlaysNone, steps_of, set_by_all, se
 use Rattle.abc_voices.specs.Arrange.{played_sections, or_else, usual_tempo}
 use Rattle.abc_voices.specs.Change.{tempo_of, meter_of, key_of, program_of, at_moment, set_from, behind}
 use Rattle.abc_voices.specs.ScoreChanges.{changes_that_stand, programs_that_stand}
-use Rattle.abc_voices.specs.Fields.{is_music, is_change, is_steady, sets_program, keeps_programs, fields}
+use Rattle.abc_voices.specs.Fields.{is_music, is_change, is_steady, sets_program, keeps_programs, without_music}
 use Rattle.abc_voices.specs.Opening.{tempo_past, meter_past, key_past, past_all}
 use Rattle.abc_sections.specs.Section.{is_step, voice_past, part_from}
 use Rattle.abc_sections.specs.Stage.{part_of, stage_of}
@@ -110,15 +110,15 @@ module _ (kind : Item → Bool) (music_not : (item : Item) → is_music item ≡
   none_of steps = list_all (λ step. not (kind step && is_step step)) steps
 
   steady_step : (step : Item) (tune : List Item) (music : Bool) → is_music step ≡ music
-      → none_of (cond (not music) (step ∷ fields tune) (fields tune)) ≡ true
-      → ChangesNothing step × (none_of (fields tune) ≡ true)
+      → none_of (cond (not music) (step ∷ without_music tune) (without_music tune)) ≡ true
+      → ChangesNothing step × (none_of (without_music tune) ≡ true)
   steady_step step tune true e steady = (music_not step e, steady)
   steady_step step tune false e steady = (
-    not_true (kind step && is_step step) (and_first (not (kind step && is_step step)) (none_of (fields tune)) steady),
-    and_rest (not (kind step && is_step step)) (none_of (fields tune)) steady,
+    not_true (kind step && is_step step) (and_first (not (kind step && is_step step)) (none_of (without_music tune)) steady),
+    and_rest (not (kind step && is_step step)) (none_of (without_music tune)) steady,
   )
 
-  steady_steps : (tune : List Item) → none_of (fields tune) ≡ true → All ChangesNothing tune
+  steady_steps : (tune : List Item) → none_of (without_music tune) ≡ true → All ChangesNothing tune
   steady_steps [] steady = All-nil ChangesNothing
   steady_steps (step ∷ tune) steady =
       let both = steady_step step tune (is_music step) refl steady in
@@ -152,7 +152,7 @@ module _ (kind : Item → Bool) (music_not : (item : Item) → is_music item ≡
       All-cons (PlaysNone kind) (stage_of voices section) (map (stage_of voices) played) (plain_parts section voices (All-head P section played none))
       (steady_stages voices played (All-tail P section played none))
 
-  pub none_along : (tune given : List Item) (stages : List Stage) → given ≡ fields tune
+  pub none_along : (tune given : List Item) (stages : List Stage) → given ≡ without_music tune
       → stages ≡ map (stage_of (everyone tune)) (played_sections tune)
       → none_of given ≡ true → All (PlaysNone kind) stages
   none_along tune given stages is are steady =
@@ -167,12 +167,12 @@ music_plain item music = of_music is_change false (λ _ _. refl) (λ _ _. refl) 
 music_keeps : (item : Item) → is_music item ≡ true → (sets_program item && is_step item) ≡ false
 music_keeps item music = of_music (λ one. sets_program one && is_step one) false (λ _ _. refl) (λ _ _. refl) (λ _. refl) (λ _. refl) item music
 
-pub steady_along : (tune given : List Item) (stages : List Stage) → given ≡ fields tune
+pub steady_along : (tune given : List Item) (stages : List Stage) → given ≡ without_music tune
     → stages ≡ map (stage_of (everyone tune)) (played_sections tune)
     → is_steady given ≡ true → All IsSteady stages
 steady_along = none_along is_field music_plain
 
-pub kept_along : (tune given : List Item) (stages : List Stage) → given ≡ fields tune
+pub kept_along : (tune given : List Item) (stages : List Stage) → given ≡ without_music tune
     → stages ≡ map (stage_of (everyone tune)) (played_sections tune)
     → keeps_programs given ≡ true → All (PlaysNone sets_program) stages
 kept_along = none_along sets_program music_keeps

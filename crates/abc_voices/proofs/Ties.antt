@@ -11,7 +11,7 @@ use Rattle.abc_sections.specs.PlayedSection.{longest, play_in}
 use Rattle.abc_voices.specs.TiedNotes.{TokenNotes, Notes, own_note, with_note, with_key, with_tones, next_place, before, before_all, notes_from}
 use Rattle.abc_sections.specs.Step.{length_of, tones_of}
 use Rattle.abc_voices.specs.Track.{everyone, tracks}
-use Rattle.abc_voices.specs.Ties.{TimeToken, with_token, tokens_from, tokens_in, is_key, tones_with, tied_with, tone_at, end_by, chain_end, begun_by, begun_at, chains, heard, PlaysChains, VoicesPlayChains}
+use Rattle.abc_voices.specs.Ties.{TimeToken, with_token, tokens_from, tokens_in, has_key, tones_with, tied_with, tone_at, end_by, chain_end, begun_by, begun_at, chains, heard, PlaysChains, VoicesPlayChains}
 
 -- the first note of a key, and the others
 abbrev first_off : ℕ → ℕ → List Sounding → ℕ
@@ -131,7 +131,7 @@ all_past : (key : ℕ) (tied more : ℕ → ℕ) → IsOneMore key tied more →
     → begun_at tied at past tones tokens ≡ begun_at more at past tones tokens
 all_past key tied more one at past [] tokens far = refl
 all_past key tied more one at past (tone ∷ tones) tokens far =
-    let next : tones_with key past ≤ tones_with key (tone ∷ past) = grows key (is_key key tone.key) (tones_with key past) in
+    let next : tones_with key past ≤ tones_with key (tone ∷ past) = grows key (has_key key tone.key) (tones_with key past) in
     both (begun_past key tied more one at past tone tokens tone.key far)
     (all_past key tied more one at (tone ∷ past) tones tokens (omega arith))
 
@@ -169,7 +169,7 @@ take_other key tied more one at own past tone tones tokens other is apart rest =
     ap (λ k. begun_by more at past tone tokens k ++ M) is ∙ ap (λ n. cond (nat_lt (tones_with other past) n) [] (N ∷ []) ++ M) (one.there other apart) in
     let passed : tone_at key (tied key) past (tone ∷ tones) ≡ tone_at key (tied key) (tone ∷ past) tones =
     ap (λ q. cond (q && (tones_with key past == tied key)) (Some (tone, tied_with key past)) (tone_at key (tied key) (tone ∷ past) tones))
-    (ap (is_key key) is ∙ apart) in
+    (ap (has_key key) is ∙ apart) in
     record {
       left = ap (without_first key) open_tied ∙ without_if key b N T apart ∙ ap (λ n. cond b [] (N ∷ []) ++ n) rest.left ∙ sym open_more;
       off = ap (first_off key own) open_tied ∙ off_if key own b N T apart ∙ rest.off ∙ ap (end_by own (behind tokens at key)) (sym passed);
@@ -187,7 +187,7 @@ take_own key tied more one at own past tone tones tokens is few rest =
     let is_own : (key == key) ≡ true = eq-eqb key key refl in
     let open_tied : begun_at tied at past (tone ∷ tones) tokens ≡ cond (nat_lt count (tied key)) [] (N ∷ []) ++ T = ap (λ k. begun_by tied at past tone tokens k ++ T) is in
     let open_more : begun_at more at past (tone ∷ tones) tokens ≡ cond (nat_lt count (more key)) [] (N ∷ []) ++ M = ap (λ k. begun_by more at past tone tokens k ++ M) is in
-    let own_key : is_key key tone.key ≡ true = ap (is_key key) is ∙ is_own in
+    let own_key : has_key key tone.key ≡ true = ap (has_key key) is ∙ is_own in
     let counted : tones_with key (tone ∷ past) ≡ suc count = ap (λ q. cond q (suc count) count) own_key in
     let more_is : more key ≡ suc (tied key) = one.here in
     let gone : begun_at more at past (tone ∷ tones) tokens ≡ M =
@@ -225,13 +225,13 @@ take_none key tied more at own past tone tones tokens is rest =
     let open_tied : begun_at tied at past (tone ∷ tones) tokens ≡ T = ap (λ k. begun_by tied at past tone tokens k ++ T) is in
     let open_more : begun_at more at past (tone ∷ tones) tokens ≡ M = ap (λ k. begun_by more at past tone tokens k ++ M) is in
     let passed : tone_at key (tied key) past (tone ∷ tones) ≡ tone_at key (tied key) (tone ∷ past) tones =
-    ap (λ q. cond (q && (tones_with key past == tied key)) (Some (tone, tied_with key past)) (tone_at key (tied key) (tone ∷ past) tones)) (ap (is_key key) is) in
+    ap (λ q. cond (q && (tones_with key past == tied key)) (Some (tone, tied_with key past)) (tone_at key (tied key) (tone ∷ past) tones)) (ap (has_key key) is) in
     record {
       left = ap (without_first key) open_tied ∙ rest.left ∙ sym open_more;
       off = ap (first_off key own) open_tied ∙ rest.off ∙ ap (end_by own (behind tokens at key)) (sym passed);
     }
 
-uncounted : (key : ℕ) (tone : Tone) (past : List Tone) (b : Bool) → is_key key tone.key ≡ b → b ≡ false → tones_with key (tone ∷ past) ≡ tones_with key past
+uncounted : (key : ℕ) (tone : Tone) (past : List Tone) (b : Bool) → has_key key tone.key ≡ b → b ≡ false → tones_with key (tone ∷ past) ≡ tones_with key past
 uncounted key tone past b e f = ap (λ q. cond q (suc (tones_with key past)) (tones_with key past)) (e ∙ f)
 
 take_step : (key : ℕ) (tied more : ℕ → ℕ) → IsOneMore key tied more → (at own : ℕ) (past : List Tone) (tone : Tone) (tones : List Tone) (tokens : List TimeToken)
@@ -239,13 +239,13 @@ take_step : (key : ℕ) (tied more : ℕ → ℕ) → IsOneMore key tied more �
     → (tones_with key (tone ∷ past) ≤ tied key → IsTaken key tied more at own (tone ∷ past) tones tokens)
     → IsTaken key tied more at own past (tone ∷ tones) tokens
 take_step key tied more one at own past tone tones tokens None is few rest =
-    let same : tones_with key (tone ∷ past) ≡ tones_with key past = uncounted key tone past false (ap (is_key key) is) refl in
+    let same : tones_with key (tone ∷ past) ≡ tones_with key past = uncounted key tone past false (ap (has_key key) is) refl in
     take_none key tied more at own past tone tones tokens is (rest (omega arith))
 take_step key tied more one at own past tone tones tokens (Some other) is few rest =
     elim (cases_Bool (other == key)) [
       | inl is_own ↦ take_own key tied more one at own past tone tones tokens (is ∙ ap Some (eqb-true other key is_own)) few rest
       | inr apart ↦
-          let same : tones_with key (tone ∷ past) ≡ tones_with key past = uncounted key tone past (other == key) (ap (is_key key) is) apart in
+          let same : tones_with key (tone ∷ past) ≡ tones_with key past = uncounted key tone past (other == key) (ap (has_key key) is) apart in
           take_other key tied more one at own past tone tones tokens other is apart (rest (omega arith))
     ]
 
@@ -284,7 +284,7 @@ untied at key number tone [] loose = refl
 untied at key number tone (token ∷ tokens) loose =
     ap (λ t. end_by (at + tone.length.0) (behind tokens token.at key) (cond t (tone_at key number [] token.tones) None)) loose
 
-uncounted_tied : (key : ℕ) (tone : Tone) (past : List Tone) → (tone.tied && is_key key tone.key) ≡ false → tied_with key past ≡ tied_with key (tone ∷ past)
+uncounted_tied : (key : ℕ) (tone : Tone) (past : List Tone) → (tone.tied && has_key key tone.key) ≡ false → tied_with key past ≡ tied_with key (tone ∷ past)
 uncounted_tied key tone past e = sym (ap (λ q. cond q (suc (tied_with key past)) (tied_with key past)) e)
 
 one_more : (key : ℕ) (tone : Tone) (past : List Tone) → tone.key ≡ Some key → tone.tied ≡ true
@@ -292,9 +292,9 @@ one_more : (key : ℕ) (tone : Tone) (past : List Tone) → tone.key ≡ Some ke
 one_more key tone past is tied =
     record {
       here = ap (λ q. cond q (suc (tied_with key past)) (tied_with key past))
-          (ap (λ t. t && is_key key tone.key) tied ∙ ap (is_key key) is ∙ eq-eqb key key refl);
+          (ap (λ t. t && has_key key tone.key) tied ∙ ap (has_key key) is ∙ eq-eqb key key refl);
       there = λ other apart. sym (uncounted_tied other tone past
-          (and_right tone.tied (is_key other tone.key) (ap (is_key other) is ∙ ne_eqb key other (λ e. eqb-false other key apart (sym e)))));
+          (and_right tone.tied (has_key other tone.key) (ap (has_key other) is ∙ ne_eqb key other (λ e. eqb-false other key apart (sym e)))));
     }
 
 -- the note of a tone by itself, and that of its chain
@@ -325,7 +325,7 @@ with_one : (at : ℕ) (tokens : List TimeToken) (begun : List Sounding) (past : 
 with_one at tokens begun past tone None tied is e =
     linked_by (sym (append-nil begun))
     (unjoined_same (λ k. tied_with k past) (λ k. tied_with k (tone ∷ past))
-    (λ k. uncounted_tied k tone past (and_right tone.tied (is_key k tone.key) (ap (is_key k) is))) tokens)
+    (λ k. uncounted_tied k tone past (and_right tone.tied (has_key k tone.key) (ap (has_key k) is))) tokens)
 with_one at tokens begun past tone (Some key) false is e =
     let next : List Sounding = unjoined (λ k. tied_with k past) tokens in
     ap (λ t. with_note (own_note at tone key) (record { begun = begun; next = next }) (next_place t key next)) e
@@ -333,7 +333,7 @@ with_one at tokens begun past tone (Some key) false is e =
     (ap (λ off. begun ++ its_note key tone at off ∷ []) (sym (untied at key (tied_with key past) tone tokens e))
     ∙ ap (λ notes. begun ++ notes) (sym (alone key at past tone tokens)))
     (unjoined_same (λ k. tied_with k past) (λ k. tied_with k (tone ∷ past))
-    (λ k. uncounted_tied k tone past (ap (λ t. t && is_key k tone.key) e)) tokens)
+    (λ k. uncounted_tied k tone past (ap (λ t. t && has_key k tone.key) e)) tokens)
 with_one at tokens begun past tone (Some key) true is e =
     let next : List Sounding = unjoined (λ k. tied_with k past) tokens in
     ap (λ t. with_note (own_note at tone key) (record { begun = begun; next = next }) (next_place t key next)) e
@@ -356,7 +356,7 @@ joined_tones at tokens all begun past (tone ∷ tones) counts =
     let here : List Sounding = begun_by (λ k. 0) at past tone tokens tone.key in
     ap (λ linked. with_tones at linked tones) (with_one at tokens begun past tone tone.key tone.tied refl refl)
     ∙ joined_tones at tokens all (begun ++ here) (tone ∷ past) tones
-    (λ k. moves (tone.tied && is_key k tone.key) (all k) (tied_with k past) (tied_with k tones) (counts k))
+    (λ k. moves (tone.tied && has_key k tone.key) (all k) (tied_with k past) (tied_with k tones) (counts k))
     ∙ linked_by (append_assoc begun here (begun_at (λ k. 0) at (tone ∷ past) tones tokens)) refl
 
 -- the walk over time tokens

@@ -1,30 +1,20 @@
 -- A tune is too long exactly where it passes a limit; one that passes none fits a file.
-use Rattle.std.proofs.Common.{◌≡◌, ◌⊎◌, ◌<◌, ◌≤◌, ◌^◌, ℕ, true, false, List, length, inl, inr, arith, ⊎_elim, ap, subst, ◌∙◌, pos, negsuc, int_le}
-use Rattle.std.specs.Prelude.{◌&&◌, ◌||◌, ◌==◌, All, nat_le, nat_lt}
+use Rattle.std.proofs.Common.{◌≡◌, ◌⊎◌, ◌<◌, ◌≤◌, ℕ, true, false, List, length, inl, inr, arith, ⊎_elim, ap, subst, ◌∙◌}
+use Rattle.std.specs.Prelude.{◌&&◌, ◌||◌, All, nat_le, nat_lt}
 use Rattle.std.specs.Bool.{Decides}
-use Rattle.std.specs.List.{list_all}
-use Rattle.std.proofs.lemmas.Bool.{and_cases, and_parts, eqb-true, false_from_ne_true, leb-false, leb-true, ltb-true}
+use Rattle.std.proofs.lemmas.Bool.{and_cases, and_parts, false_from_ne_true, leb-false, leb-true}
 use Rattle.std.proofs.lemmas.Bool.Decides.{Decides-like, Decides-ltb, Decides-or}
 use Rattle.std.proofs.lemmas.List.{length-map}
-use Rattle.std.proofs.lemmas.List.Elements.{All-weaker}
-use Rattle.std.proofs.lemmas.List.Sums.{AllPass-from_list_all}
 use Rattle.abc_items.specs.Item.{IsItem}
 use Rattle.abc_items.specs.declared.item.Item.{Item}
 use Rattle.abc_items.specs.declared.item.TheConstants.{MOST_VOICES}
 use Rattle.abc_repeat.specs.declared.order.TheConstants.{MOST_SECTIONS}
 use Rattle.abc_repeat.specs.declared.play.TheConstants.{MOST_PLACES}
-use Rattle.abc_text.proofs.Powers.{power_from}
-use Rattle.abc_time.specs.declared.grains.Grains.{Grains}
 use Rattle.abc_time.specs.Grains.{grains_of_the_latest_end}
-use Rattle.abc_score.specs.declared.limits.TheConstants.{LONGEST_TITLE, MOST_CHANGES, MOST_NOTES, MOST_PROGRAMS}
-use Rattle.abc_score.specs.declared.score.Change.{Change}
-use Rattle.abc_score.specs.declared.score.ChangeKind.{ChangeKind}
-use Rattle.abc_score.specs.declared.score.ChangeKind.TheVariants.{Tempo, Meter, Key}
-use Rattle.abc_score.specs.declared.score.ProgramChange.{ProgramChange}
+use Rattle.abc_score.specs.declared.limits.TheConstants.{LONGEST_TITLE}
 use Rattle.abc_score.specs.declared.score.Score.{Score}
-use Rattle.abc_score.specs.declared.score.Sounding.{Sounding}
 use Rattle.abc_voices.specs.Arrange.{end_of, is_too_long, places_played, score_of, sections_played}
-use Rattle.abc_score.specs.Limits.{IsWritable, IsChangeWithin, IsSoundingWithin, IsVoiceWithin, IsProgramWithin, AreProgramsWithin, AreCountsWithin, IsWithinLimits, is_writable, is_change_within, is_note_within, is_voice_within, is_program_within, are_programs_within, are_counts_within, is_within_limits}
+use Rattle.abc_score.specs.Limits.{IsWithinLimits}
 use Rattle.abc_voices.specs.Opening.{title_of}
 use Rattle.abc_voices.specs.TooLong.{PassesALimit, of_sections, of_places, of_time, of_voices, of_title, IsTooLongByALimit}
 use Rattle.abc_voices.specs.Track.{tracks}
@@ -94,91 +84,9 @@ pub short_enough : (tune : List Item) → IsShort tune → is_too_long tune ≡ 
 short_enough tune short =
     false_from_ne_true (is_too_long tune) (λ long. none tune short ((decides tune).0 long))
 
--- what a test of a score tells
-writable_is : (what : ChangeKind) → is_writable what ≡ true → IsWritable what
-writable_is (Tempo micros) h =
-    let both = and_parts (nat_le 1 micros) (nat_lt micros (2 ^ 24)) h in (leb-true 1 micros both.0, ltb-true micros (2 ^ 24) both.1)
-writable_is (Meter num den) h = power_from 6 den h
-writable_is (Key sharps minor) h =
-    let both = and_parts (int_le (negsuc 6) sharps) (int_le sharps (pos 7)) h in (grind (arith, both.0), grind (arith, both.1))
-
-change_is : (end : Grains) (change : Change) → is_change_within end change ≡ true → IsChangeWithin end change
-change_is end change h =
-    let both = and_parts (nat_le change.at.0 end.0) (is_writable change.what) h in
-    record { before_end = leb-true change.at.0 end.0 both.0; writable = writable_is change.what both.1 }
-
-note_is : (end : Grains) (note : Sounding) → is_note_within end note ≡ true → IsSoundingWithin end note
-note_is end note h =
-    let forward = nat_le note.on.0 note.off.0 in
-    let before = nat_le note.off.0 end.0 in
-    let key = nat_le note.key 127 in
-    let loudest = and_parts (forward && before && key && nat_le 1 note.velocity) (nat_le note.velocity 127) h in
-    let softest = and_parts (forward && before && key) (nat_le 1 note.velocity) loudest.0 in
-    let keyed = and_parts (forward && before) key softest.0 in
-    let times = and_parts forward before keyed.0 in
-    record {
-      forward = leb-true note.on.0 note.off.0 times.0;
-      before_end = leb-true note.off.0 end.0 times.1;
-      key = leb-true note.key 127 keyed.1;
-      softest = leb-true 1 note.velocity softest.1;
-      loudest = leb-true note.velocity 127 loudest.1;
-    }
-
-program_is : (end : Grains) (change : ProgramChange) → is_program_within end change ≡ true → IsProgramWithin end change
-program_is end change h =
-    let both = and_parts (nat_le change.at.0 end.0) (nat_le change.number 127) h in
-    record { before_end = leb-true change.at.0 end.0 both.0; number = leb-true change.number 127 both.1 }
-
-programs_are : (end : Grains) (changes : List ProgramChange) → are_programs_within end changes ≡ true → AreProgramsWithin end changes
-programs_are end changes h =
-    let both = and_parts (nat_le (length changes) MOST_PROGRAMS) (list_all (is_program_within end) changes) h in
-    record {
-      count = leb-true (length changes) MOST_PROGRAMS both.0;
-      each = All-weaker (λ change. is_program_within end change ≡ true) (IsProgramWithin end) (program_is end) changes (AllPass-from_list_all (is_program_within end) changes both.1);
-    }
-
-voice_is : (end : Grains) (notes : List Sounding) → is_voice_within end notes ≡ true → IsVoiceWithin end notes
-voice_is end notes h =
-    let both = and_parts (nat_le (length notes) MOST_NOTES) (list_all (is_note_within end) notes) h in
-    record {
-      count = leb-true (length notes) MOST_NOTES both.0;
-      each = All-weaker (λ note. is_note_within end note ≡ true) (IsSoundingWithin end) (note_is end) notes (AllPass-from_list_all (is_note_within end) notes both.1);
-    }
-
-counts_are : (score : Score) → are_counts_within score ≡ true → AreCountsWithin score
-counts_are score h =
-    let time = nat_le score.end.0 grains_of_the_latest_end in
-    let title = nat_le (length score.title) LONGEST_TITLE in
-    let changes = nat_le (length score.conductor) MOST_CHANGES in
-    let voices = nat_le (length score.voices) MOST_VOICES in
-    let alike = and_parts (time && title && changes && voices) (length score.programs == length score.voices) h in
-    let last = and_parts (time && title && changes) voices alike.0 in
-    let third = and_parts (time && title) changes last.0 in
-    let first = and_parts time title third.0 in
-    record {
-      end = leb-true score.end.0 grains_of_the_latest_end first.0;
-      title = leb-true (length score.title) LONGEST_TITLE first.1;
-      changes = leb-true (length score.conductor) MOST_CHANGES third.1;
-      voices = leb-true (length score.voices) MOST_VOICES last.1;
-      programs = eqb-true (length score.programs) (length score.voices) alike.1;
-    }
-
-score_is : (score : Score) → is_within_limits score ≡ true → IsWithinLimits score
-unfolding is_within_limits
-score_is score h =
-    let programs = and_parts (are_counts_within score && list_all (is_change_within score.end) score.conductor && list_all (is_voice_within score.end) score.voices) (list_all (are_programs_within score.end) score.programs) h in
-    let last = and_parts (are_counts_within score && list_all (is_change_within score.end) score.conductor) (list_all (is_voice_within score.end) score.voices) programs.0 in
-    let first = and_parts (are_counts_within score) (list_all (is_change_within score.end) score.conductor) last.0 in
-    record {
-      counts = counts_are score first.0;
-      changes = All-weaker (λ change. is_change_within score.end change ≡ true) (IsChangeWithin score.end) (change_is score.end) score.conductor (AllPass-from_list_all (is_change_within score.end) score.conductor first.1);
-      voices = All-weaker (λ notes. is_voice_within score.end notes ≡ true) (IsVoiceWithin score.end) (voice_is score.end) score.voices (AllPass-from_list_all (is_voice_within score.end) score.voices last.1);
-      programs = All-weaker (λ changes. are_programs_within score.end changes ≡ true) (AreProgramsWithin score.end) (programs_are score.end) score.programs (AllPass-from_list_all (are_programs_within score.end) score.programs programs.1);
-    }
-
 -- the score of a tune that passes no limit fits a file
 pub fits : (tune : List Item) → All IsItem tune → IsShort tune → IsWithinLimits (score_of tune)
-fits tune each short = score_is (score_of tune) (fits_a_file tune each short.places short.time short.voices short.title)
+fits tune each short = fits_a_file tune each short.places short.time short.voices short.title
 
 -- the counts of a score are those of its tune
 voices_of : (tune : List Item) (score : Score) → score ≡ score_of tune → length score.voices ≡ length (tracks tune)

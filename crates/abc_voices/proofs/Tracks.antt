@@ -9,8 +9,8 @@ use Rattle.abc_items.specs.declared.item.Item.{Item}
 use Rattle.abc_items.specs.declared.item.Item.TheVariants as items
 use Rattle.abc_voices.specs.Arrange.{takes_time}
 use Rattle.abc_voices.specs.Track.{nameless_plays, names_from, plays_first}
-use Rattle.abc_voices.specs.Tracks.{HaveTracksByMention, mentioned, mentioned_by, mentioned_first, plays_nameless, with_past}
-use Rattle.abc_voices.specs.Voices.{declared_by, first_said, named_by, or_said, voice_behind}
+use Rattle.abc_voices.specs.Tracks.{HaveTracksByMention, mentioned, mentioned_by, mentioned_first, plays_nameless}
+use Rattle.abc_voices.specs.Voices.{declared_by, first_said, named_by, or_said, voice_behind, with_past}
 use Rattle.abc_voices.proofs.Voices.{declared}
 
 -- the names that are known are the empty one and those that these items mention

@@ -60,7 +60,7 @@ abbrev pub first_of : List (List ℕ) → List (List ℕ)
 first_of [] = []
 first_of (voice ∷ voices) = voice ∷ []
 
--- When a sum of sections, and the last of some notes, are over.
+-- The later of a moment and the last end of some notes.
 abbrev pub last_off : ℕ → List Sounding → ℕ
 last_off at [] = at
 last_off at (note ∷ notes) = last_off (max at note.off.0) notes

@@ -1,5 +1,5 @@
 -- The tempo, the meter and the key on each tick, by what is played there. Our own.
-use Rattle.std.specs.Prelude.{◌≡◌, ℕ, ℤ, pos, ◌+◌, ◌==◌, Bool, true, false, ◌&&◌, if◌then◌else◌, List, [], ◌∷◌, take, filter, Option, Some, None, option_map, option_and_then, unwrap_or}
+use Rattle.std.specs.Prelude.{◌≡◌, ℕ, ℤ, pos, ◌+◌, ◌*◌, ◌/◌, ◌^◌, ◌==◌, Bool, true, false, ◌&&◌, List, [], ◌∷◌, take, filter, Option, Some, None, option_map, option_and_then, unwrap_or}
 use Rattle.std.specs.Option.{option_to_list}
 use Rattle.abc_items.specs.declared.item.Item.{Item}
 use Rattle.abc_items.specs.declared.item.Item.TheVariants as items
@@ -10,11 +10,10 @@ use Rattle.abc_time.specs.Grains.{tick_at}
 use Rattle.abc_score.specs.declared.score.Change.{Change}
 use Rattle.abc_score.specs.declared.score.ChangeKind.{ChangeKind}
 use Rattle.abc_score.specs.declared.score.ChangeKind.TheVariants as kinds
-use Rattle.abc_voices.specs.Arrange.{played_sections, score_of, usual_tempo}
+use Rattle.abc_voices.specs.Arrange.{played_sections, score_of}
 use Rattle.abc_sections.specs.PlayedSection.{longest, play_in}
-use Rattle.abc_voices.specs.Change.{at_moment, tempo_of, meter_of, key_of}
-use Rattle.abc_voices.specs.OnTicks.{at_moments, last_said}
-use Rattle.abc_voices.specs.ScoreChanges.{tempo_change, meter_change, key_change}
+use Rattle.abc_voices.specs.Change.{tempo_of, meter_of, key_of}
+use Rattle.abc_voices.specs.OnTicks.{at_moments, last_said, set_by, set_on}
 use Rattle.abc_voices.specs.Track.{everyone, tracks}
 use Rattle.abc_voices.specs.Voices.{or_said}
 
@@ -37,18 +36,14 @@ opening_key_of _ = None
 abbrev pub opening_by : {V : Type 0} → (Item → Option (Option V)) → V → List Item → V
 opening_by says usual tune = unwrap_or (unwrap_or (last_said says tune) None) usual
 
--- A value at a moment, if there is one and the moment is on this tick.
-abbrev pub set_on : {V : Type 0} → ℕ → ℕ → Option V → Option (Grains × V)
-set_on tick at value = if tick_at at == tick then at_moment at value else None
-
 -- The last value that something sets on a tick which is played one after another from a moment on.
 abbrev pub last_played : {V : Type 0} → (Item → Option V) → ℕ → ℕ → List Item → Option (Grains × V)
-last_played value_of tick at play = last_said (λ one. set_on tick one.0 (value_of one.1)) (at_moments at play)
+last_played value_of tick at play = last_said (set_by value_of tick) (at_moments at play)
 
 -- Sections that are played one after another from a moment on, each at its moment.
-abbrev pub sections_at : List (List ℕ) → ℕ → List (List ℕ × List Item) → List (ℕ × (List ℕ × List Item))
-sections_at voices at [] = []
-sections_at voices at (section ∷ rest) = (at, section) ∷ sections_at voices (at + longest voices section) rest
+abbrev pub sections_in_time : List (List ℕ) → ℕ → List (List ℕ × List Item) → List (ℕ × (List ℕ × List Item))
+sections_in_time voices at [] = []
+sections_in_time voices at (section ∷ rest) = (at, section) ∷ sections_in_time voices (at + longest voices section) rest
 
 -- What some voices set last on a tick in a section that is played from a moment on: of the voices that set something
 -- there the last one decides, in the order of the voices, whichever of them sets it later.
@@ -60,7 +55,7 @@ last_beside value_of those tick (at, section) =
 -- in order of play.
 abbrev pub last_set : {V : Type 0} → (Item → Option V) → List (List ℕ) → List Item → ℕ → Option (Grains × V)
 last_set value_of those tune tick =
-    last_said (last_beside value_of those tick) (sections_at (everyone tune) 0 (played_sections tune))
+    last_said (last_beside value_of those tick) (sections_in_time (everyone tune) 0 (played_sections tune))
 
 -- What holds on a tick: what is set there last, or else that with which the tune opens, where its beginning is on the tick.
 abbrev pub set_or_opening : {V : Type 0} → (Item → Option V) → List (List ℕ) → V → List Item → ℕ → Option (Grains × V)
@@ -70,21 +65,37 @@ set_or_opening value_of those opening tune tick = or_said (last_set value_of tho
 abbrev pub leader : List Item → List (List ℕ)
 leader tune = take 1 (tracks tune)
 
+-- A minute's microseconds over 120 quarter notes.
+abbrev pub at_120 : ℕ
+at_120 = 60 * 10 ^ 6 / 120
+
+-- A tempo at a moment, as a change.
+abbrev pub as_tempo : Grains × ℕ → Change
+as_tempo set = record { at = set.0; what = kinds.Tempo set.1 }
+
 -- The tempo on a tick: all voices set it. Where the header says none, it is 120 quarter notes a minute.
 abbrev pub tempo_on : List Item → ℕ → Option Change
 tempo_on tune tick =
-    option_map tempo_change (set_or_opening tempo_of (everyone tune) (opening_by opening_tempo_of usual_tempo tune) tune tick)
+    option_map as_tempo (set_or_opening tempo_of (everyone tune) (opening_by opening_tempo_of at_120 tune) tune tick)
 
--- The meter on a tick: the first voice with a track sets it. Where it is free meter, it is none. Where the header says
--- none, it is free.
+-- A meter at a moment, as a change: free meter is none.
+abbrev pub as_meter : Grains → Meter → Option Change
+as_meter at meters.Free = None
+as_meter at (meters.Of num den) = Some (record { at = at; what = kinds.Meter num den })
+
+-- The meter on a tick: the first voice with a track sets it. Where the header says none, it is free.
 abbrev pub meter_on : List Item → ℕ → Option Change
 meter_on tune tick =
-    option_and_then meter_change (set_or_opening meter_of (leader tune) (opening_by opening_meter_of meters.Free tune) tune tick)
+    option_and_then (λ set. as_meter set.0 set.1) (set_or_opening meter_of (leader tune) (opening_by opening_meter_of meters.Free tune) tune tick)
+
+-- A key at a moment, as a change: its sharps, and whether it is minor.
+abbrev pub as_key : Grains × (ℤ × Bool) → Change
+as_key set = record { at = set.0; what = kinds.Key set.1.0 set.1.1 }
 
 -- The key on a tick: the first voice with a track sets it. Where the header says none, it is that of C major.
 abbrev pub key_on : List Item → ℕ → Option Change
 key_on tune tick =
-    option_map key_change (set_or_opening key_of (leader tune) (opening_by opening_key_of (pos 0, false) tune) tune tick)
+    option_map as_key (set_or_opening key_of (leader tune) (opening_by opening_key_of (pos 0, false) tune) tune tick)
 
 -- The three kinds of changes.
 abbrev pub is_tempo : ChangeKind → Bool

@@ -19,7 +19,7 @@ is_music _ = false
 abbrev pub is_change : Item → Bool
 is_change item = is_field item && is_step item
 
--- Whether none of a tune's steps does.
+-- Whether no item of a tune changes one of these.
 abbrev pub is_steady : List Item → Bool
 is_steady tune = list_all (λ step. not (is_change step)) tune
 
@@ -27,10 +27,10 @@ is_steady tune = list_all (λ step. not (is_change step)) tune
 abbrev pub sets_program : Item → Bool
 sets_program item = is_some (program_of item)
 
--- Whether none of a tune's steps does while the tune is played.
+-- Whether no item of a tune sets a program while it is played.
 abbrev pub keeps_programs : List Item → Bool
 keeps_programs tune = list_all (λ step. not (sets_program step && is_step step)) tune
 
--- The steps of a tune that are no music.
-abbrev pub fields : List Item → List Item
-fields tune = filter (λ step. not (is_music step)) tune
+-- The items of a tune that are no music.
+abbrev pub without_music : List Item → List Item
+without_music tune = filter (λ step. not (is_music step)) tune

@@ -3,9 +3,11 @@ pub mod Chains
 pub mod Change
 pub mod Conductor
 pub mod Endings
+pub mod Ends
 pub mod Fields
 pub mod OnTicks
 pub mod Opening
+pub mod Orders
 pub mod ScoreChanges
 pub mod Stages
 pub mod Ticks
@@ -15,4 +17,5 @@ pub mod TooLong
 pub mod Track
 pub mod Tracks
 pub mod Turns
+pub mod Uneven
 pub mod Voices

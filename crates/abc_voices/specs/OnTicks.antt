@@ -3,11 +3,12 @@ use Rattle.std.specs.Prelude.{◌≡◌, ℕ, ◌+◌, ◌==◌, true, if◌then
 use Rattle.std.specs.Option.{option_to_list}
 use Rattle.abc_items.specs.declared.item.Item.{Item}
 use Rattle.abc_items.specs.declared.item.Item.TheVariants as items
+use Rattle.abc_time.specs.declared.grains.Grains.{Grains}
 use Rattle.abc_time.specs.Grains.{tick_at}
 use Rattle.abc_score.specs.declared.score.ProgramChange.{ProgramChange}
 use Rattle.abc_voices.specs.Arrange.{played_sections, score_of}
 use Rattle.abc_sections.specs.PlayedSection.{longest, play_in}
-use Rattle.abc_voices.specs.Change.{program_of}
+use Rattle.abc_voices.specs.Change.{at_moment, program_of}
 use Rattle.abc_sections.specs.Step.{length_of}
 use Rattle.abc_voices.specs.Track.{everyone, tracks}
 use Rattle.abc_voices.specs.Voices.{or_said}
@@ -33,21 +34,25 @@ moments_in voices voice at [] = []
 moments_in voices voice at (section ∷ rest) =
     at_moments at (play_in section voice) ++ moments_in voices voice (at + longest voices section) rest
 
--- A program at a moment, if there is one and the moment is on this tick.
-abbrev pub on_tick : ℕ → ℕ → Option ℕ → Option ProgramChange
-on_tick tick at program =
-    if tick_at at == tick then option_map (λ number. record { at = record { 0 = at }; number = number }) program else None
+-- A value at a moment, if there is one and the moment is on this tick.
+abbrev pub set_on : {V : Type 0} → ℕ → ℕ → Option V → Option (Grains × V)
+set_on tick at value = if tick_at at == tick then at_moment at value else None
 
--- The program that something sets on a tick, if it sets one there.
-abbrev pub set_on_tick : ℕ → ℕ × Item → Option ProgramChange
-set_on_tick tick (at, item) = on_tick tick at (program_of item)
+-- What something sets that is played at a moment, if it sets a value and the moment is on this tick.
+abbrev pub set_by : {V : Type 0} → (Item → Option V) → ℕ → ℕ × Item → Option (Grains × V)
+set_by value_of tick (at, item) = set_on tick at (value_of item)
+
+-- A program at a moment.
+abbrev pub as_program : Grains × ℕ → ProgramChange
+as_program set = record { at = set.0; number = set.1 }
 
 -- The program of a voice on a tick: the last one that something sets which is played there, or else the one with which
 -- the tune opens, where its beginning is on the tick.
 abbrev pub program_on : List Item → ℕ → List ℕ → Option ProgramChange
 program_on tune tick voice =
-    or_said (last_said (set_on_tick tick) (moments_in (everyone tune) voice 0 (played_sections tune)))
-    (on_tick tick 0 (last_said opening_program_of tune))
+    option_map as_program
+    (or_said (last_said (set_by program_of tick) (moments_in (everyone tune) voice 0 (played_sections tune)))
+    (set_on tick 0 (last_said opening_program_of tune)))
 
 -- On each tick each voice of a tune has that program, and no other one.
 abbrev pub HaveProgramsOnTicks : Type 0

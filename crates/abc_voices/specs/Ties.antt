@@ -31,26 +31,26 @@ tokens_in voices voice at (section ∷ rest) =
     tokens_from at (play_in section voice) (tokens_in voices voice (at + longest voices section) rest)
 
 -- Whether a tone has this key.
-abbrev pub is_key : ℕ → Option ℕ → Bool
-is_key key None = false
-is_key key (Some own) = own == key
+abbrev pub has_key : ℕ → Option ℕ → Bool
+has_key key None = false
+has_key key (Some own) = own == key
 
 -- How many of some tones have a key.
 abbrev pub tones_with : ℕ → List Tone → ℕ
 tones_with key [] = 0
-tones_with key (tone ∷ tones) = if is_key key tone.key then suc (tones_with key tones) else tones_with key tones
+tones_with key (tone ∷ tones) = if has_key key tone.key then suc (tones_with key tones) else tones_with key tones
 
 -- How many of some tones that have a key are tied.
 abbrev pub tied_with : ℕ → List Tone → ℕ
 tied_with key [] = 0
-tied_with key (tone ∷ tones) = if tone.tied && is_key key tone.key then suc (tied_with key tones) else tied_with key tones
+tied_with key (tone ∷ tones) = if tone.tied && has_key key tone.key then suc (tied_with key tones) else tied_with key tones
 
 -- The tone of a key that so many of the key stand in front of, of tones behind these, the last of these first; and
 -- how many tied ones of the key stand in front of it.
 abbrev pub tone_at : ℕ → ℕ → List Tone → List Tone → Option (Tone × ℕ)
 tone_at key number past [] = None
 tone_at key number past (tone ∷ tones) =
-    if is_key key tone.key && (tones_with key past == number) then Some (tone, tied_with key past)
+    if has_key key tone.key && (tones_with key past == number) then Some (tone, tied_with key past)
     else tone_at key number (tone ∷ past) tones
 
 -- The tone of the next time token that a tone is joined with: a tied one that so many tied ones of its key stand in
@@ -71,8 +71,7 @@ chain_end at tone key number (token ∷ tokens) =
     end_by (at + tone.length.0) (λ other. chain_end token.at other.0 key other.1 tokens) (joined_with tone key number token.tones)
 
 -- The note of a chain that a tone begins behind these tones of its time token, the last of these first, as loud as that
--- tone; none where
--- the tone is joined with one of the time token before, which has so many tied ones of each key.
+-- tone; none where the tone is joined with one of the time token before, which has so many tied ones of each key.
 abbrev pub begun_by : (ℕ → ℕ) → ℕ → List Tone → Tone → List TimeToken → Option ℕ → List Sounding
 begun_by tied at past tone tokens None = []
 begun_by tied at past tone tokens (Some key) =

@@ -8,7 +8,7 @@ use Rattle.abc_repeat.specs.declared.play.TheConstants.{MOST_PLACES}
 use Rattle.abc_time.specs.Grains.{grains_of_the_latest_end}
 use Rattle.abc_score.specs.declared.limits.TheConstants.{LONGEST_TITLE}
 use Rattle.abc_voices.specs.Arrange.{end_of, is_too_long, places_played, score_of, sections_played}
-use Rattle.abc_score.specs.Limits.{is_within_limits}
+use Rattle.abc_score.specs.Limits.{IsWithinLimits}
 use Rattle.abc_voices.specs.Opening.{title_of}
 use Rattle.abc_voices.specs.Track.{tracks}
 
@@ -30,7 +30,7 @@ EachShortTuneFits =
     → end_of tune ≤ grains_of_the_latest_end
     → length (tracks tune) ≤ MOST_VOICES
     → length (title_of tune) ≤ LONGEST_TITLE
-    → is_within_limits (score_of tune) ≡ true
+    → IsWithinLimits (score_of tune)
 
 -- A tune is too long exactly where it passes a limit.
 abbrev pub IsTooLongByALimit : Type 0

@@ -6,17 +6,12 @@ use Rattle.abc_items.specs.declared.item.Item.{Item}
 use Rattle.abc_items.specs.declared.item.Item.TheVariants as items
 use Rattle.abc_voices.specs.Arrange.{takes_time}
 use Rattle.abc_voices.specs.Track.{tracks}
-use Rattle.abc_voices.specs.Voices.{first_said, named_by, voice_behind}
+use Rattle.abc_voices.specs.Voices.{first_said, named_by, voice_behind, with_past}
 
 -- The voice that a V: of the header or of the body mentions.
 abbrev pub mentioned_by : Item → Option (List ℕ)
 mentioned_by (items.Voice opening name) = Some name
 mentioned_by _ = None
-
--- What stands in a tune behind these items, the last of them first, each with the items before it.
-abbrev pub with_past : List Item → List Item → List (List Item × Item)
-with_past past [] = []
-with_past past (item ∷ rest) = (past, item) ∷ with_past (item ∷ past) rest
 
 -- The name that an item mentions and none of these before it does. An empty one is no name.
 abbrev pub mentioned_first : List Item × Item → Option (List ℕ)

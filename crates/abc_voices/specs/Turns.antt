@@ -11,7 +11,7 @@ use Rattle.abc_score.specs.declared.score.Score.{Score}
 use Rattle.abc_score.specs.declared.score.Sounding.{Sounding}
 use Rattle.abc_sections.specs.declared.stage.Part.{Part}
 use Rattle.abc_sections.specs.declared.stage.Stage.{Stage}
-use Rattle.abc_sections.specs.declared.stage.Turn.{Turn}
+use Rattle.abc_voices.specs.declared.turns.Turn.{Turn}
 use Rattle.abc_voices.specs.Arrange.{all_notes, takes_time, last_off, or_else, usual_tempo}
 use Rattle.abc_voices.specs.Change.{tempo_of, meter_of, key_of, program_of, set_from, behind}
 use Rattle.abc_voices.specs.ScoreChanges.{changes_that_stand, programs_that_stand}

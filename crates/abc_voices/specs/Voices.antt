@@ -29,10 +29,14 @@ first_said says (item ∷ others) = or_said (says item) (first_said says others)
 abbrev pub voice_behind : List Item → List Item → List ℕ
 voice_behind tune past = unwrap_or (first_said named_by past) (unwrap_or (first_said declared_by tune) [])
 
--- What stands in a tune behind these items, the last of them first, each with the voice that it belongs to.
+-- What stands in a tune behind these items, the last of them first, each with the items before it.
+abbrev pub with_past : List Item → List Item → List (List Item × Item)
+with_past past [] = []
+with_past past (item ∷ rest) = (past, item) ∷ with_past (item ∷ past) rest
+
+-- The same, each with the voice that it belongs to.
 abbrev pub with_voices : List Item → List Item → List Item → List (List ℕ × Item)
-with_voices tune past [] = []
-with_voices tune past (item ∷ rest) = (voice_behind tune past, item) ∷ with_voices tune (item ∷ past) rest
+with_voices tune past rest = map (λ one. (voice_behind tune one.0, one.1)) (with_past past rest)
 
 -- Something in front of the first of some lists.
 abbrev pub put_in_front : {X : Type 0} → X → List (List X) → List (List X)

@@ -2,7 +2,7 @@
 
 ghost use Rattle.std.specs.Prelude.{◌≡◌, IfOk};
 ghost use Rattle.abc_sections.specs.Items.{items_of};
-ghost use Rattle.abc_voices.specs.Fields.{is_music, is_change, is_steady, sets_program, keeps_programs, fields};
+ghost use Rattle.abc_voices.specs.Fields.{is_music, is_change, is_steady, sets_program, keeps_programs, without_music};
 
 use crate::change::{Programs, Setting};
 use abc_items::Item;
@@ -26,7 +26,7 @@ fn is_change(item: &Item) -> bool
     is_field(item) && is_step(item)
 }
 
-/// Whether none of a tune's fields changes its tempo, its meter, its key or a program while it is played.
+/// Whether no item of a tune changes its tempo, its meter, its key or a program while it is played.
 pub(crate) fn is_steady(given: &[&Item]) -> bool
     ensures { result ≡ is_steady (items_of given.now) }
 {
@@ -45,7 +45,7 @@ fn sets_program(item: &Item) -> bool
     Programs::value_of(item).is_some()
 }
 
-/// Whether none of a tune's fields sets a program while it is played.
+/// Whether no item of a tune sets a program while it is played.
 pub(crate) fn keeps_programs(given: &[&Item]) -> bool
     ensures { result ≡ keeps_programs (items_of given.now) }
 {
@@ -59,8 +59,11 @@ pub(crate) fn keeps_programs(given: &[&Item]) -> bool
 
 /// The items of a tune that are no music. They are few, and they alone say what the tune opens with, which parts it
 /// has and in which order, and which voices.
-pub(crate) fn fields<'a>(alloc: Global, tune: &[&'a Item]) -> Result<Vec<&'a Item>, AllocError>
-    ensures { IfOk result (λ found. items_of found.items ≡ fields (items_of tune.now)) }
+pub(crate) fn without_music<'a>(
+    alloc: Global,
+    tune: &[&'a Item],
+) -> Result<Vec<&'a Item>, AllocError>
+    ensures { IfOk result (λ found. items_of found.items ≡ without_music (items_of tune.now)) }
 {
     let mut found = Vec::new(alloc);
     for item in tune {

@@ -3,13 +3,16 @@
 ghost use Rattle.abc_voices.specs.Chains.{HearsChains, HearsNoOthers};
 ghost use Rattle.abc_voices.specs.Conductor.{IsConductedOnTicks};
 ghost use Rattle.abc_voices.specs.Endings.{MovesByStrains};
+ghost use Rattle.abc_voices.specs.Ends.{EndsOnce};
 ghost use Rattle.abc_voices.specs.OnTicks.{HaveProgramsOnTicks};
+ghost use Rattle.abc_voices.specs.Orders.{AreInLastOrder};
 ghost use Rattle.abc_voices.specs.Ties.{PlaysChains, VoicesPlayChains};
 ghost use Rattle.abc_voices.specs.Tracks.{HaveTracksByMention};
+ghost use Rattle.abc_voices.specs.Uneven.{TellsUneven};
 ghost use Rattle.abc_voices.specs.Voices.{AreOfVoices};
 
-/// Each item is played by the voice of the last V: before it, else by the first declared one, else by the one
-/// without a name.
+/// Each item is played by the voice of the last V: of the body before it, else by the first declared one, else by the
+/// one without a name.
 #[tactic(auto, using(crate::proofs::Voices::are_of_voices))]
 pub fn voices_by_looking_back()
     ensures { AreOfVoices }
@@ -33,8 +36,8 @@ pub fn ties_in_play()
     ensures voices { VoicesPlayChains }
 {}
 
-/// Of the fields of tempo, meter and key and the directives of programs those that stand between a bar that ended an ending and the sign of the
-/// strain's next ending are played with that one, and nothing else is moved.
+/// Of the fields of tempo, meter and key and the directives of programs those that stand between a bar that ended an
+/// ending and the sign of the strain's next ending are played with that one, and nothing else is moved. Our own.
 #[tactic(auto, using(crate::proofs::Endings::moves_by_strains))]
 pub fn fields_before_endings()
     ensures { MovesByStrains }
@@ -53,4 +56,22 @@ pub fn programs_on_ticks()
 /// voices the last that does, in the order of the voices, and of what that plays the last. Our own.
 pub fn conductor_on_ticks()
     ensures { IsConductedOnTicks }
+{}
+
+/// The sections of a tune are played in the order that its header says last, or all as they stand where it says none; as
+/// many are counted, and a letter without a section is told of that order alone. Our own.
+pub fn sections_in_last_order()
+    ensures { AreInLastOrder }
+{}
+
+/// The voices of a tune are uneven exactly where two of them differ in length in a section that is played, and both play
+/// a note, chord, rest or bar rest there. Our own.
+#[tactic(auto, using(crate::proofs::Uneven::tells_uneven))]
+pub fn uneven_voices()
+    ensures { TellsUneven }
+{}
+
+/// A tune ends as soon as its sections, one after another, and all of its notes are over, and no sooner. Our own.
+pub fn ends_of_tunes()
+    ensures { EndsOnce }
 {}

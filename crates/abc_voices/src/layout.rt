@@ -1,8 +1,9 @@
 //! A tune laid out in time.
 
-ghost use Rattle.std.specs.Prelude.{◌≡◌, ◌≢◌, ◌<◌, ◌≤◌, ◌++◌, ◌-◌, ◌^◌, Bool, true, false, min, length, map, All, None, IfOk, OnOk};
+ghost use Rattle.std.specs.Prelude.{◌≡◌, ◌≢◌, ◌<◌, ◌≤◌, ◌++◌, ◌-◌, ◌^◌, ◌&&◌, nat_le, Bool, true, false, min, length, map, All, None, IfOk, OnOk};
 ghost use Rattle.std.specs.List.{list_any};
 ghost use Rattle.abc_items.specs.Item.{IsItem};
+ghost use Rattle.abc_items.specs.declared.item.TheConstants.{MOST_VOICES};
 ghost use Rattle.abc_repeat.specs.Order.{sections_of, has_unknown};
 ghost use Rattle.abc_time.specs.Grains.{grains_of_the_latest_end};
 ghost use Rattle.abc_sections.specs.Items.{items_of};
@@ -11,8 +12,9 @@ ghost use Rattle.abc_repeat.specs.declared.order.TheConstants.{MOST_SECTIONS};
 ghost use Rattle.abc_repeat.specs.declared.play.TheConstants.{MOST_PLACES};
 ghost use Rattle.abc_voices.specs.Turns.{first_place, stages_in};
 ghost use Rattle.abc_voices.specs.Arrange.{played_sections, is_uneven, end_of, score_of, arranged_of, sections_played, places_played, is_too_long, items_in};
-ghost use Rattle.abc_voices.specs.Fields.{fields};
+ghost use Rattle.abc_voices.specs.Fields.{without_music};
 ghost use Rattle.abc_score.specs.Limits.{IsWithinLimits};
+ghost use Rattle.abc_score.specs.declared.limits.TheConstants.{LONGEST_TITLE};
 ghost use Rattle.abc_voices.specs.Opening.{order_past, past_all};
 ghost use Rattle.abc_sections.specs.Section.{letters};
 ghost use Rattle.abc_sections.specs.Stage.{stage_of};
@@ -20,17 +22,17 @@ ghost use Rattle.abc_voices.specs.Stages.{at_places};
 ghost use Rattle.abc_voices.specs.Track.{everyone};
 
 use crate::arranged::{Arranged, BuildFault};
-use crate::fields::fields;
+use crate::fields::without_music;
 use crate::opening::order_of;
 use crate::stages::{in_order, stages};
 use crate::track::{everyone, nameless_plays};
 use crate::tune_score::score_along;
-use crate::turns::{is_uneven, length_along};
+use crate::turns::{Turn, is_uneven, length_along};
 use abc_fold::Shared;
-use abc_items::{Item, Items};
+use abc_items::{Item, Items, MOST_VOICES};
 use abc_repeat::{OrderFault, Played, play_order};
-use abc_score::{Score, are_voices_and_title_within};
-use abc_sections::{Stage, StageFault, Turn, letters, opening_voice, sections};
+use abc_score::{LONGEST_TITLE, Score};
+use abc_sections::{Stage, StageFault, letters, opening_voice, sections};
 use std::alloc::{AllocError, Global};
 
 /// Puts items behind those of a tune.
@@ -90,7 +92,7 @@ fn order_played(alloc: Global, given: &[&Item]) -> Result<Played, BuildFault>
 
 /// The place of the first voice that has a track.
 fn first_track(tune: &[&Item], given: &[&Item]) -> usize
-    requires { items_of given.now ≡ fields (items_of tune.now) }
+    requires { items_of given.now ≡ without_music (items_of tune.now) }
     ensures { result ≡ first_place (items_of tune.now) }
 {
     if nameless_plays(tune, opening_voice(given)) {
@@ -108,7 +110,7 @@ fn stages_of<'t>(
     voices: &[&[u8]],
     played: &[usize],
 ) -> Result<Vec<Option<Stage<'t>>>, StageFault>
-    requires given { items_of given.now ≡ fields (items_of tune.now) }
+    requires given { items_of given.now ≡ without_music (items_of tune.now) }
     requires voices { map (λ voice. voice.now) voices.now ≡ everyone (items_of tune.now) }
     requires played { played.now ≡ sections_of (past_all order_past None (items_of tune.now)) (letters (items_of tune.now)) }
     ensures value { IfOk result (λ table. at_places table.items played.now
@@ -130,7 +132,7 @@ fn laid_along(
     count: usize,
 ) -> Result<(Score, bool), StageFault>
     requires tune { All IsItem (items_of tune.now) }
-    requires given { items_of given.now ≡ fields (items_of tune.now) }
+    requires given { items_of given.now ≡ without_music (items_of tune.now) }
     requires stages { stages_in turns.now
         ≡ map (stage_of (everyone (items_of tune.now))) (played_sections (items_of tune.now)) }
     requires count { count ≡ length (everyone (items_of tune.now)) }
@@ -162,7 +164,7 @@ fn laid_out(
     played: &[usize],
 ) -> Result<(Score, bool), StageFault>
     requires tune { All IsItem (items_of tune.now) }
-    requires given { items_of given.now ≡ fields (items_of tune.now) }
+    requires given { items_of given.now ≡ without_music (items_of tune.now) }
     requires played { played.now ≡ sections_of (past_all order_past None (items_of tune.now)) (letters (items_of tune.now)) }
     ensures score { IfOk result (λ laid. laid.0 ≡ score_of (items_of tune.now)) }
     ensures uneven { IfOk result (λ laid. laid.1
@@ -182,6 +184,13 @@ fn laid_out(
     }
 }
 
+/// Whether each voice of a score may have a track, and its title stands in a line.
+fn are_voices_and_title_within(score: &Score) -> bool
+    ensures { result ≡ (nat_le (length score.now.voices) MOST_VOICES && nat_le (length score.now.title) LONGEST_TITLE) }
+{
+    score.voices.len() <= MOST_VOICES && score.title.len() <= LONGEST_TITLE
+}
+
 /// A tune laid out, of its items and the sections that are played.
 fn within_limits(
     alloc: Global,
@@ -191,7 +200,7 @@ fn within_limits(
     unknown: bool,
 ) -> Result<Arranged, BuildFault>
     requires tune { All IsItem (items_of tune.now) }
-    requires given { items_of given.now ≡ fields (items_of tune.now) }
+    requires given { items_of given.now ≡ without_music (items_of tune.now) }
     requires played { played.now ≡ sections_of (past_all order_past None (items_of tune.now)) (letters (items_of tune.now)) }
     requires few { sections_played (items_of tune.now) ≤ MOST_SECTIONS }
     requires unknown { unknown ≡ has_unknown (past_all order_past None (items_of tune.now)) (letters (items_of tune.now)) }
@@ -223,7 +232,7 @@ fn within_limits(
 /// A tune laid out, of its items and those of them that its fields give.
 fn arranged(alloc: Global, tune: &[&Item], given: &[&Item]) -> Result<Arranged, BuildFault>
     requires tune { All IsItem (items_of tune.now) }
-    requires given { items_of given.now ≡ fields (items_of tune.now) }
+    requires given { items_of given.now ≡ without_music (items_of tune.now) }
     ensures value { IfOk result (λ laid. laid ≡ arranged_of (items_of tune.now)) }
     ensures short { IfOk result (λ _. is_too_long (items_of tune.now) ≡ false) }
     ensures limits { IfOk result (λ laid. IsWithinLimits laid.score) }
@@ -249,6 +258,6 @@ pub fn arrange(alloc: Global, items: &[Shared<Items>]) -> Result<Arranged, Build
         → unknown ≡ (arranged_of (items_in items.now)).unknown }
 {
     let tune = tune_of(alloc, items)?;
-    let given = fields(alloc, &tune)?;
+    let given = without_music(alloc, &tune)?;
     arranged(alloc, &tune, &given)
 }

@@ -24,12 +24,12 @@ mod voice;
 pub use abc_items::MOST_VOICES;
 pub use abc_score::{
     Change, ChangeKind, LONGEST_TITLE, MOST_CHANGES, MOST_NOTES, MOST_PROGRAMS, ProgramChange,
-    Score, Sounding, is_within_limits, score_limits,
+    Score, Sounding, score_limits,
 };
 pub use arranged::{Arranged, BuildFault};
 pub use laws::{
-    conductor_on_ticks, fields_before_endings, programs_on_ticks, ties_in_play, tracks_by_mention,
-    voices_by_looking_back,
+    conductor_on_ticks, ends_of_tunes, fields_before_endings, programs_on_ticks,
+    sections_in_last_order, ties_in_play, tracks_by_mention, uneven_voices, voices_by_looking_back,
 };
 pub use layout::arrange;
 pub use score_laws::{scores_fit, too_long_by_a_limit};

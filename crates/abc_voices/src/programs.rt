@@ -12,9 +12,9 @@ use crate::fields::keeps_programs;
 use crate::opening::opening_program;
 use crate::score_changes::programs_that_stand;
 use crate::setting::one_along;
+use crate::turns::Turn;
 use abc_items::Item;
 use abc_score::ProgramChange;
-use abc_sections::Turn;
 use abc_text::Sequence;
 use std::alloc::{AllocError, Global};
 

@@ -6,7 +6,8 @@ ghost use Rattle.abc_voices.specs.Turns.{IsStage, IsPart, stages_in, length_alon
 ghost use Rattle.abc_voices.specs.Change.{tempo_of, set_from, behind};
 
 use crate::change::{Setting, Tempos, put_set};
-use abc_sections::{Part, Stage, Turn};
+use crate::turns::Turn;
+use abc_sections::{Part, Stage};
 use abc_time::Grains;
 use std::alloc::{AllocError, Global};
 

@@ -8,8 +8,9 @@ ghost use Rattle.abc_sections.specs.PlayedSection.{size_in, longest};
 ghost use Rattle.abc_sections.specs.Stage.{content, stage_of, stage_size};
 ghost use Rattle.abc_voices.specs.Stages.{stage_at, at_places, sections_at, size_for, longest_for, AreStages, IsNew, IsPut, ArePut};
 
+use crate::turns::Turn;
 use abc_repeat::MOST_PLACES;
-use abc_sections::{Section, Stage, StageFault, Turn};
+use abc_sections::{Section, Stage, StageFault};
 use std::alloc::{AllocError, Global};
 
 /// The stage at a place of a table, if one stands there.

@@ -9,7 +9,7 @@ use abc_items::Item;
 use abc_score::Sounding;
 use abc_time::Grains;
 
-/// When a moment and the last of some notes are over.
+/// The later of a moment and the last end of some notes.
 pub(crate) fn last_off(at: Grains, notes: &[Sounding]) -> Grains
     ensures { result.0 ≡ last_off at.0 notes.now }
 {

@@ -16,11 +16,12 @@ use crate::programs::voices_programs;
 use crate::score_changes::changes_that_stand;
 use crate::setting::{one_along, tempos_along};
 use crate::timing::last_off;
+use crate::turns::Turn;
 use crate::voice::voices_notes;
 use abc_fields::Meter;
 use abc_items::Item;
 use abc_score::{Change, Score, Sounding};
-use abc_sections::{StageFault, Turn};
+use abc_sections::StageFault;
 use abc_text::Sequence;
 use abc_time::{Grains, LATEST_END};
 use std::alloc::{AllocError, Global};
@@ -54,7 +55,7 @@ fn changes_along(
     changes_that_stand(alloc, &tempos, &meters, &keys)
 }
 
-/// When a moment and the last of the notes of some voices are over.
+/// The later of a moment and the last end of the notes of some voices.
 fn last_of_all(at: Grains, voices: &[Sequence<Sounding>]) -> Grains
     ensures { result.0 ≡ last_off at.0 (flat_map (λ notes. notes) voices.now) }
 {

@@ -6,8 +6,14 @@ ghost use Rattle.abc_time.specs.Grains.{grains_of_the_latest_end};
 ghost use Rattle.abc_voices.specs.Turns.{stages_in, length_along, parts_differ, is_stage_uneven};
 
 use crate::timing::plays_time;
-use abc_sections::{Part, Stage, Turn};
+use abc_sections::{Part, Stage};
 use abc_time::{Grains, LATEST_END};
+
+/// One playing of a section: its stage, which the playings of one section share.
+#[derive(Clone, Copy)]
+pub(crate) struct Turn<'s, 't> {
+    pub(crate) stage: &'s Stage<'t>,
+}
 
 /// How long stages are one after another, unless that is later than a tune may end.
 #[tactic(auto, unfolding(abc_time::specs::Grains::grains_of_a_whole_note, abc_time::specs::Grains::grains_of_the_latest_end))]

@@ -8,8 +8,9 @@ ghost use Rattle.abc_voices.specs.TiedNotes.{notes_from, notes_in};
 
 use crate::notes::put_notes;
 use crate::tied_notes::NotesInOne;
+use crate::turns::Turn;
 use abc_score::Sounding;
-use abc_sections::{Part, Stage, Turn};
+use abc_sections::{Part, Stage};
 use abc_text::Sequence;
 use abc_time::Grains;
 use std::alloc::{AllocError, Global};

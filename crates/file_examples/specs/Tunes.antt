@@ -3,6 +3,7 @@ use Rattle.std.specs.Prelude.{ℕ, pos, Bool, true, false, List, [], ◌∷◌, 
 use Rattle.abc_items.specs.declared.item.Item.{Item}
 use Rattle.abc_items.specs.declared.item.Item.TheVariants as items
 use Rattle.abc_items.specs.declared.item.Tone.{Tone}
+use Rattle.abc_fields.specs.declared.meter.Meter.TheVariants as meters
 use Rattle.abc_score.specs.declared.score.Change.{Change}
 use Rattle.abc_score.specs.declared.score.ChangeKind.TheVariants as kinds
 use Rattle.abc_score.specs.declared.score.ProgramChange.{ProgramChange}
@@ -85,9 +86,26 @@ voice_2 = items.Voice false (50 ∷ [])
 abbrev pub declared_1 : Item
 declared_1 = items.Voice true (49 ∷ [])
 
--- A tempo of the body, by the microseconds of a quarter note.
+-- A tempo of the header, and of the body, by the microseconds of a quarter note.
+abbrev pub opening_tempo : ℕ → Item
+opening_tempo micros = items.Tempo true (Some micros) false
+
 abbrev pub tempo : ℕ → Item
 tempo micros = items.Tempo false (Some micros) false
+
+-- The meter 3/4 of the header, and one of the body that is refused.
+abbrev pub opening_meter : Item
+opening_meter = items.Meter true (Some (meters.Of 3 4))
+
+abbrev pub refused_meter : Item
+refused_meter = items.Meter false None
+
+-- The key of the header, C major, and a K: of the body with properties alone.
+abbrev pub opening_key : Item
+opening_key = items.Key true (Some (pos 0, false))
+
+abbrev pub properties : Item
+properties = items.Key false None
 
 -- A program of the header, and of the body, and one of each that is refused.
 abbrev pub opening_program : ℕ → Item

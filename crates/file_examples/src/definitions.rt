@@ -6,7 +6,7 @@ ghost use Rattle.std.specs.Prelude.{◌≡◌, pos, negsuc, true, false, [], ◌
 ghost use Rattle.std.specs.List.{concat, list_all, list_any};
 ghost use Rattle.hex.specs.Hex.{encode_upper};
 ghost use Rattle.smf_bytes.specs.declared.number.NumberFault.TheVariants.{Padded, TooLong, Truncated};
-ghost use Rattle.abc_score.specs.Limits.{is_writable};
+ghost use Rattle.abc_score.specs.Limits.{IsWritable};
 ghost use Rattle.abc_score.specs.declared.score.ChangeKind.TheVariants.{Tempo, Meter, Key};
 ghost use Rattle.smf_bytes.specs.Event.{change_bytes, end_event, note_events, note_off, note_on, title_events};
 ghost use Rattle.smf_bytes.specs.File.{file_bytes};
@@ -70,8 +70,13 @@ pub fn denominators()
 
 /// Tempos of three bytes that are not 0, meters over powers of two up to 64, up to seven sharps or flats. SMF 1.0.
 pub fn changes_that_a_file_can_hold()
-    ensures accepted { list_all is_writable (Tempo 16777215 ∷ Meter 0 64 ∷ Key (negsuc 6) true ∷ []) ≡ true }
-    ensures refused { list_any is_writable (Tempo 0 ∷ Tempo 16777216 ∷ Meter 3 6 ∷ Key (pos 8) false ∷ []) ≡ false }
+    ensures tempo { IsWritable (Tempo 16777215) }
+    ensures meter { IsWritable (Meter 0 64) }
+    ensures key { IsWritable (Key (negsuc 6) true) }
+    ensures no_tempo { ¬ (IsWritable (Tempo 0)) }
+    ensures long_tempo { ¬ (IsWritable (Tempo 16777216)) }
+    ensures other_meter { ¬ (IsWritable (Meter 3 6)) }
+    ensures eight_sharps { ¬ (IsWritable (Key (pos 8) false)) }
 {}
 
 /// At one tick offs come before ons, and each by key; the end comes last. Our own.

@@ -14,7 +14,7 @@ ghost use Rattle.abc_sections.specs.Play.{marks_of, played};
 ghost use Rattle.abc_sections.specs.Section.{part, sections};
 ghost use Rattle.abc_voices.specs.Ties.{heard, tokens_from};
 ghost use Rattle.abc_voices.specs.Track.{tracks};
-ghost use Rattle.file_examples.specs.Tunes.{tone, chord, note, tied, rest, bar_rest, single, opening, closing, between, double, first, second, part_a, part_b, voice_1, voice_2, declared_1, tempo, sounding, tempo_change, key_change, note_with, tied_with, held, opening_program, program, refused_opening, refused, sounding_with, program_change};
+ghost use Rattle.file_examples.specs.Tunes.{tone, chord, note, tied, rest, bar_rest, single, opening, closing, between, double, first, second, part_a, part_b, voice_1, voice_2, declared_1, opening_tempo, tempo, opening_meter, refused_meter, opening_key, properties, sounding, tempo_change, key_change, note_with, tied_with, held, opening_program, program, refused_opening, refused, sounding_with, program_change};
 
 /// A section begins at each part, and goes on in the voice that is the current one there. ABC 2.1 sections 3.1.9 and 7.
 pub fn sections_of_a_tune()
@@ -81,13 +81,25 @@ pub fn ties_of_tones()
         ≡ sounding 60 0 2 ∷ sounding 60 0 5 ∷ [] }
 {}
 
-/// A tone that lasts longer than its chord ends the tune, but a silent one does not. Our own.
+/// Rests and rests of bars take their time in the play, fields and directives of the body their turn, also where they set
+/// nothing, and those of the header neither. Our own.
+pub fn what_is_played()
+    ensures moments { voices_notes (opening_key ∷ note 60 ∷ rest ∷ bar_rest ∷ note 62 ∷ []) ≡ (sounding 62 3 4 ∷ sounding 60 0 1 ∷ []) ∷ [] }
+    ensures places { places_played (opening_tempo 400000 ∷ opening_meter ∷ opening_program 5 ∷ opening_key
+        ∷ rest ∷ bar_rest ∷ refused_meter ∷ properties ∷ tempo 300000 ∷ program 41 ∷ note 60 ∷ []) ≡ 7 }
+    ensures end { end_of (opening_tempo 400000 ∷ opening_key ∷ rest ∷ bar_rest ∷ refused_meter ∷ properties ∷ note 60 ∷ []) ≡ 3 }
+{}
+
+/// A tune ends with its sections, of which a rest is a part. A tone that lasts longer than its chord ends the tune, but a
+/// silent one does not. Our own.
 pub fn the_end_of_a_tune()
+    ensures rest { end_of (note 60 ∷ rest ∷ []) ≡ 2 }
     ensures heard { end_of (chord (tone (Some 60) 1 false ∷ tone (Some 62) 5 false ∷ []) ∷ []) ≡ 5 }
     ensures silent { end_of (chord (tone (Some 60) 1 false ∷ tone None 5 false ∷ []) ∷ []) ≡ 1 }
 {}
 
-/// Voices are uneven where they play time in a section and differ in length there; one that plays none is not. Our own.
+/// Voices are uneven where they play time in a section and differ in length there, be it by rests of bars; one that plays
+/// none is not. Our own.
 pub fn uneven_voices()
     ensures uneven { list_any (is_uneven ([] ∷ (49 ∷ []) ∷ (50 ∷ []) ∷ []))
         (played_sections (voice_1 ∷ note 60 ∷ voice_2 ∷ note 64 ∷ note 64 ∷ [])) ≡ true }
@@ -95,6 +107,10 @@ pub fn uneven_voices()
         (played_sections (voice_1 ∷ note 60 ∷ voice_2 ∷ note 64 ∷ [])) ≡ false }
     ensures alone { list_any (is_uneven ([] ∷ (49 ∷ []) ∷ (50 ∷ []) ∷ []))
         (played_sections (voice_1 ∷ note 60 ∷ voice_2 ∷ [])) ≡ false }
+    ensures bar_rest { list_any (is_uneven ([] ∷ (49 ∷ []) ∷ (50 ∷ []) ∷ []))
+        (played_sections (voice_1 ∷ note 60 ∷ note 62 ∷ voice_2 ∷ bar_rest ∷ [])) ≡ true }
+    ensures even_bar_rest { list_any (is_uneven ([] ∷ (49 ∷ []) ∷ (50 ∷ []) ∷ []))
+        (played_sections (voice_1 ∷ note 60 ∷ voice_2 ∷ bar_rest ∷ [])) ≡ false }
 {}
 
 /// Of tempos at one tick the last in order of play stands, here that of the second voice; and a field between two

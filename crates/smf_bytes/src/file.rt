@@ -18,8 +18,8 @@ use std::alloc::{AllocError, Global};
 /// About so many bytes come before the notes of the first voice: the header and the first track.
 const USUAL_OPENING: usize = 128;
 
-/// The Standard MIDI File of a score: format 1, 480 ticks to a quarter note, first the title and the
-/// changes, then a track for each voice.
+/// The Standard MIDI File of a score, for one within its limits (`IsWithinLimits`): format 1, 480 ticks to a quarter
+/// note, first the title and the changes, then a track for each voice.
 pub fn file_of(alloc: Global, score: &Score) -> Result<Vec<u8>, AllocError>
     requires { IsWithinLimits score.now }
     ensures { IfOk result (λ file. file.items ≡ file_bytes score.now) }

@@ -13,11 +13,6 @@ mod track;
 mod voice;
 mod voice_event;
 
-pub use abc_items::MOST_VOICES;
-pub use abc_score::{
-    Change, ChangeKind, LONGEST_TITLE, MOST_CHANGES, MOST_NOTES, MOST_PROGRAMS, ProgramChange,
-    Score, Sounding, is_within_limits, score_limits,
-};
 pub use event::Event;
 pub use event_bytes::{EventBytes, ROOM_IN_PLACE, room_in_place};
 pub use file::file_of;

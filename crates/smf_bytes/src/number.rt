@@ -16,7 +16,7 @@ pub enum NumberFault {
     Truncated,
 }
 
-/// Appends the variable-length quantity of `n` (SMF 1.0): seven bits a byte, highest first, the top
+/// Appends the variable-length quantity of `n`, which is below 2^28 (SMF 1.0): seven bits a byte, highest first, the top
 /// bit set on all but the last. Without memory `out` stays as it was.
 #[tactic(auto, unfolding(crate::specs::Number::number_text))]
 pub fn put_number(out: &mut Vec<u8>, n: u32) -> Result<(), AllocError>

@@ -1,11 +1,9 @@
 -- A score within the limits of time and of places, with few enough voices and a short enough title, fits a file.
-use Rattle.std.proofs.Common.{◌≡◌, ℕ, ℤ, pos, negsuc, int_le, ◌+◌, ◌^◌, ◌≤◌, ◌&&◌, nat_le, nat_lt, Bool, true, false, List, [], ◌∷◌, ◌++◌, length, map, filter_map, Option, Some, None, arith, refl, sym, ◌∙◌, length-append}
+use Rattle.std.proofs.Common.{◌≡◌, ℕ, ℤ, pos, ◌+◌, ◌≤◌, Bool, true, false, List, [], ◌∷◌, ◌++◌, length, map, filter_map, Option, Some, None, arith, sym, ◌∙◌, length-append}
 use Rattle.std.specs.Prelude.{All, IfSome, sum_by, slice_index_or}
-use Rattle.std.specs.List.{flat_map, list_all}
-use Rattle.std.proofs.lemmas.Bool.{eq-eqb, le-leb, lt-ltb}
+use Rattle.std.specs.List.{flat_map}
 use Rattle.std.proofs.lemmas.List.{length-map}
 use Rattle.std.proofs.lemmas.List.Elements.{All-nil, All-cons, All-head, All-tail, All-append, All-map, All-weaker}
-use Rattle.std.proofs.lemmas.List.Sums.{list_all-from_AllPass}
 use Rattle.abc_items.specs.Item.{IsItem}
 use Rattle.abc_items.specs.declared.item.Item.{Item}
 use Rattle.abc_items.specs.declared.item.Item.TheVariants as items
@@ -14,8 +12,6 @@ use Rattle.abc_fields.specs.Signature.{IsSharps}
 use Rattle.abc_fields.specs.declared.meter.Meter.{Meter}
 use Rattle.abc_fields.specs.declared.meter.Meter.TheVariants as meters
 use Rattle.abc_repeat.specs.declared.play.TheConstants.{MOST_PLACES}
-use Rattle.abc_text.proofs.Powers.{power_to}
-use Rattle.abc_text.specs.Power.{is_power_up_to}
 use Rattle.abc_time.specs.declared.grains.Grains.{Grains}
 use Rattle.abc_time.specs.Grains.{grains_of_the_latest_end}
 use Rattle.abc_time.specs.Tempo.{FitsInTempoEvent}
@@ -29,7 +25,7 @@ use Rattle.abc_sections.specs.PlayedSection.{longest}
 use Rattle.abc_voices.specs.Change.{tempo_of, meter_of, key_of, program_of, behind}
 use Rattle.abc_voices.specs.ScoreChanges.{tempo_change, meter_at, meter_change, key_change, program_change, changes_that_stand, programs_that_stand}
 use Rattle.abc_voices.specs.TiedNotes.{Notes}
-use Rattle.abc_score.specs.Limits.{is_note_within, is_voice_within, is_change_within, is_program_within, are_programs_within, are_counts_within, is_within_limits}
+use Rattle.abc_score.specs.Limits.{IsChangeWithin, IsSoundingWithin, IsVoiceWithin, IsProgramWithin, AreProgramsWithin, AreCountsWithin, IsWithinLimits}
 use Rattle.abc_voices.specs.Opening.{tempo_past, meter_past, key_past, program_past, past_all, title_of}
 use Rattle.abc_voices.specs.Ticks.{last_of_each_tick}
 use Rattle.abc_voices.specs.Track.{everyone, tracks}
@@ -40,27 +36,24 @@ use Rattle.abc_voices.proofs.Fitting.Notes.{Fits, AllFit}
 use Rattle.abc_voices.proofs.Fitting.Three.{tracks_room, sets_few, voice_sets_few}
 use Rattle.abc_voices.proofs.Fitting.Voices.{IsHeard, ItemsIn, tracks_heard, voice_fits, voice_few, last_past, last_of_all, EndsBy, each_list, all_heard}
 
-and_true : (a b : Bool) → a ≡ true → b ≡ true → (a && b) ≡ true
-and_true true true here there = refl
-and_true true false here there = there
-and_true false b here there = here
-
-and_yes : {a b : Bool} → a ≡ true → b ≡ true → (a && b) ≡ true
-and_yes {a} {b} here there = and_true a b here there
-
 both : {X : Type 0} (P Q R : X → Type 0) → ((x : X) → P x → Q x → R x) → (xs : List X) → All P xs → All Q xs → All R xs
 both P Q R f xs p q = λ k d within. f (slice_index_or xs k d) (p k d within) (q k d within)
 
 -- a note of a voice
-note_within : (end : Grains) (note : Sounding) → Fits 0 note → EndsBy end.0 note → is_note_within end note ≡ true
-note_within end note fits ends =
-    and_yes (and_yes (and_yes (and_yes (le-leb note.on.0 note.off.0 fits.forward) (le-leb note.off.0 end.0 ends))
-    (le-leb note.key 127 fits.key)) (le-leb 1 note.velocity fits.velocity.least)) (le-leb note.velocity 127 fits.velocity.most)
+note_within : (end : Grains) (note : Sounding) → Fits 0 note → EndsBy end.0 note → IsSoundingWithin end note
+note_within end note fits ends = record {
+  forward = fits.forward;
+  before_end = ends;
+  key = fits.key;
+  softest = fits.velocity.least;
+  loudest = fits.velocity.most;
+}
 
-notes_within : (end : Grains) (notes : List Sounding) → All (Fits 0) notes → All (EndsBy end.0) notes → length notes ≤ MOST_NOTES → is_voice_within end notes ≡ true
-notes_within end notes fits ends few =
-    and_true (nat_le (length notes) MOST_NOTES) (list_all (is_note_within end) notes) (le-leb (length notes) MOST_NOTES few)
-    (list_all-from_AllPass (is_note_within end) notes (both (Fits 0) (EndsBy end.0) (λ note. is_note_within end note ≡ true) (note_within end) notes fits ends))
+notes_within : (end : Grains) (notes : List Sounding) → All (Fits 0) notes → All (EndsBy end.0) notes → length notes ≤ MOST_NOTES → IsVoiceWithin end notes
+notes_within end notes fits ends few = record {
+  count = few;
+  each = both (Fits 0) (EndsBy end.0) (IsSoundingWithin end) (note_within end) notes fits ends;
+}
 
 -- what the fields of a header and of a body say
 tempo_is : (item : Item) → IsItem item → IfSome (tempo_of item) FitsInTempoEvent
@@ -106,25 +99,20 @@ or_else_is Q value None is known = is
 or_else_is Q value (Some other) is known = known
 
 -- changes that a file can say
-tempo_fits : (end : Grains) (set : Grains × ℕ) → IsSetBy end.0 FitsInTempoEvent set → is_change_within end (tempo_change set) ≡ true
-tempo_fits end (at, micros) set =
-    and_true (nat_le at.0 end.0) (nat_le 1 micros && nat_lt micros (2 ^ 24)) (le-leb at.0 end.0 set.before)
-    (and_true (nat_le 1 micros) (nat_lt micros (2 ^ 24)) (le-leb 1 micros set.value.least) (lt-ltb micros (2 ^ 24) (omega (arith, set.value.most))))
+tempo_fits : (end : Grains) (set : Grains × ℕ) → IsSetBy end.0 FitsInTempoEvent set → IsChangeWithin end (tempo_change set)
+tempo_fits end (at, micros) set = record { before_end = set.before; writable = (set.value.least, omega (arith, set.value.most)) }
 
-meter_fits : (end at : Grains) (meter : Meter) → at.0 ≤ end.0 → IsMeterInRange meter → IfSome (meter_at at meter) (λ change. is_change_within end change ≡ true)
+meter_fits : (end at : Grains) (meter : Meter) → at.0 ≤ end.0 → IsMeterInRange meter → IfSome (meter_at at meter) (IsChangeWithin end)
 meter_fits end at meters.Free before is = tt
-meter_fits end at (meters.Of num den) before is =
-    and_true (nat_le at.0 end.0) (is_power_up_to 6 den) (le-leb at.0 end.0 before) (power_to 6 den is.den_power)
+meter_fits end at (meters.Of num den) before is = record { before_end = before; writable = is.den_power }
 
-key_fits : (end : Grains) (set : Grains × (ℤ × Bool)) → IsSetBy end.0 IsKey set → is_change_within end (key_change set) ≡ true
-key_fits end (at, key) set =
-    and_true (nat_le at.0 end.0) (int_le (negsuc 6) key.0 && int_le key.0 (pos 7)) (le-leb at.0 end.0 set.before)
-    (and_true (int_le (negsuc 6) key.0) (int_le key.0 (pos 7)) (grind (arith, set.value.0)) (grind (arith, set.value.1)))
+key_fits : (end : Grains) (set : Grains × (ℤ × Bool)) → IsSetBy end.0 IsKey set → IsChangeWithin end (key_change set)
+key_fits end (at, key) set = record { before_end = set.before; writable = set.value }
 
-meters_fit : (end : Grains) (sets : List (Grains × Meter)) → All (IsSetBy end.0 IsMeterInRange) sets → All (λ change. is_change_within end change ≡ true) (filter_map meter_change sets)
-meters_fit end [] all = All-nil (λ change. is_change_within end change ≡ true)
+meters_fit : (end : Grains) (sets : List (Grains × Meter)) → All (IsSetBy end.0 IsMeterInRange) sets → All (IsChangeWithin end) (filter_map meter_change sets)
+meters_fit end [] all = All-nil (IsChangeWithin end)
 meters_fit end ((at, meter) ∷ sets) all =
-    one_more (λ change. is_change_within end change ≡ true) (meter_at at meter) (filter_map meter_change sets)
+    one_more (IsChangeWithin end) (meter_at at meter) (filter_map meter_change sets)
     (meter_fits end at meter (All-head (IsSetBy end.0 IsMeterInRange) (at, meter) sets all).before (All-head (IsSetBy end.0 IsMeterInRange) (at, meter) sets all).value)
     (meters_fit end sets (All-tail (IsSetBy end.0 IsMeterInRange) (at, meter) sets all))
 
@@ -135,15 +123,14 @@ meters_few ((at, meters.Of num den) ∷ sets) = omega (arith, meters_few sets)
 
 conductor_fits : (end : Grains) (tempos : List (Grains × ℕ)) (meters : List (Grains × Meter)) (keys : List (Grains × (ℤ × Bool)))
     → All (IsSetBy end.0 FitsInTempoEvent) tempos → All (IsSetBy end.0 IsMeterInRange) meters → All (IsSetBy end.0 IsKey) keys
-    → list_all (is_change_within end) (changes_that_stand tempos meters keys) ≡ true
+    → All (IsChangeWithin end) (changes_that_stand tempos meters keys)
 conductor_fits end tempos meters keys t m k =
-    let P : Change → Type 0 = λ change. is_change_within end change ≡ true in
-    list_all-from_AllPass (is_change_within end) (changes_that_stand tempos meters keys)
-    (All-append P (map tempo_change (last_of_each_tick tempos) ++ filter_map meter_change (last_of_each_tick meters)) (map key_change (last_of_each_tick keys))
+    let P : Change → Type 0 = IsChangeWithin end in
+    All-append P (map tempo_change (last_of_each_tick tempos) ++ filter_map meter_change (last_of_each_tick meters)) (map key_change (last_of_each_tick keys))
     (All-append P (map tempo_change (last_of_each_tick tempos)) (filter_map meter_change (last_of_each_tick meters))
     (All-map P tempo_change (last_of_each_tick tempos) (All-weaker (IsSetBy end.0 FitsInTempoEvent) (λ set. P (tempo_change set)) (tempo_fits end) (last_of_each_tick tempos) (settled_kept (IsSetBy end.0 FitsInTempoEvent) tempos t)))
     (meters_fit end (last_of_each_tick meters) (settled_kept (IsSetBy end.0 IsMeterInRange) meters m)))
-    (All-map P key_change (last_of_each_tick keys) (All-weaker (IsSetBy end.0 IsKey) (λ set. P (key_change set)) (key_fits end) (last_of_each_tick keys) (settled_kept (IsSetBy end.0 IsKey) keys k))))
+    (All-map P key_change (last_of_each_tick keys) (All-weaker (IsSetBy end.0 IsKey) (λ set. P (key_change set)) (key_fits end) (last_of_each_tick keys) (settled_kept (IsSetBy end.0 IsKey) keys k)))
 
 three_lists : {X : Type 0} (xs ys zs : List X) (x y z : ℕ) → length xs ≤ x → length ys ≤ y → length zs ≤ z → length (xs ++ ys ++ zs) ≤ x + y + z
 three_lists xs ys zs x y z first second third =
@@ -163,16 +150,16 @@ conductor_few tempos meters keys =
     (as_few key_change (last_of_each_tick keys) (length keys) (settled_few keys))
 
 -- programs that a file can say
-program_fits : (end : Grains) (set : Grains × ℕ) → IsSetBy end.0 IsProgram set → is_program_within end (program_change set) ≡ true
-program_fits end (at, number) set = and_yes (le-leb at.0 end.0 set.before) (le-leb number 127 set.value)
+program_fits : (end : Grains) (set : Grains × ℕ) → IsSetBy end.0 IsProgram set → IsProgramWithin end (program_change set)
+program_fits end (at, number) set = record { before_end = set.before; number = set.value }
 
 programs_fit : (end : Grains) (sets : List (Grains × ℕ)) → All (IsSetBy end.0 IsProgram) sets → length sets ≤ MOST_PROGRAMS
-    → are_programs_within end (programs_that_stand sets) ≡ true
-programs_fit end sets all few =
-    and_yes (le-leb (length (programs_that_stand sets)) MOST_PROGRAMS (as_few program_change (last_of_each_tick sets) MOST_PROGRAMS (omega (arith, settled_few sets, few))))
-    (list_all-from_AllPass (is_program_within end) (programs_that_stand sets)
-    (All-map (λ change. is_program_within end change ≡ true) program_change (last_of_each_tick sets)
-    (All-weaker (IsSetBy end.0 IsProgram) (λ set. is_program_within end (program_change set) ≡ true) (program_fits end) (last_of_each_tick sets) (settled_kept (IsSetBy end.0 IsProgram) sets all))))
+    → AreProgramsWithin end (programs_that_stand sets)
+programs_fit end sets all few = record {
+  count = as_few program_change (last_of_each_tick sets) MOST_PROGRAMS (omega (arith, settled_few sets, few));
+  each = All-map (IsProgramWithin end) program_change (last_of_each_tick sets)
+      (All-weaker (IsSetBy end.0 IsProgram) (λ set. IsProgramWithin end (program_change set)) (program_fits end) (last_of_each_tick sets) (settled_kept (IsSetBy end.0 IsProgram) sets all));
+}
 
 -- behind the one with which a tune opens
 behind_kept : (end : ℕ) (opening : Option ℕ) (sets : List (Grains × ℕ)) → IfSome opening IsProgram → All (IsSetBy end IsProgram) sets → All (IsSetBy end IsProgram) (behind opening sets)
@@ -248,7 +235,7 @@ module _ (tune : List Item) (short : IsShort tune) where
   opening_key_is = or_else_is IsKey (pos 0, false) (past_all key_past None tune) no_sharps
       (past_kept key_past (λ key. IfSome key IsKey) key_past_is None tune tt short.each)
 
-  changes_fit : list_all (is_change_within end) (changes_of tune) ≡ true
+  changes_fit : All (IsChangeWithin end) (changes_of tune)
   changes_fit =
       conductor_fits end tempos meter_sets keys
       (with_opening end.0 FitsInTempoEvent (or_else usual_tempo (past_all tempo_past None tune)) (set_in tempo_of voices voices 0 played)
@@ -277,19 +264,18 @@ module _ (tune : List Item) (short : IsShort tune) where
   voices_end = of_map Ends notes_of_voice those
       (each_list (EndsBy end.0) (map notes_of_voice those) (last_of_all (total tune) (flat_map (λ notes. notes) (map notes_of_voice those))))
 
-  voice_within : (voice : List ℕ) → IsHeard voices voice → Ends (notes_of_voice voice) → is_voice_within end (notes_of_voice voice) ≡ true
+  voice_within : (voice : List ℕ) → IsHeard voices voice → Ends (notes_of_voice voice) → IsVoiceWithin end (notes_of_voice voice)
   voice_within voice heard ends =
       let notes : Notes = voice_notes voices voice 0 played in
       let fits : AllFit 0 notes = voice_fits voices voice heard 0 played all_played in
       notes_within end (all_notes notes) (All-append (Fits 0) notes.others notes.first fits.others fits.first) ends
       (omega (arith, short.places, length-append notes.others notes.first, voice_few voices voice heard 0 played all_played))
 
-  voices_fit : list_all (is_voice_within end) (voices_notes tune) ≡ true
+  voices_fit : All (IsVoiceWithin end) (voices_notes tune)
   voices_fit =
-      list_all-from_AllPass (is_voice_within end) (map notes_of_voice those)
-      (All-map (λ notes. is_voice_within end notes ≡ true) notes_of_voice those
-      (both (IsHeard voices) (λ voice. Ends (notes_of_voice voice)) (λ voice. is_voice_within end (notes_of_voice voice) ≡ true) voice_within those
-      (tracks_heard tune) voices_end))
+      All-map (IsVoiceWithin end) notes_of_voice those
+      (both (IsHeard voices) (λ voice. Ends (notes_of_voice voice)) (λ voice. IsVoiceWithin end (notes_of_voice voice)) voice_within those
+      (tracks_heard tune) voices_end)
 
   abbrev opening : Option ℕ
   opening = past_all program_past None tune
@@ -297,7 +283,7 @@ module _ (tune : List Item) (short : IsShort tune) where
   opening_is : IfSome opening IsProgram
   opening_is = past_kept program_past (λ program. IfSome program IsProgram) program_past_is None tune tt short.each
 
-  voice_programs : (voice : List ℕ) → IsHeard voices voice → are_programs_within end (programs_in opening voices played voice) ≡ true
+  voice_programs : (voice : List ℕ) → IsHeard voices voice → AreProgramsWithin end (programs_in opening voices played voice)
   voice_programs voice heard =
       let own : List (Grains × ℕ) = set_in program_of voices (voice ∷ []) 0 played in
       programs_fit end (behind opening own)
@@ -305,30 +291,29 @@ module _ (tune : List Item) (short : IsShort tune) where
       (sets program_of IsProgram program_is (voice ∷ []) (All-cons (IsHeard voices) voice [] heard (All-nil (IsHeard voices)))))
       (omega (arith, short.places, behind_few opening own, voice_sets_few program_of voices voice heard 0 played))
 
-  all_programs_fit : list_all (are_programs_within end) (programs_of tune) ≡ true
+  all_programs_fit : All (AreProgramsWithin end) (programs_of tune)
   all_programs_fit =
-      list_all-from_AllPass (are_programs_within end) (programs_of tune)
-      (All-map (λ programs. are_programs_within end programs ≡ true) (programs_in opening voices played) those
-      (All-weaker (IsHeard voices) (λ voice. are_programs_within end (programs_in opening voices played voice) ≡ true) voice_programs those
-      (tracks_heard tune)))
+      All-map (AreProgramsWithin end) (programs_in opening voices played) those
+      (All-weaker (IsHeard voices) (λ voice. AreProgramsWithin end (programs_in opening voices played voice)) voice_programs those
+      (tracks_heard tune))
 
   as_many : length (programs_of tune) ≡ length (voices_notes tune)
   as_many = length-map those (programs_in opening voices played) ∙ sym (length-map those notes_of_voice)
 
-  counts_fit : are_counts_within (score_of tune) ≡ true
-  counts_fit =
-      and_yes (and_yes (and_yes (and_yes (le-leb end.0 grains_of_the_latest_end short.end)
-      (le-leb (length (title_of tune)) LONGEST_TITLE short.title))
-      (le-leb (length (changes_of tune)) MOST_CHANGES few_changes))
-      (le-leb (length (map notes_of_voice those)) MOST_VOICES (as_few notes_of_voice those MOST_VOICES short.voices)))
-      (eq-eqb (length (programs_of tune)) (length (voices_notes tune)) as_many)
+  counts_fit : AreCountsWithin (score_of tune)
+  counts_fit = record {
+    end = short.end;
+    title = short.title;
+    changes = few_changes;
+    voices = as_few notes_of_voice those MOST_VOICES short.voices;
+    programs = as_many;
+  }
 
   -- its score fits a file
-  pub score_fits : is_within_limits (score_of tune) ≡ true
-  unfolding is_within_limits
-  score_fits = and_yes (and_yes (and_yes counts_fit changes_fit) voices_fit) all_programs_fit
+  pub score_fits : IsWithinLimits (score_of tune)
+  score_fits = record { counts = counts_fit; changes = changes_fit; voices = voices_fit; programs = all_programs_fit }
 
 pub fits_a_file : (tune : List Item) → All IsItem tune → places_played tune ≤ MOST_PLACES → end_of tune ≤ grains_of_the_latest_end
-    → length (tracks tune) ≤ MOST_VOICES → length (title_of tune) ≤ LONGEST_TITLE → is_within_limits (score_of tune) ≡ true
+    → length (tracks tune) ≤ MOST_VOICES → length (title_of tune) ≤ LONGEST_TITLE → IsWithinLimits (score_of tune)
 fits_a_file tune each places end voices title =
     score_fits tune (record { each = each; places = places; end = end; voices = voices; title = title })

@@ -1,8 +1,0 @@
-use Rattle.std.proofs.Common.{◌≡◌, ◌++◌, drop}
-use Rattle.abc_sections.specs.Items.{items_of}
-use Rattle.abc_voices.specs.Fields.{fields}
-use Rattle.abc_voices.proofs.fields.fields.Given as goal
-
--- the fields so far, and those of the rest
-abbrev pub invariant-loop-item : goal.invariant-loop-item
-invariant-loop-item l = items_of l.found.items ++ fields (items_of (drop l.item-index l.tune)) ≡ fields (items_of l.tune)

@@ -1,0 +1,29 @@
+-- When the voices of a tune are uneven. Our own.
+use Rattle.std.specs.Prelude.{◌≡◌, ◌≢◌, ◌↔◌, ℕ, Bool, true, List, Any}
+use Rattle.abc_items.specs.declared.item.Item.{Item}
+use Rattle.abc_items.specs.declared.item.Item.TheVariants as items
+use Rattle.abc_items.specs.declared.item.Tone.{Tone}
+use Rattle.abc_time.specs.declared.grains.Grains.{Grains}
+use Rattle.abc_sections.specs.PlayedSection.{length_in, play_in}
+use Rattle.abc_voices.specs.Arrange.{arranged_of, played_sections}
+use Rattle.abc_voices.specs.Track.{everyone}
+
+-- A note, chord, rest or bar rest takes time; nothing else does.
+pub data TakesTime (item : Item) : Type 0 where
+  by_tones : (tones : List Tone) (length : Grains) → item ≡ items.Tone tones length → TakesTime item
+  by_rest : (length : Grains) (bar : Bool) → item ≡ items.Rest length bar → TakesTime item
+
+-- Two voices both play something that takes time in a section, and are not equally long there.
+pub record AreUneven (section : List ℕ × List Item) (one other : List ℕ) : Type 0 where
+  pub one_plays : Any TakesTime (play_in section one)
+  pub other_plays : Any TakesTime (play_in section other)
+  pub differ : length_in section one ≢ length_in section other
+
+-- Two voices of a tune are uneven in a section of it that is played.
+abbrev pub HasUneven : List Item → Type 0
+HasUneven tune =
+    Any (λ section. Any (λ one. Any (AreUneven section one) (everyone tune)) (everyone tune)) (played_sections tune)
+
+-- A tune is told for its uneven voices exactly where it has some.
+abbrev pub TellsUneven : Type 0
+TellsUneven = (tune : List Item) → ((arranged_of tune).uneven ≡ true) ↔ HasUneven tune
