@@ -223,9 +223,7 @@ fn key_given(header: Header, value: &[u8]) -> OwnGiven
 {
     match read_key(value) {
         Ok(key) => OwnGiven::unchanged(header, Some(header_key_item(key)), None),
-        Err(fault) => {
-            OwnGiven::unchanged(header, Some(header_key_item(EMPTY_KEY)), Some(fault))
-        }
+        Err(fault) => { OwnGiven::unchanged(header, Some(header_key_item(EMPTY_KEY)), Some(fault)) }
     }
 }
 
