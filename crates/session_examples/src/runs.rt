@@ -160,29 +160,52 @@ fn check_reads<R: Runtime + Abort>(rt: &R, alloc: Global, steps: &[Step]) {
     }
 }
 
-// Each read fails in turn: the commands that were read whole before it are answered.
+// Each read fails in turn: the commands that were read whole before it are answered. Behind the end of the input, which
+// the second read tells, a third one would fail: it is not made.
 #[test]
 fn reads_that_fail(rt: HostRuntime) {
-    check_reads(&rt, rt.alloc(), &FIRST_TUNE);
-    check_reads(&rt, rt.alloc(), &BUILDS);
+    let alloc = rt.alloc();
+    check_reads(&rt, alloc, &FIRST_TUNE);
+    check_reads(&rt, alloc, &BUILDS);
+    let reader = Pieces::new(b"titles\n", 1_000, Failing::ForGood(3));
+    let mut store = Shelf::new(alloc, Failing::Never);
+    assert!(rt; Outcome::of(&rt, alloc, reader, Failing::Never, &mut store).gives(b"end\n", None));
 }
 
-/// Whether a run whose writes fail so gives the answers to these commands alone, of which the next one has no answer.
+/// What stands under `1.mid` behind these commands, the first of the transcript of a tune that comes, changes and goes.
+fn file_behind(steps: &[Step]) -> Option<&'static [u8]> {
+    let mut file = None;
+    let mut stored = None;
+    for (command, _) in steps {
+        if command.starts_with(b"insert") {
+            file = Some(FILE_OF_C);
+        } else if command.starts_with(b"replace") {
+            file = Some(FILE_OF_D);
+        } else if command.starts_with(b"delete") {
+            file = None;
+        } else if command.starts_with(b"build") {
+            stored = file;
+        }
+    }
+    stored
+}
+
+/// Whether a run whose writes fail so gives the answers to these commands alone, and carries out the next one, which has
+/// no answer: the store then has this file.
 fn stops_writing<R: Runtime + Abort>(
     rt: &R,
     alloc: Global,
     steps: &[Step],
     answered: &[Step],
+    file: Option<&[u8]>,
     failing: Failing,
 ) -> bool {
     let input = input_of(rt, alloc, steps);
     let answered = answers_within(rt, alloc, answered, input.len());
     let reader = Pieces::new(input.as_slice(), 1_000, Failing::Never);
     let mut store = Shelf::new(alloc, Failing::Never);
-    Outcome::of(rt, alloc, reader, failing, &mut store).gives(
-        answered.as_slice(),
-        Some(RunFault::Write),
-    )
+    let outcome = Outcome::of(rt, alloc, reader, failing, &mut store);
+    outcome.gives(answered.as_slice(), Some(RunFault::Write)) && store.get("1.mid") == file
 }
 
 /// Checks each write of a run, one for each command but `quit`: it fails, and those behind it do or do not.
@@ -191,18 +214,19 @@ fn check_writes<R: Runtime + Abort>(rt: &R, alloc: Global, steps: &[Step]) {
     for (at, _) in asked.iter().enumerate() {
         let call = (at as u64).saturating_add(1);
         let answered = &asked[..at];
+        let file = file_behind(&asked[..=at]);
         assert!(rt;
-            stops_writing(rt, alloc, steps, answered, Failing::Once(call)),
+            stops_writing(rt, alloc, steps, answered, file, Failing::Once(call)),
             "write {call}"
         );
         assert!(rt;
-            stops_writing(rt, alloc, steps, answered, Failing::ForGood(call)),
+            stops_writing(rt, alloc, steps, answered, file, Failing::ForGood(call)),
             "write {call}"
         );
     }
 }
 
-// Each write fails in turn: the answers before it were given, and no command behind it is answered.
+// Each write fails in turn: the answers before it were given, and no command behind it is answered or carried out.
 #[test]
 fn writes_that_fail(rt: HostRuntime) {
     check_writes(&rt, rt.alloc(), &FIRST_TUNE);
