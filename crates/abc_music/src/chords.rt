@@ -18,7 +18,7 @@ pub struct Outside {
     pub(crate) length: WrittenLength,
     /// Whether a tie stands behind the chord.
     pub(crate) tied: bool,
-    /// The place of the chord.
+    /// The place of the chord in its line, counted from 0.
     pub(crate) from: usize,
 }
 
