@@ -1,6 +1,6 @@
 //! What cells give to the score.
 
-ghost use Rattle.std.specs.Prelude.{◌≡◌, All, [], ◌∷◌, ◌++◌, IfOk, OnErr, OnOk};
+ghost use Rattle.std.specs.Prelude.{◌≡◌, All, [], ◌∷◌, IfOk, OnErr, OnOk};
 ghost use Rattle.abc_items.specs.Item.{IsItem, nothing, and_item, and_faults};
 
 use crate::item_text::ItemText;
