@@ -92,7 +92,7 @@ stepped_to given = (entries.Body given.body, given.items)
 abbrev pub body_stepped : Body → List (Spanned TokenKind) → Entry × Items
 body_stepped body cell = stepped_to (cell_given body cell)
 
--- What holds behind a field of a header with this letter: a K: ends it, even one that is refused, which sets
+-- What holds behind a field of this kind in a header: a K: ends it, even one that is refused, which sets
 -- an empty signature. ABC 2.1 section 3.1.14; the refused one is our own.
 abbrev pub behind_kind : Header → FieldKind → List ℕ → Entry
 behind_kind header fields.Reference value = entries.Header header

@@ -16,7 +16,7 @@ fn is_item_field(field: &Field) -> bool {
     }
 }
 
-/// Whether a token that is no sound and no rest of its voice alone gives an item, unless it is refused.
+/// Whether a token that is no note, chord or rest gives an item, unless it is refused.
 fn is_item_token(kind: &TokenKind) -> bool {
     match kind {
         TokenKind::Field(field) | TokenKind::InlineField(field) => is_item_field(field.get()),
@@ -26,7 +26,7 @@ fn is_item_token(kind: &TokenKind) -> bool {
     }
 }
 
-/// Whether a token gives an item, unless it is a field that is refused.
+/// Whether a token gives an item, unless it is refused.
 fn may_give(token: &Token) -> bool {
     match token_role(&token.kind) {
         TokenRole::Sound { noted } => noted,

@@ -71,7 +71,7 @@ abbrev pub reference_by : Header → Result ℕ FaultCode → OwnGiven
 reference_by header (Ok number) = unchanged header (Some (items.Number number)) None
 reference_by header (Err fault) = unchanged header (Some (items.Number 0)) (Some fault)
 
--- What an M:, L: or Q: gives: the tempo and the meter of the tune come with each field.
+-- What an M:, L: or Q: gives: the tempo and the meter of the tune come with each line.
 abbrev pub setting_by : Header → SettingGiven → OwnGiven
 setting_by header given = record { header = record header { defaults = given.defaults }; item = None; fault = given.fault }
 

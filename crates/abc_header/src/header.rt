@@ -1,6 +1,6 @@
 //! The header of a tune.
 
-ghost use Rattle.std.specs.Prelude.{◌≡◌, ◌≤◌, IfOk, IfSome, All, Some, None};
+ghost use Rattle.std.specs.Prelude.{◌≡◌, IfOk, IfSome, All, Some, None};
 ghost use Rattle.abc_fields.specs.Key.{IsInRange, key_of};
 ghost use Rattle.abc_fields.specs.Parts.{parts_of};
 ghost use Rattle.abc_fields.specs.Voice.{voice_of};
@@ -43,7 +43,7 @@ pub struct HeaderGiven {
 
 /// What a line gives of its own: what holds behind it, its item and its fault.
 #[derive(Drop)]
-pub struct OwnGiven {
+struct OwnGiven {
     header: Header,
     item: Option<Item>,
     fault: Option<FaultCode>,

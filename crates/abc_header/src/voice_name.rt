@@ -45,7 +45,7 @@ impl VoiceName {
     pub fn same(&self, other: &VoiceName) -> bool
         ensures { IsTrue result ↔ (self.now ≡ other.now) }
     {
-        self.bytes.get() == other.bytes.get()
+        *self == *other
     }
 }
 

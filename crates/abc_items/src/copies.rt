@@ -8,7 +8,7 @@ use std::alloc::{AllocError, Global};
 
 impl Item {
     /// A copy of the item.
-    pub fn copied(&self) -> Result<Item, AllocError>
+    fn copied(&self) -> Result<Item, AllocError>
         ensures { IfOk result (λ copy. copy ≡ self.now) }
     {
         self.clone()

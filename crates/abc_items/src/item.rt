@@ -1,6 +1,6 @@
 //! What cells give to the score.
 
-ghost use Rattle.std.specs.Prelude.{◌≡◌, All, [], ◌∷◌, ◌++◌, IfOk, OnErr, OnOk};
+ghost use Rattle.std.specs.Prelude.{◌≡◌, All, [], ◌∷◌, IfOk, OnErr, OnOk};
 ghost use Rattle.abc_items.specs.Item.{IsItem, nothing, and_item, and_faults};
 
 use crate::item_text::ItemText;
@@ -16,7 +16,7 @@ use std::marker::Model;
 /// The highest key of MIDI (SMF 1.0).
 pub const HIGHEST_KEY: u8 = 127;
 
-/// The most notes of a chord that count.
+/// The most notes of a chord that count. Our own.
 pub const MOST_CHORD_NOTES: usize = 16;
 
 /// The most voices of a tune. Our own.
@@ -25,6 +25,7 @@ pub const MOST_VOICES: usize = 15;
 /// One note of a note or chord that takes time.
 #[derive(Clone, Copy)]
 pub struct Tone {
+    /// How long it sounds, in grains.
     pub length: Grains,
     /// The key of MIDI, 60 being the middle C; None where MIDI has none for it, and it is silent.
     pub key: Option<u8>,
@@ -45,12 +46,12 @@ impl Default for Tone {
     }
 }
 
-/// What a cell gives to the score. `opening` marks what holds when the tune begins: each field of a
-/// header gives the tempo and meter as if the header ended behind it, of which the last counts, and the
-/// field that ends a header gives the key.
+/// What a cell gives to the score. `opening` marks what holds when the tune begins: each line of a header, a
+/// field or a directive, gives the tempo and meter as if the header ended after it, of which the last counts,
+/// and the K: that ends a header gives the key.
 #[derive(Clone, Drop)]
 pub enum Item {
-    /// The tune's reference number, 0 where X: has none.
+    /// The tune's reference number; 0 where X: is empty or refused.
     Number(u32),
     /// A note or chord, with the length that it takes.
     Tone {
@@ -62,6 +63,7 @@ pub enum Item {
         length: Grains,
         bar: bool,
     },
+    /// A bar line.
     Bar(BarLine),
     /// The passes that an ending is for: bit i - 1 is set for pass i.
     Ending(u32),
@@ -95,6 +97,7 @@ pub enum Item {
         opening: bool,
         number: Option<u8>,
     },
+    /// What a T: of a header says; the first one is the tune's title.
     Title(ItemText),
     /// The order of the parts.
     Order(ItemText),

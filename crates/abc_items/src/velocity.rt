@@ -12,7 +12,7 @@ pub const HIGHEST_VELOCITY: u8 = 127;
 pub const USUAL_VELOCITY: u8 = 80;
 
 /// The MIDI velocity of notes, 1 to 127, by the last dynamic that stands before them in their voice (ABC 2.1
-/// section 4.14).
+/// section 4.14). The numbers are our own.
 pub fn velocity_of(dynamic: Option<Dynamic>) -> u8
     ensures value { result ≡ velocity_of dynamic }
     ensures range { IsVelocity result }

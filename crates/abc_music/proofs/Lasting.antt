@@ -27,7 +27,7 @@ use Rattle.abc_items.specs.declared.item.Item.{Item}
 use Rattle.abc_music.specs.BarRest.{AreBars, bar_grains, bars_of, or_one_bar}
 use Rattle.std.proofs.lemmas.List.Elements.{All-nil, All-cons}
 use Rattle.abc_music.proofs.BarCounts.{bars_exact, no_bars}
-use Rattle.abc_music.specs.Broken.{first_factor, second_factor, first_by, second_by, longer, shorter, halved, mark_behind, mark_ahead}
+use Rattle.abc_music.specs.Broken.{first_factor, second_factor, first_by, second_by, longer, shorter, parts_of, mark_behind, mark_ahead}
 use Rattle.abc_music.specs.Lengths.{is_ratio_part, ratio_of, written_ratio, texts_of, length_by, or_unit}
 use Rattle.abc_music.specs.Lasting.{once, SaysFactor, IsOuterFactor, IsTupletFactor, IsLengthened, IsShortened, IsFirstFactor, IsSecondFactor, Lasts, IsPlace, factors_at, IsGiven, HasLengthFault, NotesLast, RestsLast, BarRestsLast, FreeBarRests}
 use Rattle.abc_items.specs.declared.item.Item.TheVariants as items
@@ -167,10 +167,10 @@ tuplet_range (Some t) h =
     record { num_least = q1; num_most = omega (arith, q2); den_least = p1; den_most = omega (arith, p2) }
 
 -- two to at most three
-record IsHalved (mark : BrokenRhythm) : Type 0 where
-  is : halved mark ≡ 2 ^ mark.marks
-  least : 1 ≤ halved mark
-  most : halved mark ≤ 8
+record ArePartsOf (mark : BrokenRhythm) : Type 0 where
+  is : parts_of mark ≡ 2 ^ mark.marks
+  least : 1 ≤ parts_of mark
+  most : parts_of mark ≤ 8
 
 two_to : (k : ℕ) → k ≤ 3 → (2 ^ min k 3 ≡ 2 ^ k) × (1 ≤ 2 ^ min k 3) × (2 ^ min k 3 ≤ 8)
 two_to zero h = (refl, lit≤ tt, lit≤ tt)
@@ -179,36 +179,36 @@ two_to (suc (suc zero)) h = (refl, lit≤ tt, lit≤ tt)
 two_to (suc (suc (suc zero))) h = (refl, lit≤ tt, lit≤ tt)
 two_to (suc (suc (suc (suc k)))) h = absurd (omega arith)
 
-halved_is : (mark : BrokenRhythm) → mark.marks ≤ 3 → IsHalved mark
-halved_is mark h = let e = two_to mark.marks h in record { is = e.0; least = e.1; most = e.2 }
+parts_are : (mark : BrokenRhythm) → mark.marks ≤ 3 → ArePartsOf mark
+parts_are mark h = let e = two_to mark.marks h in record { is = e.0; least = e.1; most = e.2 }
 
 longer_range : (mark : BrokenRhythm) → mark.marks ≤ 3 → IsRatio (longer mark)
 longer_range mark h =
-    let few = halved_is mark h in let least = few.least in let most = few.most in
+    let few = parts_are mark h in let least = few.least in let most = few.most in
     record { num_least = omega arith; num_most = omega arith; den_least = omega arith; den_most = omega arith }
 
 shorter_range : (mark : BrokenRhythm) → mark.marks ≤ 3 → IsRatio (shorter mark)
 shorter_range mark h =
-    let few = halved_is mark h in let least = few.least in let most = few.most in
+    let few = parts_are mark h in let least = few.least in let most = few.most in
     record { num_least = omega arith; num_most = omega arith; den_least = omega arith; den_most = omega arith }
 
 longer_from : (mark : BrokenRhythm) → mark.marks ≤ 3 → IsLengthened mark.marks (longer mark)
 longer_from mark h =
-    let few = halved_is mark h in let least = few.least in let is = few.is in
+    let few = parts_are mark h in let least = few.least in let is = few.is in
     record { num = omega arith; den = is }
 
 longer_to : (mark : BrokenRhythm) (factor : Ratio) → mark.marks ≤ 3 → IsLengthened mark.marks factor → factor ≡ longer mark
 longer_to mark factor h says =
-    let few = halved_is mark h in let least = few.least in let is = few.is in
+    let few = parts_are mark h in let least = few.least in let is = few.is in
     let said : factor.num + 1 ≡ 2 * 2 ^ mark.marks = says.num in
-    let num : factor.num ≡ 2 * halved mark - 1 = omega arith in
+    let num : factor.num ≡ 2 * parts_of mark - 1 = omega arith in
     λ i. record { num = num i; den = (says.den ∙ sym is) i }
 
 shorter_from : (mark : BrokenRhythm) → mark.marks ≤ 3 → IsShortened mark.marks (shorter mark)
-shorter_from mark h = record { num = refl; den = (halved_is mark h).is }
+shorter_from mark h = record { num = refl; den = (parts_are mark h).is }
 
 shorter_to : (mark : BrokenRhythm) (factor : Ratio) → mark.marks ≤ 3 → IsShortened mark.marks factor → factor ≡ shorter mark
-shorter_to mark factor h says = λ i. record { num = says.num i; den = (says.den ∙ sym (halved_is mark h).is) i }
+shorter_to mark factor h says = λ i. record { num = says.num i; den = (says.den ∙ sym (parts_are mark h).is) i }
 
 -- a mark makes this of the note before it, and of the one behind it
 record Says (direction : Direction) (mark : BrokenRhythm) : Type 0 where

@@ -83,17 +83,17 @@ mark_behind behinds.Nothing = None
 mark_behind behinds.TimeToken = None
 mark_behind (behinds.Mark mark) = Some mark
 
--- Two to the number of marks; more than three, which no text has, count as three.
-abbrev pub halved : BrokenRhythm → ℕ
-halved mark = 2 ^ min mark.marks MOST_MARKS
+-- Into how many parts marks cut a note: two to the number of marks; more than three, which no text has, count as three.
+abbrev pub parts_of : BrokenRhythm → ℕ
+parts_of mark = 2 ^ min mark.marks MOST_MARKS
 
 -- What k marks make of the shorter one: 1/2^k.
 abbrev pub shorter : BrokenRhythm → Ratio
-shorter mark = record { num = 1; den = halved mark }
+shorter mark = record { num = 1; den = parts_of mark }
 
 -- What k marks make of the longer one: 2 - 1/2^k.
 abbrev pub longer : BrokenRhythm → Ratio
-longer mark = record { num = 2 * halved mark - 1; den = halved mark }
+longer mark = record { num = 2 * parts_of mark - 1; den = parts_of mark }
 
 -- What marks of this direction multiply the time token before them by.
 abbrev pub first_by : Direction → BrokenRhythm → Ratio

@@ -1,7 +1,7 @@
 //! Broken rhythm: which marks act, and what they multiply the lengths beside them by.
 
 ghost use Rattle.std.specs.Prelude.{◌≡◌, ◌==◌, ◌≤◌, ◌^◌, length, option_map, IfSome};
-ghost use Rattle.abc_music.specs.Broken.{role_of, behind_after, time_follows, mark_ahead, mark_behind, halved, shorter, longer, first_factor, second_factor, factors_of, is_bad_mark};
+ghost use Rattle.abc_music.specs.Broken.{role_of, behind_after, time_follows, mark_ahead, mark_behind, parts_of, shorter, longer, first_factor, second_factor, factors_of, is_bad_mark};
 ghost use Rattle.abc_music.specs.Acting.{ActsAsRead, GivesFactorsAsRead};
 ghost use Rattle.abc_time.specs.Ratio.{IsRatio};
 
@@ -48,7 +48,6 @@ pub struct BrokenFactors {
 impl Model for BrokenFactors {
     ghost use Rattle.std.specs.Prelude.{List, ◌++◌, option_to_list, IfSome};
     ghost use Rattle.abc_time.specs.declared.ratio.Ratio.{Ratio};
-    ghost use Rattle.abc_music.specs.Acting.{ActsAsRead, GivesFactorsAsRead};
     ghost use Rattle.abc_time.specs.Ratio.{IsRatio};
 
     ghost Value = { List Ratio };
@@ -130,9 +129,9 @@ fn mark_ahead(tokens: &[Token]) -> Option<BrokenRhythm>
     None
 }
 
-/// Two to the number of marks.
-fn halved(mark: BrokenRhythm) -> u32
-    ensures value { result ≡ halved mark }
+/// Into how many parts marks cut a note: two to the number of marks.
+fn parts_of(mark: BrokenRhythm) -> u32
+    ensures value { result ≡ parts_of mark }
     ensures range { (1 ≤ result) × (result ≤ 2 ^ MOST_MARKS) }
 {
     1 << mark.marks.min(MOST_MARKS)
@@ -145,7 +144,7 @@ fn shorter(mark: BrokenRhythm) -> Ratio
 {
     Ratio {
         num: 1,
-        den: halved(mark),
+        den: parts_of(mark),
     }
 }
 
@@ -154,7 +153,7 @@ fn longer(mark: BrokenRhythm) -> Ratio
     ensures value { result ≡ longer mark }
     ensures range { IsRatio result }
 {
-    let den = halved(mark);
+    let den = parts_of(mark);
     Ratio {
         num: 2 * den - 1,
         den,

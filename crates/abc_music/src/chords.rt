@@ -13,12 +13,12 @@ use std::alloc::{AllocError, Global};
 
 /// What stands round the notes of a chord (ABC 2.1 section 4.17).
 #[derive(Clone, Copy)]
-pub struct Outside {
+pub(crate) struct Outside {
     /// The length behind the chord.
     pub(crate) length: WrittenLength,
     /// Whether a tie stands behind the chord.
     pub(crate) tied: bool,
-    /// The place of the chord.
+    /// The place of the chord in its line, counted from 0.
     pub(crate) from: usize,
 }
 

@@ -38,7 +38,7 @@ pub(crate) fn ratio_of(num: u32, den: u32) -> Option<Ratio>
 }
 
 /// The factor that a length text says, if it is accepted (ABC 2.1 section 4.3).
-pub(crate) fn written_ratio(length: WrittenLength) -> Option<Ratio>
+fn written_ratio(length: WrittenLength) -> Option<Ratio>
     ensures value { result ≡ written_ratio length }
     ensures range { IfSome result IsRatio }
 {

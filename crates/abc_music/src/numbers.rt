@@ -26,7 +26,7 @@ pub fn sound_numbers()
 {}
 
 /// A tune has at most fifteen voices, a chord sixteen notes that count, a tuplet numbers up to 64, and broken
-/// rhythm three marks together. The first column of a line is 1.
+/// rhythm three marks together (ABC 2.1 section 4.4); the other limits are our own. The first column of a line is 1.
 pub fn music_limits()
     ensures voices { MOST_VOICES ≡ 15 }
     ensures notes { MOST_CHORD_NOTES ≡ 16 }

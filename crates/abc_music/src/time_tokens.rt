@@ -26,6 +26,7 @@ use std::alloc::{AllocError, Global};
 /// Where a note or chord stands in its line.
 #[derive(Clone, Copy)]
 pub struct NotePlace {
+    /// The place of its first byte, counted from 0.
     pub from: usize,
     /// Whether a tie stands behind it.
     pub tied: bool,
@@ -211,7 +212,7 @@ fn push_rest(
     }
 }
 
-/// Gives a rest at a place of its line (ABC 2.1 section 4.5).
+/// Gives a rest at a place of its line, counted from 0 (ABC 2.1 section 4.5).
 pub fn rest_played(
     alloc: Global,
     settings: &mut Settings,

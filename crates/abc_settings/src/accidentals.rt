@@ -21,7 +21,7 @@ pub struct LetterAccidentals {
     pub b: Option<i8>,
 }
 
-/// How many groups of octaves the notes of music lie in: those above and below the octave of the middle C.
+/// How many groups of octaves music lies in: from the octave of the middle C up, and below it.
 const MOST_GROUPS: usize = 2;
 
 /// No accidentals on any letter.
@@ -125,7 +125,7 @@ impl OctaveAccidentals {
         Ok(())
     }
 
-    /// Whether they are in few groups of octaves.
+    /// Whether they are in few groups of octaves. No result depends on it.
     fn is_small(&self) -> bool {
         self.groups.len() <= MOST_GROUPS
     }
@@ -182,7 +182,7 @@ impl Accidentals {
         }
     }
 
-    /// Whether there are few of them.
+    /// Whether there are few of them to compare. No result depends on it.
     pub fn is_small(&self) -> bool {
         match self {
             Accidentals::Own | Accidentals::OnLetters(_) => true,

@@ -1,5 +1,5 @@
-//! What holds for a voice at a place of a tune: its meter, unit note length and shift, the accidentals of its bar,
-//! its open tuplet, its tied notes, its dynamic.
+//! What holds for a voice at a place of a tune: its meter, unit note length, signature and shift, the accidentals of
+//! its bar, its open tuplet, its tied notes, its dynamic.
 #![tactic(auto)]
 
 mod accidental_laws;

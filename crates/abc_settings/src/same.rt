@@ -156,7 +156,7 @@ fn same_tied(tied: &[TiedNote], other: &[TiedNote]) -> bool
 }
 
 impl Settings {
-    /// Whether there is little to compare: no accidentals in more octaves than music has.
+    /// Whether there is little to compare: accidentals of two groups of octaves at most. No result depends on it.
     pub fn is_small(&self) -> bool {
         self.accidentals.is_small()
     }

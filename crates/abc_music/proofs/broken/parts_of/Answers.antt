@@ -1,5 +1,5 @@
 use Rattle.std.proofs.Common.{ℕ, zero, suc, ◌≤◌, ◌*◌, ◌^◌, ◌%◌, lit≤, arith}
-use Rattle.abc_music.proofs.broken.halved.Goals as goal
+use Rattle.abc_music.proofs.broken.parts_of.Goals as goal
 
 -- a shift by at most three places
 shifted : (k : ℕ) → k ≤ 3 → (1 ≤ (1 * 2 ^ k) % 4294967296) × ((1 * 2 ^ k) % 4294967296 ≤ 8)
