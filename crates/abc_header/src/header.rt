@@ -43,7 +43,7 @@ pub struct HeaderGiven {
 
 /// What a line gives of its own: what holds behind it, its item and its fault.
 #[derive(Drop)]
-struct OwnGiven {
+pub struct OwnGiven {
     header: Header,
     item: Option<Item>,
     fault: Option<FaultCode>,

@@ -19,7 +19,7 @@ mod voices;
 pub use defaults::{Defaults, NO_DEFAULTS, meter_in, unit_in};
 pub use field_kind::{FieldKind, field_letters, kind_of};
 pub use file_header::{FileHeaderGiven, file_header_directed, file_header_given};
-pub use header::{Header, HeaderGiven, header_directed, header_given};
+pub use header::{Header, HeaderGiven, OwnGiven, header_directed, header_given};
 pub use same_header::Known;
 pub use tune_program::TuneProgram;
 pub use voice_name::VoiceName;

@@ -13,7 +13,7 @@ use std::alloc::{AllocError, Global};
 
 /// What stands round the notes of a chord (ABC 2.1 section 4.17).
 #[derive(Clone, Copy)]
-pub(crate) struct Outside {
+pub struct Outside {
     /// The length behind the chord.
     pub(crate) length: WrittenLength,
     /// Whether a tie stands behind the chord.

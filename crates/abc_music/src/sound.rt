@@ -18,7 +18,7 @@ use std::alloc::{AllocError, Global};
 
 /// What stands around a note.
 #[derive(Clone, Copy)]
-pub(crate) struct Around {
+pub struct Around {
     /// The length behind its chord, if it is a note of one (ABC 2.1 section 4.17).
     pub(crate) outer: Option<WrittenLength>,
     /// The column of its faults.
@@ -29,7 +29,7 @@ pub(crate) struct Around {
 
 /// What the notes and other parts of a chord, or a note alone, have given so far.
 #[derive(Drop)]
-pub(crate) struct Inside {
+pub struct Inside {
     /// The accidentals that hold behind them.
     pub(crate) accidentals: Accidentals,
     pub(crate) tones: ShortSequence<Tone>,
