@@ -70,10 +70,11 @@ fn with_line(
     ensures { (opening : Entry) → Folds bars opening chain.now → All (IsKept bars) result.items }
 {
     let mut pieces = Vec::new(alloc);
+    let end = chain.len();
     append_kept(&BarFold, chain, &mut pieces, 0, at).expect(rt, "there is memory");
     let piece = line_piece(rt, alloc, line, work);
     pieces.push(piece).expect(rt, "there is memory");
-    append_kept(&BarFold, chain, &mut pieces, at + 1, chain.len()).expect(rt, "there is memory");
+    append_kept(&BarFold, chain, &mut pieces, at + 1, end).expect(rt, "there is memory");
     pieces
 }
 
