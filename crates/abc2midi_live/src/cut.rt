@@ -1,6 +1,6 @@
 //! A text cut at a byte, which need not stand in it.
 
-ghost use Rattle.std.specs.Prelude.{option_map, ◌≡◌};
+ghost use Rattle.std.specs.Prelude.{option_map};
 ghost use Rattle.abc2midi_live.specs.Cut.{IsCut};
 
 use memchr::memchr;

@@ -1,6 +1,6 @@
 //! Commands, each with the lines that belong to it, carried out on a session and on the store of its files.
 
-ghost use Rattle.std.specs.Prelude.{◌≡◌, ◌<◌, ◌≤◌, nat_le, false, ℕ, Bool, Option, None, [], length, IfOk, IsErr, OnErr, OnOk};
+ghost use Rattle.std.specs.Prelude.{◌≡◌, ◌<◌, ◌≤◌, nat_le, false, Option, None, [], length, IfOk, IsErr, OnErr, OnOk};
 ghost use Rattle.std.specs.Result.{result_unwrap_or};
 ghost use Rattle.abc2midi_live.specs.Command.{line_count};
 ghost use Rattle.abc_lines.specs.Text.{text_of};

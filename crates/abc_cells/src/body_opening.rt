@@ -1,7 +1,7 @@
 //! What holds where a tune's body begins.
 
 ghost use Rattle.std.specs.Prelude.{◌≡◌, IfOk};
-ghost use Rattle.abc_cells.specs.BodyOpening.{opening_settings, opening_voices, current_in, body_from};
+ghost use Rattle.abc_cells.specs.BodyOpening.{opening_settings, opening_voices, body_from};
 
 use crate::body::{Body, Current};
 use abc_fields::{Key, NATURAL, Shift};

@@ -8,7 +8,6 @@ ghost use Rattle.abc_fold.specs.Chain.{no_cells};
 ghost use Rattle.abc_fold.specs.Steps.{steps_of};
 ghost use Rattle.abc_fold.specs.Work.{IsRaisedUpTo};
 
-use crate::blocks::{header_in, tunes_in};
 use crate::carried::CarriedRow;
 use crate::pieces::pieces_of;
 use crate::whole::whole_chain;

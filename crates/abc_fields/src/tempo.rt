@@ -1,8 +1,7 @@
 //! The tempo, `Q:`.
 
-ghost use Rattle.std.specs.Prelude.{◌≡◌, ◌≤◌, ◌↔◌, ◌*◌, ok_or, IfOk, IfSome, length};
+ghost use Rattle.std.specs.Prelude.{◌≡◌, ◌≤◌, ◌↔◌, ◌*◌, ok_or, IfOk, IfSome};
 ghost use Rattle.abc_text.specs.declared.digit.TheConstants.{LARGEST_NUMBER};
-ghost use Rattle.abc_time.specs.Ratio.{IsRatio};
 ghost use Rattle.abc_fields.specs.Tempo.{positive_of, part_of, fraction_of, sum_of, lowest, word_in_front, behind_word, bare_tempo, tempo_around, tempo_in, tempo_of, IsInRange};
 ghost use Rattle.abc_fields.specs.Spelling.Tempo.{IsTempo};
 

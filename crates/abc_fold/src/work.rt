@@ -1,6 +1,6 @@
 //! The work that an edit costs, counted.
 
-ghost use Rattle.std.specs.Prelude.{◌≡◌, ℕ};
+ghost use Rattle.std.specs.Prelude.{◌≡◌};
 ghost use Rattle.abc_fold.specs.Work.{Counters, raised};
 
 use std::marker::Model;

@@ -20,7 +20,7 @@ use Rattle.abc_kept_book.specs.Report.{rewritten_at, rewritten_by}
 use Rattle.abc_outputs.specs.declared.output.Output.{Output}
 use Rattle.abc_tunebook.proofs.Difference.{from_numbers, rising_written, to_numbers}
 use Rattle.abc_tunebook.proofs.Members.{contains_head, contains_none, from_filter, to_filter, from_sorted, to_sorted}
-use Rattle.abc_tunebook.specs.Files.{Files, file_at, removed, written}
+use Rattle.abc_tunebook.specs.Files.{file_at, removed, written}
 use Rattle.abc_tunebook.specs.Sorted.{sorted_once}
 
 -- what the test of bytes says

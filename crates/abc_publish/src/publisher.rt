@@ -1,8 +1,7 @@
 //! A directory of MIDI files that is brought up to date.
 
-ghost use Rattle.std.specs.Prelude.{◌≡◌, ◌↔◌, ℕ, ◌==◌, ◌≤◌, ◌<◌, ◌^◌, ⊤, true, false, None, Some, IfSome, All, is_some, option_copied, IfOk, IsOk, IsTrue, MatchOption, OnErr, OnOk};
+ghost use Rattle.std.specs.Prelude.{◌≡◌, ◌↔◌, ℕ, ◌==◌, ◌≤◌, ◌<◌, ⊤, true, false, None, Some, IfSome, All, is_some, option_copied, IfOk, IsOk, IsTrue, MatchOption, OnErr, OnOk};
 ghost use Rattle.std.specs.List.Sorted.{IsStrictlyIncreasing};
-ghost use Rattle.std.specs.Map.{keys_of};
 ghost use Rattle.abc_live.specs.Session.{book_in};
 ghost use Rattle.abc_publish.specs.Publisher.{begun, ended, is_pending, is_wanted, maps_of, publishing, slot_at, stored_as, HasBegun, HasNone, IsNext, IsNextJob, IsSettled};
 ghost use Rattle.abc_publish.specs.declared.slot.Stored.TheVariants.{Unknown};

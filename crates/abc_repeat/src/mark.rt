@@ -1,6 +1,6 @@
 //! The marks of a voice in a section.
 
-ghost use Rattle.std.specs.Prelude.{◌≡◌, ◌-◌, ◌^◌, ◌<◌, ◌≤◌, min};
+ghost use Rattle.std.specs.Prelude.{◌≡◌, ◌-◌, ◌^◌, ◌<◌, min};
 ghost use Rattle.abc_repeat.specs.Mark.{is_play, is_ending, is_single, opens_next, closes_common, closes_ending, names, greatest, passes_of, is_for};
 
 use abc_text::LAST_PASS;

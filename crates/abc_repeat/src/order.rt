@@ -1,6 +1,6 @@
 //! The order in which the sections of a tune are played.
 
-ghost use Rattle.std.specs.Prelude.{◌≡◌, ◌<◌, ◌↔◌, ◌^◌, Bool, ◌&&◌, length, option_copied, IfOk};
+ghost use Rattle.std.specs.Prelude.{◌≡◌, ◌<◌, ◌↔◌, ◌^◌, Bool, ◌&&◌, option_copied, IfOk};
 ghost use Rattle.std.specs.List.{list_any, range_with_len};
 ghost use Rattle.std.specs.Option.{is_none, ForSome};
 ghost use Rattle.std.specs.Char.{is_ascii_uppercase};

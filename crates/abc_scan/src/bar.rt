@@ -1,7 +1,7 @@
 //! Bar lines.
 
 ghost use Rattle.std.specs.Prelude.{◌≡◌, ◌≤◌, ◌<◌, ◌^◌, length, IfSome};
-ghost use Rattle.abc_scan.specs.Bar.{goes_on, middle_from, middle_size, is_double, colons_alone, bar_at};
+ghost use Rattle.abc_scan.specs.Bar.{goes_on, middle_size, is_double, colons_alone, bar_at};
 
 use crate::run::run_of;
 

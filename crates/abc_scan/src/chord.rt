@@ -1,7 +1,6 @@
 //! Chords.
 
 ghost use Rattle.std.specs.Prelude.{◌≡◌, ◌≤◌, ◌<◌, ◌+◌, ◌^◌, drop, length, IfOk, IfSome, false};
-ghost use Rattle.std.specs.Option.{option_map};
 ghost use Rattle.abc_scan.specs.Chord.{part_reading_at, part_reader, parts_of, chord_at};
 ghost use Rattle.abc_scan.specs.Closing.{IsMissing};
 ghost use Rattle.abc_scan.specs.Cutting.{next};

@@ -2,7 +2,6 @@
 
 ghost use Rattle.std.specs.Prelude.{◌≡◌, ◌≤◌, ◌<◌, ◌+◌, ◌^◌, length, IfSome, count_by, ◌==◌};
 ghost use Rattle.std.specs.List.{prefix_len};
-ghost use Rattle.std.specs.Option.{option_map};
 ghost use Rattle.abc_scan.specs.Note.{accidental_at, accidental_size, is_octave_mark, octave, letter_octave, ends_letter, is_factor, IsPlain, IsShort, note_at, rest_at};
 
 use crate::length::{WrittenLength, begins_length, length_at};

@@ -1,6 +1,6 @@
 //! What the voices of a tune play of a section.
 
-ghost use Rattle.std.specs.Prelude.{◌≡◌, ◌<◌, ◌≤◌, ◌^◌, min, length, map, sum_by, IfOk};
+ghost use Rattle.std.specs.Prelude.{◌≡◌, ◌<◌, ◌≤◌, ◌^◌, length, map, sum_by, IfOk};
 ghost use Rattle.abc_repeat.specs.declared.play.TheConstants.{MOST_PLACES};
 ghost use Rattle.abc_time.specs.Grains.{grains_of_the_latest_end};
 ghost use Rattle.abc_sections.specs.PlayedSection.{size_in, length_in, longest};

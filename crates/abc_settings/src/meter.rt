@@ -1,6 +1,6 @@
 //! The meter that holds.
 
-ghost use Rattle.std.specs.Prelude.{◌≡◌, IfOk};
+ghost use Rattle.std.specs.Prelude.{◌≡◌};
 ghost use Rattle.abc_fields.specs.Meter.{meter_of, IsMeterInRange};
 
 use abc_fields::{FaultCode, Meter, read_meter};

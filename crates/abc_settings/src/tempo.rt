@@ -1,6 +1,6 @@
 //! The tempo that a header sets.
 
-ghost use Rattle.std.specs.Prelude.{◌≡◌, IfOk, IfSome};
+ghost use Rattle.std.specs.Prelude.{◌≡◌, IfSome};
 ghost use Rattle.abc_fields.specs.Tempo.{tempo_of};
 ghost use Rattle.abc_time.specs.Tempo.{FitsInTempoEvent};
 ghost use Rattle.abc_settings.specs.Tempo.{micros_by};

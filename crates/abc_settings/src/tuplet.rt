@@ -1,7 +1,7 @@
 //! Tuplets that are open.
 
 ghost use Rattle.std.specs.Prelude.{◌≡◌, ◌↔◌, IsTrue};
-ghost use Rattle.abc_settings.specs.Tuplet.{is_tuplet_number, is_compound, default_q, tuplet_with, tuplet_by, tuplet_opened, counted_down, tuplet_ratio, tuplet_factors};
+ghost use Rattle.abc_settings.specs.Tuplet.{is_tuplet_number, is_compound, default_q, tuplet_with, tuplet_by, tuplet_opened, counted_down, tuplet_ratio};
 ghost use Rattle.abc_time.specs.Ratio.{IsRatio};
 
 use crate::meter::TuneMeter;

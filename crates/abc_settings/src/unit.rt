@@ -1,6 +1,6 @@
 //! The unit note length that holds.
 
-ghost use Rattle.std.specs.Prelude.{◌≡◌, ◌≤◌, [], IfOk};
+ghost use Rattle.std.specs.Prelude.{◌≡◌, ◌≤◌, []};
 ghost use Rattle.abc_fields.specs.Unit.{unit_of};
 ghost use Rattle.abc_time.specs.Grains.{grains_of_the_longest_length};
 ghost use Rattle.abc_time.specs.Length.{IsLength};

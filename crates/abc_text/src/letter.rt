@@ -1,6 +1,6 @@
 //! The letters of notes.
 
-ghost use Rattle.std.specs.Prelude.{◌≡◌, ◌↔◌, ◌⊎◌, Some};
+ghost use Rattle.std.specs.Prelude.{◌≡◌, ◌↔◌, Some};
 ghost use Rattle.abc_text.specs.declared.letter.Letter.{Letter};
 ghost use Rattle.abc_text.specs.Letter.{IsLetter, letter_of, capital, semitones};
 

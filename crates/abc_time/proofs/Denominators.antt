@@ -1,7 +1,7 @@
 -- Dividing by one denominator after another.
 use Rattle.std.proofs.Common.{◌∙◌, ◌≡◌, ℕ, ◌+◌, ◌*◌, ◌<◌, ◌≤◌, List, length, get_or, map, take, drop, arith, ap, sym, subst}
 use Rattle.std.proofs.Math.Nat.{mul_assoc, mul_comm, mul-pos, mul-dvd-mul_left, dvd-mul_right, dvd_trans, dvd_of_mul-dvd-mul_left}
-use Rattle.std.proofs.lemmas.List.{take-map, take_all, take-append-drop}
+use Rattle.std.proofs.lemmas.List.{take-map, take-append-drop}
 use Rattle.std.proofs.lemmas.List.Elements.{All-take, All-map}
 use Rattle.std.specs.List.{All}
 use Rattle.std.specs.Int.{◌∣◌}

@@ -1,6 +1,6 @@
 -- One numerator after another.
 use Rattle.std.proofs.Common.{◌≡◌, ◌≢◌, ℕ, ◌+◌, ◌*◌, ◌<◌, ◌≤◌, List, [], ◌∷◌, zero, suc, length, get_or, set, take, replicate, arith, ap, sym, subst, refl, lit≤}
-use Rattle.std.proofs.lemmas.List.{take_all, get_or-set_other, get_or-replicate, length-set}
+use Rattle.std.proofs.lemmas.List.{get_or-set_other, get_or-replicate, length-set}
 use Rattle.std.proofs.lemmas.List.Elements.{All-cons, All-set, All-replicate}
 use Rattle.std.specs.List.{All}
 use Rattle.abc_time.specs.declared.ratio.Ratio.{Ratio}

@@ -1,5 +1,5 @@
 -- Grains and ticks.
-use Rattle.std.specs.Prelude.{ℕ, ◌*◌, ◌/◌, ◌≤◌, ◌≡◌, refl}
+use Rattle.std.specs.Prelude.{ℕ, ◌*◌, ◌/◌, ◌≤◌}
 use Rattle.std.proofs.Common.{lit<, le_trans}
 use Rattle.std.proofs.Math.Nat.{div-le_of_le-mul, div-mul-le_self, le-div_iff_mul-le}
 use Rattle.abc_time.specs.declared.grains.TheConstants.{LAST_TICK}

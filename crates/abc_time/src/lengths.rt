@@ -1,18 +1,6 @@
 //! The length that a unit and its factors make.
 
-ghost use Rattle.std.specs.Prelude.{
-  ◌≡◌,
-  ◌<◌,
-  ◌≤◌,
-  ◌*◌,
-  ◌↔◌,
-  ℕ,
-  All,
-  MatchResult,
-  OnErr,
-  OnOk,
-  length,
-};
+ghost use Rattle.std.specs.Prelude.{◌≡◌, ◌<◌, ◌≤◌, ◌*◌, ◌↔◌, ℕ, All, OnErr, OnOk, length};
 ghost use Rattle.std.specs.Int.{◌∣◌};
 ghost use Rattle.abc_time.specs.Grains.{grains_of_a_whole_note, grains_of_the_longest_length};
 ghost use Rattle.abc_time.specs.Length.{IsLength, denominator_of, length_of, numerator_of};

@@ -6,7 +6,7 @@ ghost use Rattle.abc_time.specs.Grains.{grains_of_the_latest_end};
 ghost use Rattle.abc_voices.specs.Turns.{stages_in};
 ghost use Rattle.abc_sections.specs.PlayedSection.{size_in, longest};
 ghost use Rattle.abc_sections.specs.Stage.{content, stage_of, stage_size};
-ghost use Rattle.abc_voices.specs.Stages.{stage_at, at_places, sections_at, size_for, longest_for, AreStages, IsNew, IsPut, ArePut};
+ghost use Rattle.abc_voices.specs.Stages.{stage_at, at_places, sections_at, size_for, longest_for, AreStages, IsNew, IsPut};
 
 use crate::turns::Turn;
 use abc_repeat::MOST_PLACES;

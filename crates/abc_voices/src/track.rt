@@ -1,6 +1,6 @@
 //! The voices of a tune.
 
-ghost use Rattle.std.specs.Prelude.{◌≡◌, [], ◌∷◌, IfOk, OnOk, map, bytes_eq};
+ghost use Rattle.std.specs.Prelude.{◌≡◌, [], IfOk, OnOk, map, bytes_eq};
 ghost use Rattle.std.specs.List.{list_any};
 ghost use Rattle.abc_sections.specs.Items.{items_of};
 ghost use Rattle.abc_sections.specs.Section.{opening_voice};

@@ -4,9 +4,9 @@
 
 use abc_lines::{EditError, LineBuffer};
 use std::alloc::{AllocError, Global};
+use std::env;
 use std::process::ExitCode;
 use std::rt::Runtime;
-use std::{env, io};
 
 fn main(rt: HostRuntime) -> ExitCode {
     match timed(&rt) {

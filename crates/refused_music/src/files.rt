@@ -1,6 +1,6 @@
 //! The bytes of MIDI files.
 
-ghost use Rattle.std.specs.Prelude.{◌<◌, ◌^◌};
+ghost use Rattle.std.specs.Prelude.{◌<◌};
 
 use crate::lent;
 use crate::told::{call, done};

@@ -1,5 +1,5 @@
 //! The events of the first track: the title, and the changes of tempo, meter and key.
-ghost use Rattle.std.specs.Prelude.{◌≡◌, ◌≤◌, ◌^◌, ◌<◌, ◌++◌, ◌∷◌, [], length, All, IfOk, OnOk};
+ghost use Rattle.std.specs.Prelude.{◌≡◌, ◌≤◌, ◌<◌, ◌∷◌, [], length, All, IfOk};
 ghost use Rattle.abc_time.specs.Grains.{grains_of_the_latest_end};
 ghost use Rattle.abc_score.specs.declared.limits.TheConstants.{LONGEST_TITLE};
 ghost use Rattle.smf_bytes.specs.Event.{title_events, class_of, change_bytes, change_event};

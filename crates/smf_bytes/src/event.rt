@@ -1,5 +1,5 @@
 //! Events of a track.
-ghost use Rattle.std.specs.Prelude.{◌≡◌, ◌≤◌, ◌^◌, ◌<◌, length, IfOk};
+ghost use Rattle.std.specs.Prelude.{◌≡◌, ◌^◌, ◌<◌, length, IfOk};
 ghost use Rattle.smf_bytes.specs.Event.{meta_event};
 
 use crate::event_bytes::EventBytes;

@@ -1,8 +1,8 @@
 //! The file of a score.
-ghost use Rattle.std.specs.Prelude.{◌≡◌, ◌≤◌, ◌<◌, ◌^◌, ◌+◌, ◌++◌, length, IfOk, OnOk};
+ghost use Rattle.std.specs.Prelude.{◌≡◌, ◌≤◌, ◌<◌, ◌+◌, ◌++◌, IfOk, OnOk};
 ghost use Rattle.abc_time.specs.Grains.{grains_of_the_latest_end, tick_at};
 ghost use Rattle.abc_items.specs.declared.item.TheConstants.{MOST_VOICES};
-ghost use Rattle.smf_bytes.specs.File.{header, voice_tracks, file_bytes};
+ghost use Rattle.smf_bytes.specs.File.{header, file_bytes};
 ghost use Rattle.abc_score.specs.Limits.{AreProgramsWithin, IsWithinLimits, IsVoiceWithin};
 ghost use Rattle.smf_bytes.specs.Track.{track, voice_events, channel_of};
 

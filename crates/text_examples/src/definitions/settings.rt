@@ -28,7 +28,7 @@ ghost use Rattle.abc_settings.specs.Unit.{unit_by};
 ghost use Rattle.abc_settings.specs.VoiceShift.{with_properties};
 ghost use Rattle.text_examples.specs.Bars.{bar_rest, shifted};
 ghost use Rattle.text_examples.specs.Settings.{broken, fifteen_voices, mark, open_tuplet};
-ghost use Rattle.text_examples.specs.Values.{at_tick, ratio, shift};
+ghost use Rattle.text_examples.specs.Values.{ratio, shift};
 
 /// The time of how many notes p of them take. ABC 2.1 section 4.13; for p that are not from 2 to 9 our own.
 pub fn times_of_tuplets()

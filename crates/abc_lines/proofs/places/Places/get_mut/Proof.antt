@@ -6,7 +6,7 @@ use Rattle.std.proofs.VecSteps.Shapes.{after}
 use Rattle.std.specs.Mem.{type_size}
 use seplogic.Ra.Ura.{Ura}
 use base.Fraction.{full_share}
-use base.Logic.{SProp, ent, sep, id⊢}
+use base.Logic.{ent, sep, id⊢}
 use base.Fml.{Fml, GName, ftrue, fsep, flft}
 use contract.BorrowLft.{◌⊑◌}
 use contract.Monad.{fact}
@@ -22,16 +22,16 @@ use types.Run.{enter, of_opd, bin, size_lit, addr, load, stop, fld, first, block
 use types.ByLocal.{alloc_all, pass_all, free_all, look_at, get, through, sets, sets_last, env}
 use denote.Builtin.{usize, RefMutOf}
 use denote.Exit.{yes, no}
-use denote.Follow.{follows, Part, lends_Part}
+use denote.Follow.{follows, lends_Part}
 use denote.Laws.{shows}
 use denote.Memory.{mem, cell_at, part_of}
 use denote.Param.{param, layouts}
 use denote.Param.Laws.{param_laws}
-use denote.Plain.{uint_vals, uint_Tells}
+use denote.Plain.{uint_Tells}
 use denote.RattleType.{RattleType, owns}
 use denote.RawPtr.{Ptr, block_ptr, in_a_block}
 use denote.Ref.{MutRef, mut_vals, mut_Tells}
-use denote.Signature.{plain, mut_ref_to}
+use denote.Signature.{plain}
 use denote.Steps.{nothing, opens, peeks, heard}
 use denote.Struct.Owning.{shape}
 use denote.Struct.Struct.{Struct}
