@@ -1,6 +1,6 @@
 //! Streams in memory that tell what they give and keep, and fail at some of their calls.
 
-ghost use Rattle.std.specs.Prelude.{Some};
+ghost use Rattle.std.specs.Prelude.{ℕ, Some};
 
 use crate::failing::Failing;
 use abc2midi_live::{Sink, Source, StreamFault};
