@@ -7,10 +7,11 @@ import signal
 import subprocess
 import sys
 
-import live_book
 import trial
+from abc2midi_live_clients import document
+from abc2midi_live_clients.faults import sentences
+from abc2midi_live_clients.program import lines_of
 
-server = trial.client("language_server")
 URI = "file:///book.abc"
 BOOK = "X:1\nT:Kesh\nK:G\nGABc &\n\nX:2\nK:C\nCDE -\n"
 
@@ -135,14 +136,14 @@ class Session(Editor):
     def test_a_program_that_there_is_not(self):
         found = self.open("X:1\n%%MIDI program 128\nK:C\nC!f!D\n")
         self.assertEqual([(each["range"], each["code"]) for each in found], [(span(1, 0, 1, 18), "BadProgram")])
-        self.assertEqual(found[0]["message"], live_book.sentences()["BadProgram"])
+        self.assertEqual(found[0]["message"], sentences()["BadProgram"])
         self.assertEqual(self.change(1, (span(1, 15, 1, 18), "40")), [])
 
     def test_diagnostics(self):
         found = self.open(BOOK)
         self.assertEqual([each["range"] for each in found], [span(3, 5, 3, 6), span(7, 4, 7, 5)])
         self.assertEqual([each["code"] for each in found], ["BadByte", "LooseTie"])
-        self.assertEqual([each["message"] for each in found], [live_book.sentences()[each["code"]] for each in found])
+        self.assertEqual([each["message"] for each in found], [sentences()[each["code"]] for each in found])
         self.assertEqual(self.change(1, (span(3, 4, 3, 6), ""), (span(7, 3, 7, 5), "")), [])
         self.assertEqual(starts(self.change(2, (span(2, 0, 3, 0), ""))), [(0, 0, "MissingKey")])
         self.finish()
@@ -317,17 +318,17 @@ class Documents(trial.Folder):
 
     def test_the_lines_that_are_held(self):
         chance = random.Random(trial.seed)
-        document = server.Document("", trial.program, str(self.files))
-        self.addCleanup(document.book.process.stdout.close)
-        self.addCleanup(document.book.close)
+        book = document.Document("", trial.program, str(self.files))
+        self.addCleanup(book.book.process.stdout.close)
+        self.addCleanup(book.book.close)
         text = ""
         for _ in range(200):
             start = chance.randrange(len(text) + 1)
             end = min(len(text), start + chance.choice([0, 1, 3, 30]))
             put = chance.choice(["", "\n", "a", "é\n", "\na𝄞\r\n\n"])
-            document.change({"range": span(*place_of(text, start), *place_of(text, end)), "text": put})
+            book.change({"range": span(*place_of(text, start), *place_of(text, end)), "text": put})
             text = text[:start] + put + text[end:]
-            self.assertEqual(document.book.lines, live_book.lines_of(text.encode()))
+            self.assertEqual(book.book.lines, lines_of(text.encode()))
 
 
 class Protocol(Editor):

@@ -9,12 +9,11 @@ import signal
 import socket
 import subprocess
 import sys
-import time
 from contextlib import contextmanager
 
-import live_book
-import shared_book
 import trial
+from abc2midi_live_clients import saving, shared_book
+from abc2midi_live_clients.faults import sentences
 
 BOOK = b"X:1\nT:Kesh\nK:G\nGABc &\n\nX:2\nK:C\nCDE -\n"
 
@@ -112,7 +111,7 @@ class Requests(Page):
         self.assertEqual(book["lines"], BOOK.decode().split("\n"))
         self.assertEqual(book["faults"], [[3, 5, 6, "BadByte"], [7, 4, 5, "LooseTie"]])
         self.assertEqual(book["tunes"], [[0, 1, "Kesh", True], [5, 2, "", True]])
-        self.assertEqual((book["name"], book["version"], book["sentences"]), ("book.abc", 0, live_book.sentences()))
+        self.assertEqual((book["name"], book["version"], book["sentences"]), ("book.abc", 0, sentences()))
 
     def test_edits(self):
         made = self.edit(3, 4, "GAB", "é&d")
@@ -155,7 +154,7 @@ class Requests(Page):
             status, headers, data = self.request(f"midi/{number}")
             self.assertEqual((status, headers["Content-Type"], data), (200, "audio/midi", files[f"{number}.mid"]))
             self.assertEqual(headers["Content-Disposition"], f'attachment; filename="{number}.mid"')
-        for name in ("midi/3", "midi/0000000001", "midi/-1", "midi/", "midi/1/", "midi/../page.js", "../live_book.py", "%2e%2e/watch", "index.html"):
+        for name in ("midi/3", "midi/0000000001", "midi/-1", "midi/", "midi/1/", "midi/../page.js", "../shared_book.py", "%2e%2e/watch", "index.html"):
             self.assertEqual(self.request(name)[0], 404, name)
         self.assertEqual(self.request("midi/000000001")[2], files["1.mid"])
 
@@ -205,7 +204,7 @@ class Requests(Page):
         self.path.write_bytes(b"another's")
         self.edit(0, 0, "%")
         asked = self.save()
-        self.assertEqual((asked["status"], asked["ask"]), (409, shared_book.digest(b"another's")))
+        self.assertEqual((asked["status"], asked["ask"]), (409, saving.digest(b"another's")))
         self.path.write_bytes(b"once more")
         asked = self.save(over=asked["ask"])
         self.assertEqual((asked["status"], self.path.read_bytes()), (409, b"once more"))

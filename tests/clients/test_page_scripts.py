@@ -15,7 +15,7 @@ TESTS = Path(__file__).resolve().parent / "page_scripts.mjs"
 class Scripts(trial.Folder):
     def test_scripts(self):
         """They are copied to where node takes them for modules."""
-        for path in (trial.CLIENTS / "page_files").glob("*.js"):
+        for path in (trial.CLIENTS / "abc2midi_live_clients/page_files").glob("*.js"):
             shutil.copy(path, self.files)
         (self.files / "package.json").write_text('{"type": "module"}')
         asked = subprocess.run([NODE, TESTS, self.files], capture_output=True, text=True, timeout=trial.SECONDS)

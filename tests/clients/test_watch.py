@@ -8,10 +8,11 @@ import subprocess
 import sys
 import time
 
-import live_book
 import trial
+from abc2midi_live_clients import watcher
+from abc2midi_live_clients.faults import sentences
+from abc2midi_live_clients.program import LiveBook
 
-watch = trial.client("watch")
 TUNE = b"X:1\nT:Kesh\nK:G\nGABc\n"
 OTHER = b"\nX:2\nK:C\nCDE\n"
 
@@ -23,10 +24,10 @@ class Saves(trial.Folder):
         super().setUp()
         self.path = self.folder / "book.abc"
         self.told = []
-        self.book = live_book.LiveBook(trial.program, str(self.files))
+        self.book = LiveBook(trial.program, str(self.files))
         self.addCleanup(self.book.process.stdout.close)
         self.addCleanup(self.book.close)
-        self.watch = watch.Watch(str(self.path), self.book, tell=self.told.append, pause=lambda _: None)
+        self.watch = watcher.Watch(str(self.path), self.book, tell=self.told.append, pause=lambda _: None)
 
     def look(self) -> list:
         """What a look tells, without how long it took and without the name of the folder."""
@@ -57,7 +58,7 @@ class Saves(trial.Folder):
     def test_faults(self):
         told = self.save(TUNE + b"C-z&\n")
         self.assertEqual([line.split(": ")[:2] for line in told[1:]], [["/book.abc:5:4", "BadByte"]])
-        self.assertTrue(told[1].endswith(live_book.sentences()["BadByte"]))
+        self.assertTrue(told[1].endswith(sentences()["BadByte"]))
         self.assertEqual(self.save(b"\n" + TUNE + b"C-z&\n")[0], "no file changed; 1 fault, 0 new")
         self.assertEqual(self.save(TUNE + b"C-z\n"), ["no file changed"])
         self.assertEqual(self.save(TUNE + b"C-z&\n")[0], "no file changed; 1 fault, 1 new")
@@ -74,7 +75,7 @@ class Saves(trial.Folder):
         self.assertEqual(self.save(TUNE.replace(b"K:G", b"%%MIDI program 40\nK:G")), ["written 1.mid (Kesh)"])
         told = self.save(TUNE.replace(b"K:G", b"%%MIDI program 400\nK:G"))
         self.assertEqual([told[0], told[1].split(": ")[:2]], ["written 1.mid (Kesh); 1 fault, 1 new", ["/book.abc:3:1", "BadProgram"]])
-        self.assertTrue(told[1].endswith(live_book.sentences()["BadProgram"]))
+        self.assertTrue(told[1].endswith(sentences()["BadProgram"]))
         self.assertEqual(self.save(b"%%MIDI program 40\n\n" + TUNE + OTHER), ["written 1.mid (Kesh), 2.mid"])
 
     def test_saved_by_renaming(self):
@@ -245,4 +246,4 @@ class Program(trial.Folder):
         self.assertEqual((self.process.returncode, said.count("\n")), (127, 1))
 
 
-MISSING_KEY = f"/book.abc:1:1: MissingKey: {live_book.sentences()['MissingKey']}"
+MISSING_KEY = f"/book.abc:1:1: MissingKey: {sentences()['MissingKey']}"

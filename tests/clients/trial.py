@@ -1,7 +1,5 @@
 """What the tests of the clients share: the program that is tried, what a fresh run of it gives, and random tunes."""
 
-import importlib.machinery
-import importlib.util
 import os
 import random
 import signal
@@ -47,14 +45,6 @@ def fresh(book: bytes, command=None) -> Fresh:
 def files_in(folder) -> dict:
     """The files of a folder by name."""
     return {entry.name: Path(entry.path).read_bytes() for entry in os.scandir(folder)}
-
-
-def client(name: str):
-    """A client as a module."""
-    loader = importlib.machinery.SourceFileLoader(name, str(CLIENTS / name))
-    module = importlib.util.module_from_spec(importlib.util.spec_from_loader(name, loader))
-    loader.exec_module(module)
-    return module
 
 
 def hear_of_the_terminal(test: unittest.TestCase):

@@ -1,96 +1,43 @@
-"""What the clients stand on."""
+"""The program, started and asked; places, players and sentences."""
 
 import os
-import random
 import re
 import stat
 from pathlib import Path
 
-import live_book
 import trial
-from live_book import Edit, Fault, LiveBook, Tune
+from abc2midi_live_clients import places, players, program
+from abc2midi_live_clients.edits import Edit
+from abc2midi_live_clients.faults import sentences
+from abc2midi_live_clients.program import Built, Fault, LiveBook, ProgramEnded, ProgramMissing, Tune
 
 
 def lines(text: str) -> list:
     return [letter.encode() for letter in text]
 
 
-class Edits(trial.Folder):
-    def check(self, old: list, new: list) -> list:
-        """The edits of two texts, which must make the one of the other, and leave a line between any two."""
-        found = live_book.edits(old, new)
-        made = list(old)
-        for edit in reversed(found):
-            made[edit.start : edit.stop] = edit.lines
-        self.assertEqual(made, new)
-        self.assertTrue(all(a.stop < b.start for a, b in zip(found, found[1:])))
-        self.assertTrue(all(edit.stop > edit.start or edit.lines for edit in found))
-        return found
-
-    def test_fewest_edits(self):
-        self.assertEqual(self.check(lines("abc"), lines("abc")), [])
-        self.assertEqual(self.check(lines("abcd"), lines("abXd")), [Edit(2, 3, [b"X"])])
-        self.assertEqual(self.check(lines("abcd"), lines("ad")), [Edit(1, 3, [])])
-        self.assertEqual(self.check(lines("ad"), lines("abcd")), [Edit(1, 1, lines("bc"))])
-        self.assertEqual(self.check(lines("aaa"), lines("aaaa")), [Edit(3, 3, [b"a"])])
-        self.assertEqual(self.check([], lines("ab")), [Edit(0, 0, lines("ab"))])
-        self.assertEqual(self.check(lines("ab"), []), [Edit(0, 2, [])])
-        self.assertEqual(self.check(lines("abcdef"), lines("Xbcdef")[:4] + lines("Yf")), [Edit(0, 1, [b"X"]), Edit(4, 5, [b"Y"])])
-
-    def test_random_texts(self):
-        chance = random.Random(trial.seed)
-        for _ in range(400):
-            old = [bytes([chance.choice(b"abcdefgh")]) for _ in range(chance.randrange(20))]
-            new = list(old)
-            for _ in range(chance.randrange(4)):
-                at = chance.randrange(len(new) + 1)
-                new[at : at + chance.randrange(3)] = [b"%d" % chance.randrange(9)] * chance.randrange(3)
-            self.check(old, new)
-
-    def test_a_large_text(self):
-        old = [b"%d" % (n // 2 if n % 3 else n % 7) for n in range(20_000)]
-        one = old[:10_000] + [b"a"] + old[10_001:]
-        self.assertEqual(self.check(old, one), [Edit(10_000, 10_001, [b"a"])])
-        self.assertEqual(len(self.check(old, [b"a", *one, b"b"])), 3)
-        self.check(old, [line for line in old for _ in range(2)])
-
-    def test_edits_that_are_joined(self):
-        """Those of one tune, and those nearest to each other where there are too many. Here `T` begins a tune."""
-        old, new = ([b"X:" if line == b"T" else line for line in lines(text)] for text in ("aTcdefgTijkTmn", "ATcDeFgTIjkTmN"))
-        found = self.check(old, new)
-        self.assertEqual([edit.start for edit in found], [0, 3, 5, 8, 13])
-        inside = Edit(3, 6, lines("DeF"))
-        self.assertEqual(live_book.joined(found, old, 9), [found[0], inside, *found[3:]])
-        self.assertEqual(live_book.joined(found, old, 3), [Edit(0, 6, new[:6]), *found[3:]])
-        self.assertEqual(live_book.joined(found, old, 2), [Edit(0, 9, new[:9]), found[4]])
-        self.assertEqual(live_book.joined(found, old, 1), [Edit(0, 14, new)])
-        self.assertEqual(live_book.joined([], old, 1), [])
-        found = self.check(old, [line for line in old if line != b"X:"])
-        self.assertEqual((len(found), live_book.joined(found, old, 9)), (3, [Edit(1, 12, lines("cdefgijk"))]))
-
-
 class Texts(trial.Folder):
     def test_lines_of_a_book(self):
-        self.assertEqual(live_book.lines_of(b""), [])
-        self.assertEqual(live_book.lines_of(b"\n"), [b""])
-        self.assertEqual(live_book.lines_of(b"a\r\n\nb"), [b"a\r", b"", b"b"])
-        self.assertEqual(live_book.lines_of(b"\xef\xbb\xbf\xef\xbb\xbfa\n"), [b"\xef\xbb\xbfa"])
+        self.assertEqual(program.lines_of(b""), [])
+        self.assertEqual(program.lines_of(b"\n"), [b""])
+        self.assertEqual(program.lines_of(b"a\r\n\nb"), [b"a\r", b"", b"b"])
+        self.assertEqual(program.lines_of(b"\xef\xbb\xbf\xef\xbb\xbfa\n"), [b"\xef\xbb\xbfa"])
 
     def test_bytes_and_characters(self):
         line = "aé𝄞\ud83dz€"
-        places = [n for n, character in enumerate(line) for _ in live_book.utf8(character)]
-        self.assertEqual([live_book.character_of(line, n + 1) for n in range(len(places))], places)
-        self.assertEqual([live_book.character_of("abc", n) for n in (1, 2, 3)], [0, 1, 2])
-        self.assertEqual(live_book.from_utf16(live_book.utf16("a\ud834") + live_book.utf16("\udd1eb")), "a𝄞b")
+        wanted = [n for n, character in enumerate(line) for _ in places.utf8(character)]
+        self.assertEqual([places.character_of(line, n + 1) for n in range(len(wanted))], wanted)
+        self.assertEqual([places.character_of("abc", n) for n in (1, 2, 3)], [0, 1, 2])
+        self.assertEqual(places.from_utf16(places.utf16("a\ud834") + places.utf16("\udd1eb")), "a𝄞b")
 
     def test_titles_in_latin_1(self):
-        self.assertEqual([live_book.text_of(b"caf\xe9"), live_book.text_of("café".encode())], ["café", "café"])
+        self.assertEqual([places.text_of(b"caf\xe9"), places.text_of("café".encode())], ["café", "café"])
 
     def test_each_fault_has_a_sentence(self):
-        source = Path(live_book.TOP, "crates/abc_fields/src/fault.rt").read_text("utf-8")
+        source = Path(program.TOP, "crates/abc_fields/src/fault.rt").read_text("utf-8")
         names = re.findall(r'=> "(\w+)"', source)
         self.assertGreater(len(names), 20)
-        found = live_book.sentences()
+        found = sentences()
         self.assertEqual(list(found), names + ["BadLine", "TooLarge"])
         self.assertIn("`M:C|`", found["BadMeter"])
 
@@ -108,15 +55,15 @@ class Program(trial.Folder):
         self.assertEqual(book.replace(0, 0, text), [Edit(0, 0, text)])
         self.assertEqual(book.faults(), [Fault(4, 2, "BadByte")])
         self.assertEqual(book.tunes(), [Tune(1, "A", 1), Tune(1, "", 6), Tune(2, "", 10)])
-        self.assertEqual(book.build(), live_book.Built([1, 2], [], None))
+        self.assertEqual(book.build(), Built([1, 2], [], None))
         self.assertEqual(book.replace(3, 4, [b"C"]), [Edit(3, 4, [b"C"])])
-        self.assertEqual(book.build(), live_book.Built([], [], None))
+        self.assertEqual(book.build(), Built([], [], None))
         self.assertEqual(book.replace(9, 11, []), [Edit(9, 11, [])])
-        self.assertEqual((book.build(), book.close()), (live_book.Built([], [2], None), 0))
+        self.assertEqual((book.build(), book.close()), (Built([], [2], None), 0))
 
     def test_what_to_write_instead(self):
         """Each fault is there, and gone where its place is written as its sentence says."""
-        book, words = self.book(), live_book.sentences()
+        book, words = self.book(), sentences()
         for name, wrong, right, said in INSTEAD:
             for text, is_told in (wrong, True), (right, False):
                 book.replace(0, len(book.lines), text.encode().split(b"\n"))
@@ -128,11 +75,11 @@ class Program(trial.Folder):
         book = self.book()
         (self.files / "2.mid").mkdir()
         book.replace(0, 0, [b"X:1", b"K:C", b"X:2", b"K:C", b"X:3", b"K:C"])
-        self.assertEqual(book.build(), live_book.Built([1], [], 2))
+        self.assertEqual(book.build(), Built([1], [], 2))
 
     def test_the_file_of_a_number(self):
         tunes = [Tune(1, "A", 1), Tune(1, "B", 5), Tune(2, "C", 9)]
-        self.assertEqual(live_book.files_of(tunes, [Fault(1, 1, "TuneTooLong")]), {1: tunes[1], 2: tunes[2]})
+        self.assertEqual(program.files_of(tunes, [Fault(1, 1, "TuneTooLong")]), {1: tunes[1], 2: tunes[2]})
 
     def test_lines_of_too_many_bytes(self):
         book = self.book()
@@ -146,8 +93,8 @@ class Program(trial.Folder):
 
     def test_a_text_of_too_many_lines(self):
         """The program never holds more lines than it takes, which are ten here."""
-        most, live_book.MOST_LINES = live_book.MOST_LINES, 10
-        self.addCleanup(setattr, live_book, "MOST_LINES", most)
+        most, program.MOST_LINES = program.MOST_LINES, 10
+        self.addCleanup(setattr, program, "MOST_LINES", most)
         book = self.book()
         held, send = [], book._send
 
@@ -168,9 +115,9 @@ class Program(trial.Folder):
         self.assertEqual(book.tunes(), [Tune(1, "", 2), Tune(2, "", 9)])
 
     def test_a_player(self):
-        patience, live_book.SECONDS_TO_END = live_book.SECONDS_TO_END, trial.SECONDS
-        self.addCleanup(setattr, live_book, "SECONDS_TO_END", patience)
-        player = live_book.Player(["sh", "-c", "exec sleep 600"])
+        patience, players.SECONDS_TO_END = players.SECONDS_TO_END, trial.SECONDS
+        self.addCleanup(setattr, players, "SECONDS_TO_END", patience)
+        player = players.Player(["sh", "-c", "exec sleep 600"])
         self.addCleanup(player.stop)
         player.play("1.mid")
         first = player.process
@@ -186,30 +133,30 @@ class Program(trial.Folder):
         false.chmod(false.stat().st_mode | stat.S_IXUSR)
         book = LiveBook(str(false), str(self.files))
         self.addCleanup(book.process.stdout.close)
-        with self.assertRaisesRegex(live_book.ProgramEnded, "status 3"):
+        with self.assertRaisesRegex(ProgramEnded, "status 3"):
             book.faults()
         self.assertEqual(book.close(), 3)
-        with self.assertRaisesRegex(live_book.ProgramEnded, "status 3"):
+        with self.assertRaisesRegex(ProgramEnded, "status 3"):
             book.replace(0, 0, [b"C"])
-        with self.assertRaises(live_book.ProgramMissing):
+        with self.assertRaises(ProgramMissing):
             LiveBook(str(self.folder / "none"), str(self.files))
 
     def test_the_program_that_is_found(self):
-        top, live_book.TOP = live_book.TOP, self.folder
-        self.addCleanup(setattr, live_book, "TOP", top)
-        program = self.folder / "crates/program/out/program"
+        top, program.TOP = program.TOP, self.folder
+        self.addCleanup(setattr, program, "TOP", top)
+        built = self.folder / "crates/program/out/program"
         digest = self.folder / "scripts/digest_of_sources"
-        for path, text in (program, ""), (digest, "#!/bin/sh\necho now\n"), (Path(f"{program}.digest"), "now\n"):
+        for path, text in (built, ""), (digest, "#!/bin/sh\necho now\n"), (Path(f"{built}.digest"), "now\n"):
             path.parent.mkdir(parents=True, exist_ok=True)
             path.write_text(text)
             os.chmod(path, 0o755)
-        self.assertEqual(live_book.find_program(), str(program))
-        Path(f"{program}.digest").write_text("before\n")
-        with self.assertRaises(live_book.ProgramMissing):
-            live_book.find_program()
+        self.assertEqual(program.find_program(), str(built))
+        Path(f"{built}.digest").write_text("before\n")
+        with self.assertRaises(ProgramMissing):
+            program.find_program()
         os.remove(digest)
-        with self.assertRaises(live_book.ProgramMissing):
-            live_book.find_program()
+        with self.assertRaises(ProgramMissing):
+            program.find_program()
 
 
 HEAD = "X:1\nM:4/4\nK:C\n"

@@ -1,53 +1,59 @@
 """A tune book that windows of a browser edit together: its lines as they see them, what each edit changed, and saving."""
 
-import hashlib
 import os
 import secrets
-import tempfile
 import threading
 import time
-from bisect import bisect_right
 from collections import deque
+from collections.abc import Sequence
 from contextlib import suppress
-from itertools import accumulate, groupby
+from itertools import groupby
+from typing import Any, Optional
 
-from live_book import LiveBook, ProgramEnded, common_front, files_of, held, span_of, utf8
+from .edits import Lines, common_front
+from .places import LinePlaces
+from .program import LiveBook, ProgramEnded, files_of, held
+from .saving import digest, replace_file
 
 MARK = b"\xef\xbb\xbf"
-MOST_CHANGES = 200  # that are kept for windows which did not see them yet
-CONTROLS = {byte: 0xDC00 + byte for byte in range(32) if byte not in b"\t\n"}  # shown by halves of pairs, which no text has
+MOST_CHANGES = 200  # for windows that did not see them yet
+CONTROLS = {byte: 0xDC00 + byte for byte in range(32) if byte not in b"\t\n"}  # halves of pairs show them; no text has halves
 BYTES = {half: byte for byte, half in CONTROLS.items()}
+
+Json = dict[str, Any]
+FaultRow = tuple[int, int, str]  # line from 0, column, name
+TuneRow = tuple[int, int, str, bool]  # line from 0, number, title, whether the number's file is this tune's
 
 
 class Refused(Exception):
     """What a window may not do: an HTTP status, a sentence, and what else the answer says."""
 
-    def __init__(self, status: int, sentence: str, **more):
+    def __init__(self, status: int, sentence: str, **more: Any):
         super().__init__(sentence)
         self.status = status
-        self.answer = {"error": sentence, **more}
+        self.answer: Json = {"error": sentence, **more}
 
 
 class SharedBook:
     """A tune book on disk, its text as the windows see it, and the running program that holds the same text. Lines are
     kept as bytes: the last one is empty where the text ends with a line feed, and one that nobody edits stays as it is."""
 
-    def __init__(self, path, program: str, directory: str):
+    def __init__(self, path: Optional[str], program: str, directory: str):
         self.path = os.path.realpath(path) if path else None
-        self.started = lambda: LiveBook(program, directory)
+        self.program, self.directory = program, directory
         self.moved = threading.Condition()
         self.run = secrets.token_hex(8)
         self.version = self.saved_version = 0
-        self.changes = deque(maxlen=MOST_CHANGES)
+        self.changes: deque[Json] = deque(maxlen=MOST_CHANGES)
         self.windows = 0
         data = self.read()
-        self.saved = digest(data)
+        self.saved = None if data is None else digest(data)
         self.mark = MARK if data and data.startswith(MARK) else b""
         self.lines = (data or b"")[len(self.mark) :].split(b"\n")
         self.returns = len(self.lines) > 1 and self.lines[0].endswith(b"\r")
         self.begin()
 
-    def read(self):
+    def read(self) -> Optional[bytes]:
         """The bytes of the book on disk, or None where there is none yet."""
         try:
             with open(self.path or os.devnull, "rb") as file:
@@ -55,13 +61,13 @@ class SharedBook:
         except FileNotFoundError:
             return None
 
-    def begin(self):
+    def begin(self) -> None:
         """Starts the program with the present text."""
-        self.book = self.started()
+        self.book = LiveBook(self.program, self.directory)
         self.book.replace(0, 0, held(self.lines))
         self.faults, self.tunes = self.ask()
 
-    def ask(self) -> tuple:
+    def ask(self) -> tuple[list[FaultRow], list[TuneRow]]:
         """The faults of the program's text: line from 0, column, name; and its tunes: line from 0, number, title, and
         whether the number's file is theirs."""
         faults, tunes = self.book.faults(), self.book.tunes()
@@ -78,12 +84,12 @@ class SharedBook:
         self.begin()
         return Refused(503, f"{error}; it was started again")
 
-    def close(self):
+    def close(self) -> None:
         """Ends the program."""
         with self.moved:
             self.book.close()
 
-    def snapshot(self) -> dict:
+    def snapshot(self) -> Json:
         """The whole book as a window sees it."""
         with self.moved:
             return {
@@ -95,7 +101,7 @@ class SharedBook:
                 **self.state(),
             }
 
-    def state(self) -> dict:
+    def state(self) -> Json:
         """Where the book stands."""
         return {
             "run": self.run,
@@ -105,18 +111,18 @@ class SharedBook:
             "windows": self.windows,
         }
 
-    def now(self) -> dict:
+    def now(self) -> Json:
         """Where the book stands, for a window that looks whether the server is there."""
         with self.moved:
             return self.state()
 
-    def news(self, seen: int, told, seconds: float) -> tuple:
+    def news(self, seen: int, told: Optional[Json], seconds: float) -> tuple[list[Json], Json]:
         """The changes after a version and the state, as soon as either is new, or after so long."""
         with self.moved:
             self.moved.wait_for(lambda: self.version > seen or self.state() != told, seconds)
             return [change for change in self.changes if change["version"] > seen], self.state()
 
-    def opened(self, by: int):
+    def opened(self, by: int) -> None:
         """Counts the windows."""
         with self.moved:
             self.windows += by
@@ -133,7 +139,7 @@ class SharedBook:
             raise Refused(404, f"number {number} has no file")
         return data
 
-    def edit(self, asked: dict) -> dict:
+    def edit(self, asked: Json) -> Json:
         """Puts lines in the place of others, for a window that saw all changes before; what changed by that."""
         with self.moved:
             self.same_version(asked)
@@ -145,7 +151,8 @@ class SharedBook:
             except ProgramEnded as error:
                 raise self.ended(error) from error
             grown = len(lines) - (stop - start)
-            faults, tunes = (spliced(*both, start, stop, grown) for both in zip(before, (self.faults, self.tunes)))
+            faults = spliced(before[0], self.faults, start, stop, grown)
+            tunes = spliced(before[1], self.tunes, start, stop, grown)
             faults["put"] = self.rows(faults["put"])
             self.version += 1
             change = {
@@ -162,7 +169,7 @@ class SharedBook:
             self.moved.notify_all()
             return change
 
-    def same_version(self, asked: dict):
+    def same_version(self, asked: Json) -> None:
         """Refuses a window that has not seen all changes, and hands it those that it wants."""
         if asked.get("run") != self.run:
             raise Refused(409, "the server was started again", **self.state())
@@ -171,10 +178,10 @@ class SharedBook:
             kept = [change for change in self.changes if is_count(version) and change["version"] > version]
             raise Refused(409, "another window changed the book", changes=kept, **self.state())
 
-    def checked(self, asked: dict) -> tuple:
+    def checked(self, asked: Json) -> tuple[int, int, list[str]]:
         """The places and the lines of an edit."""
         start, stop, lines = asked.get("start"), asked.get("stop"), asked.get("lines")
-        if not (is_count(start) and is_count(stop) and start <= stop <= len(self.lines)):
+        if not (type(start) is int and type(stop) is int and 0 <= start <= stop <= len(self.lines)):
             raise Refused(400, "these are no lines of the book")
         if not isinstance(lines, list) or not all(isinstance(line, str) and "\n" not in line for line in lines):
             raise Refused(400, "an edit has a list of lines")
@@ -182,7 +189,7 @@ class SharedBook:
             raise Refused(400, "a text has a line")
         return start, stop, lines
 
-    def put(self, start: int, stop: int, lines: list):
+    def put(self, start: int, stop: int, lines: Lines) -> None:
         """Puts lines in the place of others, with the carriage returns of the book: the last line has none. So the one before
         them changes where it was the last one, or becomes it."""
         at_end = stop == len(self.lines)
@@ -206,18 +213,15 @@ class SharedBook:
         line = line.removesuffix(b"\r") if self.returns else line
         return line.decode("utf-8", "surrogateescape").translate(CONTROLS)
 
-    def rows(self, faults: list) -> list:
+    def rows(self, faults: list[FaultRow]) -> list[list[Any]]:
         """Faults as windows see them, in order: the line of each, where it begins and ends there in UTF-16, and its name."""
         found = []
         for number, those in groupby(faults, lambda fault: fault[0]):
-            text = self.shown(self.lines[number])
-            bytes_before, units_before = places(text)
-            for _, column, name in those:
-                start = min(bisect_right(bytes_before, column - 1) - 1, len(text))
-                found.append([number, *(units_before[end] for end in span_of(text, start, name)), name])
+            places = LinePlaces(self.shown(self.lines[number]))
+            found += [[number, *places.span(column, name), name] for _, column, name in those]
         return found
 
-    def save(self, asked: dict) -> dict:
+    def save(self, asked: Json) -> Json:
         """Writes the book, as a new file that takes the old one's place. Where the file is not the one that was read
         or saved last, it is written only for a window that says which one it means to replace."""
         with self.moved:
@@ -225,7 +229,8 @@ class SharedBook:
             if not self.path:
                 raise Refused(400, "no book was named")
             try:
-                present = digest(self.read())
+                found = self.read()
+                present = None if found is None else digest(found)
                 if present != self.saved and ("over" not in asked or asked["over"] != present):
                     raise Refused(409, "the book on disk was changed by another program", ask=present)
                 data = self.mark + b"\n".join(self.lines)
@@ -237,16 +242,7 @@ class SharedBook:
             return self.state()
 
 
-def places(text: str) -> tuple:
-    """How many bytes and how many UTF-16 units stand before each character of a line that windows see, and before its end."""
-    if text.isascii():
-        return range(len(text) + 1), range(len(text) + 1)
-    sizes = (1 if "\udc00" <= character <= "\udcff" else len(utf8(character)) for character in text)
-    units = (2 if character > "\uffff" else 1 for character in text)
-    return [0, *accumulate(sizes)], [0, *accumulate(units)]
-
-
-def spliced(old: list, new: list, start: int, stop: int, grown: int) -> dict:
+def spliced(old: Sequence[Any], new: Sequence[Any], start: int, stop: int, grown: int) -> Json:
     """How a window makes the new rows of the old ones. It takes those of the edited lines out first, and moves those
     behind them; then so many go at a place, and others come in."""
     moved = [row if row[0] < start else (row[0] + grown, *row[1:]) for row in old if not start <= row[0] < stop]
@@ -263,35 +259,6 @@ def bytes_of(text: str) -> bytes:
         return text.encode("utf-8", "replace")
 
 
-def digest(data):
-    """What tells one content of the book from another, or None where there is no book."""
-    return None if data is None else hashlib.sha256(data).hexdigest()
-
-
-def is_count(value) -> bool:
+def is_count(value: object) -> bool:
     """Whether this is a number from 0."""
     return type(value) is int and value >= 0
-
-
-def replace_file(path: str, data: bytes):
-    """Writes a new file and puts it in the place of the old one, with the same rights, in one step."""
-    folder, name = os.path.split(path)
-    descriptor, new = tempfile.mkstemp(prefix=f".{name}.", suffix=".new", dir=folder)
-    try:
-        with os.fdopen(descriptor, "wb") as file:
-            file.write(data)
-            file.flush()
-            os.fchmod(descriptor, os.stat(path).st_mode & 0o777 if os.path.exists(path) else 0o666 & ~umask())
-            os.fsync(descriptor)
-        os.replace(new, path)
-    except OSError:
-        with suppress(OSError):
-            os.unlink(new)
-        raise
-
-
-def umask() -> int:
-    """The rights that new files of this process have not."""
-    mask = os.umask(0o077)
-    os.umask(mask)
-    return mask

@@ -1,0 +1,100 @@
+"""The differences between two texts, as few edits."""
+
+import difflib
+from bisect import bisect_left
+from collections import Counter
+from collections.abc import Sequence
+from typing import NamedTuple, Optional
+
+Lines = list[bytes]
+LONGEST_SEARCH = 2_000  # lines; longer runs without a unique line are replaced as a whole
+
+
+class Edit(NamedTuple):
+    """The lines from `start` to `stop`, counted from 0 and without `stop`, become `lines`."""
+
+    start: int
+    stop: int
+    lines: Lines
+
+
+def edits(old: Lines, new: Lines) -> list[Edit]:
+    """Edits that make `new` of `old`, rising, with places of `old`. At least one unchanged line is between any two."""
+    front = common_front(old, new)
+    back = common_front(old[front:][::-1], new[front:][::-1])
+    before, after = old[front : len(old) - back], new[front : len(new) - back]
+    found = []
+    a = b = 0
+    for c, d in [*anchors(before, after), (len(before), len(after))]:
+        for i, j, k, m in changes(before[a:c], after[b:d]):
+            found.append(Edit(front + a + i, front + a + j, after[b + k : b + m]))
+        a, b = c, d
+    return found
+
+
+def changes(old: Lines, new: Lines) -> list[tuple[int, int, int, int]]:
+    """Where two lists differ: start and stop in the old one, start and stop in the new one."""
+    if max(len(old), len(new)) > LONGEST_SEARCH:
+        return [(0, len(old), 0, len(new))]
+    codes = difflib.SequenceMatcher(None, old, new).get_opcodes()
+    return [(i, j, k, m) for kind, i, j, k, m in codes if kind != "equal"]
+
+
+def common_front(old: Sequence[object], new: Sequence[object]) -> int:
+    """How many items are the same at the front of both."""
+    return next((n for n, (a, b) in enumerate(zip(old, new)) if a != b), min(len(old), len(new)))
+
+
+def anchors(old: Lines, new: Lines) -> list[tuple[int, int]]:
+    """Pairs of places of lines that each list has just once, rising in both. `difflib` searches only between them: over
+    thousands of tunes that change in several places it would take seconds."""
+    places = places_of_single(new)
+    pairs = [(place, places[line]) for line, place in places_of_single(old).items() if line in places]
+    return [pairs[n] for n in longest_rise([place for _, place in pairs])]
+
+
+def places_of_single(lines: Lines) -> dict[bytes, int]:
+    """The place of each line that occurs just once."""
+    times = Counter(lines)
+    return {line: place for place, line in enumerate(lines) if times[line] == 1}
+
+
+def longest_rise(numbers: list[int]) -> list[int]:
+    """The places of a longest rising selection of different numbers."""
+    ends: list[int] = []  # by length: the least number that ends a selection
+    last: list[int] = []  # by length: the place of that number
+    before: list[Optional[int]] = []
+    for place, number in enumerate(numbers):
+        length = bisect_left(ends, number)
+        before.append(last[length - 1] if length else None)
+        ends[length : length + 1] = [number]
+        last[length : length + 1] = [place]
+    chosen = []
+    at = last[-1] if last else None
+    while at is not None:
+        chosen.append(at)
+        at = before[at]
+    return chosen[::-1]
+
+
+def joined(found: list[Edit], old: Lines, most: int) -> list[Edit]:
+    """The same change in at most `most` edits, and in one for each tune. An edit costs about half of opening its tune, so
+    two in one tune cost as much as the whole tune. Far edits stay apart: unchanged lines between joined ones are sent too."""
+    gaps = [
+        (after.start - before.stop, n)
+        for n, (before, after) in enumerate(zip(found, found[1:]), 1)
+        if any(line.startswith(b"X:") for line in old[before.stop : after.start])
+    ]
+    far = sorted(gaps, reverse=True)[: most - 1]
+    cuts = [0, *sorted(n for _, n in far), len(found)]
+    return [as_one(found[a:b], old) for a, b in zip(cuts, cuts[1:])] if found else []
+
+
+def as_one(found: list[Edit], old: Lines) -> Edit:
+    """One edit that does the same as these."""
+    lines: Lines = []
+    at = found[0].start
+    for edit in found:
+        lines += old[at : edit.start] + edit.lines
+        at = edit.stop
+    return Edit(found[0].start, at, lines)

@@ -1,0 +1,271 @@
+"""abc2midi_live behind the Language Server Protocol, on standard input and output."""
+
+import argparse
+import json
+import os
+import shlex
+import sys
+import tempfile
+from collections.abc import Callable
+from typing import Any, Optional
+
+from .document import Document
+from .faults import sentences
+from .messages import (
+    ERROR,
+    INCREMENTAL,
+    INFO,
+    INVALID_PARAMS,
+    INVALID_REQUEST,
+    METHOD_NOT_FOUND,
+    NOT_INITIALIZED,
+    PARSE_ERROR,
+    REQUEST_FAILED,
+    Failure,
+    Json,
+    read_message,
+    write_message,
+)
+from .players import Player
+from .program import ProgramEnded, ProgramMissing, find_program
+from .signals import when_told_to_end
+
+
+class Server:
+    """The state of a session with an editor, and what each method does."""
+
+    def __init__(
+        self,
+        write: Callable[[Json], None],
+        program: str,
+        folder: "tempfile.TemporaryDirectory[str]",
+        player: Optional[Player] = None,
+    ):
+        self.write = write
+        self.program = program
+        self.folder = folder
+        self.player = player
+        self.words = sentences()
+        self.documents: dict[str, Document] = {}
+        self.opened = 0
+        self.initialized = False
+        self.status: Optional[int] = None  # the exit status, once the session is over
+        self.is_shut_down = False
+        self.requests: dict[str, Callable[[Any], Any]] = {
+            "initialize": self.initialize,
+            "shutdown": self.shutdown,
+            "textDocument/documentSymbol": self.symbols,
+            "textDocument/codeAction": self.actions,
+            "workspace/executeCommand": self.execute,
+        }
+        self.notifications: dict[str, Callable[[Any], None]] = {
+            "exit": self.exit,
+            "textDocument/didOpen": self.open,
+            "textDocument/didChange": self.change,
+            "textDocument/didClose": self.close,
+        }
+
+    def handle(self, message: Any) -> None:
+        """Answers a request, follows a notification, and takes no notice of an answer."""
+        if not isinstance(message, dict) or not isinstance(message.get("method", ""), str):
+            self.refuse(None, INVALID_REQUEST, "this is no request")
+        elif "method" in message and "id" in message:
+            self.answer(message["id"], message["method"], message.get("params"))
+        elif "method" in message:
+            self.follow(message["method"], message.get("params"))
+
+    def answer(self, identifier: Any, method: str, params: Any) -> None:
+        """Answers a request."""
+        try:
+            self.may_ask(method)
+            self.send({"id": identifier, "result": self.requests[method](params)})
+        except Failure as failure:
+            self.refuse(identifier, *failure.args)
+        except ProgramEnded as ended:
+            self.refuse(identifier, REQUEST_FAILED, str(ended))
+        except (KeyError, TypeError, AttributeError, IndexError) as error:
+            self.refuse(identifier, INVALID_PARAMS, f"the parameters of {method} are not as they must be: {error}")
+
+    def may_ask(self, method: str) -> None:
+        """Fails where a request comes at a wrong time, or is not known."""
+        if self.is_shut_down:
+            raise Failure(INVALID_REQUEST, "the server is shut down")
+        if not self.initialized and method != "initialize":
+            raise Failure(NOT_INITIALIZED, "the first request is initialize")
+        if self.initialized and method == "initialize":
+            raise Failure(INVALID_REQUEST, "the server is initialized")
+        if method not in self.requests:
+            raise Failure(METHOD_NOT_FOUND, f"there is no method {method} here")
+
+    def follow(self, method: str, params: Any) -> None:
+        """Follows a notification that is known and comes at its time."""
+        if method == "exit" or self.initialized and not self.is_shut_down and method in self.notifications:
+            try:
+                self.notifications[method](params)
+            except ProgramEnded as ended:
+                self.notify("window/showMessage", {"type": ERROR, "message": f"abc2midi_live: {ended}"})
+            except (KeyError, TypeError, AttributeError, IndexError) as error:
+                print(f"language_server: a {method} that is not as it must be: {error}", file=sys.stderr)
+
+    def send(self, message: Json) -> None:
+        """Sends a message."""
+        self.write({"jsonrpc": "2.0", **message})
+
+    def refuse(self, identifier: Any, code: int, sentence: str) -> None:
+        """Answers a request by an error."""
+        self.send({"id": identifier, "error": {"code": code, "message": sentence}})
+
+    def notify(self, method: str, params: Json) -> None:
+        """Sends a notification."""
+        self.send({"method": method, "params": params})
+
+    def initialize(self, _: Any) -> Json:
+        """What the server can do."""
+        self.initialized = True
+        return {
+            "capabilities": {
+                "positionEncoding": "utf-16",
+                "textDocumentSync": {"openClose": True, "change": INCREMENTAL},
+                "documentSymbolProvider": True,
+                "codeActionProvider": True,
+                "executeCommandProvider": {"commands": ["play"]},
+            },
+            "serverInfo": {"name": "abc2midi_live"},
+        }
+
+    def shutdown(self, _: Any) -> None:
+        """Ends the programs; only `exit` may follow."""
+        self.is_shut_down = True
+        self.end()
+
+    def exit(self, _: Any) -> None:
+        """Ends the session."""
+        self.status = 0 if self.is_shut_down else 1
+
+    def end(self) -> None:
+        """Ends what is played, and each program, and takes their files away: an editor may not wait for more."""
+        if self.player:
+            self.player.stop()
+        for document in self.documents.values():
+            document.close()
+        self.documents = {}
+        self.folder.cleanup()
+
+    def open(self, params: Json) -> None:
+        """An editor opens a tune book: a program of its own holds it, with a folder of its own."""
+        given = params["textDocument"]
+        if given["uri"] in self.documents:
+            self.documents.pop(given["uri"]).close()
+        self.opened += 1
+        directory = os.path.join(self.folder.name, str(self.opened))
+        os.mkdir(directory)
+        self.documents[given["uri"]] = Document(given["text"], self.program, directory)
+        self.publish(given)
+
+    def change(self, params: Json) -> None:
+        """An editor changes a tune book."""
+        given = params["textDocument"]
+        for change in params["contentChanges"]:
+            self.documents[given["uri"]].change(change)
+        self.publish(given)
+
+    def close(self, params: Json) -> None:
+        """An editor closes a tune book: its diagnostics go."""
+        uri = params["textDocument"]["uri"]
+        self.documents.pop(uri).close()
+        self.notify("textDocument/publishDiagnostics", {"uri": uri, "diagnostics": []})
+
+    def publish(self, given: Json) -> None:
+        """Sends the diagnostics of a tune book."""
+        told = {"uri": given["uri"], "diagnostics": self.documents[given["uri"]].diagnostics(self.words)}
+        if given.get("version") is not None:
+            told["version"] = given["version"]
+        self.notify("textDocument/publishDiagnostics", told)
+
+    def document(self, params: Json) -> Document:
+        """The tune book that a request names."""
+        uri = params["textDocument"]["uri"]
+        if uri not in self.documents:
+            raise Failure(INVALID_PARAMS, f"{uri} is not open")
+        return self.documents[uri]
+
+    def symbols(self, params: Json) -> list[Json]:
+        """The tunes of a tune book."""
+        return self.document(params).symbols()
+
+    def actions(self, params: Json) -> list[Json]:
+        """The command that plays the tune at the beginning of a range, if one is there. It is of no kind, so none is there for
+        an editor that asks for some kinds alone."""
+        only = (params.get("context") or {}).get("only")
+        if only and "" not in only:
+            return []
+        place = params["range"]["start"]
+        tune = self.document(params).tune_at(place["line"])
+        if tune is None:
+            return []
+        where = {"textDocument": {"uri": params["textDocument"]["uri"]}, "position": place}
+        return [{"title": f"Play {tune.number} {tune.title}".rstrip(), "command": "play", "arguments": [where]}]
+
+    def execute(self, params: Json) -> str:
+        """Plays the tune at a position, and names its file."""
+        if params["command"] != "play":
+            raise Failure(INVALID_PARAMS, f"there is no command {params['command']} here")
+        where = params["arguments"][0]
+        path = self.document(where).file_at(where["position"]["line"])
+        if self.player:
+            self.play(self.player, path)
+        else:
+            self.notify("window/showMessage", {"type": INFO, "message": path})
+        return path
+
+    def play(self, player: Player, path: str) -> None:
+        """Plays a file."""
+        try:
+            player.play(path)
+        except OSError as error:
+            raise Failure(REQUEST_FAILED, f"{player.words[0]}: {error.strerror}") from error
+
+
+def serve(server: Server) -> int:
+    """Handles each message until the session is over; the exit status."""
+    while server.status is None:
+        data = read_message(sys.stdin.buffer)
+        if data is None:
+            return 1
+        try:
+            message = json.loads(data)
+        except (ValueError, RecursionError):
+            server.refuse(None, PARSE_ERROR, "this is no JSON")
+        else:
+            server.handle(message)
+    return server.status
+
+
+def arguments() -> argparse.Namespace:
+    """What the command line says."""
+    parser = argparse.ArgumentParser(prog="language_server", description=__doc__)
+    parser.add_argument(
+        "--play", metavar="COMMAND", type=shlex.split, help="the player that the command 'play' runs on the file it names"
+    )
+    parser.add_argument("--program", help="the program to start, in the place of the one that ./check left")
+    return parser.parse_args()
+
+
+def main() -> int:
+    """Serves one editor; the exit status."""
+    words = arguments()
+    when_told_to_end(lambda *_: sys.exit(1))
+    server = None
+    try:
+        program = words.program or find_program()
+        folder = tempfile.TemporaryDirectory(prefix="abc2midi_live-")
+        server = Server(write_message, program, folder, Player(words.play) if words.play else None)
+        return serve(server)
+    except (ProgramMissing, ValueError) as error:
+        print(f"language_server: {error}", file=sys.stderr)
+        return 127 if isinstance(error, ProgramMissing) else 1
+    except (KeyboardInterrupt, BrokenPipeError):
+        return 1
+    finally:
+        if server:
+            server.end()

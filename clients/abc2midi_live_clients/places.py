@@ -1,0 +1,76 @@
+"""Places in a text: bytes, characters and UTF-16 units; and the span of a fault."""
+
+import re
+from bisect import bisect_right
+from collections.abc import Sequence
+from itertools import accumulate
+
+FIELD = re.compile(r"(?![A-Ga-gxz]:[|:])[A-Za-z+]:")
+TOKEN = re.compile(
+    r"\[[A-Za-z]:[^\]]*\]"  # an inline field
+    r"|\[[^\[\]|]*\]\d*/*\d*"  # a chord
+    r"|[_^=]{0,2}[A-Ga-gxzXZ][',]*\d*/*\d*"  # a note or a rest
+    r"|\(\d+(:\d*){0,2}|\[?\d[\d,-]*|<{1,3}|>{1,3}"  # a tuplet, an ending, broken rhythm
+    r"|."
+)
+
+
+def text_of(line: bytes) -> str:
+    """A line as text: UTF-8, or Latin-1 if it is not UTF-8."""
+    try:
+        return line.decode("utf-8")
+    except UnicodeDecodeError:
+        return line.decode("latin-1")
+
+
+def utf8(text: str) -> bytes:
+    """The bytes of a text. JSON may bring halves of surrogate pairs; they pass too."""
+    return text.encode("utf-8", "surrogatepass")
+
+
+def utf16(text: str) -> bytes:
+    """A text in UTF-16, two bytes a unit. Editors and web pages count in these units."""
+    return text.encode("utf-16-le", "surrogatepass")
+
+
+def from_utf16(units: bytes) -> str:
+    """The text of UTF-16 units. Two halves of a pair that meet become one character."""
+    return units.decode("utf-16-le", "surrogatepass")
+
+
+def character_of(line: str, column: int) -> int:
+    """The character, counted from 0, that has the byte of a column, counted from 1."""
+    if line.isascii():
+        return column - 1
+    data, at = utf8(line), column - 1
+    while at > 0 and data[at : at + 1] and data[at] & 0xC0 == 0x80:
+        at -= 1
+    return len(data[:at].decode("utf-8", "surrogatepass"))
+
+
+def span_of(line: str, start: int, name: str) -> tuple[int, int]:
+    """The first character of a fault, and the end of the field or token there. The end is a guess."""
+    if start == 0 and FIELD.match(line) or name in ("BadLine", "BadProgram"):
+        return start, len(line)
+    if name in ("BadByte", "Unclosed"):
+        return start, start + 1
+    token = TOKEN.match(line, start)
+    return start, token.end() if token else start
+
+
+class LinePlaces:
+    """The places of one line as windows see it: a half of a pair is one byte there."""
+
+    def __init__(self, text: str):
+        self.text = text
+        self.bytes_before: Sequence[int] = range(len(text) + 1)
+        self.units_before: Sequence[int] = range(len(text) + 1)
+        if not text.isascii():
+            sizes = (1 if "\udc00" <= character <= "\udcff" else len(utf8(character)) for character in text)
+            units = (2 if character > "\uffff" else 1 for character in text)
+            self.bytes_before, self.units_before = [0, *accumulate(sizes)], [0, *accumulate(units)]
+
+    def span(self, column: int, name: str) -> list[int]:
+        """Where a fault begins and ends, in UTF-16 units. Its column counts bytes from 1."""
+        start = min(bisect_right(self.bytes_before, column - 1) - 1, len(self.text))
+        return [self.units_before[end] for end in span_of(self.text, start, name)]

@@ -1,0 +1,18 @@
+"""The types of the clients. The test is skipped if `mypy` is not installed."""
+
+import shutil
+import subprocess
+import unittest
+
+import trial
+
+MYPY = shutil.which("mypy")
+COMMANDS = ["watch", "page", "language_server"]
+
+
+class Types(unittest.TestCase):
+    @unittest.skipIf(not MYPY, "mypy is not installed")
+    def test_types(self):
+        words = [MYPY, "--strict", "--scripts-are-modules", "--python-version", "3.9", "--cache-dir", "/dev/null"]
+        asked = subprocess.run([*words, "abc2midi_live_clients", *COMMANDS], cwd=trial.CLIENTS, capture_output=True, text=True)
+        self.assertEqual(asked.returncode, 0, asked.stdout + asked.stderr)
