@@ -1,6 +1,7 @@
 //! What was built of the tunes that were asked for last.
 #![tactic(auto)]
 
+mod answer;
 mod key;
 mod memo;
 

@@ -1,6 +1,6 @@
 use Rattle.std.proofs.Common.{sym, ap, ◌∙◌}
 use Rattle.abc_fold.specs.Steps.{steps_of}
-use Rattle.abc_memo.proofs.Remembering.{found_bytes, found_faults, after_asking, after_keeping, kept_behind, done_or_refused}
+use Rattle.abc_memo.proofs.Remembering.{found_bytes, found_faults, after_asking, after_keeping, kept_behind}
 use Rattle.abc_memo.proofs.memo.TuneMemo.built.Goals as goal
 
 pub returns-in_err-known-clause-remembers : goal.returns-in_err-known-clause-remembers
@@ -48,17 +48,17 @@ returns-clause-remembers g c =
     after_asking steps (g.C.Compiler.rules c.args.compiler.now) (g.met.C.Resumable.resumable c.args.compiler.now) (g.met.C.Compiler.lawful c.args.compiler.now)
     g.C.Defaults.PartialEq.eq g.met.C.Compiler.told_apart c.args.self.now c.requires.remembers c.args.key c.recalled.new.self c.recalled.ensures.entries in
     after_keeping steps (g.C.Compiler.rules c.args.compiler.now) (g.met.C.Resumable.resumable c.args.compiler.now) (g.met.C.Compiler.lawful c.args.compiler.now)
-    g.C.Defaults.PartialEq.eq g.met.C.Compiler.told_apart c.recalled.new.self asked c.args.key c.keep.new.self c.in_ok-built.built
+    g.C.Defaults.PartialEq.eq g.met.C.Compiler.told_apart c.recalled.new.self asked c.args.key c.remember.new.self c.in_ok-built.built
     (record {
       items = c.args.items.now;
       of_key = c.requires.of_key;
       bytes = ap (λ built. built.bytes) c.in_ok-built.ensures ∙ c.in_ok-build.ensures.bytes;
       faults = ap (λ built. built.faults) c.in_ok-built.ensures ∙ c.in_ok-build.ensures.faults;
     })
-    (done_or_refused c.keep.result c.keep.ensures.ok c.keep.ensures.refused)
+    c.remember.ensures
 
 pub returns-clause-kept : goal.returns-clause-kept
 returns-clause-kept g c =
-    kept_behind g.C.Defaults.PartialEq.eq c.args.key c.in_ok-known.field-0 c.in_ok-built.built c.args.self.now c.recalled.new.self c.keep.new.self
+    kept_behind g.C.Defaults.PartialEq.eq c.args.key c.in_ok-known.field-0 c.in_ok-built.built c.args.self.now c.recalled.new.self c.remember.new.self
     c.in_ok-known.ensures.value c.in_default.not-Some c.recalled.ensures.entries
-    (done_or_refused c.keep.result c.keep.ensures.ok c.keep.ensures.refused)
+    c.remember.ensures
