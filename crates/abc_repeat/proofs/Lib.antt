@@ -15,6 +15,9 @@ pub mod Places
 pub mod Readings
 pub mod Rests
 pub mod Rounds
+pub mod RuleMarks
+pub mod RulePasses
+pub mod RulePlays
 pub mod Runs
 pub mod Sizes
 pub mod Tables

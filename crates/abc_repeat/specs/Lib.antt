@@ -3,6 +3,7 @@ pub mod Order
 pub mod OrderPlay
 pub mod OrderSize
 pub mod Play
+pub mod PlayLaws
 pub mod Runs
 pub mod Section
 pub mod Strain

@@ -1,0 +1,178 @@
+-- Marks in the words of the rules, and by the tests of the computed play.
+use Rattle.std.proofs.Common.{◌≡◌, ℕ, ◌<◌, ltb, Bool, true, false, not, ◌&&◌, ◌⊎◌, inl, inr, ⊎_elim, List, [], ◌∷◌, ◌++◌, refl, sym, ap, ◌∙◌, arith}
+use Rattle.std.specs.Prelude.{All}
+use Rattle.std.specs.List.{AllPass}
+use Rattle.std.proofs.lemmas.Bool.{cases_Bool, cases_lt, and_parts, not-true, or_cases, or_left, or_right}
+use Rattle.std.proofs.lemmas.Bool.Decides.{nat_tests}
+use Rattle.std.proofs.lemmas.List.Elements.{All-nil, All-cons, All-head, All-tail, All-weaker}
+use Rattle.abc_repeat.specs.declared.mark.Mark.{Mark}
+use Rattle.abc_repeat.specs.declared.mark.Mark.TheVariants as marks
+use Rattle.abc_repeat.specs.Mark.{is_ending, is_repeat, is_double, is_single, closes_common, closes_ending}
+use Rattle.abc_repeat.specs.Strain.{in_common, in_ending, leads_to_ending, goes_on}
+use Rattle.abc_repeat.specs.PlayLaws.{IsSign, IsRepeatBar, IsDoubleBar, IsEndBar, EndsEnding, IsCommonBar, EndsCommon, IsBetween, SignComes}
+use Rattle.abc_repeat.proofs.Readings.{single_stays}
+
+and_both : (a b : Bool) → a ≡ true → b ≡ true → (a && b) ≡ true
+and_both true b e f = f
+and_both false b e f = cc
+
+not_both : {b : Bool} → b ≡ true → b ≡ false → ⊥
+not_both e f = cc
+
+pub some_test : (n : ℕ) → 0 < n → ltb 0 n ≡ true
+some_test n h = grind (arith, nat_tests)
+
+pub test_some : (n : ℕ) → ltb 0 n ≡ true → 0 < n
+test_some n h = grind (arith, nat_tests)
+
+pub none_test : (n : ℕ) → n ≡ 0 → ltb 0 n ≡ false
+none_test n e = ap (ltb 0) e
+
+pub test_none : (n : ℕ) → ltb 0 n ≡ false → n ≡ 0
+test_none n h = ⊎_elim (λ some. absurd (not_both (some_test n some) h)) (λ none. omega arith) (cases_lt 0 n)
+
+none_at_all : (n : ℕ) → ¬ (0 < n) → n ≡ 0
+none_at_all n h = ⊎_elim (λ some. absurd (h some)) (λ none. omega arith) (cases_lt 0 n)
+
+repeat_tested : (m : Mark) → IsRepeatBar m → is_repeat m ≡ true
+repeat_tested marks.Play h = absurd h
+repeat_tested (marks.Bar closes opens double) h =
+    ⊎_elim (λ k. or_left (ltb 0 closes) (ltb 0 opens) (some_test closes k)) (λ k. or_right (ltb 0 closes) (ltb 0 opens) (some_test opens k)) h
+repeat_tested (marks.Ending numbers) h = absurd h
+
+repeat_told : (m : Mark) → is_repeat m ≡ true → IsRepeatBar m
+repeat_told marks.Play e = cc
+repeat_told (marks.Bar closes opens double) e = ⊎_elim (λ k. inl (test_some closes k)) (λ k. inr (test_some opens k)) (or_cases (ltb 0 closes) (ltb 0 opens) e)
+repeat_told (marks.Ending numbers) e = cc
+
+double_tested : (m : Mark) → IsDoubleBar m → is_double m ≡ true
+double_tested marks.Play h = absurd h
+double_tested (marks.Bar closes opens double) h = h
+double_tested (marks.Ending numbers) h = absurd h
+
+double_told : (m : Mark) → is_double m ≡ true → IsDoubleBar m
+double_told marks.Play e = cc
+double_told (marks.Bar closes opens double) e = e
+double_told (marks.Ending numbers) e = cc
+
+pub end_tested : (m : Mark) → IsEndBar m → closes_ending m ≡ true
+end_tested m h = ⊎_elim (λ k. or_left (is_repeat m) (is_double m) (repeat_tested m k)) (λ k. or_right (is_repeat m) (is_double m) (double_tested m k)) h
+
+pub end_told : (m : Mark) → closes_ending m ≡ true → IsEndBar m
+end_told m e = ⊎_elim (λ k. inl (repeat_told m k)) (λ k. inr (double_told m k)) (or_cases (is_repeat m) (is_double m) e)
+
+pub common_tested : (before : ℕ) (m : Mark) → IsCommonBar before m → closes_common (ltb 0 before) m ≡ true
+common_tested before m h = ⊎_elim
+    (λ k. or_left (is_repeat m) _ (repeat_tested m k))
+    (λ k. or_right (is_repeat m) _ (and_both (is_double m) (not (ltb 0 before)) (double_tested m k.0) (ap not (none_test before k.1))))
+    h
+
+pub common_told : (before : ℕ) (m : Mark) → closes_common (ltb 0 before) m ≡ true → IsCommonBar before m
+common_told before m e = ⊎_elim
+    (λ k. inl (repeat_told m k))
+    (λ k. let parts = and_parts (is_double m) (not (ltb 0 before)) k in inr (double_told m parts.0, test_none before (not-true (ltb 0 before) parts.1)))
+    (or_cases (is_repeat m) (is_double m && not (ltb 0 before)) e)
+
+-- a mark inside an ending
+pub inside_told : (m : Mark) → in_ending m ≡ true → ¬ EndsEnding m
+inside_told marks.Play e h = ⊎_elim (λ k. k) (λ k. ⊎_elim (λ j. j) (λ j. j) k) h
+inside_told (marks.Bar closes opens double) e h =
+    ⊎_elim (λ k. k) (λ k. not_both (end_tested (marks.Bar closes opens double) k) (single_stays (marks.Bar closes opens double) e)) h
+inside_told (marks.Ending numbers) e h = cc
+
+pub inside_tested : (m : Mark) → ¬ EndsEnding m → in_ending m ≡ true
+inside_tested marks.Play h = refl
+inside_tested (marks.Bar closes opens true) h = absurd (h (inr (inr refl)))
+inside_tested (marks.Bar closes opens false) h =
+    let first : closes ≡ 0 = none_at_all closes (λ k. h (inr (inl (inl k)))) in
+    let second : opens ≡ 0 = none_at_all opens (λ k. h (inr (inl (inr k)))) in
+    (λ i. is_single (marks.Bar (first i) (second i) false))
+inside_tested (marks.Ending numbers) h = absurd (h (inl tt))
+
+-- a mark between a bar and the next sign
+pub between_told : (m : Mark) → is_single m ≡ true → IsBetween m
+between_told marks.Play e = cc
+between_told (marks.Bar closes opens double) e = ((λ k. cc), inside_told (marks.Bar closes opens double) e)
+between_told (marks.Ending numbers) e = cc
+
+pub between_tested : (m : Mark) → IsBetween m → is_single m ≡ true
+between_tested marks.Play h = absurd (h.0 refl)
+between_tested (marks.Bar closes opens double) h = inside_tested (marks.Bar closes opens double) h.1
+between_tested (marks.Ending numbers) h = absurd (h.1 (inl tt))
+
+sign_told : (m : Mark) → is_ending m ≡ false → ¬ IsSign m
+sign_told marks.Play e h = h
+sign_told (marks.Bar closes opens double) e h = h
+sign_told (marks.Ending numbers) e h = cc
+
+sign_tested : (m : Mark) → ¬ IsSign m → is_ending m ≡ false
+sign_tested marks.Play h = refl
+sign_tested (marks.Bar closes opens double) h = refl
+sign_tested (marks.Ending numbers) h = absurd (h tt)
+
+-- a mark inside a common part
+pub common_inside_told : (before : ℕ) (m : Mark) → in_common (ltb 0 before) m ≡ true → ¬ EndsCommon before m
+common_inside_told before m e h =
+    let parts = and_parts (not (is_ending m)) (not (closes_common (ltb 0 before) m)) e in
+    ⊎_elim (sign_told m (not-true (is_ending m) parts.0)) (λ k. not_both (common_tested before m k) (not-true (closes_common (ltb 0 before) m) parts.1)) h
+
+pub common_inside_tested : (before : ℕ) (m : Mark) → ¬ EndsCommon before m → in_common (ltb 0 before) m ≡ true
+common_inside_tested before m h =
+    let plain : is_ending m ≡ false = sign_tested m (λ k. h (inl k)) in
+    let goes : closes_common (ltb 0 before) m ≡ false = ⊎_elim (λ k. absurd (h (inr (common_told before m k)))) (λ k. k) (cases_Bool (closes_common (ltb 0 before) m)) in
+    and_both (not (is_ending m)) (not (closes_common (ltb 0 before) m)) (ap not plain) (ap not goes)
+
+-- the next sign
+pub leads_told : (ms : List Mark) → leads_to_ending ms ≡ true → SignComes ms
+leads_told [] e = cc
+leads_told (marks.Play ∷ rest) e = cc
+leads_told (marks.Bar closes opens double ∷ rest) e =
+    let bar = marks.Bar closes opens double in
+    let parts = and_parts (is_single bar) (leads_to_ending rest) e in
+    let behind = leads_told rest parts.1 in
+    (bar ∷ behind.0, behind.1, behind.2, All-cons IsBetween bar behind.0 (between_told bar parts.0) behind.3, ap (λ l. bar ∷ l) behind.4)
+leads_told (marks.Ending numbers ∷ rest) e = ([], numbers, rest, All-nil IsBetween, refl)
+
+gap_leads : (gap rest : List Mark) (numbers : ℕ) → All IsBetween gap → leads_to_ending (gap ++ marks.Ending numbers ∷ rest) ≡ true
+gap_leads [] rest numbers h = refl
+gap_leads (m ∷ gap) rest numbers h =
+    or_right (is_ending m) _ (and_both (is_single m) (leads_to_ending (gap ++ marks.Ending numbers ∷ rest)) (between_tested m (All-head IsBetween m gap h)) (gap_leads gap rest numbers (All-tail IsBetween m gap h)))
+
+pub leads_tested : (ms : List Mark) → SignComes ms → leads_to_ending ms ≡ true
+leads_tested ms h = ap leads_to_ending h.4 ∙ gap_leads h.0 h.2 h.1 h.3
+
+-- a bar after which no ending of the strain comes
+pub last_tested : (closes opens : ℕ) (double : Bool) (rest : List Mark) → (0 < opens) ⊎ (¬ SignComes rest) → goes_on (marks.Bar closes opens double) rest ≡ false
+last_tested closes opens double rest h = ⊎_elim
+    (λ k. ap (λ b. not b && leads_to_ending rest) (some_test opens k))
+    (λ k. and_none (not (ltb 0 opens)) (leads_to_ending rest) (⊎_elim (λ j. absurd (k (leads_told rest j))) (λ j. j) (cases_Bool (leads_to_ending rest))))
+    h
+  where
+    and_none : (a b : Bool) → b ≡ false → (a && b) ≡ false
+    and_none true b e = e
+    and_none false b e = refl
+
+pub last_told : (closes opens : ℕ) (double : Bool) (rest : List Mark) → goes_on (marks.Bar closes opens double) rest ≡ false → (0 < opens) ⊎ (¬ SignComes rest)
+last_told closes opens double rest e = ⊎_elim
+    (λ k. inl (test_some opens k))
+    (λ k. inr (λ comes. not_both (leads_tested rest comes) (sym (ap (λ b. not b && leads_to_ending rest) k) ∙ e)))
+    (cases_Bool (ltb 0 opens))
+
+-- lists of such marks
+pub all_inside_told : (ms : List Mark) → AllPass in_ending ms → All (λ m. ¬ EndsEnding m) ms
+all_inside_told ms h = All-weaker (λ m. in_ending m ≡ true) (λ m. ¬ EndsEnding m) inside_told ms h
+
+pub all_inside_tested : (ms : List Mark) → All (λ m. ¬ EndsEnding m) ms → AllPass in_ending ms
+all_inside_tested ms h = All-weaker (λ m. ¬ EndsEnding m) (λ m. in_ending m ≡ true) inside_tested ms h
+
+pub all_between_told : (ms : List Mark) → AllPass is_single ms → All IsBetween ms
+all_between_told ms h = All-weaker (λ m. is_single m ≡ true) IsBetween between_told ms h
+
+pub all_between_tested : (ms : List Mark) → All IsBetween ms → AllPass is_single ms
+all_between_tested ms h = All-weaker IsBetween (λ m. is_single m ≡ true) between_tested ms h
+
+pub all_common_told : (before : ℕ) (ms : List Mark) → AllPass (in_common (ltb 0 before)) ms → All (λ m. ¬ EndsCommon before m) ms
+all_common_told before ms h = All-weaker (λ m. in_common (ltb 0 before) m ≡ true) (λ m. ¬ EndsCommon before m) (common_inside_told before) ms h
+
+pub all_common_tested : (before : ℕ) (ms : List Mark) → All (λ m. ¬ EndsCommon before m) ms → AllPass (in_common (ltb 0 before)) ms
+all_common_tested before ms h = All-weaker (λ m. ¬ EndsCommon before m) (λ m. in_common (ltb 0 before) m ≡ true) (common_inside_tested before) ms h
