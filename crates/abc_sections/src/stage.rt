@@ -14,6 +14,7 @@ use abc_text::Sequence;
 use abc_time::Grains;
 use std::alloc::{AllocError, Global};
 use std::marker::Model;
+use thiserror::Error;
 
 /// What a voice plays of a section. Contracts see the items.
 #[derive(Drop)]
@@ -42,13 +43,16 @@ pub struct Stage<'t> {
 }
 
 /// Why the stages of a tune are not given.
-#[derive(Clone, Copy)]
+#[derive(Clone, Copy, Debug, PartialEq, Eq, Error)]
 pub enum StageFault {
     /// More places are played than there is room for.
+    #[error("more than 1,000,000 notes, chords, rests, fields and programs would be played")]
     TooMany,
     /// A section is longer than a tune may be.
+    #[error("the tune would be longer than 131,072 whole notes")]
     TooLate,
-    /// There is no memory.
+    /// An allocation fails.
+    #[error("out of memory")]
     OutOfMemory,
 }
 

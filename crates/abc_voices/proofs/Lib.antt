@@ -8,6 +8,7 @@ pub mod Given
 pub mod InOne
 pub mod Layouts
 pub mod Lengths
+pub mod Names
 pub mod OnTicks
 pub mod Orders
 pub mod Placed

@@ -175,7 +175,7 @@ fn laid_out(
     ensures too_late { result ≡ Err TooLate → grains_of_the_latest_end < end_of (items_of tune.now) }
 {
     let voices = everyone(alloc, given)?;
-    match stages_of(alloc, tune, given, &voices, played) {
+    match stages_of(alloc, tune, given, voices.as_slice(), played) {
         Ok(table) => {
             let turns = in_order(alloc, &table, played)?;
             laid_along(alloc, tune, given, &turns, voices.len())

@@ -1,44 +1,33 @@
 //! The voices of a tune.
 
-ghost use Rattle.std.specs.Prelude.{◌≡◌, [], IfOk, OnOk, map, bytes_eq};
-ghost use Rattle.std.specs.List.{list_any};
+ghost use Rattle.std.specs.Prelude.{◌≡◌, IfOk, OnOk, map};
 ghost use Rattle.abc_sections.specs.Items.{items_of};
 ghost use Rattle.abc_sections.specs.Section.{opening_voice};
 ghost use Rattle.abc_voices.specs.Track.{with_name, everyone, plays_first, nameless_plays};
 
 use abc_items::Item;
+use indexmap::IndexSet;
 use std::alloc::{AllocError, Global};
 
-/// Whether a name is one of some others.
-fn is_known(known: &[&[u8]], name: &[u8]) -> bool
-    ensures { result ≡ list_any (bytes_eq name.now) (map (λ other. other.now) known.now) }
+/// Puts the name of a voice after the known ones, unless it is one of them.
+fn put_name<'a>(known: &mut IndexSet<&'a [u8]>, name: &'a [u8]) -> Result<(), AllocError>
+    ensures { OnOk result (map (λ voice. voice.now) known.new.keys
+        ≡ with_name (map (λ voice. voice.now) known.old.keys) name.entry.now) }
 {
-    for other in known {
-        if name == *other {
-            return true;
-        }
-    }
-    false
-}
-
-/// Puts the name of a voice behind those that are known, unless it is one of them.
-fn put_name<'a>(known: &mut Vec<&'a [u8]>, name: &'a [u8]) -> Result<(), AllocError>
-    ensures { OnOk result (map (λ voice. voice.now) known.new.items
-        ≡ with_name (map (λ voice. voice.now) known.old.items) name.entry.now) }
-{
-    if !is_known(known, name) {
-        known.push(name)?;
-    }
+    known.insert(name)?;
     Ok(())
 }
 
 /// The voices of a tune, that without a name before those that have one.
-pub(crate) fn everyone<'a>(alloc: Global, tune: &[&'a Item]) -> Result<Vec<&'a [u8]>, AllocError>
-    ensures { IfOk result (λ voices. map (λ voice. voice.now) voices.items ≡ everyone (items_of tune.now)) }
+pub(crate) fn everyone<'a>(
+    alloc: Global,
+    tune: &[&'a Item],
+) -> Result<IndexSet<&'a [u8]>, AllocError>
+    ensures { IfOk result (λ voices. map (λ voice. voice.now) voices.keys ≡ everyone (items_of tune.now)) }
 {
-    let mut voices = Vec::new(alloc);
+    let mut voices = IndexSet::new(alloc);
     let nameless: &[u8] = &[];
-    voices.push(nameless)?;
+    voices.insert(nameless)?;
     for item in tune {
         if let Item::Voice { name, .. } = item {
             put_name(&mut voices, name.as_slice())?;

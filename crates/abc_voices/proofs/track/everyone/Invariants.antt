@@ -5,4 +5,4 @@ use Rattle.abc_voices.proofs.track.everyone.Given as goal
 
 -- the names so far, and those of the rest
 abbrev pub invariant-loop-item : goal.invariant-loop-item
-invariant-loop-item l = names_from (map (λ voice. voice.now) l.voices.items) (items_of (drop l.item-index l.tune)) ≡ everyone (items_of l.tune)
+invariant-loop-item l = names_from (map (λ voice. voice.now) l.voices.keys) (items_of (drop l.item-index l.tune)) ≡ everyone (items_of l.tune)
