@@ -1,0 +1,40 @@
+"""Hints: what the program does not report as a fault, and may still not be what was meant. docs/hints.md describes each.
+
+Each module has the hints of its names; `finder` puts those of a text together, and looks again at changed tunes alone."""
+
+from __future__ import annotations
+
+from collections.abc import Sequence
+
+from .book import Fault, Tune
+from .finder import Finder
+from .hint import Hint
+
+__all__ = ["NAMES", "Finder", "Hint", "hints"]
+
+# Each hint, with the module that finds it.
+NAMES = (
+    "SameNumber",  # book
+    "NoTune",
+    "LoneReturns",
+    "FreeMusic",
+    "NotPlayed",  # words
+    "TextBlock",
+    "Overlay",
+    "BagpipeKey",
+    "MidiLine",  # directives
+    "LostProgram",
+    "OpenRepeat",  # repeats
+    "LostEnding",
+    "PartInRepeat",
+    "MusicBeforeVoice",  # voices
+    "BarLength",  # bars
+    "ShortTuplet",
+    "TieToOtherKey",  # ties
+)
+
+
+def hints(lines: Sequence[bytes], tunes: Sequence[Tune], faults: Sequence[Fault]) -> list[Hint]:
+    """Returns the hints on a text in the order of their places; `tunes` and `faults` are the program's for that text. Who
+    asks again after each change keeps a `Finder`, which is faster."""
+    return Finder().hints(lines, tunes, faults)

@@ -1,0 +1,107 @@
+"""Hints about a book as a whole: `SameNumber`, `NoTune`, `LoneReturns`, `FreeMusic`."""
+
+from __future__ import annotations
+
+import re
+from collections.abc import Iterator, Sequence
+from typing import Protocol
+
+from .hint import Hint, TuneHint, counted
+from .lines import BLANK, COMMENT, DIRECTIVE, FIELD, MUSIC, content, kind_of
+from .reading import Place
+
+
+class Tune(Protocol):
+    """A tune of a book, as the program reports it."""
+
+    @property
+    def number(self) -> int: ...
+
+    @property
+    def line(self) -> int: ...
+
+
+class Fault(Protocol):
+    """A fault of a book, as the program reports it."""
+
+    @property
+    def line(self) -> int: ...
+
+    @property
+    def name(self) -> str: ...
+
+
+LOOKED_AT = 400  # bytes by which a text in UTF-16 is known
+LEAST_NOTES = 3  # in what looks like a line of music
+
+_IN_TWO_BYTES = (b"\xff\xfe", b"\xfe\xff")
+_RETURN = re.compile(rb"\r(?=.)", re.DOTALL)
+_UNREAD = re.compile(rb'"[^"]*"|![^!]*!|\{[^}]*\}|\[[A-Za-z]:[^\]]*\]')
+_MUSIC = re.compile(rb"[A-GZXa-gzxHLMOPSTuvy0-9/,'^_=\[\]|:<>()~. \t\\&-]+\Z")
+_NOTE = re.compile(rb"[A-Ga-gzx]")
+_WORD = re.compile(rb"[A-Za-z]{2,}")
+_NOTES = re.compile(rb"[A-Ga-gzxZHLMOPSTuvy]+\Z")
+
+
+def same_numbers(tunes: Sequence[Tune], faults: Sequence[Fault]) -> list[Hint]:
+    """Returns the hints at tunes whose number an earlier tune has that is not too long."""
+    if len({tune.number for tune in tunes}) == len(tunes):
+        return []
+    too_long = {fault.line for fault in faults if fault.name == "TuneTooLong"}
+    owners: dict[int, int] = {}
+    found = []
+    for tune in tunes:
+        if tune.line in too_long:
+            continue
+        owner = owners.setdefault(tune.number, tune.line)
+        if owner != tune.line:
+            text = f"number {tune.number} is used at line {owner}; this tune has no file"
+            found.append(Hint(tune.line, 1, "SameNumber", text))
+    return found
+
+
+def no_tune(lines: list[bytes]) -> Iterator[Hint]:
+    """Yields a hint if a text without tunes is not empty; lone carriage returns have a hint of their own."""
+    first = next((n for n, line in enumerate(lines) if line.strip()), None)
+    if first is None or any(_RETURN.search(line) for line in lines[:2]):
+        return
+    start = b"\n".join(lines[:LOOKED_AT])[:LOOKED_AT]
+    if start.startswith(_IN_TWO_BYTES) or 4 * start.count(0) > len(start):
+        text = "this text has no tune, and seems to be in UTF-16; save it in UTF-8"
+    else:
+        text = "this text has no tune, so there is no file; a tune begins with a line `X:1`"
+    yield Hint(first + 1, 1, "NoTune", text)
+
+
+def lone_returns(lines: tuple[bytes, ...]) -> Iterator[TuneHint]:
+    """Yields the lines in which carriage returns seem to end lines."""
+    for n, line in enumerate(lines):
+        if b"\r" in line:
+            places = [found.start() for found in _RETURN.finditer(line)]
+            if places:
+                what = f"this line has {counted(len(places), 'carriage return')} inside, which end no line"
+                yield TuneHint(Place(n, places[0]), "LoneReturns", f"{what}; save the book with line feeds")
+
+
+def free_music(lines: tuple[bytes, ...], start: int, after_tune: bool) -> Iterator[TuneHint]:
+    """Yields a hint at the first line of each block from a line on that looks like music and is in no tune."""
+    is_open = True
+    for n in range(start, len(lines)):
+        kind = kind_of(lines[n])
+        if kind == BLANK:
+            is_open = True
+        elif kind == MUSIC and is_open and looks_like_music(content(lines[n])):
+            is_open = False
+            if after_tune:
+                text = "this music is in no tune: the blank line before it ends the tune; write a `%` on that line"
+            else:
+                text = "this music is in no tune; write a line `X:1` before it"
+            yield TuneHint(Place(n, 0), "FreeMusic", text)
+
+
+def looks_like_music(text: bytes) -> bool:
+    """Tells whether a line has a bar line and notes, and no words."""
+    bare = _UNREAD.sub(b"", text)
+    if b"|" not in bare or not _MUSIC.match(bare) or len(_NOTE.findall(bare)) < LEAST_NOTES:
+        return False
+    return all(_NOTES.match(word) for word in _WORD.findall(bare))

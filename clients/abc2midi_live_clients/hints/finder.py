@@ -1,0 +1,133 @@
+"""Finding the hints of a text again after each change of it."""
+
+from __future__ import annotations
+
+from bisect import bisect_left
+from collections.abc import Callable, Iterator, Sequence
+from functools import lru_cache
+from itertools import chain
+from typing import NamedTuple
+
+from .bars import bars, short_tuplets
+from .book import Fault, Tune, free_music, lone_returns, no_tune, same_numbers
+from .directives import midi_lines, programs_without_voice
+from .hint import Hint, TuneHint
+from .lines import MOST_BYTES
+from .reading import Defaults, TuneText, defaults_of
+from .repeats import repeats
+from .ties import ties
+from .voices import music_before_voice
+from .words import bagpipe_keys, not_played, overlays, text_blocks
+
+# The families of hints that look at one tune.
+OF_A_TUNE: tuple[Callable[[TuneText], Iterator[TuneHint]], ...] = (
+    not_played,
+    text_blocks,
+    overlays,
+    bagpipe_keys,
+    programs_without_voice,
+    repeats,
+    music_before_voice,
+    bars,
+    short_tuplets,
+    ties,
+)
+MOST_KEPT = 20_000  # tunes whose hints are kept
+MOST_TUNES = 20_000  # of a book that are looked at
+
+
+class Known(NamedTuple):
+    """A text whose hints are known: its lines, what its file header sets, and for each tune its first line, from 0, and the
+    hints on it."""
+
+    lines: list[bytes]
+    defaults: Defaults
+    starts: list[int]
+    of_tunes: list[list[Hint]]
+
+
+NOTHING = Known([], Defaults(), [], [])
+
+
+class Finder:
+    """Finds the hints of a text. Those on tunes that did not change since the last time stay."""
+
+    def __init__(self) -> None:
+        self.known = NOTHING
+
+    def hints(self, lines: Sequence[bytes], tunes: Sequence[Tune], faults: Sequence[Fault]) -> list[Hint]:
+        """Returns the hints on a text in the order of their places; `tunes` and `faults` are the program's for that text."""
+        lines = list(lines)
+        starts = [tune.line - 1 for tune in tunes[:MOST_TUNES]]
+        defaults, found = read_opening(tuple(lines[: starts[0] if starts else len(lines)]), bool(tunes))
+        known = self.known if self.known.defaults == defaults else NOTHING
+        self.known = known = Known(lines, defaults, starts, hints_of_tunes(known, lines, defaults, starts))
+        others = same_numbers(tunes, faults) if tunes else list(no_tune(lines))
+        everything = [*placed(found, 1), *chain.from_iterable(known.of_tunes)]
+        return sorted([*everything, *others]) if others else everything
+
+
+def hints_of_tunes(known: Known, lines: list[bytes], defaults: Defaults, starts: list[int]) -> list[list[Hint]]:
+    """Returns the hints on each tune: of those in the lines at the front and at the back that stayed the known ones."""
+    front, back = common_ends(known.lines, lines)
+    first = max(0, bisect_left(starts, front) - 1)  # the first tune that may differ
+    first = first if starts[:first] == known.starts[:first] else 0
+    stop = max(first, bisect_left(starts, len(lines) - back), first + len(starts) - len(known.starts))
+    ends = [*starts[1:], len(lines)]
+    middle = [
+        placed(read_tune(tuple(lines[start:end]), defaults), start + 1)
+        for start, end in zip(starts[first:stop], ends[first:stop])
+    ]
+    tail = known.of_tunes[len(known.starts) - len(starts) + stop :]
+    return known.of_tunes[:first] + middle + moved(tail, len(lines) - len(known.lines))
+
+
+def moved(found: list[list[Hint]], by: int) -> list[list[Hint]]:
+    """Returns hints some lines further on."""
+    if not by:
+        return found
+    return [[Hint(line + by, column, name, text) for line, column, name, text in of_tune] for of_tune in found]
+
+
+def common_ends(old: list[bytes], new: list[bytes]) -> tuple[int, int]:
+    """Returns how many lines at the front of two texts are the same, and how many others at the back."""
+    front = common_front(old, new)
+    return front, common_front(old[: front - 1 if front else None : -1], new[: front - 1 if front else None : -1])
+
+
+def common_front(old: list[bytes], new: list[bytes]) -> int:
+    """Returns how many lines are the same at the front of both; comparing slices is much faster than one line at a time."""
+    same, differs = 0, min(len(old), len(new)) + 1
+    while differs - same > 1:
+        middle = (same + differs) // 2
+        if old[same:middle] == new[same:middle]:
+            same = middle
+        else:
+            differs = middle
+    return same
+
+
+def placed(found: Sequence[TuneHint], line: int) -> list[Hint]:
+    """Returns hints inside some lines as hints on the text; the first of the lines is `line`, from 1."""
+    return [Hint(line + place[0], 1 + place[1], name, text) for place, name, text in found]
+
+
+@lru_cache(maxsize=64)
+def read_opening(lines: tuple[bytes, ...], has_tunes: bool) -> tuple[Defaults, tuple[TuneHint, ...]]:
+    """Returns what the lines before the first tune set, and the hints on them."""
+    defaults, header = defaults_of(lines)
+    found = [*lone_returns(lines), *midi_lines(lines, range(header))]
+    if has_tunes:
+        found += free_music(lines, 0, after_tune=False)
+    return defaults, tuple(sorted(found))
+
+
+@lru_cache(maxsize=MOST_KEPT)
+def read_tune(lines: tuple[bytes, ...], defaults: Defaults) -> tuple[TuneHint, ...]:
+    """Returns the hints on the lines from an `X:` line to the next one."""
+    lines = tuple(b"%" if len(line) > MOST_BYTES else line for line in lines)
+    tune = TuneText(lines, defaults)
+    end = len(tune.lines)
+    found = [hint for family in OF_A_TUNE for hint in family(tune)]
+    found += [*lone_returns(lines), *midi_lines(lines, range(end)), *free_music(lines, end, after_tune=True)]
+    return tuple(sorted(found))

@@ -1,0 +1,75 @@
+"""Hints about what is written and not played as meant: `NotPlayed`, `TextBlock`, `Overlay`, `BagpipeKey`."""
+
+from __future__ import annotations
+
+import re
+from collections.abc import Iterator
+
+from .hint import TuneHint, counted
+from .lines import MUSIC, value
+from .reading import Place, TuneText
+from .tokens import DECORATION, GRACE, QUOTED, Token
+
+CHORD_NAME = re.compile(
+    rb'"\(?[A-G](?:#|b|\xe2\x99\xaf|\xe2\x99\xad)?(?:maj|min|dim|aug|sus|add|M|m|[o+0-9#b()-]|\xc2\xb0)*'
+    rb'(?:/[A-G](?:#|b|\xe2\x99\xaf|\xe2\x99\xad)?)?\)?"\Z'
+)
+CONTINUED = frozenset(b"|:(-[]")  # after a `.`: a dotted bar line, slur or tie, and no decoration
+
+
+def not_played(tune: TuneText) -> Iterator[TuneHint]:
+    """Yields one hint for all chord names, grace notes, decorations and lyrics of a tune."""
+    places = []
+    counts = {"chord name": 0, "group of grace notes": 0, "decoration": 0, "line of lyrics": 0}
+    for place, token in tune.others:
+        kind = kind_of_other(token, tune.lines[place.line][place.column + 1 : place.column + 2])
+        if kind:
+            counts[kind] += 1
+            places.append(place)
+    for place, text in tune.fields:
+        if text.startswith(b"w:") and value(text):
+            counts["line of lyrics"] += 1
+            places.append(place)
+    if places:
+        plural = {"group of grace notes": "groups of grace notes", "line of lyrics": "lines of lyrics"}
+        parts = [counted(number, thing, plural.get(thing, "")) for thing, number in counts.items() if number]
+        yield TuneHint(min(places), "NotPlayed", f"not played in this tune: {', '.join(parts)}")
+
+
+def kind_of_other(token: Token, after: bytes) -> str:
+    """Returns the kind of a token that is not played, or nothing if nobody would expect to hear it."""
+    if token.kind == QUOTED:
+        return "chord name" if CHORD_NAME.match(token.text) else ""
+    if token.kind == GRACE:
+        return "group of grace notes"
+    if token.kind == DECORATION and not (token.text == b"." and (not after.strip() or after[0] in CONTINUED)):
+        return "decoration"
+    return ""
+
+
+def text_blocks(tune: TuneText) -> Iterator[TuneHint]:
+    """Yields a hint for each text between `%%begintext` and `%%endtext`, or their like, that is read as music."""
+    for start in dict.fromkeys(tune.in_block.values()):
+        read = [n for n, begin in tune.in_block.items() if begin == start and tune.kinds[n] == MUSIC]
+        if read:
+            lines = "this line is" if len(read) == 1 else f"{len(read)} lines of this text are"
+            text = f"{lines} read as music; `%%begin..` has no effect, so write a `%` before each line"
+            yield TuneHint(Place(read[0], 0), "TextBlock", text)
+
+
+def overlays(tune: TuneText) -> Iterator[TuneHint]:
+    """Yields one hint for all overlays of a tune."""
+    places = tune.overlays
+    if places:
+        what = "what follows this `&` is" if len(places) == 1 else f"what follows the {len(places)} signs `&` of this tune is"
+        text = f"{what} played after what precedes it, not together with it; write a second voice (`V:`)"
+        yield TuneHint(min(places), "Overlay", text)
+
+
+def bagpipe_keys(tune: TuneText) -> Iterator[TuneHint]:
+    """Yields the keys of the bagpipe, which set no sharps."""
+    for place, text in tune.fields:
+        key = value(text)
+        if text.startswith(b"K:") and key[:2] in (b"HP", b"Hp") and not key[2:3].isalpha():
+            sharps = "`K:D` has the F and C sharp of the bagpipe"
+            yield TuneHint(place, "BagpipeKey", f"`K:{key[:2].decode()}` sets no sharps; {sharps}")
