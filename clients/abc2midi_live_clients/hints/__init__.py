@@ -6,7 +6,7 @@ from __future__ import annotations
 
 from collections.abc import Sequence
 
-from .book import Fault, Tune
+from ..program import Fault, Tune
 from .finder import Finder
 from .hint import Hint
 
@@ -31,6 +31,7 @@ NAMES = (
     "BarLength",  # bars
     "ShortTuplet",
     "TieToOtherKey",  # ties
+    "ManyTunes",  # finder
 )
 
 

@@ -4,32 +4,11 @@ from __future__ import annotations
 
 import re
 from collections.abc import Iterator, Sequence
-from typing import Protocol
 
+from ..program import Fault, Tune
 from .hint import Hint, TuneHint, counted
 from .lines import BLANK, COMMENT, DIRECTIVE, FIELD, MUSIC, content, kind_of
 from .reading import Place
-
-
-class Tune(Protocol):
-    """A tune of a book, as the program reports it."""
-
-    @property
-    def number(self) -> int: ...
-
-    @property
-    def line(self) -> int: ...
-
-
-class Fault(Protocol):
-    """A fault of a book, as the program reports it."""
-
-    @property
-    def line(self) -> int: ...
-
-    @property
-    def name(self) -> str: ...
-
 
 LOOKED_AT = 400  # bytes by which a text in UTF-16 is known
 LEAST_NOTES = 3  # in what looks like a line of music

@@ -8,11 +8,11 @@ from functools import lru_cache
 from itertools import chain
 from typing import NamedTuple
 
+from ..program import MOST_BYTES, Fault, Tune
 from .bars import bars, short_tuplets
-from .book import Fault, Tune, free_music, lone_returns, no_tune, same_numbers
+from .book import free_music, lone_returns, no_tune, same_numbers
 from .directives import midi_lines, programs_without_voice
 from .hint import Hint, TuneHint
-from .lines import MOST_BYTES
 from .reading import Defaults, TuneText, defaults_of
 from .repeats import repeats
 from .ties import ties
@@ -33,7 +33,7 @@ OF_A_TUNE: tuple[Callable[[TuneText], Iterator[TuneHint]], ...] = (
     ties,
 )
 MOST_KEPT = 20_000  # tunes whose hints are kept
-MOST_TUNES = 20_000  # of a book that are looked at
+MOST_TUNES = 10_000  # of a book that are looked at
 
 
 class Known(NamedTuple):
@@ -57,12 +57,16 @@ class Finder:
 
     def hints(self, lines: Sequence[bytes], tunes: Sequence[Tune], faults: Sequence[Fault]) -> list[Hint]:
         """Returns the hints on a text in the order of their places; `tunes` and `faults` are the program's for that text."""
+        others = same_numbers(tunes, faults) if tunes else list(no_tune(lines))
+        if len(tunes) > MOST_TUNES:
+            end = tunes[MOST_TUNES].line
+            others.append(Hint(end, 1, "ManyTunes", f"from this tune on only numbers are looked at: {MOST_TUNES} precede it"))
+            lines, tunes = lines[: end - 1], tunes[:MOST_TUNES]
         lines = list(lines)
-        starts = [tune.line - 1 for tune in tunes[:MOST_TUNES]]
+        starts = [tune.line - 1 for tune in tunes]
         defaults, found = read_opening(tuple(lines[: starts[0] if starts else len(lines)]), bool(tunes))
         known = self.known if self.known.defaults == defaults else NOTHING
         self.known = known = Known(lines, defaults, starts, hints_of_tunes(known, lines, defaults, starts))
-        others = same_numbers(tunes, faults) if tunes else list(no_tune(lines))
         everything = [*placed(found, 1), *chain.from_iterable(known.of_tunes)]
         return sorted([*everything, *others]) if others else everything
 

@@ -4,8 +4,9 @@ from __future__ import annotations
 
 import re
 
+from ..program import MOST_BYTES
+
 BLANK, COMMENT, DIRECTIVE, FIELD, MUSIC = "blank", "comment", "directive", "field", "music"
-MOST_BYTES = 65_535  # of a line; the program treats a longer one as a comment
 
 _LINE = re.compile(
     rb"(?P<blank>[ \t]*\Z)"
