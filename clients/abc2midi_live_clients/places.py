@@ -48,6 +48,23 @@ def character_of(line: str, column: int) -> int:
     return len(data[:at].decode("utf-8", "surrogatepass"))
 
 
+def is_inside_character(line: bytes, column: int) -> bool:
+    """Tells whether the byte of a column, counted from 1, belongs to a character of UTF-8 that begins before it."""
+    at = column - 1
+    if line[at] & 0xC0 != 0x80:
+        return False
+    starts = range(max(0, at - 3), at)
+    return any(is_character(line[start:end]) for start in starts for end in range(at + 1, start + 5))
+
+
+def is_character(data: bytes) -> bool:
+    """Tells whether bytes are one character of UTF-8."""
+    try:
+        return len(data.decode("utf-8")) == 1
+    except UnicodeDecodeError:
+        return False
+
+
 def span_of(line: str, start: int, name: str) -> tuple[int, int]:
     """The first character of a fault, and the end of the field or token there. The end is a guess."""
     if start == 0 and FIELD.match(line) or name in ("BadLine", "BadProgram"):

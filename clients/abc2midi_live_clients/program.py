@@ -7,7 +7,7 @@ from pathlib import Path
 from typing import NamedTuple, Optional
 
 from .edits import Edit, Lines, edits, joined
-from .places import text_of
+from .places import is_inside_character, text_of
 
 TOP = Path(__file__).resolve().parent.parent.parent
 MOST_BYTES = 65_535  # of a line that the program takes
@@ -124,7 +124,8 @@ class LiveBook:
         return Built(numbers["written"], numbers["removed"], numbers["failed"][0] if numbers["failed"] else None)
 
     def faults(self) -> list[Fault]:
-        """The faults of the text in order, and of the lines that are left out."""
+        """The faults of the text in order, and of the lines that are left out. Of `BadByte` at each byte of a character only
+        the first one counts."""
         found = []
         if max(map(len, self.lines), default=0) > MOST_BYTES:
             found = [Fault(n, MOST_BYTES + 1, "BadLine") for n, line in enumerate(self.lines, 1) if len(line) > MOST_BYTES]
@@ -133,7 +134,8 @@ class LiveBook:
         for answer in self._list("faults"):
             place, name = answer.decode().split()
             line, column = map(int, place.split(":"))
-            found.append(Fault(line, column, name))
+            if name != "BadByte" or not is_inside_character(self.lines[line - 1], column):
+                found.append(Fault(line, column, name))
         return sorted(found, key=lambda fault: fault[:2])
 
     def tunes(self) -> list[Tune]:

@@ -49,6 +49,14 @@ class Program(trial.Folder):
         self.addCleanup(book.close)
         return book
 
+    def test_faults_at_the_bytes_of_a_character(self):
+        """They are one fault; a byte that is no UTF-8 has its own."""
+        book = self.book()
+        book.replace(0, 0, [b"X:1", b"K:C", "é[𝄞]".encode() + b"\xff\xbf\xe9C\xc3", b"\xf0\x9d\x84", b"\xed\xa0\x80"])
+        columns = [(fault.line, fault.column) for fault in book.faults() if fault.name == "BadByte"]
+        wanted = [(3, 1), (3, 4), *((3, n) for n in (9, 10, 11, 13)), *((line, n) for line in (4, 5) for n in (1, 2, 3))]
+        self.assertEqual(columns, wanted)
+
     def test_answers(self):
         book = self.book()
         text = [b"X:1", b"T:A", b"K:C", b"C&", b"", b"X:1", b"K:C", b"D", b"", b"X:2", b"K:C"]

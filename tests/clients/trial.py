@@ -21,7 +21,8 @@ saves, tunes, changes, seed = 25, 20, 60, 1
 
 
 class Fresh(NamedTuple):
-    """What a program makes of a book from nothing: its files by name, and (line, column, name) of each fault."""
+    """What a program makes of a book from nothing: its files by name, and (line, column, name) of each fault that the clients
+    show: of `BadByte` at each byte of a character the first."""
 
     files: dict
     faults: list
@@ -39,7 +40,19 @@ def fresh(book: bytes, command=None) -> Fresh:
         answers = asked.stdout.decode().splitlines()
         places = [line.split() for line in answers[answers.index("end") + 1 : -1]]
         faults = [(*map(int, place.split(":")), name) for place, name in places]
-        return Fresh(files_in(folder), faults)
+        lines = book.removeprefix(b"\xef\xbb\xbf").split(b"\n")
+        shown = [fault for fault in faults if fault[2] != "BadByte" or begins_a_character(lines[fault[0] - 1], fault[1])]
+        return Fresh(files_in(folder), shown)
+
+
+def begins_a_character(line: bytes, column: int) -> bool:
+    """Whether a character begins at a column, which counts bytes from 1; a byte that is no text is a character."""
+    at = 1
+    for character in line.decode("utf-8", "surrogateescape"):
+        if at >= column:
+            break
+        at += len(character.encode("utf-8", "surrogateescape"))
+    return at == column
 
 
 def files_in(folder) -> dict:
