@@ -9,7 +9,9 @@ import tempfile
 from collections.abc import Callable
 from typing import Any, Optional
 
-from .document import Document
+from .assistance import completion, hover, quick_fixes, symbols
+from .changes import BadChange, Change, changes_of, position_of, range_of
+from .document import Document, title_of
 from .faults import sentences
 from .messages import (
     ERROR,
@@ -21,6 +23,8 @@ from .messages import (
     NOT_INITIALIZED,
     PARSE_ERROR,
     REQUEST_FAILED,
+    WHOLE,
+    BadMessage,
     Failure,
     Json,
     read_message,
@@ -28,6 +32,7 @@ from .messages import (
 )
 from .players import Player
 from .program import ProgramEnded, ProgramMissing, find_program
+from .remarks import diagnostic, remarks
 from .signals import when_told_to_end
 
 
@@ -40,28 +45,34 @@ class Server:
         program: str,
         folder: "tempfile.TemporaryDirectory[str]",
         player: Optional[Player] = None,
+        with_hints: bool = True,
     ):
         self.write = write
         self.program = program
         self.folder = folder
         self.player = player
+        self.with_hints = with_hints
         self.words = sentences()
         self.documents: dict[str, Document] = {}
         self.opened = 0
         self.initialized = False
         self.status: Optional[int] = None  # the exit status, once the session is over
         self.is_shut_down = False
+        self.can_register = False  # the editor may be asked to send changes in another way
         self.requests: dict[str, Callable[[Any], Any]] = {
             "initialize": self.initialize,
             "shutdown": self.shutdown,
             "textDocument/documentSymbol": self.symbols,
             "textDocument/codeAction": self.actions,
+            "textDocument/hover": self.hover,
+            "textDocument/completion": self.completion,
             "workspace/executeCommand": self.execute,
         }
         self.notifications: dict[str, Callable[[Any], None]] = {
             "exit": self.exit,
             "textDocument/didOpen": self.open,
             "textDocument/didChange": self.change,
+            "textDocument/didSave": self.save,
             "textDocument/didClose": self.close,
         }
 
@@ -83,7 +94,7 @@ class Server:
             self.refuse(identifier, *failure.args)
         except ProgramEnded as ended:
             self.refuse(identifier, REQUEST_FAILED, str(ended))
-        except (KeyError, TypeError, AttributeError, IndexError) as error:
+        except (KeyError, TypeError, AttributeError, IndexError, BadChange) as error:
             self.refuse(identifier, INVALID_PARAMS, f"the parameters of {method} are not as they must be: {error}")
 
     def may_ask(self, method: str) -> None:
@@ -119,15 +130,18 @@ class Server:
         """Sends a notification."""
         self.send({"method": method, "params": params})
 
-    def initialize(self, _: Any) -> Json:
+    def initialize(self, params: Any) -> Json:
         """What the server can do."""
         self.initialized = True
+        self.can_register = may_register(params)
         return {
             "capabilities": {
                 "positionEncoding": "utf-16",
-                "textDocumentSync": {"openClose": True, "change": INCREMENTAL},
+                "textDocumentSync": {"openClose": True, "change": INCREMENTAL, "save": {"includeText": True}},
                 "documentSymbolProvider": True,
-                "codeActionProvider": True,
+                "codeActionProvider": {"codeActionKinds": ["quickfix"]},
+                "hoverProvider": True,
+                "completionProvider": {"triggerCharacters": [":", "%"]},
                 "executeCommandProvider": {"commands": ["play"]},
             },
             "serverInfo": {"name": "abc2midi_live"},
@@ -159,15 +173,46 @@ class Server:
         self.opened += 1
         directory = os.path.join(self.folder.name, str(self.opened))
         os.mkdir(directory)
-        self.documents[given["uri"]] = Document(given["text"], self.program, directory)
+        self.documents[given["uri"]] = Document(given["text"], self.program, directory, self.words, self.with_hints)
         self.publish(given)
 
-    def change(self, params: Json) -> None:
-        """An editor changes a tune book."""
-        given = params["textDocument"]
-        for change in params["contentChanges"]:
-            self.documents[given["uri"]].change(change)
-        self.publish(given)
+    def change(self, params: Any) -> None:
+        """An editor changes a tune book. After a change that cannot be read only a whole text is taken."""
+        uri = uri_of(params)
+        if uri is None:
+            for each in self.documents:
+                self.lose(each, "a change does not say of which book it is")
+            return
+        document = self.documents[uri]
+        try:
+            changes = changes_of(params.get("contentChanges"))
+        except BadChange as bad:
+            self.lose(uri, str(bad))
+            return
+        if not document.is_lost or changes and changes[0].range is None:
+            for change in changes:
+                document.change(change)
+            self.publish(params["textDocument"])
+
+    def lose(self, uri: str, why: str) -> None:
+        """The text of a book is not known any more: asks once for the whole text."""
+        if self.documents[uri].is_lost:
+            return
+        self.documents[uri].is_lost = True
+        self.notify("textDocument/publishDiagnostics", {"uri": uri, "diagnostics": []})
+        if self.can_register:
+            options = {"documentSelector": [{"pattern": "**/*"}], "syncKind": WHOLE}
+            asked = {"id": "whole", "method": "textDocument/didChange", "registerOptions": options}
+            self.send({"id": f"whole {uri}", "method": "client/registerCapability", "params": {"registrations": [asked]}})
+        text = f"abc2midi_live: the text of {os.path.basename(uri)} is not known any more: {why}. Save it, or open it again."
+        self.notify("window/showMessage", {"type": ERROR, "message": text})
+
+    def save(self, params: Json) -> None:
+        """An editor saved a tune book, and sends its text: if another one is known here, that text is taken."""
+        text, document = params.get("text"), self.documents[params["textDocument"]["uri"]]
+        if isinstance(text, str) and (document.is_lost or document.lines != text.split("\n")):
+            document.change(Change(None, text))
+            self.publish(params["textDocument"])
 
     def close(self, params: Json) -> None:
         """An editor closes a tune book: its diagnostics go."""
@@ -177,7 +222,8 @@ class Server:
 
     def publish(self, given: Json) -> None:
         """Sends the diagnostics of a tune book."""
-        told = {"uri": given["uri"], "diagnostics": self.documents[given["uri"]].diagnostics(self.words)}
+        document = self.documents[given["uri"]]
+        told = {"uri": given["uri"], "diagnostics": [diagnostic(document, remark) for remark in remarks(document)]}
         if given.get("version") is not None:
             told["version"] = given["version"]
         self.notify("textDocument/publishDiagnostics", told)
@@ -187,24 +233,34 @@ class Server:
         uri = params["textDocument"]["uri"]
         if uri not in self.documents:
             raise Failure(INVALID_PARAMS, f"{uri} is not open")
+        if self.documents[uri].is_lost:
+            raise Failure(REQUEST_FAILED, f"the text of {uri} is not known any more; save it, or open it again")
         return self.documents[uri]
 
     def symbols(self, params: Json) -> list[Json]:
         """The tunes of a tune book."""
-        return self.document(params).symbols()
+        return symbols(self.document(params))
+
+    def hover(self, params: Json) -> Optional[Json]:
+        """What is known at a place."""
+        return hover(self.document(params), position_of(params["position"]))
+
+    def completion(self, params: Json) -> list[Json]:
+        """What may be written at a place."""
+        return completion(self.document(params), position_of(params["position"]))
 
     def actions(self, params: Json) -> list[Json]:
-        """The command that plays the tune at the beginning of a range, if one is there. It is of no kind, so none is there for
-        an editor that asks for some kinds alone."""
+        """The quick fixes at a range, and the command that plays the tune at its beginning, if that has a file. The command is
+        of no kind, so an editor that asks for some kinds alone is not sent it."""
+        document, place = self.document(params), range_of(params["range"])
         only = (params.get("context") or {}).get("only")
-        if only and "" not in only:
-            return []
-        place = params["range"]["start"]
-        tune = self.document(params).tune_at(place["line"])
-        if tune is None:
-            return []
-        where = {"textDocument": {"uri": params["textDocument"]["uri"]}, "position": place}
-        return [{"title": f"Play {tune.number} {tune.title}".rstrip(), "command": "play", "arguments": [where]}]
+        uri = params["textDocument"]["uri"]
+        found = list(quick_fixes(document, uri, place)) if not only or {"", "quickfix"} & set(only) else []
+        tune = document.tune_at(place.start.line) if not only or "" in only else None
+        if tune and document.has_file(tune):
+            where = {"textDocument": {"uri": uri}, "position": params["range"]["start"]}
+            found.append({"title": f"Play {title_of(tune)}", "command": "play", "arguments": [where]})
+        return found
 
     def execute(self, params: Json) -> str:
         """Plays the tune at a position, and names its file."""
@@ -224,6 +280,23 @@ class Server:
             player.play(path)
         except OSError as error:
             raise Failure(REQUEST_FAILED, f"{player.words[0]}: {error.strerror}") from error
+
+
+def uri_of(params: Any) -> Optional[str]:
+    """Returns the document of parameters, if they name one."""
+    try:
+        uri = params["textDocument"]["uri"]
+    except (KeyError, TypeError):
+        return None
+    return uri if isinstance(uri, str) else None
+
+
+def may_register(params: Any) -> bool:
+    """Tells whether an editor may be asked to send changes in another way."""
+    try:
+        return params["capabilities"]["textDocument"]["synchronization"]["dynamicRegistration"] is True
+    except (KeyError, TypeError):
+        return False
 
 
 def serve(server: Server) -> int:
@@ -248,6 +321,7 @@ def arguments() -> argparse.Namespace:
         "--play", metavar="COMMAND", type=shlex.split, help="the player that the command 'play' runs on the file it names"
     )
     parser.add_argument("--program", help="the program to start, in the place of the one that ./check left")
+    parser.add_argument("--no-hints", action="store_true", help="publish faults alone")
     return parser.parse_args()
 
 
@@ -259,11 +333,14 @@ def main() -> int:
     try:
         program = words.program or find_program()
         folder = tempfile.TemporaryDirectory(prefix="abc2midi_live-")
-        server = Server(write_message, program, folder, Player(words.play) if words.play else None)
+        server = Server(write_message, program, folder, Player(words.play) if words.play else None, not words.no_hints)
         return serve(server)
-    except (ProgramMissing, ValueError) as error:
+    except (ProgramMissing, BadMessage) as error:
         print(f"language_server: {error}", file=sys.stderr)
         return 127 if isinstance(error, ProgramMissing) else 1
+    except MemoryError:
+        print("language_server: out of memory", file=sys.stderr)
+        return 1
     except (KeyboardInterrupt, BrokenPipeError):
         return 1
     finally:

@@ -5,7 +5,8 @@ from bisect import bisect_right
 from collections.abc import Sequence
 from itertools import accumulate
 
-FIELD = re.compile(r"(?![A-Ga-gxz]:[|:])[A-Za-z+]:")
+WHOLE_LINE = re.compile(r"(?![A-Ga-gxz]:[|:])[A-Za-z+]:|%%")  # a field or a directive
+WITH_THEIR_LINE = frozenset(("BadLine", "BadProgram", "TextBlock", "FreeMusic", "NoTune", "LoneReturns"))
 TOKEN = re.compile(
     r"\[[A-Za-z]:[^\]]*\]"  # an inline field
     r"|\[[^\[\]|]*\]\d*/*\d*"  # a chord
@@ -67,7 +68,7 @@ def is_character(data: bytes) -> bool:
 
 def span_of(line: str, start: int, name: str) -> tuple[int, int]:
     """The first character of a fault, and the end of the field or token there. The end is a guess."""
-    if start == 0 and FIELD.match(line) or name in ("BadLine", "BadProgram"):
+    if start == 0 and WHOLE_LINE.match(line) or name in WITH_THEIR_LINE:
         return start, len(line)
     if name in ("BadByte", "Unclosed"):
         return start, start + 1

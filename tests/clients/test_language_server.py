@@ -8,7 +8,7 @@ import subprocess
 import sys
 
 import trial
-from abc2midi_live_clients import document
+from abc2midi_live_clients import changes, document
 from abc2midi_live_clients.faults import sentences
 from abc2midi_live_clients.program import lines_of
 
@@ -71,10 +71,33 @@ class Editor(trial.Folder):
         return self.diagnostics(version)
 
     def diagnostics(self, version: int, uri: str = URI) -> list:
+        """The faults that are published; the hints beside them are kept."""
         message = self.read()
         self.assertEqual(message["method"], "textDocument/publishDiagnostics")
         self.assertEqual((message["params"]["uri"], message["params"]["version"]), (uri, version))
-        return message["params"]["diagnostics"]
+        published = message["params"]["diagnostics"]
+        self.hints = [each for each in published if each["severity"] == 3]
+        return [each for each in published if each["severity"] != 3]
+
+    def at(self, method: str, line: int, character: int):
+        """The result of a request at a place."""
+        place = {"textDocument": {"uri": URI}, "position": {"line": line, "character": character}}
+        return self.ask(f"textDocument/{method}", place)
+
+    def hover(self, line: int, character: int):
+        """The text at a place, or None."""
+        found = self.at("hover", line, character)
+        return found and found["contents"]["value"]
+
+    def actions(self, line: int, character: int, only=None) -> list:
+        """The actions at a place."""
+        context = {"diagnostics": [], **({"only": only} if only else {})}
+        asked = {"textDocument": {"uri": URI}, "range": span(line, character, line, character), "context": context}
+        return self.ask("textDocument/codeAction", asked)
+
+    def labels(self, line: int, character: int) -> list:
+        """The labels of what may be written at a place."""
+        return [item["label"] for item in self.at("completion", line, character)]
 
     def play(self, uri: str, line: int) -> str:
         """The file that `play` names."""
@@ -219,6 +242,131 @@ class Session(Editor):
         self.assertEqual(self.ask("workspace/executeCommand", {"command": "dance", "arguments": []}), -32602)
         self.finish()
 
+    def test_play_is_offered_for_a_tune_with_a_file(self):
+        self.open("X:1\nK:C\nC\n\nX:1\nK:C\nD\n\nX:2\nP:(A9999)99\nK:C\nP:A\nC\n\nwords\n")
+        titles = [[action["title"] for action in self.actions(line, 0, [""])] for line in (0, 2, 4, 6, 8, 12, 14)]
+        self.assertEqual(titles, [["Play 1"], ["Play 1"], ["Give this tune the number 3"], [], [], [], []])
+        self.finish()
+
+    def test_hover(self):
+        text = 'X:1\nT:Kesh\nL:1/4\nQ:1/4=60\nK:C\nCDEF&|[Q:1/4=30]CDEF|\n\nX:1\nK:C\nz1000\n\nX:3\nL:1/4\nQ:1/4=120\nK:C\nC130\n\nwords\n'
+        self.open(text + "X:4\nP:(A9999)99\nK:C\nP:A\nC\n")
+        self.assertEqual(self.hover(0, 0), "1 Kesh, 0:12")
+        self.assertEqual(self.hover(5, 4), f"{sentences()['BadByte']}\n\n{self.hints[0]['message']}\n\n1 Kesh, 0:12")
+        self.assertEqual(self.hover(5, 5), "1 Kesh, 0:12")
+        self.assertEqual(self.hover(7, 1), "number 1 is used at line 1; this tune has no file\n\n1")
+        self.assertEqual(self.hover(9, 1), "1: number 1 is used at line 1; this tune has no file")
+        self.assertEqual(self.hover(15, 99), "3, 1:05")
+        self.assertEqual((self.hover(6, 0), self.hover(17, 0), self.hover(99, 0)), (None, None, None))
+        self.assertEqual(self.hover(19, 0), f"4: {sentences()['TuneTooLong']}")
+        self.finish()
+
+    def test_hints(self):
+        faults = self.open("X:1\nK:C\n|:C&D|\n\nX:1\nK:C\nC\n")
+        self.assertEqual(starts(faults), [(2, 3, "BadByte")])
+        self.assertEqual(starts(self.hints), [(2, 0, "OpenRepeat"), (2, 3, "Overlay"), (4, 0, "SameNumber")])
+        self.assertEqual([each["range"]["end"] for each in self.hints], [{"line": 2, "character": 1}, {"line": 2, "character": 4}, {"line": 4, "character": 3}])
+        self.assertEqual(self.change(1, (span(2, 3, 2, 6), ":|")), [])
+        self.assertEqual(starts(self.hints), [(4, 0, "SameNumber")])
+        self.finish()
+
+    def test_hints_of_many_tunes(self):
+        """Those near to the last change are published; of the faults all are."""
+        self.assertEqual(len(self.open("".join(f"X:{n}\nK:C\n|:C|\n-\n" for n in range(1, 301)))), 300)
+        self.assertEqual(starts(self.hints), [(4 * n + 2, 0, "OpenRepeat") for n in range(200)])
+        self.assertEqual(len(self.change(1, (span(602, 3, 602, 3), "D"))), 300)
+        self.assertEqual(starts(self.hints), [(4 * n + 2, 0, "OpenRepeat") for n in range(50, 250)])
+        self.change(2, (span(1198, 3, 1198, 3), "D"))
+        self.assertEqual(starts(self.hints), [(4 * n + 2, 0, "OpenRepeat") for n in range(100, 300)])
+        self.finish()
+
+    def test_quick_fixes(self):
+        faults = self.open('X:1\nK:C\n"Em DEFD|\n!trill𝄞 C|\n{ag F|\n[CE|G|\n"\n\nX: 1 % first\nK:C\nC\n\nX:2\nK:C\n')
+        self.assertEqual([fault for fault in starts(faults) if fault[2] == "Unclosed"], [(n, 0, "Unclosed") for n in range(2, 7)])
+        mended = []
+        for line in range(2, 6):
+            (fix,) = self.actions(line, 0, ["quickfix"])
+            self.assertEqual((fix["kind"], fix["diagnostics"][0]["code"]), ("quickfix", "Unclosed"))
+            (edit,) = fix["edit"]["changes"][URI]
+            mended.append((edit["range"]["start"], edit["newText"]))
+            faults = self.change(line, (edit["range"], edit["newText"]))
+        ends = [({"line": 2, "character": 3}, '"'), ({"line": 3, "character": 8}, "!"), ({"line": 4, "character": 3}, "}")]
+        self.assertEqual(mended, [*ends, ({"line": 5, "character": 3}, "]")])
+        self.assertEqual(starts(faults), [(6, 0, "Unclosed")])
+        self.assertEqual((self.actions(6, 0, ["quickfix"]), self.actions(9, 0, ["quickfix"])), ([], []))
+        (fix,) = self.actions(8, 2, ["quickfix"])
+        self.assertEqual(fix["title"], "Give this tune the number 3")
+        self.assertEqual(fix["edit"], {"changes": {URI: [{"range": span(8, 3, 8, 4), "newText": "3"}]}})
+        self.assertEqual([each["title"] for each in self.actions(12, 0)], ["Play 2"])
+        self.finish()
+
+    def test_completion(self):
+        self.open("X:1\n\nK:\n[K:E\nC\nV:\n\n\n%%\nX:7\nM:\nV:air name=\"A\"\nV: bass\nK:C\nM\nV:b\n%%\n")
+        self.assertEqual(self.labels(1, 0)[:3], ["T:", "C:", "R:"])
+        self.assertEqual(self.labels(2, 2)[:5], ["C", "Am", "Ddor", "Gmix", "Ephr"])
+        self.assertEqual(self.labels(3, 4)[:1], ["C"])
+        self.assertEqual((self.labels(4, 1), self.labels(3, 2)), (["C:"], []))
+        self.assertEqual(self.labels(7, 0)[-1], "X:8")
+        self.assertEqual(self.labels(8, 2), ["%%MIDI program", "%%propagate-accidentals"])
+        self.assertEqual(self.labels(10, 2)[:3], ["4/4", "3/4", "2/4"])
+        self.assertEqual((self.labels(14, 1), self.labels(15, 3)), (["M:"], ["air", "bass"]))
+        self.assertEqual(self.labels(16, 2), ["%%MIDI program"])
+        item = self.at("completion", 3, 4)[1]
+        self.assertEqual((item["textEdit"], item["detail"]), ({"range": span(3, 3, 3, 4), "newText": "Am"}, "minor, no sharps or flats"))
+        keys = self.labels(2, 2)
+        self.assertEqual((len(keys), len(set(keys))), (105, 105))
+        self.assertEqual(self.change(1, ("\n".join(f"X:{n}\nK:{key}" for n, key in enumerate(keys)),))[1:], [])
+        self.finish()
+
+    def test_malformed_changes(self):
+        """After them only a whole text is taken, so that the text never is another one than the editor's."""
+        good = {"range": span(2, 0, 2, 1), "text": ""}
+        places = [{"start": {"line": 2, "character": 0}}, span(2, 1, 2, 0), span(3, 0, 2, 0), span(2, -1, 2, 0), span(-2, 0, 2, 0), 7]
+        places += [span(True, 0, 2, 0), span(2, "0", 2, 1), span(2, 0.0, 2, 1), {**span(2, 0, 2, 0), "end": None}]
+        sent = [[good, {"range": place, "text": "x"}] for place in places]
+        sent += [None, 7, {"text": "C"}, [good, {}], [good, {"text": None}], [good, {"range": span(2, 0, 2, 0)}], [good, []]]
+        version = 0
+        self.open("X:1\nK:C\n&&\n")
+        for changes_of_text in sent:
+            self.notify("textDocument/didChange", {"textDocument": {"uri": URI, "version": 1}, "contentChanges": changes_of_text})
+            gone, message = self.read(), self.read()
+            self.assertEqual(gone["params"], {"uri": URI, "diagnostics": []})
+            self.assertEqual((message["method"], message["params"]["type"]), ("window/showMessage", 1), changes_of_text)
+            self.assertIn("book.abc", message["params"]["message"])
+            self.notify("textDocument/didChange", {"textDocument": {"uri": URI, "version": 2}, "contentChanges": [good]})
+            self.assertEqual(self.ask("textDocument/documentSymbol", {"textDocument": {"uri": URI}}), -32803)
+            version += 3
+            self.assertEqual(starts(self.change(version, ("X:1\nK:C\n&&\n",))), [(2, 0, "BadByte"), (2, 1, "BadByte")])
+        several = (span(2, 0, 2, 1), ""), ("X:1\nK:C\n-\n",), (span(2, 1, 2, 1), "&")
+        self.assertEqual(starts(self.change(version + 1, *several)), [(2, 0, "LooseTie"), (2, 1, "BadByte")])
+        self.finish()
+
+    def test_a_change_of_no_book(self):
+        other = "file:///other"
+        self.open("X:1\nK:C\n&")
+        self.open("X:1\nK:C\n-", other)
+        self.notify("textDocument/didChange", {"contentChanges": [{"text": ""}]})
+        messages = [self.read() for _ in range(4)]
+        self.assertEqual([each["method"] for each in messages[1::2]], ["window/showMessage"] * 2)
+        for uri in (URI, other):
+            self.assertEqual(self.ask("textDocument/documentSymbol", {"textDocument": {"uri": uri}}), -32803)
+        self.finish()
+
+    def test_a_saved_text(self):
+        """The text of a save is taken if it is another one than that which is known."""
+        self.open("X:1\nK:C\n&\n")
+        for text, is_lost in ("X:1\nK:C\n&\n", False), ("X:1\nK:C\n-\n", False), ("X:1\nK:C\n-\n", True), ("X:1\nK:C\nC&\n", True):
+            if is_lost:
+                self.notify("textDocument/didChange", {"textDocument": {"uri": URI, "version": 1}, "contentChanges": [{}]})
+                self.read(), self.read()
+            self.notify("textDocument/didSave", {"textDocument": {"uri": URI}, "text": text})
+            if is_lost or text != "X:1\nK:C\n&\n":
+                published = self.read()["params"]["diagnostics"]
+                self.assertEqual(starts([each for each in published if each["severity"] != 3]), wanted(text))
+            self.assertEqual(len(self.ask("textDocument/documentSymbol", {"textDocument": {"uri": URI}})), 1)
+        self.notify("textDocument/didSave", {"textDocument": {"uri": URI}})
+        self.finish()
+
     def test_two_books(self):
         self.open("X:1\nK:C\n&")
         self.assertEqual(starts(self.open("X:0", "file:///other")), [(0, 0, "BadReference"), (0, 0, "MissingKey")])
@@ -250,6 +398,52 @@ class Session(Editor):
                 changes.append((text,))
             self.assertEqual(starts(self.change(version, *changes)), wanted(text), text)
         self.finish()
+
+
+class Starts(Editor):
+    """What the editor and the command line say at the start."""
+
+    def test_an_editor_that_may_be_asked_for_whole_texts(self):
+        can = {"textDocument": {"synchronization": {"dynamicRegistration": True}}}
+        sync = self.ask("initialize", {"capabilities": can})["capabilities"]["textDocumentSync"]
+        self.assertEqual(sync, {"openClose": True, "change": 2, "save": {"includeText": True}})
+        self.open(BOOK)
+        self.notify("textDocument/didChange", {"textDocument": {"uri": URI, "version": 1}, "contentChanges": [{}]})
+        self.read()
+        asked = self.read()
+        self.assertEqual(asked["method"], "client/registerCapability")
+        (registration,) = asked["params"]["registrations"]
+        self.assertEqual((registration["method"], registration["registerOptions"]["syncKind"]), ("textDocument/didChange", 1))
+        self.assertEqual(self.read()["method"], "window/showMessage")
+        self.send(json.dumps({"jsonrpc": "2.0", "id": asked["id"], "result": None}).encode())
+        self.assertEqual(starts(self.change(2, ("X:1\nK:C\n-",))), [(2, 0, "LooseTie")])
+        self.finish()
+
+    def test_no_hints(self):
+        self.server.kill()
+        self.start("--no-hints")
+        self.ask("initialize", {})
+        self.assertEqual((starts(self.open("X:1\nK:C\n|:C&|")), self.hints), ([(2, 3, "BadByte")], []))
+        self.assertEqual(self.hover(2, 0), "1, 0:00")
+        self.finish()
+
+    def test_lengths_of_messages_that_cannot_be(self):
+        """The session ends with a line that says why."""
+        self.server.kill()
+        for length in b"1%s" % (b"0" * 15), b"1%s" % (b"0" * 5_000), b"-1", b"1e3", b"":
+            self.start()
+            self.server.stdin.write(b"Content-Length: %s\r\n\r\n{}" % length)
+            self.server.stdin.close()
+            self.server.stdin = None
+            said = self.server.stderr.read()
+            self.assertEqual((self.server.wait(trial.SECONDS), said.count(b"\n"), said[:17]), (1, 1, b"language_server: "), said)
+            self.assertEqual(os.listdir(self.files), [])
+
+    def test_a_message_that_ends_early(self):
+        self.server.stdin.write(b"Content-Length: 1000000000\r\n\r\n{}")
+        self.server.stdin.close()
+        self.server.stdin = None
+        self.assertEqual((self.server.wait(trial.SECONDS), self.server.stderr.read()), (1, b""))
 
 
 class Programs(Editor):
@@ -318,7 +512,7 @@ class Documents(trial.Folder):
 
     def test_the_lines_that_are_held(self):
         chance = random.Random(trial.seed)
-        book = document.Document("", trial.program, str(self.files))
+        book = document.Document("", trial.program, str(self.files), {})
         self.addCleanup(book.book.process.stdout.close)
         self.addCleanup(book.book.close)
         text = ""
@@ -326,7 +520,8 @@ class Documents(trial.Folder):
             start = chance.randrange(len(text) + 1)
             end = min(len(text), start + chance.choice([0, 1, 3, 30]))
             put = chance.choice(["", "\n", "a", "é\n", "\na𝄞\r\n\n"])
-            book.change({"range": span(*place_of(text, start), *place_of(text, end)), "text": put})
+            place = changes.Range(changes.Position(*place_of(text, start)), changes.Position(*place_of(text, end)))
+            book.change(changes.Change(place, put))
             text = text[:start] + put + text[end:]
             self.assertEqual(book.book.lines, lines_of(text.encode()))
 
@@ -339,7 +534,7 @@ class Protocol(Editor):
         self.notify("textDocument/didOpen", {"textDocument": {"uri": URI, "version": 1, "text": "&"}})
         self.ask("initialize", {})
         self.assertEqual(self.ask("initialize", {}), -32600)
-        self.assertEqual(self.ask("textDocument/hover", {}), -32601)
+        self.assertEqual(self.ask("textDocument/rename", {}), -32601)
         self.assertEqual(self.ask("$/unknown"), -32601)
         self.notify("$/setTrace", {"value": "off"})
         self.notify("workspace/didChangeConfiguration", {})

@@ -7,10 +7,11 @@ from __future__ import annotations
 from collections.abc import Sequence
 
 from ..program import Fault, Tune
+from .book import number_is_used
 from .finder import Finder
 from .hint import Hint
 
-__all__ = ["NAMES", "Finder", "Hint", "hints"]
+__all__ = ["NAMES", "Finder", "Hint", "hints", "number_is_used"]
 
 # Each hint, with the module that finds it.
 NAMES = (

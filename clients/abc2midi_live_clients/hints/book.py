@@ -22,6 +22,11 @@ _WORD = re.compile(rb"[A-Za-z]{2,}")
 _NOTES = re.compile(rb"[A-Ga-gzxZHLMOPSTuvy]+\Z")
 
 
+def number_is_used(number: int, line: int) -> str:
+    """Returns the sentence that a tune has no file because another one at a line has its number."""
+    return f"number {number} is used at line {line}; this tune has no file"
+
+
 def same_numbers(tunes: Sequence[Tune], faults: Sequence[Fault]) -> list[Hint]:
     """Returns the hints at tunes whose number an earlier tune has that is not too long."""
     if len({tune.number for tune in tunes}) == len(tunes):
@@ -34,8 +39,7 @@ def same_numbers(tunes: Sequence[Tune], faults: Sequence[Fault]) -> list[Hint]:
             continue
         owner = owners.setdefault(tune.number, tune.line)
         if owner != tune.line:
-            text = f"number {tune.number} is used at line {owner}; this tune has no file"
-            found.append(Hint(tune.line, 1, "SameNumber", text))
+            found.append(Hint(tune.line, 1, "SameNumber", number_is_used(tune.number, owner)))
     return found
 
 

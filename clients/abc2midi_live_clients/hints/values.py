@@ -12,6 +12,7 @@ from typing import NamedTuple, Optional
 WHOLE = 2**16 * 3**4 * 5**2 * 7**2 * 11 * 13  # the grains of a whole note: every usual length is a whole number of them
 MOST_SLASHES = 29
 MOST_DIGITS = 9
+MOST_SHARPS = 7
 
 _LENGTH = re.compile(rb"([0-9]*)(/*)([0-9]*)\Z")
 _METER = re.compile(rb"(?:\(([0-9]{1,9}(?:\+[0-9]{1,9})+)\)|([0-9]{1,9}(?:\+[0-9]{1,9})*))/([0-9]{1,9})\Z")
@@ -144,13 +145,19 @@ def signature_of_tonic(letter: bytes, sign: bytes, mode: bytes, rest: bytes) -> 
         if first == b"exp":
             return listed(NATURAL, words)
         mode = first if sharps_of_mode(first) is not None else b""
-    shift = sharps_of_mode(mode)
-    sharps = SHARPS_OF_TONIC[letter] + {b"#": 7, b"b": -7, b"": 0}[sign] + (shift or 0)
-    if shift is None or abs(sharps) > 7:
+    sharps = sharps_of(letter, sign, mode)
+    if sharps is None:
         return NATURAL
     letters = ORDER_OF_SHARPS[:sharps] if sharps > 0 else ORDER_OF_SHARPS[7 + sharps :]
     alteration = 1 if sharps > 0 else -1
     return listed({bytes([each]): alteration for each in letters} if sharps else NATURAL, words)
+
+
+def sharps_of(letter: bytes, sign: bytes, mode: bytes) -> Optional[int]:
+    """Returns the sharps of a key, less than 0 for flats, or None if the key is refused."""
+    added = sharps_of_mode(mode)
+    sharps = SHARPS_OF_TONIC[letter] + {b"#": 7, b"b": -7, b"": 0}[sign] + (added or 0)
+    return sharps if added is not None and abs(sharps) <= MOST_SHARPS else None
 
 
 def sharps_of_mode(mode: bytes) -> Optional[int]:

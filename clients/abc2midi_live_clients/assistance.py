@@ -1,0 +1,94 @@
+"""What an editor asks of a tune book: its symbols, what is known at a place, quick fixes, and what may be written there."""
+
+from collections.abc import Iterator
+from typing import Optional
+
+from .changes import Position, Range
+from .completion import completions
+from .document import Document, title_of
+from .messages import KEYWORD, MODULE, VALUE, Json
+from .midi import clock, seconds_of
+from .places import WHOLE_LINE
+from .program import LiveBook
+from .quick_fixes import Fix, closing, next_number, renumbering
+from .remarks import Remark, diagnostic, remarks
+
+
+def symbols(document: Document) -> list[Json]:
+    """Returns a symbol for each tune, in one flat list."""
+    return [
+        {
+            "name": title_of(tune),
+            "kind": MODULE,
+            "range": document.range(tune.line - 1, 0, end - 1, len(document.lines[end - 1])),
+            "selectionRange": document.range(tune.line - 1, 0, tune.line - 1, len(document.lines[tune.line - 1])),
+        }
+        for tune, end in document.tunes()
+    ]
+
+
+def hover(document: Document, position: Position) -> Optional[Json]:
+    """Returns what is known at a place: the sentences of its faults and hints, and its tune with its length."""
+    line, character = document.character(position)
+    parts = [remark.text for remark in remarks(document) if remark.covers(line, character, character)]
+    tune = document.tune_at(line)
+    if tune and document.has_file(tune):
+        number = tune.number
+        data = document.ask(lambda book: book.midi(number))
+        parts.append(f"{title_of(tune)}, {clock(seconds_of(data))}" if data else title_of(tune))
+    elif tune:
+        reason = document.why_no_file(tune)
+        parts += [title_of(tune)] if reason in parts else [f"{title_of(tune)}: {reason}"]
+    return {"contents": {"kind": "plaintext", "value": "\n\n".join(parts)}} if parts else None
+
+
+def quick_fixes(document: Document, uri: str, place: Range) -> Iterator[Json]:
+    """Yields the changes that mend a fault of the first line of a range, or act on a hint there."""
+    line, first = document.character(place.start)
+    last = document.character(place.end)[1] if place.end.line == place.start.line else len(document.lines[line])
+    for remark in remarks(document):
+        fix = fix_of(document, remark) if remark.covers(line, first, last) else None
+        if fix:
+            edit = {"range": document.range(line, fix.start, line, fix.end), "newText": fix.text}
+            yield {
+                "title": fix.title,
+                "kind": "quickfix",
+                "diagnostics": [diagnostic(document, remark)],
+                "edit": {"changes": {uri: [edit]}},
+            }
+
+
+def fix_of(document: Document, remark: Remark) -> Optional[Fix]:
+    """Returns the change that mends a fault or acts on a hint, if there is one."""
+    line = document.lines[remark.line]
+    if remark.name == "Unclosed":
+        return closing(line, remark.start)
+    if remark.name == "SameNumber":
+        numbers = {tune.line - 1: tune.number for tune in document.ask(LiveBook.tunes)}
+        return renumbering(line, next_number(numbers.values(), numbers[remark.line]))
+    return None
+
+
+def completion(document: Document, position: Position) -> list[Json]:
+    """Returns what may be written at a place."""
+    line, character = document.character(position)
+    tunes = document.ask(LiveBook.tunes)
+    start = max((tune.line for tune in tunes if tune.line <= line), default=line)
+    above = document.lines[start:line]
+    in_tune = start < line or any(tune.line == line for tune in tunes)
+    in_tune = in_tune and all(text.strip() for text in above)
+    in_header = not in_tune or all(WHOLE_LINE.match(text) and not text.startswith("K:") for text in above)
+    voices = dict.fromkeys(text[2:].split()[0] for text in above if text.startswith("V:") and text[2:].strip())
+    numbers = [tune.number for tune in tunes]
+    number = None if in_tune else next_number(numbers, max(numbers, default=0))
+    found = completions(document.lines[line][:character], in_header, number, list(voices))
+    return [
+        {
+            "label": item.text.rstrip(),
+            "detail": item.meaning,
+            "kind": VALUE if item.start else KEYWORD,
+            "sortText": f"{place:03}",
+            "textEdit": {"range": document.range(line, item.start, line, character), "newText": item.text},
+        }
+        for place, item in enumerate(found)
+    ]

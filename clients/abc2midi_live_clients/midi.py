@@ -1,0 +1,35 @@
+"""How long a MIDI file of the program plays."""
+
+END, TEMPO = 0x2F, 0x51  # kinds of events
+FIRST_EVENT = 22  # after the header of the file and of its first track
+MICROSECONDS = 1_000_000
+
+
+def seconds_of(data: bytes) -> float:
+    """The length of a file. Its first track has all tempos, and ends with the file; it has no events of other tracks' kinds."""
+    ticks_of_quarter = int.from_bytes(data[12:14], "big")
+    at, seconds, tempo = FIRST_EVENT, 0.0, MICROSECONDS // 2
+    kind = -1
+    while kind != END:
+        ticks, at = number(data, at)
+        seconds += ticks * tempo / ticks_of_quarter / MICROSECONDS
+        kind = data[at + 1]
+        length, at = number(data, at + 2)
+        if kind == TEMPO:
+            tempo = int.from_bytes(data[at : at + length], "big")
+        at += length
+    return seconds
+
+
+def number(data: bytes, at: int) -> tuple[int, int]:
+    """The number of variable length at a place, and the place after it."""
+    value = 0
+    while data[at] >= 0x80:
+        value = value << 7 | data[at] & 0x7F
+        at += 1
+    return value << 7 | data[at], at + 1
+
+
+def clock(seconds: float) -> str:
+    """A length in minutes and seconds, as `1:05`."""
+    return f"{round(seconds) // 60}:{round(seconds) % 60:02}"
