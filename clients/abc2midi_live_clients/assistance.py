@@ -70,7 +70,8 @@ def fix_of(document: Document, remark: Remark) -> Optional[Fix]:
 
 
 def completion(document: Document, position: Position) -> list[Json]:
-    """Returns what may be written at a place."""
+    """Returns what may be written at a place. The order to show is in `sortText`. The list itself is in the order of the
+    alphabet, because Emacs takes the first item that begins with what is written for that very text."""
     line, character = document.character(position)
     tunes = document.ask(LiveBook.tunes)
     start = max((tune.line for tune in tunes if tune.line <= line), default=line)
@@ -90,5 +91,5 @@ def completion(document: Document, position: Position) -> list[Json]:
             "sortText": f"{place:03}",
             "textEdit": {"range": document.range(line, item.start, line, character), "newText": item.text},
         }
-        for place, item in enumerate(found)
+        for item, place in sorted((item, place) for place, item in enumerate(found))
     ]

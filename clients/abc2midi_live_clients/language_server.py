@@ -221,9 +221,10 @@ class Server:
         self.notify("textDocument/publishDiagnostics", {"uri": uri, "diagnostics": []})
 
     def publish(self, given: Json) -> None:
-        """Sends the diagnostics of a tune book."""
+        """Sends the diagnostics of a tune book, the most serious last: of several on a line Neovim shows the last one."""
         document = self.documents[given["uri"]]
-        told = {"uri": given["uri"], "diagnostics": [diagnostic(document, remark) for remark in remarks(document)]}
+        rising = sorted(remarks(document), key=lambda remark: -remark.severity)
+        told = {"uri": given["uri"], "diagnostics": [diagnostic(document, remark) for remark in rising]}
         if given.get("version") is not None:
             told["version"] = given["version"]
         self.notify("textDocument/publishDiagnostics", told)

@@ -76,6 +76,8 @@ class Editor(trial.Folder):
         self.assertEqual(message["method"], "textDocument/publishDiagnostics")
         self.assertEqual((message["params"]["uri"], message["params"]["version"]), (uri, version))
         published = message["params"]["diagnostics"]
+        severities = [each["severity"] for each in published]
+        self.assertEqual(severities, sorted(severities, reverse=True))
         self.hints = [each for each in published if each["severity"] == 3]
         return [each for each in published if each["severity"] != 3]
 
