@@ -221,9 +221,9 @@ class Server:
         self.notify("textDocument/publishDiagnostics", {"uri": uri, "diagnostics": []})
 
     def publish(self, given: Json) -> None:
-        """Sends the diagnostics of a tune book, the most serious last: of several on a line Neovim shows the last one."""
+        """Sends the diagnostics of a tune book, hints first: of several on a line Neovim shows the last one."""
         document = self.documents[given["uri"]]
-        rising = sorted(remarks(document), key=lambda remark: -remark.severity)
+        rising = sorted(remarks(document), key=lambda remark: remark.severity != INFO)
         told = {"uri": given["uri"], "diagnostics": [diagnostic(document, remark) for remark in rising]}
         if given.get("version") is not None:
             told["version"] = given["version"]

@@ -76,8 +76,8 @@ class Editor(trial.Folder):
         self.assertEqual(message["method"], "textDocument/publishDiagnostics")
         self.assertEqual((message["params"]["uri"], message["params"]["version"]), (uri, version))
         published = message["params"]["diagnostics"]
-        severities = [each["severity"] for each in published]
-        self.assertEqual(severities, sorted(severities, reverse=True))
+        are_faults = [each["severity"] != 3 for each in published]
+        self.assertEqual(are_faults, sorted(are_faults))
         self.hints = [each for each in published if each["severity"] == 3]
         return [each for each in published if each["severity"] != 3]
 
@@ -98,8 +98,11 @@ class Editor(trial.Folder):
         return self.ask("textDocument/codeAction", asked)
 
     def labels(self, line: int, character: int) -> list:
-        """The labels of what may be written at a place."""
-        return [item["label"] for item in self.at("completion", line, character)]
+        """The labels of what may be written at a place, in the order in which they are shown."""
+        items = self.at("completion", line, character)
+        texts = [item["textEdit"]["newText"] for item in items]
+        self.assertEqual(texts, sorted(texts))
+        return [item["label"] for item in sorted(items, key=lambda item: item["sortText"])]
 
     def play(self, uri: str, line: int) -> str:
         """The file that `play` names."""
@@ -313,7 +316,7 @@ class Session(Editor):
         self.assertEqual(self.labels(10, 2)[:3], ["4/4", "3/4", "2/4"])
         self.assertEqual((self.labels(14, 1), self.labels(15, 3)), (["M:"], ["air", "bass"]))
         self.assertEqual(self.labels(16, 2), ["%%MIDI program"])
-        item = self.at("completion", 3, 4)[1]
+        (item,) = [item for item in self.at("completion", 3, 4) if item["label"] == "Am"]
         self.assertEqual((item["textEdit"], item["detail"]), ({"range": span(3, 3, 3, 4), "newText": "Am"}, "minor, no sharps or flats"))
         keys = self.labels(2, 2)
         self.assertEqual((len(keys), len(set(keys))), (105, 105))
