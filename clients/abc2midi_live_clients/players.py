@@ -19,6 +19,16 @@ class Player:
         self.stop()
         self.process = subprocess.Popen([*self.words, path], stdin=subprocess.DEVNULL, stdout=STANDARD_ERROR)
 
+    def failure(self) -> Optional[str]:
+        """How the player ended, if it failed since the last call, else None."""
+        status = self.process.poll() if self.process else None
+        if status is None:
+            return None
+        self.process = None
+        if status < 0:
+            return f"was killed by signal {-status}"
+        return f"ended with status {status}" if status else None
+
     def stop(self) -> None:
         """Ends the player."""
         if self.process:

@@ -2,45 +2,18 @@
 
 import os
 import random
-import re
 import signal
-import subprocess
-import sys
-import time
+import stat
 
 import trial
-from abc2midi_live_clients import watcher
+from abc2midi_live_clients import book_file
 from abc2midi_live_clients.faults import sentences
-from abc2midi_live_clients.program import LiveBook
-
-TUNE = b"X:1\nT:Kesh\nK:G\nGABc\n"
-OTHER = b"\nX:2\nK:C\nCDE\n"
+from abc2midi_live_clients.program import LiveBook, ProgramMissing
+from watching import OTHER, TUNE, Looks, Process
 
 
-class Saves(trial.Folder):
+class Saves(Looks):
     """One look after another at a book that is saved in all kinds of ways."""
-
-    def setUp(self):
-        super().setUp()
-        self.path = self.folder / "book.abc"
-        self.told = []
-        self.book = LiveBook(trial.program, str(self.files))
-        self.addCleanup(self.book.process.stdout.close)
-        self.addCleanup(self.book.close)
-        self.watch = watcher.Watch(str(self.path), self.book, tell=self.told.append, pause=lambda _: None)
-
-    def look(self) -> list:
-        """What a look tells, without how long it took and without the name of the folder."""
-        self.told.clear()
-        self.watch.look()
-        return [re.sub(r"; \d+ ms$", "", line).replace(str(self.folder), "") for line in self.told]
-
-    def save(self, book: bytes) -> list:
-        """What a look tells when this was saved. The folder must then be that of a fresh run."""
-        self.path.write_bytes(book)
-        told = self.look()
-        self.assertEqual(trial.files_in(self.files), trial.fresh(book).files)
-        return told
 
     def test_one_line_a_change(self):
         self.assertEqual(self.save(TUNE), ["written 1.mid (Kesh)"])
@@ -59,11 +32,13 @@ class Saves(trial.Folder):
         told = self.save(TUNE + b"C-z&\n")
         self.assertEqual([line.split(": ")[:2] for line in told[1:]], [["/book.abc:5:4", "BadByte"]])
         self.assertTrue(told[1].endswith(sentences()["BadByte"]))
-        self.assertEqual(self.save(b"\n" + TUNE + b"C-z&\n")[0], "no file changed; 1 fault, 0 new")
+        self.assertEqual(self.save(b"\n" + TUNE + b"C-z&\n"), ["no file changed; 1 fault, 0 new"])
         self.assertEqual(self.save(TUNE + b"C-z\n"), ["no file changed"])
         self.assertEqual(self.save(TUNE + b"C-z&\n")[0], "no file changed; 1 fault, 1 new")
         many = self.save(TUNE + b"C-z&\n" + b"&" * 20 + b"\n")
         self.assertEqual((many[0], len(many)), ("no file changed; 21 faults, 20 new", 21))
+        same = self.save(b"\n" + TUNE + b"C-z&\n" + b"&" * 20 + b"\n")
+        self.assertEqual(same, ["no file changed; 21 faults, 0 new"])
         one = self.save(b"\n\n" + TUNE + b"C-z&\n" + b"&" * 20 + b"\nC - D\n")
         self.assertEqual([one[0], one[1].split(": ")[:2]], ["written 1.mid (Kesh); 22 faults, 1 new", ["/book.abc:9:3", "LooseTie"]])
 
@@ -114,7 +89,7 @@ class Saves(trial.Folder):
     def test_half_of_a_save(self):
         """While the first look waits whether the save is through, the rest of it is written."""
         self.path.write_bytes(TUNE[:9])
-        self.watch.pause = lambda _: self.path.write_bytes(TUNE)
+        self.watch.file.pause = lambda _: self.path.write_bytes(TUNE)
         self.assertEqual([self.look(), self.look()], [[], ["written 1.mid (Kesh)"]])
 
     def test_lines_of_all_kinds(self):
@@ -128,14 +103,14 @@ class Saves(trial.Folder):
     def test_a_file_that_fails(self):
         (self.files / "1.mid").mkdir()
         self.path.write_bytes(TUNE + OTHER)
-        told = "failed 1.mid, which is tried again after the next save, and then those behind it"
+        told = "failed 1.mid; the next build tries it and the later ones again"
         self.assertEqual(self.look(), [told])
         (self.files / "1.mid").rmdir()
         self.assertEqual(self.save(TUNE + OTHER + b"%"), ["written 1.mid (Kesh), 2.mid"])
 
     def test_the_last_file_is_played(self):
         played = []
-        self.watch.player = type("Player", (), {"play": played.append})
+        self.watch.player = type("Player", (), {"play": played.append, "failure": lambda: None, "stop": lambda: None})
         self.save(TUNE)
         self.save(TUNE.replace(b"ABc", b"AB") + OTHER)
         self.save(TUNE)
@@ -175,28 +150,111 @@ def changed(chance: random.Random, texts: list) -> list:
     return text
 
 
-class Program(trial.Folder):
-    """The watcher as a process of its own."""
+class Unsaved(Looks):
+    """A book that nobody saves is not read."""
 
     def setUp(self):
         super().setUp()
-        self.path = self.folder / "book.abc"
-        starter = self.folder / "program"
-        starter.write_text(f'#!/bin/sh\necho $$ >"{self.folder}/pid"\nexec "{trial.program}" "$@"\n')
-        starter.chmod(0o755)
+        self.reads = 0
+        opened = book_file.opened
+        self.addCleanup(setattr, book_file, "opened", opened)
 
-    def start(self, *words):
-        """Starts it, with a program that tells its process. Behind a shell's `&` Ctrl-C is ignored; it is not here."""
-        signal.signal(signal.SIGINT, signal.default_int_handler)
-        words = [sys.executable, str(trial.CLIENTS / "watch"), str(self.path), "--dir", str(self.files), *words]
-        self.process = subprocess.Popen(
-            [*words, "--program", str(self.folder / "program")], stdout=subprocess.PIPE, stderr=subprocess.PIPE
+        def counted(path):
+            file = opened(path)
+            read = file.read
+            counting = type("Counting", (), {"fileno": file.fileno, "__enter__": lambda it: it, "__exit__": lambda *_: file.close()})()
+            counting.read = lambda: self.count() or read()
+            return counting
+
+        book_file.opened = counted
+
+    def count(self):
+        self.reads += 1
+
+    def test_no_read(self):
+        self.save(TUNE)
+        for _ in range(9):
+            self.seconds_now += 0.5
+            self.look()
+        before = self.reads
+        self.assertLess(before, 12)
+        for _ in range(100):
+            self.seconds_now += 0.5
+            self.assertEqual(self.look(), [])
+        self.assertEqual(self.reads, before)
+        self.assertEqual(self.save(TUNE + OTHER), ["written 2.mid"])
+
+    def test_two_saves_in_one_tick(self):
+        """The clock of a file system may be so slow that both leave the same time and size."""
+        signature_of = book_file.signature_of
+        self.addCleanup(setattr, book_file, "signature_of", signature_of)
+        book_file.signature_of = lambda _: (1, 1, 1, 1, 1)
+        self.save(TUNE)
+        self.seconds_now += 2
+        self.assertEqual(self.save(TUNE.replace(b"GAB", b"GAG")), ["written 1.mid (Kesh)"])
+
+
+class Restarts(Looks):
+    """The program ends while the watcher goes on."""
+
+    def program(self):
+        if (self.folder / "away").exists():
+            raise ProgramMissing("program: No such file or directory")
+        return super().program()
+
+    def test_a_killed_program(self):
+        self.save(TUNE + OTHER)
+        self.kill_program()
+        self.assertEqual(
+            self.save(TUNE.replace(b"X:1", b"X:3")),
+            ["the program ended with status -9; it is started again", "written 3.mid (Kesh); removed 1.mid (Kesh), 2.mid"],
         )
-        self.limit(self.process)
+        self.assertEqual(self.save(TUNE), ["written 1.mid (Kesh); removed 3.mid (Kesh)"])
 
-    def line(self) -> str:
-        """The next line that it prints."""
-        return self.process.stdout.readline().decode()
+    def test_a_program_that_ends_again(self):
+        """It ends at one text, and the files stay till there is another one."""
+        build = LiveBook.build
+        self.addCleanup(setattr, LiveBook, "build", build)
+
+        def fail(book):
+            if b"T:Crash" in book.lines:
+                book.process.kill()
+            return build(book)
+
+        LiveBook.build = fail
+        self.save(TUNE)
+        self.path.write_bytes(TUNE.replace(b"Kesh", b"Crash"))
+        ended = "the program ended with status -9"
+        self.assertEqual(self.look(), [f"{ended}; it is started again", f"{ended}, again; the next save tries once more"])
+        self.assertEqual((self.look(), trial.files_in(self.files)), ([], trial.fresh(TUNE).files))
+        self.assertEqual(self.save(TUNE + OTHER), ["written 2.mid"])
+
+    def test_no_program_for_a_while(self):
+        self.save(TUNE)
+        self.kill_program()
+        (self.folder / "away").touch()
+        self.path.write_bytes(OTHER)
+        ended = "the program ended with status -9; it is started again"
+        self.assertEqual(self.look(), [ended, "program: No such file or directory; waiting for it"])
+        self.assertEqual(self.look(), [])
+        (self.folder / "away").unlink()
+        self.assertEqual(self.look(), ["written 2.mid; removed 1.mid (Kesh)"])
+        self.assertEqual(trial.files_in(self.files), trial.fresh(OTHER).files)
+
+
+class AllFaults(Looks):
+    """With --all each save prints all faults."""
+
+    in_full = True
+
+    def test_all(self):
+        self.save(TUNE + b"C-z&\n" + b"&" * 20 + b"\n")
+        told = self.save(TUNE + b"C-z&\n" + b"&" * 20 + b"\nC - D\n")
+        self.assertEqual((told[0], len(told)), ("written 1.mid (Kesh); 22 faults, 1 new", 23))
+
+
+class Running(Process):
+    """The watcher as a process of its own."""
 
     def test_from_start_to_end(self):
         self.path.write_bytes(TUNE)
@@ -206,11 +264,9 @@ class Program(trial.Folder):
         os.replace(self.folder / "new", self.path)
         self.assertRegex(self.line(), r"^written 2\.mid; \d+ ms\n$")
         self.wait_for(lambda: (self.folder / "2.mid").exists())
-        self.assertNotEqual(os.getsid(int((self.folder / "pid").read_text())), os.getsid(self.process.pid))
-        self.process.send_signal(signal.SIGINT)
-        self.assertEqual((self.process.communicate(timeout=trial.SECONDS), self.process.returncode), ((b"", b""), 0))
-        with self.assertRaises(ProcessLookupError):
-            os.kill(int((self.folder / "pid").read_text()), 0)
+        self.assertNotEqual(os.getsid(self.pid()), os.getsid(self.process.pid))
+        self.interrupt()
+        self.assert_gone(self.pid())
         self.assertEqual(sorted(os.listdir(self.files)), ["1.mid", "2.mid"])
 
     def test_the_terminal_is_closed(self):
@@ -218,32 +274,72 @@ class Program(trial.Folder):
         trial.hear_of_the_terminal(self)
         self.start()
         self.line()
-        self.process.send_signal(signal.SIGHUP)
-        self.assertEqual((self.process.communicate(timeout=trial.SECONDS), self.process.returncode), ((b"", b""), 0))
-        with self.assertRaises(ProcessLookupError):
-            os.kill(int((self.folder / "pid").read_text()), 0)
+        self.interrupt(signal.SIGHUP)
+        self.assert_gone(self.pid())
 
-    def wait_for(self, comes):
-        """Waits till something comes about."""
-        until = time.monotonic() + trial.SECONDS
-        while not comes():
-            self.assertLess(time.monotonic(), until)
-            time.sleep(0.01)
-
-    def test_the_program_dies(self):
+    def test_the_program_is_killed(self):
         self.path.write_bytes(TUNE)
         self.start()
         self.line()
-        os.kill(int((self.folder / "pid").read_text()), signal.SIGKILL)
+        killed = self.pid()
+        os.kill(killed, signal.SIGKILL)
         self.path.write_bytes(TUNE + OTHER)
-        self.assertEqual(self.process.wait(trial.SECONDS), 1)
-        self.assertEqual(self.process.stderr.read(), b"watch: the program ended with status -9\n")
+        self.assertEqual(self.line(), "the program ended with status -9; it is started again\n")
+        self.assertRegex(self.line(), r"^written 2\.mid; \d+ ms\n$")
+        self.assertNotEqual(self.pid(), killed)
+        self.interrupt()
 
     def test_a_program_that_is_not_there(self):
         (self.folder / "program").unlink()
         self.start()
-        said = self.process.communicate(timeout=trial.SECONDS)[1].decode()
-        self.assertEqual((self.process.returncode, said.count("\n")), (127, 1))
+        output, errors, status = self.end()
+        self.assertEqual((output, errors.count("\n"), status), ("", 1, 127))
+
+    def test_a_player_that_is_not_there(self):
+        self.path.write_bytes(TUNE)
+        self.start("--play", "no-such-player -q")
+        self.assertEqual(self.line(), "no-such-player: there is no such player; each save tries it again\n")
+        self.assertRegex(self.line(), r"^written 1\.mid")
+        self.path.write_bytes(TUNE + OTHER)
+        self.assertRegex(self.line(), r"^written 2\.mid")
+        self.assertEqual(self.line(), "no-such-player: No such file or directory\n")
+        self.interrupt()
+
+    def test_a_player_that_fails(self):
+        self.path.write_bytes(TUNE)
+        for number, (script, how) in enumerate((("kill -9 $$", "was killed by signal 9"), ("exit 4", "ended with status 4"))):
+            player = self.folder / "player"
+            player.write_text(f"#!/bin/sh\n{script}\n")
+            player.chmod(player.stat().st_mode | stat.S_IXUSR)
+            self.start("--play", str(player))
+            self.line()
+            self.path.write_bytes(TUNE + b"G" * (number + 1))
+            self.assertRegex(self.line(), r"^written 1\.mid")
+            self.assertEqual(self.line(), f"{player} {how}\n")
+            self.interrupt()
+
+    def test_no_player(self):
+        for words in (["--play", ""], ["--play", "'"], ["--play", "timidity", "--once"]):
+            self.start(*words)
+            self.assertEqual(self.end()[2], 2)
+
+    def test_a_pipe_as_the_book(self):
+        os.mkfifo(self.path)
+        self.start()
+        self.assertEqual(self.line(), f"{self.path}: Not a regular file; waiting for it\n")
+        self.path.unlink()
+        self.path.write_bytes(TUNE)
+        self.assertRegex(self.line(), r"^written 1\.mid")
+        self.interrupt()
+
+    def test_the_name_of_the_book(self):
+        """It moves no cursor."""
+        self.path = self.folder / "a\x1b[2Jb\n.abc"
+        self.path.write_bytes(TUNE + b"&\n")
+        self.start()
+        self.assertRegex(self.line(), r"^written 1\.mid")
+        self.assertEqual(self.line().partition(":")[0], f"{self.folder}/a?[2Jb?.abc")
+        self.interrupt()
 
 
 MISSING_KEY = f"/book.abc:1:1: MissingKey: {sentences()['MissingKey']}"

@@ -1,0 +1,87 @@
+"""A tune book on disk, and when an editor saved it."""
+
+import errno
+import os
+import stat
+import time
+from collections.abc import Callable
+from typing import BinaryIO, Optional
+
+SECONDS_TO_SETTLE = 0.01  # between two reads that must agree
+SECONDS_OF_A_TICK = 3  # no file system's clock ticks more slowly; two saves within one tick may look the same
+
+Signature = tuple[int, int, int, int, int]
+
+
+class BookFile:
+    """A tune book that editors save: by writing, by renaming, or by emptying it first."""
+
+    def __init__(
+        self,
+        path: str,
+        pause: Callable[[float], object] = time.sleep,
+        clock: Callable[[], float] = time.monotonic,
+    ):
+        self.path = path
+        self.pause = pause
+        self.clock = clock
+        self.data: Optional[bytes] = None  # the bytes that `saved` returned last
+        self.data_signature: Optional[Signature] = None
+        self.signature: Optional[Signature] = None  # at the last look
+        self.since = 0.0  # when a look found that signature first
+        self.is_settled = False  # no save can hide behind that signature
+        self.was_empty = False  # at the last look: an editor may empty a file before it writes it
+
+    def saved(self) -> Optional[bytes]:
+        """The bytes of the book if somebody saved it since the last call that returned some, else None. The bytes may be
+        the same as before. Raises OSError if the book cannot be read."""
+        try:
+            return self.look()
+        except OSError:
+            self.signature, self.was_empty = None, False
+            raise
+
+    def look(self) -> Optional[bytes]:
+        """Reads the book, unless its signature shows that nobody saved it."""
+        with opened(self.path) as file:
+            signature = signature_of(file)
+            if signature != self.signature:
+                self.signature, self.since, self.is_settled = signature, self.clock(), False
+            if self.is_settled:
+                return None
+            age = self.clock() - self.since
+            data = file.read()
+        was_empty, self.was_empty = self.was_empty, not data
+        if not data and not was_empty:
+            return None
+        if (signature, data) == (self.data_signature, self.data):
+            self.is_settled = age >= SECONDS_OF_A_TICK
+            return None
+        return self.read_again(signature, data)
+
+    def read_again(self, signature: Signature, data: bytes) -> Optional[bytes]:
+        """These bytes if a second read finds the same, else None: then the save goes on."""
+        self.pause(SECONDS_TO_SETTLE)
+        with opened(self.path) as file:
+            if file.read() != data:
+                return None
+        self.data, self.data_signature = data, signature
+        return data
+
+
+def opened(path: str) -> BinaryIO:
+    """A regular file, open for reading. A pipe or a device would block the reader."""
+    descriptor = os.open(path, os.O_RDONLY | os.O_NONBLOCK | os.O_CLOEXEC)
+    mode = os.fstat(descriptor).st_mode
+    if stat.S_ISREG(mode):
+        return os.fdopen(descriptor, "rb")
+    os.close(descriptor)
+    if stat.S_ISDIR(mode):
+        raise IsADirectoryError(errno.EISDIR, os.strerror(errno.EISDIR))
+    raise OSError(errno.EINVAL, "Not a regular file")
+
+
+def signature_of(file: BinaryIO) -> Signature:
+    """What a save changes: the file itself, its size, and its times."""
+    found = os.fstat(file.fileno())
+    return found.st_dev, found.st_ino, found.st_size, found.st_mtime_ns, found.st_ctime_ns

@@ -1,0 +1,123 @@
+"""The folder that the watcher keeps current."""
+
+import os
+import shutil
+import signal
+
+import trial
+from watching import OTHER, TUNE, Looks, Process
+
+FOREIGN = ["x.mid", "007.mid", "7.MID", "7.mid.bak", "1234567890.mid", "-7.mid", " 7.mid", "7.mid\n", "7", ".mid", ".x.mid.new", "٧.mid"]
+
+
+class Files(Looks):
+    """Files that should or should not be there."""
+
+    def test_a_deleted_file(self):
+        self.save(TUNE + OTHER)
+        (self.files / "1.mid").unlink()
+        self.assertEqual(self.save(TUNE + OTHER + b"% words\n"), ["written 1.mid (Kesh)"])
+
+    def test_a_deleted_file_and_the_same_text(self):
+        self.save(TUNE + OTHER)
+        (self.files / "2.mid").unlink()
+        self.assertEqual(self.look(), [])
+        self.assertEqual(self.save(TUNE + OTHER), ["written 2.mid"])
+        self.assertEqual(self.save(TUNE + OTHER), [])
+
+    def test_a_deleted_folder(self):
+        self.save(TUNE + OTHER)
+        shutil.rmtree(self.files)
+        self.path.write_bytes(TUNE + OTHER + b"% words\n")
+        self.assertEqual(self.look(), ["/files: the folder is made", "written 1.mid (Kesh), 2.mid"])
+        wanted = trial.fresh(TUNE + OTHER).files
+        self.assertEqual({name: data for name, data in trial.files_in(self.files).items() if name in wanted}, wanted)
+
+    def test_files_of_an_earlier_run(self):
+        self.leave()
+        self.path.write_bytes(TUNE + OTHER)
+        what = "5 files of an earlier run that no tune of the book has: 0.mid, 7.mid, 12.mid, .1.mid.new, .9.mid.new"
+        self.assertEqual(self.look(), ["written 1.mid (Kesh), 2.mid", f"{what}; --clean removes them"])
+        self.assertEqual(len(os.listdir(self.files)), len(FOREIGN) + 2 + 5 + 1)
+        self.path.write_bytes(TUNE)
+        self.assertEqual(self.look(), ["removed 2.mid"])
+
+    def leave(self):
+        """Leaves files of an earlier run, others, and a folder that has the name of a file."""
+        for name in ["0.mid", "2.mid", "7.mid", "12.mid", ".1.mid.new", ".9.mid.new", *FOREIGN]:
+            (self.files / name).write_text("earlier")
+        (self.files / "3.mid").mkdir()
+
+
+class Clean(Files):
+    """With --clean files of an earlier run are removed."""
+
+    clean = True
+
+    def test_files_of_an_earlier_run(self):
+        self.leave()
+        self.path.write_bytes(TUNE + OTHER)
+        what = "5 files of an earlier run that no tune of the book has: 0.mid, 7.mid, 12.mid, .1.mid.new, .9.mid.new"
+        self.assertEqual(self.look(), ["written 1.mid (Kesh), 2.mid", f"removed {what}"])
+        self.assertEqual(sorted(os.listdir(self.files)), sorted(["1.mid", "2.mid", "3.mid", *FOREIGN]))
+        (self.files / "7.mid").write_text("later")
+        self.path.write_bytes(TUNE)
+        self.assertEqual(self.look(), ["removed 2.mid"])
+        self.assertEqual(sorted(os.listdir(self.files)), sorted(["1.mid", "3.mid", "7.mid", *FOREIGN]))
+
+    def test_a_book_without_tunes(self):
+        """It may be the wrong one."""
+        (self.files / "7.mid").write_text("earlier")
+        self.path.write_bytes(b"no tune is here\n")
+        what = "1 file of an earlier run that no tune of the book has: 7.mid; --clean removes them"
+        self.assertEqual(self.look(), ["no file changed", what, "the book has no tune, so --clean removes nothing"])
+        self.assertEqual(os.listdir(self.files), ["7.mid"])
+
+
+class Folders(Process):
+    """The folder as the command line names it."""
+
+    def setUp(self):
+        super().setUp()
+        self.path.write_bytes(TUNE)
+
+    def test_a_folder_that_is_made(self):
+        new = self.folder / "new"
+        self.start("--once", files=new)
+        output, errors, status = self.end()
+        self.assertEqual((output.splitlines()[0], errors, status), (f"{new}: the folder is made", "", 0))
+        self.assertEqual(trial.files_in(new), trial.fresh(TUNE).files)
+
+    def test_folders_that_cannot_be_made(self):
+        (self.folder / "file").touch()
+        for name, why in (("none/new", "No such file or directory"), ("file", "Not a directory"), ("file/new", "Not a directory")):
+            self.start("--once", files=self.folder / name)
+            self.assertEqual(self.end(), ("", f"watch: {self.folder / name}: {why}\n", 1))
+        self.assertFalse((self.folder / "none").exists())
+
+    def test_a_second_watcher(self):
+        self.start()
+        self.line()
+        first = self.process
+        for words in ([], ["--once"], ["--clean"]):
+            self.start(*words)
+            why = f"watch: {self.files}: another watcher keeps this folder current (process {first.pid})\n"
+            self.assertEqual(self.end(), ("", why, 1))
+        (self.folder / "link").symlink_to(self.files)
+        self.start(files=self.folder / "link")
+        self.assertEqual(self.end()[2], 1)
+        first.send_signal(signal.SIGINT)
+        first.wait(trial.SECONDS)
+        self.start("--once")
+        self.assertEqual(self.end()[2], 0)
+        self.assertEqual(os.listdir(self.files), ["1.mid"])
+
+    def test_a_stale_lock(self):
+        self.start()
+        self.line()
+        self.process.kill()
+        self.process.wait()
+        self.assertEqual(sorted(os.listdir(self.files)), [".watch.lock", "1.mid"])
+        self.start("--once")
+        self.assertEqual(self.end()[2], 0)
+        self.assertEqual(os.listdir(self.files), ["1.mid"])

@@ -1,0 +1,113 @@
+"""What the tests of the watcher share: a watcher in this process, which looks when it is told, and one as a process."""
+
+import os
+import re
+import signal
+import subprocess
+import sys
+import time
+
+import trial
+from abc2midi_live_clients.book_file import BookFile
+from abc2midi_live_clients.faults import sentences
+from abc2midi_live_clients.midi_folder import MidiFolder
+from abc2midi_live_clients.program import LiveBook
+from abc2midi_live_clients.reports import TextReport
+from abc2midi_live_clients.watcher import Watch
+
+TUNE = b"X:1\nT:Kesh\nK:G\nGABc\n"
+OTHER = b"\nX:2\nK:C\nCDE\n"
+
+
+class Looks(trial.Folder):
+    """A watcher that looks when it is told."""
+
+    in_full = clean = False
+
+    def setUp(self):
+        super().setUp()
+        self.path = self.folder / "book.abc"
+        self.told = []
+        self.seconds_now = 0.0
+        self.start_watch()
+
+    def start_watch(self, **more):
+        """Starts the watcher."""
+        file = BookFile(str(self.path), pause=lambda _: None, clock=lambda: self.seconds_now)
+        report = TextReport(str(self.path), sentences(), self.in_full, self.told.append)
+        self.watch = Watch(file, MidiFolder(str(self.files)), self.program, report, clean=self.clean, **more)
+        self.addCleanup(self.watch.close)
+
+    def program(self) -> LiveBook:
+        """A program that holds a book."""
+        book = LiveBook(trial.program, str(self.files))
+        self.addCleanup(book.process.stdout.close)
+        return book
+
+    def look(self) -> list:
+        """What a look tells, without how long it took and without the name of the folder."""
+        self.told.clear()
+        self.watch.look()
+        return [re.sub(r"; \d+ ms$", "", line).replace(str(self.folder), "") for line in self.told]
+
+    def save(self, book: bytes) -> list:
+        """What a look tells when this was saved. The folder must then be that of a fresh run."""
+        self.path.write_bytes(book)
+        told = self.look()
+        self.assertEqual(trial.files_in(self.files), trial.fresh(book).files)
+        return told
+
+    def kill_program(self):
+        """Ends the program as the system does when memory is short."""
+        self.watch.book.process.kill()
+        self.watch.book.process.wait()
+
+
+class Process(trial.Folder):
+    """The watcher as a process of its own."""
+
+    def setUp(self):
+        super().setUp()
+        self.path = self.folder / "book.abc"
+        starter = self.folder / "program"
+        starter.write_text(f'#!/bin/sh\necho $$ >"{self.folder}/pid"\nexec "{trial.program}" "$@"\n')
+        starter.chmod(0o755)
+
+    def start(self, *words, files=None):
+        """Starts it, with a program that tells its process. Behind a shell's `&` Ctrl-C is ignored; it is not here."""
+        signal.signal(signal.SIGINT, signal.default_int_handler)
+        words = [sys.executable, str(trial.CLIENTS / "watch"), str(self.path), "--dir", str(files or self.files), *words]
+        self.process = subprocess.Popen(
+            [*words, "--program", str(self.folder / "program")], stdout=subprocess.PIPE, stderr=subprocess.PIPE
+        )
+        self.limit(self.process)
+
+    def line(self) -> str:
+        """The next line that it prints."""
+        return self.process.stdout.readline().decode()
+
+    def pid(self) -> int:
+        """The process of its program."""
+        return int((self.folder / "pid").read_text())
+
+    def end(self) -> tuple:
+        """What it printed when it ended by itself: standard output, standard error, and the exit status."""
+        output, errors = self.process.communicate(timeout=trial.SECONDS)
+        return output.decode(), errors.decode(), self.process.returncode
+
+    def interrupt(self, by=signal.SIGINT):
+        """Ends it, which prints nothing more."""
+        self.process.send_signal(by)
+        self.assertEqual(self.end(), ("", "", 0))
+
+    def wait_for(self, comes):
+        """Waits till something comes about."""
+        until = time.monotonic() + trial.SECONDS
+        while not comes():
+            self.assertLess(time.monotonic(), until)
+            time.sleep(0.01)
+
+    def assert_gone(self, process: int):
+        """No such process is there."""
+        with self.assertRaises(ProcessLookupError):
+            os.kill(process, 0)
