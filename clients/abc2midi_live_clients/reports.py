@@ -4,10 +4,12 @@ import json
 from collections.abc import Callable
 from typing import NamedTuple, Optional, Protocol
 
+from .hints import Hint
 from .printing import counted, listed, printable
-from .program import Fault, Tune
+from .program import Fault
 
 Write = Callable[[str], object]
+MOST_HINTS = 20  # that are printed when the book is opened
 
 
 class File(NamedTuple):
@@ -18,12 +20,14 @@ class File(NamedTuple):
 
 
 class Change(NamedTuple):
-    """What one save changed: files, and each fault with whether it is new."""
+    """What one save changed: files, and each fault and hint with whether it is new."""
 
     written: list[File]
     removed: list[File]
     failed: Optional[int]
     faults: list[tuple[Fault, bool]]
+    hints: list[tuple[Hint, bool]]
+    is_opening: bool
     milliseconds: float
 
 
@@ -41,7 +45,7 @@ class Report(Protocol):
 
 
 class TextReport:
-    """A report in lines. Only new faults are printed in full, or all."""
+    """A report in lines. Only new faults and hints are printed in full, or all."""
 
     def __init__(self, path: str, sentences: dict[str, str], in_full: bool, write: Write):
         self.path = printable(path)
@@ -50,17 +54,25 @@ class TextReport:
         self.write = write
 
     def change(self, change: Change) -> None:
-        """Prints a line on the files and the number of faults, and a line for each fault that is shown."""
+        """Prints a line on files and numbers, and a line for each fault and hint that is shown."""
+        too_many = change.is_opening and len(change.hints) > MOST_HINTS and not self.in_full
         parts = [named("written", change.written), named("removed", change.removed)]
         if change.failed is not None:
             parts.append(f"failed {change.failed}.mid; the next build tries it and the later ones again")
         parts = [part for part in parts if part] or ["no file changed"]
-        if change.faults:
-            parts.append(f"{counted(len(change.faults), 'fault')}, {sum(is_new for _, is_new in change.faults)} new")
-        self.write("; ".join([*parts, f"{change.milliseconds:.0f} ms"]))
+        parts += [numbered("fault", [is_new for _, is_new in change.faults])]
+        parts += [numbered("hint", [is_new for _, is_new in change.hints]) + (" (--all prints them)" if too_many else "")]
+        self.write("; ".join([*filter(None, parts), f"{change.milliseconds:.0f} ms"]))
         for fault, is_new in change.faults:
             if is_new or self.in_full:
-                self.write(f"{self.path}:{fault.line}:{fault.column}: {fault.name}: {self.sentences.get(fault.name, '')}")
+                self.remark(fault.line, fault.column, fault.name, self.sentences.get(fault.name, ""))
+        for hint, is_new in change.hints:
+            if (is_new or self.in_full) and not too_many:
+                self.remark(hint.line, hint.column, f"hint: {hint.name}", hint.text)
+
+    def remark(self, line: int, column: int, name: str, text: str) -> None:
+        """Prints a fault or a hint, in a form that editors jump to."""
+        self.write(f"{self.path}:{line}:{column}: {name}: {printable(text)}")
 
     def message(self, text: str) -> None:
         """Prints a sentence."""
@@ -83,8 +95,7 @@ class JsonReport:
     def change(self, change: Change) -> None:
         """Writes the event `change`."""
         faults = [
-            {"line": fault.line, "column": fault.column, "name": fault.name, "text": self.sentences.get(fault.name, ""), "new": new}
-            for fault, new in change.faults
+            {**fault._asdict(), "text": self.sentences.get(fault.name, ""), "new": is_new} for fault, is_new in change.faults
         ]
         self.send(
             "change",
@@ -92,6 +103,7 @@ class JsonReport:
             removed=[file._asdict() for file in change.removed],
             failed=change.failed,
             faults=faults,
+            hints=[{**hint._asdict(), "new": is_new} for hint, is_new in change.hints],
             milliseconds=round(change.milliseconds, 1),
         )
 
@@ -112,3 +124,8 @@ def named(what: str, files: list[File]) -> str:
     """Files by name, with the titles of their tunes; of many the first ones."""
     names = [f"{number}.mid" + (f" ({printable(title)})" if title else "") for number, title in files]
     return f"{what} {listed(names)}" if names else ""
+
+
+def numbered(thing: str, are_new: list[bool]) -> str:
+    """How many faults or hints there are, and how many of them are new."""
+    return f"{counted(len(are_new), thing)}, {sum(are_new)} new" if are_new else ""

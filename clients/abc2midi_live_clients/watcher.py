@@ -13,11 +13,12 @@ from typing import Any, Optional
 
 from .book_file import BookFile
 from .faults import sentences
-from .known_faults import KnownFaults
+from .hints import Finder, Hint
+from .known_remarks import KnownRemarks
 from .midi_folder import FolderTaken, MidiFolder
 from .players import Player
 from .printing import printable
-from .program import Built, LiveBook, ProgramEnded, ProgramMissing, Tune, files_of, find_program, lines_of
+from .program import Built, Fault, LiveBook, ProgramEnded, ProgramMissing, Tune, files_of, find_program, lines_of
 from .reports import Change, File, JsonReport, Report, TextReport
 from .signals import when_told_to_end
 
@@ -36,6 +37,7 @@ class Watch:
         start: Callable[[], LiveBook],
         report: Report,
         player: Optional[Player] = None,
+        finder: Optional[Finder] = None,
         clean: bool = False,
         goes_on: bool = True,
     ):
@@ -44,6 +46,7 @@ class Watch:
         self.start = start
         self.report = report
         self.player = player
+        self.finder = finder
         self.clean = clean
         self.goes_on = goes_on  # after the first build
         self.book = start()
@@ -51,7 +54,8 @@ class Watch:
         self.pending: Optional[bytes] = None  # a save that the files do not follow yet
         self.built: Optional[bytes] = None  # the save that they follow
         self.files: dict[int, Tune] = {}
-        self.known = KnownFaults()
+        self.known_faults: KnownRemarks[Fault] = KnownRemarks()
+        self.known_hints: KnownRemarks[Hint] = KnownRemarks()
         self.trouble: Optional[str] = None  # why the last look did nothing
         self.status: Optional[int] = None  # the exit status of a watcher that builds once
 
@@ -120,23 +124,29 @@ class Watch:
         if not os.path.isdir(self.folder.path):  # somebody removed it
             with suppress(OSError):
                 prepare(self.folder, self.report)
-        lines = lines_of(data)
-        self.book.replace(0, len(self.book.lines), lines)
+        self.book.replace(0, len(self.book.lines), lines_of(data))
         built = self.book.build()
-        faults = self.book.faults()
-        before, self.files = self.files, files_of(self.book.tunes(), faults)
+        faults, tunes = self.book.faults(), self.book.tunes()
+        before, self.files = self.files, files_of(tunes, faults)
         restored = [] if built.failed is not None else self.restore()
-        opening, is_new, self.built = self.built is None, self.built != data, data
+        is_opening, is_new, self.built = self.built is None, self.built != data, data
         self.status = FAILED if built.failed is not None else HAS_FAULTS if faults else 0
         if is_new or restored or built != NOTHING_BUILT:
+            milliseconds = 1000 * (time.perf_counter() - since)
             written = [File(number, self.files[number].title) for number in sorted({*built.written, *restored})]
             removed = [File(number, before[number].title if number in before else "") for number in built.removed]
-            marked = self.known.marked(faults, lines)
-            self.report.change(Change(written, removed, built.failed, marked, 1000 * (time.perf_counter() - since)))
-        if opening:
+            remarks = self.remarks(tunes, faults)
+            self.report.change(Change(written, removed, built.failed, *remarks, is_opening, milliseconds))
+        if is_opening:
             self.look_for_leftovers()
         elif self.player and built.written:
             self.play(self.player, self.book.path(built.written[-1]))
+
+    def remarks(self, tunes: list[Tune], faults: list[Fault]) -> tuple[list[tuple[Fault, bool]], list[tuple[Hint, bool]]]:
+        """The faults and the hints of the book, each with whether it is new."""
+        lines = self.book.lines
+        hints = self.finder.hints(lines, tunes, faults) if self.finder else []
+        return self.known_faults.marked(faults, lines), self.known_hints.marked(hints, lines)
 
     def restore(self) -> list[int]:
         """Writes files that somebody deleted, and returns their numbers. The program does not see that they are gone."""
@@ -199,7 +209,8 @@ def arguments() -> argparse.Namespace:
     parser.add_argument("book", metavar="BOOK", help="the tune book; it is never changed")
     parser.add_argument("--dir", required=True, help="the folder for the MIDI files; it is made if it is missing")
     parser.add_argument("--once", action="store_true", help="build the files once and end")
-    parser.add_argument("--all", action="store_true", help="print all faults after each save, not only the new ones")
+    parser.add_argument("--all", action="store_true", help="print all faults and hints after each save, not only the new ones")
+    parser.add_argument("--no-hints", action="store_true", help="print no hints on music that may not be what was meant")
     parser.add_argument("--json", action="store_true", help="print one JSON object a line, for other programs")
     parser.add_argument("--clean", action="store_true", help="at the start remove files N.mid that no tune of the book has")
     parser.add_argument("--play", metavar="COMMAND", type=command, help="after each save play the last changed file by this player")
@@ -240,7 +251,8 @@ def begun(words: argparse.Namespace, folder: MidiFolder, report: Report) -> Watc
     def start() -> LiveBook:
         return LiveBook(words.program or find_program(), words.dir)
 
-    return Watch(BookFile(words.book), folder, start, report, player, words.clean, not words.once)
+    finder = None if words.no_hints else Finder()
+    return Watch(BookFile(words.book), folder, start, report, player, finder, words.clean, not words.once)
 
 
 def watched(words: argparse.Namespace, folder: MidiFolder, report: Report) -> int:

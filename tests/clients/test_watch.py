@@ -8,6 +8,7 @@ import stat
 import trial
 from abc2midi_live_clients import book_file
 from abc2midi_live_clients.faults import sentences
+from abc2midi_live_clients.hints import Finder
 from abc2midi_live_clients.program import LiveBook, ProgramMissing
 from watching import OTHER, TUNE, Looks, Process
 
@@ -253,6 +254,47 @@ class AllFaults(Looks):
         self.assertEqual((told[0], len(told)), ("written 1.mid (Kesh); 22 faults, 1 new", 23))
 
 
+class Hints(Looks):
+    """Hints are printed after the faults, the new ones in full."""
+
+    finder = Finder
+    number = "/book.abc:6:1: hint: SameNumber: number 1 is used at line 1; this tune has no file"
+
+    def test_new_hints(self):
+        self.save(TUNE + OTHER)
+        self.assertEqual(self.save(TUNE + OTHER.replace(b"2", b"1")), ["removed 2.mid; 1 hint, 1 new", self.number])
+        self.assertEqual(self.save(b"\n" + TUNE + OTHER.replace(b"2", b"1")), ["no file changed; 1 hint, 0 new"])
+        self.assertEqual(self.save(TUNE + OTHER), ["written 2.mid"])
+
+    def test_faults_come_first(self):
+        told = self.save(TUNE + OTHER.replace(b"2", b"1") + b"C -\n")
+        self.assertEqual(told[0], "written 1.mid (Kesh); 1 fault, 1 new; 1 hint, 1 new")
+        self.assertEqual([line.split(": ")[1] for line in told[1:]], ["LooseTie", "hint"])
+
+    def test_many_hints_at_the_start(self):
+        """Only their number is printed; later ones are."""
+        book = b"".join(b"X:1\nK:C\n%d\n" % n for n in range(22))
+        told = self.save(book)
+        self.assertTrue(told[0].endswith("; 21 hints, 21 new (--all prints them)"), told[0])
+        self.assertFalse([line for line in told if ": hint: " in line])
+        told = self.save(book + OTHER + OTHER)
+        self.assertEqual([line.split(": ")[0] for line in told if ": hint: " in line], ["/book.abc:72:1"])
+
+
+class AllHints(Looks):
+    """With --all each save prints all hints."""
+
+    finder = Finder
+    in_full = True
+
+    def test_all(self):
+        book = b"".join(b"X:1\nK:C\n%d\n" % n for n in range(22))
+        for text, line in (book, "21 hints, 21 new"), (book + b"%\n", "21 hints, 0 new"):
+            told = self.save(text)
+            self.assertTrue(told[0].endswith(f"; {line}"), told[0])
+            self.assertEqual(len([line for line in told if ": hint: " in line]), 21)
+
+
 class Running(Process):
     """The watcher as a process of its own."""
 
@@ -322,6 +364,14 @@ class Running(Process):
         for words in (["--play", ""], ["--play", "'"], ["--play", "timidity", "--once"]):
             self.start(*words)
             self.assertEqual(self.end()[2], 2)
+
+    def test_no_hints(self):
+        self.path.write_bytes(TUNE + OTHER.replace(b"2", b"1"))
+        self.start("--once")
+        self.assertEqual([line.split("; ")[1] for line in self.end()[0].splitlines()], ["1 hint, 1 new", "this tune has no file"])
+        self.start("--once", "--no-hints")
+        output, errors, status = self.end()
+        self.assertEqual((output.count("\n"), "hint" in output, errors, status), (1, False, "", 0))
 
     def test_a_pipe_as_the_book(self):
         os.mkfifo(self.path)

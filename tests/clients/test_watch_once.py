@@ -61,7 +61,7 @@ class Json(Process):
         self.path.write_bytes(TUNE + OTHER)
         self.start("--json")
         written = [{"number": 1, "title": "Kesh"}, {"number": 2, "title": ""}]
-        self.assertEqual(self.change(), {"written": written, "removed": [], "failed": None, "faults": []})
+        self.assertEqual(self.change(), {"written": written, "removed": [], "failed": None, "faults": [], "hints": []})
         self.assertEqual(self.event(), {"event": "leftovers", "names": ["7.mid"], "removed": False})
         self.path.write_bytes(TUNE + b"C-z&\n")
         change = self.change()
@@ -69,12 +69,16 @@ class Json(Process):
         self.assertEqual((change["removed"], change["faults"]), (written[1:], [fault]))
         self.path.write_bytes(b"\n" + TUNE + b"C-z&\n")
         self.assertEqual(self.change()["faults"], [{**fault, "line": 6, "new": False}])
+        self.path.write_bytes(TUNE + OTHER.replace(b"2", b"1"))
+        hint = {"line": 6, "column": 1, "name": "SameNumber", "text": "number 1 is used at line 1; this tune has no file", "new": True}
+        self.assertEqual(self.change()["hints"], [hint])
         self.path.unlink()
         self.assertEqual(self.event(), {"event": "message", "text": f"{self.path}: No such file or directory; waiting for it"})
         os.kill(self.pid(), signal.SIGKILL)
-        self.path.write_bytes(TUNE)
+        self.path.write_bytes(OTHER)
         self.assertEqual(self.event(), {"event": "message", "text": "the program ended with status -9; it is started again"})
-        self.assertEqual(self.change()["written"], [{"number": 1, "title": "Kesh"}])
+        change = self.change()
+        self.assertEqual((change["written"], change["removed"]), (written[1:], written[:1]))
         self.interrupt()
 
     def test_a_number_that_fails(self):

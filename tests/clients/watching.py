@@ -23,6 +23,7 @@ class Looks(trial.Folder):
     """A watcher that looks when it is told."""
 
     in_full = clean = False
+    finder = None  # what makes one that finds hints
 
     def setUp(self):
         super().setUp()
@@ -35,7 +36,7 @@ class Looks(trial.Folder):
         """Starts the watcher."""
         file = BookFile(str(self.path), pause=lambda _: None, clock=lambda: self.seconds_now)
         report = TextReport(str(self.path), sentences(), self.in_full, self.told.append)
-        self.watch = Watch(file, MidiFolder(str(self.files)), self.program, report, clean=self.clean, **more)
+        self.watch = Watch(file, MidiFolder(str(self.files)), self.program, report, clean=self.clean, finder=self.finder and self.finder(), **more)
         self.addCleanup(self.watch.close)
 
     def program(self) -> LiveBook:
