@@ -38,16 +38,17 @@ class MidiFolder:
         """Locks the folder against other watchers. The system frees the lock when this process ends, in whatever way."""
         self.release()
         while self.lock is None:
-            descriptor = os.open(self.inside(LOCK), os.O_RDWR | os.O_CREAT | os.O_NOFOLLOW | os.O_CLOEXEC, 0o666)
+            descriptor = opened_lock(self.inside(LOCK))
             try:
-                lock(descriptor)
+                lock_file(descriptor)
             except (OSError, FolderTaken):
                 os.close(descriptor)
                 raise
             if self.is_at_its_place(descriptor):
-                os.ftruncate(descriptor, 0)
-                os.write(descriptor, b"%d\n" % os.getpid())
                 self.lock = descriptor
+                with suppress(OSError):  # another user made the file
+                    os.ftruncate(descriptor, 0)
+                    os.write(descriptor, b"%d\n" % os.getpid())
             else:  # the watcher that had it has just ended, and removed it
                 os.close(descriptor)
 
@@ -112,7 +113,15 @@ class MidiFolder:
         return os.path.join(self.path, name)
 
 
-def lock(descriptor: int) -> None:
+def opened_lock(path: str) -> int:
+    """A lock file, open. One that another user made may be read only, and can be locked too."""
+    try:
+        return os.open(path, os.O_RDWR | os.O_CREAT | os.O_NOFOLLOW | os.O_CLOEXEC, 0o666)
+    except PermissionError:
+        return os.open(path, os.O_RDONLY | os.O_NOFOLLOW | os.O_CLOEXEC)
+
+
+def lock_file(descriptor: int) -> None:
     """Locks a file that is open. Raises FolderTaken if another watcher has done so."""
     try:
         fcntl.flock(descriptor, fcntl.LOCK_EX | fcntl.LOCK_NB)
