@@ -13,7 +13,7 @@ from abc2midi_live_clients.faults import sentences
 from abc2midi_live_clients.midi_folder import MidiFolder
 from abc2midi_live_clients.program import LiveBook
 from abc2midi_live_clients.reports import TextReport
-from abc2midi_live_clients.watcher import Watch
+from abc2midi_live_clients.watched_book import WatchedBook
 
 TUNE = b"X:1\nT:Kesh\nK:G\nGABc\n"
 OTHER = b"\nX:2\nK:C\nCDE\n"
@@ -36,7 +36,7 @@ class Looks(trial.Folder):
         """Starts the watcher."""
         file = BookFile(str(self.path), pause=lambda _: None, clock=lambda: self.seconds_now)
         report = TextReport(str(self.path), sentences(), self.in_full, self.told.append)
-        self.watch = Watch(file, MidiFolder(str(self.files)), self.program, report, clean=self.clean, finder=self.finder and self.finder(), **more)
+        self.watch = WatchedBook(file, MidiFolder(str(self.files)), self.program, report, clean=self.clean, finder=self.finder and self.finder(), **more)
         self.addCleanup(self.watch.close)
 
     def program(self) -> LiveBook:
