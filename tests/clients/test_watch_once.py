@@ -39,6 +39,15 @@ class Once(Process):
         (self.folder / "program").unlink()
         self.assertEqual(self.run_once()[2], 127)
 
+    def test_interrupted(self):
+        """Its files may not be those of the book."""
+        self.path.write_bytes(TUNE)
+        (self.folder / "program").write_text(f'#!/bin/sh\necho $$ >"{self.folder}/pid"\nexec cat >/dev/null\n')
+        self.start("--once")
+        self.wait_for(lambda: (self.folder / "pid").exists())
+        self.process.send_signal(signal.SIGINT)
+        self.assertEqual(self.end(), ("", "", 1))
+
 
 class Json(Process):
     """One object a line."""
