@@ -11,21 +11,27 @@ import socket
 import sys
 import tempfile
 import threading
+import time
 import zlib
 from collections.abc import Callable
 from http.server import BaseHTTPRequestHandler, ThreadingHTTPServer
 from pathlib import Path
 from typing import Any, Optional
 
+from .connections import Connections
 from .faults import sentences
+from .printing import printable
 from .program import ProgramEnded, ProgramMissing, find_program
+from .proofs import book_key, proof
 from .shared_book import Json, Refused, SharedBook
 from .signals import when_told_to_end
 
 FILES = Path(__file__).resolve().parent / "page_files"
 KINDS = {".html": "text/html; charset=utf-8", ".css": "text/css; charset=utf-8", ".js": "text/javascript; charset=utf-8"}
 MOST_BYTES = 1 << 25  # of an edit
-SECONDS_OF_SILENCE = 10  # after which a window hears that the server is there
+SECONDS_OF_SILENCE = 3  # after which a window hears that the server is there
+SECONDS_BETWEEN_LOOKS = 0.5  # at the book on disk
+SECONDS_FOR_A_DESCRIPTOR = 0.05
 FIRST_PORT, PORTS, TRIES = 20_000, 12_000, 20
 SAFE = {
     "Cache-Control": "no-store",
@@ -40,8 +46,8 @@ SAFE = {
 def arguments() -> argparse.Namespace:
     """What the command line says."""
     parser = argparse.ArgumentParser(prog="page", description=__doc__)
-    parser.add_argument("book", metavar="BOOK", nargs="?", help="the tune book; saving makes it where it is not there")
-    parser.add_argument("--port", metavar="N", type=int, help="the port, in the place of one that goes by the book's name")
+    parser.add_argument("book", metavar="BOOK", nargs="?", help="the tune book; if it is missing, the first save makes it")
+    parser.add_argument("--port", metavar="N", type=int, help="the port, instead of one that goes by the book's name")
     parser.add_argument("--program", help="the program to start, in the place of the one that ./check left")
     return parser.parse_args()
 
@@ -63,30 +69,65 @@ class Request(BaseHTTPRequestHandler):
         self.guarded(self.post)
 
     def guarded(self, answer: Callable[[Optional[str]], None]) -> None:
-        """Answers a request that may be made, and refuses any other."""
+        """Answers a request that may be made, and refuses any other. The body of a `GET` is not read, so the connection ends."""
         try:
-            self.close_connection = self.close_connection or self.command == "POST"
-            answer(self.permitted())
+            has_body = "Content-Length" in self.headers or "Transfer-Encoding" in self.headers
+            self.close_connection = self.close_connection or has_body or self.command != "GET"
+            self.check_sender()
+            if not self.is_proof():
+                answer(self.permitted())
         except Refused as refused:
-            self.close_connection = True
-            self.send_json(refused.answer, refused.status)
+            self.refuse(refused)
         except (ProgramEnded, ProgramMissing) as error:
-            self.close_connection = True
-            self.send_json({"error": str(error)}, 503)
+            self.refuse(Refused(503, str(error)))
         except (BrokenPipeError, ConnectionResetError):
             self.close_connection = True
 
-    def permitted(self) -> Optional[str]:
-        """What the path names behind the token and its slash, None where it ends with the token; refuses whoever has another
-        token, Host or Origin."""
+    def refuse(self, refused: Refused) -> None:
+        """Says why a request is refused: in a sentence if a person opened an address."""
+        self.close_connection = True
+        if self.headers.get("Sec-Fetch-Dest") == "document":
+            self.send(f"{refused}\n".encode(), "text/plain; charset=utf-8", status=refused.status)
+        else:
+            self.send_json(refused.answer, refused.status)
+
+    def send_error(self, code: int, message: Optional[str] = None, explain: Optional[str] = None) -> None:
+        """Answers bytes that are no request as other refusals are answered."""
+        self.close_connection = True
+        self.request_version = self.protocol_version
+        self.send_json({"error": message or self.responses[code][0]}, code)
+
+    def check_sender(self) -> None:
+        """Refuses the request of another host or page."""
         if len(self.headers.get_all("Host", [])) != 1 or self.headers["Host"] not in self.server.hosts:
-            raise Refused(403, "this is another host's request")
+            raise Refused(403, "This is another host's request.")
         for origin in self.headers.get_all("Origin", []):
             if origin not in [f"http://{host}" for host in self.server.hosts]:
-                raise Refused(403, "this is another page's request")
+                raise Refused(403, "This is another page's request.")
+
+    def is_proof(self) -> bool:
+        """Whether the request has no token, and is answered by a proof: by that of the server; or, for a page that brings its own
+        proof, by the token of this start."""
+        asked = re.fullmatch("/proof/([0-9a-f]{32})(?:/([0-9a-f]{64}))?", self.path)
+        if not asked or self.command != "GET":
+            return False
+        self.close_connection = True
+        server = self.server
+        if asked[2] is None:
+            self.send_json({"run": server.book.run, "proof": server.proof("server", asked[1])})
+        elif hmac.compare_digest(asked[2], server.proof("page", asked[1])):
+            self.send_json({"token": server.token})
+        else:
+            raise Refused(403, "This is no page of this book.")
+        return True
+
+    def permitted(self) -> Optional[str]:
+        """The part of the path after the token and its slash, None if the path ends with the token. Refuses another token."""
         path = re.fullmatch("/([^/]*)(?:/(.*))?", self.path)
         if not path or not hmac.compare_digest(path[1].encode(), self.server.token.encode()):
-            raise Refused(403, "this address has not the token that the server printed")
+            raise Refused(403, "This address is not the one that the server printed at its present start. Open that one.")
+        if not self.server.connections.welcome(self.connection):
+            raise Refused(503, "There are too many connections.")
         return path[2]
 
     def get(self, name: Optional[str]) -> None:
@@ -95,7 +136,7 @@ class Request(BaseHTTPRequestHandler):
             self.send(b"", "text/plain", {"Location": f"/{self.server.token}/"}, 308)
             return
         midi = re.fullmatch(r"midi/([0-9]{1,9})", name)
-        events = re.fullmatch(r"events/([0-9]{1,15})", name)
+        news = re.fullmatch(r"(events|news)/([0-9]{1,15})/([\w.-]{1,64})", name, re.A)
         if name in self.server.files:
             self.send(*self.server.files[name])
         elif name == "book":
@@ -106,17 +147,19 @@ class Request(BaseHTTPRequestHandler):
             number = int(midi[1])
             data = self.server.book.midi(number)
             self.send(data, "audio/midi", {"Content-Disposition": f'attachment; filename="{number}.mid"'})
-        elif events:
-            self.send_events(int(events[1]))
+        elif news and news[1] == "events":
+            self.send_events(int(news[2]), news[3])
+        elif news:
+            self.send_json(self.server.book.news_for(int(news[2]), news[3]))
         else:
-            raise Refused(404, "there is nothing of that name")
+            raise Refused(404, "There is nothing of that name.")
 
     def post(self, name: Optional[str]) -> None:
-        """Follows an edit, or saves the book."""
+        """Follows an edit, saves the book, loads it from disk, or starts the program again."""
         book = self.server.book
-        follow = {"edit": book.edit, "save": book.save}.get(name or "")
+        follow = {"edit": book.edit, "save": book.save, "load": book.load, "restart": book.restart}.get(name or "")
         if follow is None:
-            raise Refused(404, "there is nothing of that name")
+            raise Refused(404, "There is nothing of that name.")
         self.send_json(follow(self.body()))
 
     def body(self) -> Json:
@@ -150,16 +193,17 @@ class Request(BaseHTTPRequestHandler):
         """Sends an object."""
         self.send(json.dumps(answer).encode(), "application/json", status=status)
 
-    def send_events(self, seen: int) -> None:
-        """Sends each change after a version, and the state of the book, for as long as the window is open."""
+    def send_events(self, seen: int, name: str) -> None:
+        """Sends each change after a version, and the state of the book, for as long as the window is open: an object a line, and
+        an empty line when there is nothing to tell."""
         book = self.server.book
-        self.close_connection = True
-        self.send_response(200)
-        for header, value in {"Content-Type": "text/event-stream", "Connection": "close", **SAFE}.items():
-            self.send_header(header, value)
-        self.end_headers()
-        book.opened(1)
+        book.begin_stream(name)
         try:
+            self.close_connection = True
+            self.send_response(200)
+            for header, value in {"Content-Type": "application/x-ndjson", "Connection": "close", **SAFE}.items():
+                self.send_header(header, value)
+            self.end_headers()
             told: Optional[Json] = None
             while True:
                 changes, state = book.news(seen, told, SECONDS_OF_SILENCE)
@@ -167,10 +211,10 @@ class Request(BaseHTTPRequestHandler):
                     return
                 seen = state["version"]
                 news = [{"state": state}] * (state != told) + [{"change": change} for change in changes]
-                self.wfile.write(b"".join(b"data: " + json.dumps(new).encode() + b"\n\n" for new in news) or b":\n\n")
+                self.wfile.write(b"".join(json.dumps(new).encode() + b"\n" for new in news) or b"\n")
                 told = state
         finally:
-            book.opened(-1)
+            book.end_stream()
 
     def left(self) -> bool:
         """Whether the window was closed, which shows only in a connection that is looked at."""
@@ -188,20 +232,47 @@ class Server(ThreadingHTTPServer):
     """The server of one book, for this machine alone."""
 
     daemon_threads = True
+    request_queue_size = 128
 
-    def __init__(self, port: int, book: SharedBook, token: str):
+    def __init__(self, port: int, book: SharedBook):
         super().__init__(("127.0.0.1", port), Request)
         self.book = book
-        self.token = token
+        self.token = secrets.token_urlsafe(24)
+        self.key = book_key(book.path)
+        self.connections = Connections()
         self.hosts = {f"{host}:{self.server_port}" for host in ("127.0.0.1", "localhost")}
         self.sentences = sentences()
         self.files = {path.name: (path.read_bytes(), KINDS[path.suffix]) for path in FILES.iterdir() if path.suffix in KINDS}
-        self.files[""] = self.files.pop("index.html")
+        page, kind = self.files.pop("index.html")
+        self.files[""] = page.replace(b"KEY OF THE BOOK", self.key.encode()), kind
+
+    def proof(self, who: str, nonce: str) -> str:
+        """The proof that the server, or the page, has the book's key."""
+        return proof(self.key, who, self.server_port, self.book.run, nonce)
+
+    def get_request(self) -> tuple[socket.socket, Any]:
+        """The next connection. If there is no descriptor for it, the server waits a moment for one."""
+        try:
+            connection, address = super().get_request()
+        except OSError:
+            time.sleep(SECONDS_FOR_A_DESCRIPTOR)
+            raise
+        if not self.connections.begin(connection):
+            connection.close()
+            raise OSError("there are too many connections")
+        return connection, address
+
+    def shutdown_request(self, request: Any) -> None:
+        """Ends a connection."""
+        self.connections.end(request)
+        super().shutdown_request(request)
 
     def service_actions(self) -> None:
-        """Ends the server where the client is to end."""
+        """Ends the server if the client is to end, and the connections of strangers that take too long."""
         if interrupted.is_set():
             raise KeyboardInterrupt
+        self.connections.cut_the_late()
+        self.book.remind()
 
     def handle_error(self, *_: Any) -> None:
         """Says what went wrong in a request, but for a window that was closed."""
@@ -209,39 +280,33 @@ class Server(ThreadingHTTPServer):
             super().handle_error(*_)
 
 
-def kept_token() -> str:
-    """The token of this user: one and the same each time, so that a page goes on when the server was started again. It
-    lies in a file that nobody else may read."""
-    path = Path(os.environ.get("XDG_STATE_HOME") or Path.home() / ".local/state") / "abc2midi_live/token"
-    token = secrets.token_urlsafe(24)
-    try:
-        path.parent.mkdir(mode=0o700, parents=True, exist_ok=True)
-        try:
-            with open(os.open(path, os.O_WRONLY | os.O_CREAT | os.O_EXCL, 0o600), "w") as file:
-                file.write(token)
-        except FileExistsError:
-            known = path.read_text().strip()
-            owner = path.stat()
-            if owner.st_uid == os.getuid() and not owner.st_mode & 0o077 and re.fullmatch(r"[\w-]{32}", known, re.A):
-                return known
-    except (OSError, ValueError):  # no file can be made or read there, or it is no text
-        pass
-    return token
-
-
 def serving(words: argparse.Namespace, book: SharedBook) -> Server:
-    """The server on its port, which is the book's own where none is named: so text that the browser keeps is found again.
-    Where another program has that one, the next that is free."""
-    token = kept_token()
+    """The server on its port. If none is named, the port goes by the book, so that the browser finds the text that it kept. If
+    another program has that one, the next free one is taken, and that is said."""
     if words.port is not None:
-        return Server(words.port, book, token)
+        return Server(words.port, book)
     first = FIRST_PORT + zlib.crc32(os.fsencode(book.path or "")) % PORTS
-    for port in range(first, first + TRIES):
+    for port in [*range(first, first + TRIES), 0]:
         try:
-            return Server(port, book, token)
+            server = Server(port, book)
         except OSError:
             continue
-    return Server(0, book, token)
+        if port != first:
+            tell(f"another program has port {first} of this book; the page is at port {server.server_port} this time")
+        return server
+    raise OSError("there is no free port")
+
+
+def tell(sentence: str) -> None:
+    """Says something on standard error."""
+    print(f"page: {printable(sentence)}", file=sys.stderr, flush=True)
+
+
+def keep_looking(book: SharedBook) -> None:
+    """Looks at the book on disk, again and again."""
+    while True:
+        book.look()
+        time.sleep(SECONDS_BETWEEN_LOOKS)
 
 
 def interrupt(*_: Any) -> None:
@@ -258,13 +323,14 @@ def main() -> int:
         with tempfile.TemporaryDirectory() as directory:
             book = SharedBook(words.book, words.program or find_program(), directory)
             with serving(words, book) as server:
+                threading.Thread(target=keep_looking, args=(book,), daemon=True).start()
                 print(f"http://127.0.0.1:{server.server_port}/{server.token}/", flush=True)
                 server.serve_forever(poll_interval=0.1)
         return 0
     except KeyboardInterrupt:
         return 0
     except (OSError, OverflowError, ProgramMissing, ProgramEnded) as error:
-        print(f"page: {error}", file=sys.stderr)
+        tell(str(error))
         return 127 if isinstance(error, ProgramMissing) else 1
     finally:
         if book:

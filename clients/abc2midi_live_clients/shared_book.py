@@ -5,20 +5,28 @@ import secrets
 import threading
 import time
 from collections import deque
-from collections.abc import Sequence
-from contextlib import suppress
+from collections.abc import Iterator, Sequence
+from contextlib import contextmanager, suppress
 from itertools import groupby
-from typing import Any, Optional
+from typing import Any, NamedTuple, Optional
 
-from .edits import Lines, common_front
+from .book_file import BookFile
+from .edits import Edit, Lines, common_front, edits, joined
 from .places import LinePlaces
-from .program import LiveBook, ProgramEnded, files_of, held
-from .saving import digest, replace_file
+from .printing import printable
+from .program import LiveBook, ProgramEnded, ProgramMissing, files_of, held
+from .saving import BookChanged, NotSaved, digest, digest_of, read_book, save_book
+from .windows import Windows
 
 MARK = b"\xef\xbb\xbf"
 MOST_CHANGES = 200  # for windows that did not see them yet
+MOST_EDITS = 20  # that one writing of another program becomes
+SECONDS_OF_PATIENCE = 3  # with a program that does not answer, before windows are told
+SECONDS_TO_END = 3  # for a program that is told to
 CONTROLS = {byte: 0xDC00 + byte for byte in range(32) if byte not in b"\t\n"}  # halves of pairs show them; no text has halves
 BYTES = {half: byte for byte, half in CONTROLS.items()}
+
+NOTHING_FOUND = {"faults": {"at": 0, "out": 0, "put": []}, "tunes": {"at": 0, "out": 0, "put": []}, "written": [], "removed": []}
 
 Json = dict[str, Any]
 FaultRow = tuple[int, int, str]  # line from 0, column, name
@@ -34,87 +42,170 @@ class Refused(Exception):
         self.answer: Json = {"error": sentence, **more}
 
 
+class Text(NamedTuple):
+    """The text of a book as bytes: a mark at its start, its lines, and whether they end in carriage returns. The last line is
+    empty if the text ends with a line feed."""
+
+    mark: bytes
+    lines: Lines
+    returns: bool
+
+    def data(self) -> bytes:
+        """The bytes of the book."""
+        return self.mark + b"\n".join(self.lines)
+
+    def shown(self, line: bytes) -> str:
+        """A line as windows see it: each byte that is no text, and each control, is a half of a pair."""
+        line = line.removesuffix(b"\r") if self.returns else line
+        return line.decode("utf-8", "surrogateescape").translate(CONTROLS)
+
+
+class Rows(NamedTuple):
+    """What the program finds in a text."""
+
+    faults: list[FaultRow]
+    tunes: list[TuneRow]
+
+
+class Disk(NamedTuple):
+    """What is known of the file: the content that was read or saved last, its digest, the digest that it has now, and why it
+    cannot be read. The digests are None if there is no file."""
+
+    text: Text
+    saved: Optional[str]
+    present: Optional[str]
+    trouble: str = ""
+
+
+class Version(NamedTuple):
+    """A text, what the program finds in it, and what is known of the file."""
+
+    text: Text
+    rows: Rows
+    disk: Disk
+
+
 class SharedBook:
-    """A tune book on disk, its text as the windows see it, and the running program that holds the same text. Lines are
-    kept as bytes: the last one is empty where the text ends with a line feed, and one that nobody edits stays as it is."""
+    """A tune book on disk, its text as the windows see it, and the running program that holds the same text. A line that nobody
+    edits stays as it is.
+
+    Whoever asks the program holds `turn`; whoever reads or writes the file holds `file_lock`; `moved` guards what windows see,
+    and is held for a moment only, so that windows hear of a program that does not answer."""
 
     def __init__(self, path: Optional[str], program: str, directory: str):
         self.path = os.path.realpath(path) if path else None
+        self.name = printable(os.path.basename(self.path)) if self.path else ""
         self.program, self.directory = program, directory
-        self.moved = threading.Condition()
+        self.turn, self.file_lock, self.moved = threading.Lock(), threading.Lock(), threading.Condition()
         self.run = secrets.token_hex(8)
-        self.version = self.saved_version = 0
+        self.version = 0
         self.changes: deque[Json] = deque(maxlen=MOST_CHANGES)
-        self.windows = 0
-        data = self.read()
-        self.saved = None if data is None else digest(data)
-        self.mark = MARK if data and data.startswith(MARK) else b""
-        self.lines = (data or b"")[len(self.mark) :].split(b"\n")
-        self.returns = len(self.lines) > 1 and self.lines[0].endswith(b"\r")
+        self.windows = Windows()
+        self.asked_since: Optional[float] = None  # when the program was asked
+        self.is_ended = False
+        self.file = BookFile(self.path) if self.path else None
+        self.was_gone = False  # at the last look
+        content = read_book(self.path) if self.path else b""
+        self.text = text_of_book(content or b"")
+        self.disk = Disk(self.text, digest_of(content), digest_of(content))
+        self.is_unsaved = False
         self.begin()
-
-    def read(self) -> Optional[bytes]:
-        """The bytes of the book on disk, or None where there is none yet."""
-        try:
-            with open(self.path or os.devnull, "rb") as file:
-                return file.read()
-        except FileNotFoundError:
-            return None
 
     def begin(self) -> None:
         """Starts the program with the present text."""
         self.book = LiveBook(self.program, self.directory)
-        self.book.replace(0, 0, held(self.lines))
-        self.faults, self.tunes = self.ask()
+        self.book.replace(0, 0, held(self.text.lines))
+        self.rows = self.ask()
 
-    def ask(self) -> tuple[list[FaultRow], list[TuneRow]]:
-        """The faults of the program's text: line from 0, column, name; and its tunes: line from 0, number, title, and
-        whether the number's file is theirs."""
+    def ask(self) -> Rows:
+        """What the program finds in its text."""
         faults, tunes = self.book.faults(), self.book.tunes()
         owners = files_of(tunes, faults)
-        return (
+        return Rows(
             [(fault.line - 1, fault.column, fault.name) for fault in faults],
             [(tune.line - 1, tune.number, tune.title, owners.get(tune.number) is tune) for tune in tunes],
         )
 
-    def ended(self, error: ProgramEnded) -> Refused:
-        """Starts the program anew with the text that stood before, and says so."""
+    @contextmanager
+    def asking(self) -> Iterator[None]:
+        """While the program is asked. A program that ends is started again with the text that is there."""
+        self.asked_since = time.monotonic()
+        try:
+            yield
+        except ProgramEnded as error:
+            if self.is_ended:
+                raise
+            self.end_program()
+            self.begin()
+            raise Refused(503, f"{error}; it was started again") from error
+        finally:
+            self.asked_since = None
+
+    def end_program(self) -> None:
+        """Ends the program, by force if it does not follow."""
+        force = threading.Timer(SECONDS_TO_END, self.book.process.kill)
+        force.start()
         with suppress(OSError, ValueError):
             self.book.close()
-        self.begin()
-        return Refused(503, f"{error}; it was started again")
+        force.cancel()
+
+    def restart(self, _: Json) -> Json:
+        """Ends a program that does not answer: whoever waits for it starts it again."""
+        self.book.process.kill()
+        return {}
 
     def close(self) -> None:
-        """Ends the program."""
-        with self.moved:
-            self.book.close()
+        """Ends the program, also if it does not answer."""
+        self.is_ended = True
+        if not self.turn.acquire(timeout=SECONDS_TO_END):
+            self.book.process.kill()
+            self.turn.acquire()
+        self.end_program()
 
     def snapshot(self) -> Json:
-        """The whole book as a window sees it."""
+        """The whole book as a window sees it, with what the file has now if nothing is unsaved."""
+        self.look()
         with self.moved:
             return {
-                "name": os.path.basename(self.path) if self.path else "",
-                "id": digest((self.path or "").encode())[:16],
-                "lines": [self.shown(line) for line in self.lines],
-                "faults": self.rows(self.faults),
-                "tunes": self.tunes,
+                "name": self.name,
+                "id": digest(os.fsencode(self.path or ""))[:16],
+                "lines": [self.text.shown(line) for line in self.text.lines],
+                "faults": shown_rows(self.text, self.rows.faults),
+                "tunes": self.rows.tunes,
                 **self.state(),
             }
 
     def state(self) -> Json:
-        """Where the book stands."""
+        """How the book is: `saved` is what the text was last, `disk` is what the file is now."""
+        since = self.asked_since
         return {
             "run": self.run,
             "version": self.version,
-            "saved": self.saved,
-            "savedVersion": self.saved_version,
-            "windows": self.windows,
+            "unsaved": self.is_unsaved or (self.disk.saved is not None and self.disk.present is None),
+            "saved": self.disk.saved,
+            "disk": self.disk.present,
+            "trouble": self.disk.trouble,
+            "slow": since is not None and time.monotonic() - since > SECONDS_OF_PATIENCE,
+            "windows": self.windows.count(),
         }
 
     def now(self) -> Json:
-        """Where the book stands, for a window that looks whether the server is there."""
+        """How the book is, for a window that looks whether the server is there."""
         with self.moved:
             return self.state()
+
+    def begin_stream(self, name: str) -> None:
+        """Counts a window that holds a connection, or refuses it."""
+        with self.moved:
+            if not self.windows.begin_stream(name):
+                raise Refused(503, "there are many windows: this one has to ask for news", full=True)
+            self.moved.notify_all()
+
+    def end_stream(self) -> None:
+        """The connection of a window ended."""
+        with self.moved:
+            self.windows.end_stream()
+            self.moved.notify_all()
 
     def news(self, seen: int, told: Optional[Json], seconds: float) -> tuple[list[Json], Json]:
         """The changes after a version and the state, as soon as either is new, or after so long."""
@@ -122,133 +213,248 @@ class SharedBook:
             self.moved.wait_for(lambda: self.version > seen or self.state() != told, seconds)
             return [change for change in self.changes if change["version"] > seen], self.state()
 
-    def opened(self, by: int) -> None:
-        """Counts the windows."""
+    def news_for(self, seen: int, name: str) -> Json:
+        """The same at once, for a window that asks again and again; and whether it may hold a connection."""
         with self.moved:
-            self.windows += by
-            self.moved.notify_all()
+            self.windows.ask(name)
+            changes = [change for change in self.changes if change["version"] > seen]
+            return {"changes": changes, "state": self.state(), "room": self.windows.has_room()}
 
     def midi(self, number: int) -> bytes:
         """The MIDI file of a number."""
-        with self.moved:
-            try:
-                data = self.book.midi(number)
-            except ProgramEnded as error:
-                raise self.ended(error) from error
+        with self.turn, self.asking():
+            data = self.book.midi(number)
         if data is None:
             raise Refused(404, f"number {number} has no file")
         return data
 
     def edit(self, asked: Json) -> Json:
-        """Puts lines in the place of others, for a window that saw all changes before; what changed by that."""
-        with self.moved:
+        """Replaces lines, for a window that saw all changes before; returns what that changed."""
+        with self.turn:
             self.same_version(asked)
             start, stop, lines = self.checked(asked)
             since = time.perf_counter()
-            before = self.faults, self.tunes
-            try:
-                self.put(start, stop, [bytes_of(line) for line in lines])
-            except ProgramEnded as error:
-                raise self.ended(error) from error
-            grown = len(lines) - (stop - start)
-            faults = spliced(before[0], self.faults, start, stop, grown)
-            tunes = spliced(before[1], self.tunes, start, stop, grown)
-            faults["put"] = self.rows(faults["put"])
-            self.version += 1
-            change = {
-                "version": self.version,
-                "window": asked.get("window"),
-                "edit": {"start": start, "stop": stop, "lines": lines},
-                "faults": faults,
-                "tunes": tunes,
+            edit = with_ends(self.text, Edit(start, stop, [bytes_of(line) for line in lines]))
+            text = self.text._replace(lines=self.text.lines[: edit.start] + edit.lines + self.text.lines[edit.stop :])
+            with self.asking():
+                self.hand_over(edit, text)
+                rows = self.ask()
+            shown = {"start": start, "stop": stop, "lines": lines}
+            return self.publish([shown], Version(text, rows, self.disk), asked.get("window"), since)[-1]
+
+    def hand_over(self, edit: Edit, text: Text) -> None:
+        """Lets the program have an edit that makes a text. An empty last line is none there."""
+        if edit.stop < len(self.text.lines):
+            self.book.replace(*edit)
+        else:
+            told = held(text.lines)
+            start = min(edit.start, len(told), len(self.book.lines))
+            self.book.replace(start, len(self.book.lines), told[start:])
+
+    def publish(self, made: list[Json], version: Version, window: object, since: float) -> list[Json]:
+        """Lets the windows see a text that edits made of the present one, the last ones of the text first."""
+        faults, tunes = self.rows
+        changes: list[Json] = []
+        for edit in made:
+            faults, tunes = moved(faults, edit), moved(tunes, edit)
+            changes.append({"window": window, "edit": edit, **NOTHING_FOUND})
+        if changes:
+            found = difference(faults, version.rows.faults)
+            changes[-1] |= {
+                "faults": {**found, "put": shown_rows(version.text, found["put"])},
+                "tunes": difference(tunes, version.rows.tunes),
                 "written": sorted(number for number, has_file in self.book.reported.items() if has_file),
                 "removed": sorted(number for number, has_file in self.book.reported.items() if not has_file),
-                "milliseconds": round(1000 * (time.perf_counter() - since), 1),
             }
-            self.changes.append(change)
+        with self.moved:
+            self.text, self.rows, self.disk = version
+            self.is_unsaved = self.text.lines != self.disk.text.lines
+            took = round(1000 * (time.perf_counter() - since), 1)
+            for change in changes:
+                self.version += 1
+                change |= {"version": self.version, "unsaved": self.is_unsaved, "milliseconds": took}
+            self.changes.extend(changes)
             self.moved.notify_all()
-            return change
+        return changes
 
     def same_version(self, asked: Json) -> None:
-        """Refuses a window that has not seen all changes, and hands it those that it wants."""
-        if asked.get("run") != self.run:
-            raise Refused(409, "the server was started again", **self.state())
-        version = asked.get("version")
-        if version != self.version:
-            kept = [change for change in self.changes if is_count(version) and change["version"] > version]
-            raise Refused(409, "another window changed the book", changes=kept, **self.state())
+        """Refuses a window that has not seen all changes, and returns those that it lacks."""
+        with self.moved:
+            if asked.get("run") != self.run:
+                raise Refused(409, "the server was started again", **self.state())
+            version = asked.get("version")
+            if version != self.version:
+                kept = [change for change in self.changes if is_count(version) and change["version"] > version]
+                raise Refused(409, "the book was changed by another window, or on disk", changes=kept, **self.state())
 
     def checked(self, asked: Json) -> tuple[int, int, list[str]]:
         """The places and the lines of an edit."""
         start, stop, lines = asked.get("start"), asked.get("stop"), asked.get("lines")
-        if not (type(start) is int and type(stop) is int and 0 <= start <= stop <= len(self.lines)):
+        if not (type(start) is int and type(stop) is int and 0 <= start <= stop <= len(self.text.lines)):
             raise Refused(400, "these are no lines of the book")
         if not isinstance(lines, list) or not all(isinstance(line, str) and "\n" not in line for line in lines):
             raise Refused(400, "an edit has a list of lines")
-        if not lines and stop - start == len(self.lines):
+        if not lines and stop - start == len(self.text.lines):
             raise Refused(400, "a text has a line")
         return start, stop, lines
 
-    def put(self, start: int, stop: int, lines: Lines) -> None:
-        """Puts lines in the place of others, with the carriage returns of the book: the last line has none. So the one before
-        them changes where it was the last one, or becomes it."""
-        at_end = stop == len(self.lines)
-        if self.returns:
-            if at_end and start > 0 and (not lines or start == len(self.lines)):
-                start -= 1
-                lines = [self.lines[start].removesuffix(b"\r"), *lines]
-            lines = [line + b"\r" for line in lines[:-1]] + [line + (b"" if at_end else b"\r") for line in lines[-1:]]
-        whole = self.lines[:start] + lines + self.lines[stop:]
-        if at_end:
-            told = held(whole)
-            start = min(start, len(told), len(self.book.lines))
-            self.book.replace(start, len(self.book.lines), told[start:])
-        else:
-            self.book.replace(start, stop, lines)
-        self.faults, self.tunes = self.ask()
-        self.lines = whole
+    def look(self) -> None:
+        """Looks at the file. What another program wrote becomes an edit if nothing is unsaved; else the windows ask."""
+        if not self.file or not self.file_lock.acquire(timeout=SECONDS_OF_PATIENCE):
+            return
+        try:
+            if self.disk.present != self.disk.saved and not self.is_unsaved:
+                self.file = BookFile(self.file.path)  # the text is again what was saved: nothing is left to ask
+            data = self.file.saved()
+            self.was_gone = False
+            if data is not None and not self.is_taken(data):
+                self.know(digest(data))
+        except FileNotFoundError:
+            self.be_gone()
+        except OSError as error:
+            self.know(self.disk.present, error.strerror or str(error))
+            self.file = BookFile(self.file.path)
+        except (Refused, ProgramEnded, ProgramMissing):
+            self.file = BookFile(self.file.path)
+        finally:
+            self.file_lock.release()
 
-    def shown(self, line: bytes) -> str:
-        """A line as windows see it: each byte that is no text, and each control, is a half of a pair."""
-        line = line.removesuffix(b"\r") if self.returns else line
-        return line.decode("utf-8", "surrogateescape").translate(CONTROLS)
+    def be_gone(self) -> None:
+        """There is no file. That counts at the second look: an editor may remove a file before it writes it."""
+        if self.was_gone:
+            self.know(None)
+        self.was_gone, self.file = True, BookFile(self.path or "")
 
-    def rows(self, faults: list[FaultRow]) -> list[list[Any]]:
-        """Faults as windows see them, in order: the line of each, where it begins and ends there in UTF-16, and its name."""
-        found = []
-        for number, those in groupby(faults, lambda fault: fault[0]):
-            places = LinePlaces(self.shown(self.lines[number]))
-            found += [[number, *places.span(column, name), name] for _, column, name in those]
-        return found
+    def is_taken(self, data: bytes) -> bool:
+        """Takes the content of the file as the text, if it is another one and nothing is unsaved."""
+        if digest(data) == self.disk.saved or not self.turn.acquire(timeout=SECONDS_OF_PATIENCE):
+            return False
+        try:
+            if self.is_unsaved:
+                return False
+            self.take(data)
+            return True
+        finally:
+            self.turn.release()
+
+    def take(self, data: bytes) -> None:
+        """Makes the content of the file the text, by few edits. Whoever calls this has the turn."""
+        since = time.perf_counter()
+        text = text_of_book(data)
+        with self.asking():
+            self.book.replace(0, len(self.book.lines), held(text.lines))
+            rows = self.ask()
+        made = [
+            {"start": start, "stop": stop, "lines": [text.shown(line) for line in lines]}
+            for start, stop, lines in reversed(edits_of(self.text, text))
+        ]
+        self.publish(made, Version(text, rows, Disk(text, digest(data), digest(data))), None, since)
+
+    def know(self, present: Optional[str], trouble: str = "") -> None:
+        """Tells the windows what the file is now."""
+        disk = self.disk._replace(present=present, trouble=trouble)
+        with self.moved:
+            if disk != self.disk:
+                self.disk = disk
+                self.moved.notify_all()
+
+    def remind(self) -> None:
+        """Lets those who wait for news look again, if time alone may have made some."""
+        if self.asked_since is not None or self.windows.asked:
+            with self.moved:
+                self.moved.notify_all()
+
+    def load(self, asked: Json) -> Json:
+        """Makes the content of the file the text, for a window that says which content it means."""
+        if not self.path:
+            raise Refused(400, "no book was named")
+        with self.file_lock, self.turn:
+            self.same_version(asked)
+            try:
+                data = read_book(self.path)
+            except OSError as error:
+                raise Refused(500, f"the book cannot be read: {error.strerror}") from error
+            if data is None or digest(data) != asked.get("over"):
+                self.know(digest_of(data))
+                raise Refused(409, "the book on disk was changed once more", ask=digest_of(data))
+            self.take(data)
+            return self.now()
 
     def save(self, asked: Json) -> Json:
-        """Writes the book, as a new file that takes the old one's place. Where the file is not the one that was read
-        or saved last, it is written only for a window that says which one it means to replace."""
-        with self.moved:
-            self.same_version(asked)
-            if not self.path:
-                raise Refused(400, "no book was named")
+        """Writes the book, as a new file that replaces the old one. If the file is not the one that was read or saved last, it is
+        written only for a window that says which one it means to replace."""
+        if not self.path:
+            raise Refused(400, "no book was named")
+        with self.file_lock:
+            with self.moved:
+                self.same_version(asked)
+                text, expected = self.text, asked["over"] if "over" in asked else self.disk.saved
+            data = text.data()
             try:
-                found = self.read()
-                present = None if found is None else digest(found)
-                if present != self.saved and ("over" not in asked or asked["over"] != present):
-                    raise Refused(409, "the book on disk was changed by another program", ask=present)
-                data = self.mark + b"\n".join(self.lines)
-                replace_file(self.path, data)
+                save_book(self.path, data, expected)
+            except BookChanged as changed:
+                self.know(changed.present)
+                raise Refused(409, "the book on disk was changed by another program", ask=changed.present) from changed
+            except NotSaved as error:
+                raise Refused(500, str(error)) from error
             except OSError as error:
                 raise Refused(500, f"the book cannot be saved: {error.strerror}") from error
-            self.saved, self.saved_version = digest(data), self.version
-            self.moved.notify_all()
-            return self.state()
+            with self.moved:
+                self.disk = Disk(text, digest(data), digest(data))
+                self.is_unsaved = self.text.lines != text.lines
+                self.moved.notify_all()
+                return self.state()
 
 
-def spliced(old: Sequence[Any], new: Sequence[Any], start: int, stop: int, grown: int) -> Json:
-    """How a window makes the new rows of the old ones. It takes those of the edited lines out first, and moves those
-    behind them; then so many go at a place, and others come in."""
-    moved = [row if row[0] < start else (row[0] + grown, *row[1:]) for row in old if not start <= row[0] < stop]
-    front = common_front(moved, new)
-    back = common_front(moved[front:][::-1], new[front:][::-1])
-    return {"at": front, "out": len(moved) - front - back, "put": new[front : len(new) - back]}
+def text_of_book(data: bytes) -> Text:
+    """The text of a book."""
+    mark = MARK if data.startswith(MARK) else b""
+    lines = data[len(mark) :].split(b"\n")
+    return Text(mark, lines, len(lines) > 1 and lines[0].endswith(b"\r"))
+
+
+def edits_of(old: Text, new: Text) -> list[Edit]:
+    """Few edits that make one text of another, as windows see their lines."""
+    if old.returns != new.returns:
+        return [Edit(0, len(old.lines), new.lines)]
+    return joined(edits(old.lines, new.lines), old.lines, MOST_EDITS)
+
+
+def with_ends(text: Text, edit: Edit) -> Edit:
+    """An edit with the carriage returns of the book: the last line has none. So the one before the edit changes if it was the
+    last one, or becomes it."""
+    start, stop, lines = edit
+    if not text.returns:
+        return edit
+    at_end = stop == len(text.lines)
+    if at_end and start > 0 and (not lines or start == len(text.lines)):
+        start -= 1
+        lines = [text.lines[start].removesuffix(b"\r"), *lines]
+    lines = [line + b"\r" for line in lines[:-1]] + [line + (b"" if at_end else b"\r") for line in lines[-1:]]
+    return Edit(start, stop, lines)
+
+
+def moved(rows: Sequence[Any], edit: Json) -> list[Any]:
+    """The rows of a text after an edit, without those of the lines that it replaces."""
+    start, stop = edit["start"], edit["stop"]
+    grown = len(edit["lines"]) - (stop - start)
+    return [row if row[0] < start else (row[0] + grown, *row[1:]) for row in rows if not start <= row[0] < stop]
+
+
+def difference(old: Sequence[Any], new: Sequence[Any]) -> Json:
+    """How a window makes new rows of old ones: so many go at a place, and others come in."""
+    front = common_front(old, new)
+    back = common_front(old[front:][::-1], new[front:][::-1])
+    return {"at": front, "out": len(old) - front - back, "put": new[front : len(new) - back]}
+
+
+def shown_rows(text: Text, faults: list[FaultRow]) -> list[list[Any]]:
+    """Faults as windows see them, in order: the line of each, where it begins and ends there in UTF-16, and its name."""
+    found = []
+    for number, those in groupby(faults, lambda fault: fault[0]):
+        places = LinePlaces(text.shown(text.lines[number]))
+        found += [[number, *places.span(column, name), name] for _, column, name in those]
+    return found
 
 
 def bytes_of(text: str) -> bytes:

@@ -1,21 +1,28 @@
 """The server of the page, asked by plain requests."""
 
+import hmac
 import http.client
 import json
 import os
 import random
 import re
+import resource
 import signal
 import socket
+import stat
 import subprocess
 import sys
+import threading
+import time
 from contextlib import contextmanager
+from pathlib import Path
 
 import trial
 from abc2midi_live_clients import saving, shared_book
 from abc2midi_live_clients.faults import sentences
 
 BOOK = b"X:1\nT:Kesh\nK:G\nGABc &\n\nX:2\nK:C\nCDE -\n"
+BOOK_FAULTS = [[3, 5, 6, "BadByte"], [7, 4, 5, "LooseTie"]]
 
 
 class Page(trial.Folder):
@@ -32,12 +39,14 @@ class Page(trial.Folder):
         starter.chmod(0o755)
         self.start(str(self.path))
 
-    def start(self, *words, port="0"):
-        """Starts it, with a folder for what it leaves."""
-        words = [sys.executable, str(trial.CLIENTS / "page"), *words, "--program", str(self.folder / "program"), "--port", port]
+    def start(self, *words, port="0", descriptors=1024):
+        """Starts it, with a folder for what it leaves, and so many descriptors."""
+        words = [*words, *(["--port", port] if port else [])]
         self.server = subprocess.Popen(
-            words, stdout=subprocess.PIPE, stderr=subprocess.PIPE,
+            [sys.executable, str(trial.CLIENTS / "page"), *words, "--program", str(self.folder / "program")],
+            stdout=subprocess.PIPE, stderr=subprocess.PIPE,
             env={**os.environ, "TMPDIR": str(self.files), "XDG_STATE_HOME": str(self.folder / "state")},
+            preexec_fn=lambda: resource.setrlimit(resource.RLIMIT_NOFILE, (descriptors, descriptors)),
         )  # fmt: skip
         self.limit(self.server)
         self.address = self.server.stdout.readline().decode().strip()
@@ -109,7 +118,7 @@ class Requests(Page):
     def test_a_book(self):
         book = self.book()
         self.assertEqual(book["lines"], BOOK.decode().split("\n"))
-        self.assertEqual(book["faults"], [[3, 5, 6, "BadByte"], [7, 4, 5, "LooseTie"]])
+        self.assertEqual(book["faults"], BOOK_FAULTS)
         self.assertEqual(book["tunes"], [[0, 1, "Kesh", True], [5, 2, "", True]])
         self.assertEqual((book["name"], book["version"], book["sentences"]), ("book.abc", 0, sentences()))
 
@@ -171,7 +180,6 @@ class Requests(Page):
         self.assertIn(b" 403 ", self.raw(f"GET /{self.token}/book HTTP/1.0\r\n\r\n".encode()))
         twice = f"GET /{self.token}/book HTTP/1.1\r\nHost: {own}\r\nHost: evil\r\n\r\n"
         self.assertIn(b" 403 ", self.raw(twice.encode()))
-        self.assertEqual(oct((self.folder / "state/abc2midi_live/token").stat().st_mode & 0o777), "0o600")
         with socket.socket() as other:
             self.assertNotEqual(other.connect_ex(("127.0.0.2", self.port)), 0)
 
@@ -188,7 +196,6 @@ class Requests(Page):
             self.assertIn(f" {status} ".encode(), self.raw((head + more).encode()).partition(b"\r\n")[0], more)
         for cut in (head[:3], head[:40], head, head + "Content-Le"):
             self.raw(cut.encode())
-        self.assertEqual(self.raw(b"\x00\xff\n")[:5], b"<!DOC")
         self.assertEqual(self.request("edit/", {})[0], 404)
         self.assertEqual(self.edit(0, 1, "X:3")["written"], [3])
         self.finish()
@@ -199,7 +206,7 @@ class Requests(Page):
         link.symlink_to(self.path)
         self.edit(4, 5, "% é 𝄞")
         state = self.save()
-        self.assertEqual((self.path.read_bytes(), state["savedVersion"]), (BOOK.replace(b"\n\n", "\n% é 𝄞\n".encode()), 1))
+        self.assertEqual((self.path.read_bytes(), state["unsaved"]), (BOOK.replace(b"\n\n", "\n% é 𝄞\n".encode()), False))
         self.assertEqual((self.path.stat().st_mode & 0o777, sorted(os.listdir(self.folder))), (0o640, ["book.abc", "files", "link", "pid", "program", "state"]))
         self.path.write_bytes(b"another's")
         self.edit(0, 0, "%")
@@ -208,7 +215,7 @@ class Requests(Page):
         self.path.write_bytes(b"once more")
         asked = self.save(over=asked["ask"])
         self.assertEqual((asked["status"], self.path.read_bytes()), (409, b"once more"))
-        self.assertEqual(self.save(over=asked["ask"])["savedVersion"], 2)
+        self.assertEqual(self.save(over=asked["ask"])["unsaved"], False)
         self.path.unlink()
         self.assertEqual((self.save()["ask"], self.path.exists()), (None, False))
         self.save(over=None)
@@ -216,6 +223,29 @@ class Requests(Page):
         os.rename(self.folder / "book.abc", self.folder / "away")
         self.path.mkdir()
         self.assertEqual((self.save(over=None)["status"], os.listdir(self.path)), (500, []))
+
+    def test_saves_that_are_refused(self):
+        """A file that is read-only, or that has another name, stays as it is."""
+        self.edit(0, 0, "%")
+        self.path.chmod(0o444)
+        self.assertEqual(self.save(), {"error": "the file is read-only", "status": 500})
+        self.path.chmod(0o644)
+        os.link(self.path, self.folder / "other name")
+        self.assertIn("2 names (hard links)", self.save()["error"])
+        self.assertEqual((self.path.read_bytes(), self.path.stat().st_nlink), (BOOK, 2))
+        (self.folder / "other name").unlink()
+        self.assertFalse(self.save()["unsaved"])
+        self.finish()
+
+    def test_a_long_name(self):
+        self.finish()
+        path = self.folder / ("n" * 245 + ".abc")
+        path.write_bytes(BOOK)
+        self.start(str(path))
+        self.edit(0, 0, "%")
+        self.save()
+        self.assertEqual(path.read_bytes(), b"%\n" + BOOK)
+        self.finish()
 
     def test_a_book_that_is_not_there_and_none_at_all(self):
         self.finish()
@@ -294,13 +324,13 @@ class Requests(Page):
         self.finish()
 
     @contextmanager
-    def window(self):
+    def window(self, name="window"):
         """What a window is told, one after another, while it is open."""
-        head = f"GET /{self.token}/events/0 HTTP/1.1\r\nHost: 127.0.0.1:{self.port}\r\n\r\n".encode()
+        head = f"GET /{self.token}/events/0/{name} HTTP/1.1\r\nHost: 127.0.0.1:{self.port}\r\n\r\n".encode()
         with socket.create_connection(("127.0.0.1", self.port), trial.SECONDS) as connection:
             connection.sendall(head)
             stream = connection.makefile("rb")
-            yield (json.loads(line[6:]) for line in stream if line.startswith(b"data: "))
+            yield (json.loads(line) for line in stream if line.startswith(b"{"))
             stream.close()
 
     def test_windows(self):
@@ -309,8 +339,9 @@ class Requests(Page):
             made = self.edit(0, 1, "X:7")
             told = [next(news), next(news)]
             self.assertEqual([one["change"] for one in told if "change" in one], [made])
+            self.assertEqual([one["state"]["unsaved"] for one in told if "state" in one], [True])
             self.save()
-            self.assertEqual(next(news)["state"]["savedVersion"], 1)
+            self.assertEqual(next(news)["state"]["unsaved"], False)
             self.finish()
 
     def test_a_window_that_left(self):
@@ -323,29 +354,262 @@ class Requests(Page):
             self.finish()
 
     def test_started_again(self):
+        """A token is one start's, and the port is the book's. A key that others may read, or that is none, is not used."""
         self.finish()
-        token, port = self.token, self.port
-        self.start(str(self.path), port=str(port))
-        self.assertEqual((self.token, self.port), (token, port))
-        taken = [sys.executable, str(trial.CLIENTS / "page"), "--program", trial.program, "--port", str(port)]
-        again = subprocess.run(taken, capture_output=True, timeout=trial.SECONDS)
-        self.assertEqual((again.returncode, again.stderr.count(b"\n")), (1, 1))
-        kept = self.folder / "state/abc2midi_live/token"
+        self.start(str(self.path), port=None)
+        key, token, port = self.key(), self.token, self.port
+        kept = self.kept_key()
+        self.assertEqual((oct(kept.stat().st_mode & 0o777), kept.read_text()), ("0o600", key))
+        self.finish()
+        self.start(str(self.path), port=None)
+        self.assertEqual((self.key(), self.port), (key, port))
+        self.assertNotEqual(self.token, token)
+        self.assertEqual(self.request("", path=f"/{token}/book")[0], 403)
         kept.chmod(0o644)
         self.finish()
         self.start(str(self.path))
-        self.assertNotEqual(self.token, token)
-        kept.write_bytes(b"\xff" * 32)
+        self.assertNotEqual(self.key(), key)
         kept.chmod(0o600)
+        for other in (b"\xff" * 64, b"0" * 63, b""):
+            kept.write_bytes(other)
+            self.finish()
+            self.start(str(self.path))
+            self.assertRegex(self.key(), "^[0-9a-f]{64}$")
         self.finish()
-        self.start(str(self.path))
+        self.start(str(self.folder / "other.abc"))
+        self.assertNotEqual(self.key(), key)
         self.finish()
+
+    def key(self) -> str:
+        """The key of the book, which comes with the page."""
+        return re.search(r'<meta name="key" content="([^"]*)">', self.request("")[2].decode())[1]
+
+    def kept_key(self) -> Path:
+        """The only file with a key."""
+        (kept,) = (self.folder / "state/abc2midi_live/keys").iterdir()
+        return kept
+
+    def test_proofs(self):
+        """A page that has the key gets the token of this start, and nobody else does."""
+        run, nonce, asked = self.ask("state")["run"], "00" * 16, {}
+        for name, key, port in (("own", self.key(), self.port), ("other", "11" * 32, self.port), ("relayed", self.key(), self.port + 1)):
+            words = (f"{who} {port} {run} {nonce}".encode() for who in ("server", "page"))
+            asked[name] = [hmac.new(bytes.fromhex(key), word, "sha256").hexdigest() for word in words]
+        status, headers, data = self.request("", path=f"/proof/{nonce}")
+        self.assertEqual((status, json.loads(data)), (200, {"run": run, "proof": asked["own"][0]}))
+        self.assertEqual(headers["Connection"], "close")
+        found = [self.request("", path=f"/proof/{nonce}/{page}") for page in (asked["own"][1], asked["own"][0], asked["other"][1], asked["relayed"][1])]
+        self.assertEqual([status for status, _, _ in found], [200, 403, 403, 403])
+        self.assertEqual(json.loads(found[0][2]), {"token": self.token})
+        for path in ("/proof/", "/proof/00", f"/proof/{nonce}/", f"/proof/{nonce.replace('0', 'g')}", f"/proof/{nonce}/{asked['own'][1]}0"):
+            self.assertEqual(self.request("", path=path)[0], 403, path)
+        self.assertEqual(self.request("", path=f"/proof/{nonce}", headers={"Host": f"evil:{self.port}"})[0], 403)
+        self.assertEqual(self.request("", {}, path=f"/proof/{nonce}")[0], 403)
+        self.finish()
+
+    def test_a_port_that_is_taken(self):
+        """That is said, and another one is taken; one that was named is not replaced."""
+        self.finish()
+        self.start(str(self.path), port=None)
+        port = self.port
+        self.finish()
+        with socket.create_server(("127.0.0.1", port)):
+            self.start(str(self.path), port=None)
+            self.assertNotEqual(self.port, port)
+            self.server.send_signal(signal.SIGTERM)
+            said = self.server.communicate(timeout=trial.SECONDS)[1].decode()
+            self.assertEqual(said, f"page: another program has port {port} of this book; the page is at port {self.port} this time\n")
+            words = [sys.executable, str(trial.CLIENTS / "page"), "--program", trial.program, "--port", str(port)]
+            again = subprocess.run(words, capture_output=True, timeout=trial.SECONDS)
+            self.assertEqual((again.returncode, again.stderr.count(b"\n")), (1, 1))
 
     def test_the_terminal_is_closed(self):
         self.finish()
         trial.hear_of_the_terminal(self)
         self.start(str(self.path))
         self.finish(signal.SIGHUP)
+
+    def test_answers_to_no_requests(self):
+        """They close the connection and have the safe headers, as all answers have."""
+        host = f"Host: 127.0.0.1:{self.port}"
+        for data in (b"\x00\xff\n", b"GET\r\n\r\n", f"PUT /{self.token}/book HTTP/1.1\r\n{host}\r\n\r\n".encode(), b"GET / HTTP/9\r\n\r\n",
+                     b"GET /" + b"a" * 70_000 + b" HTTP/1.1\r\n\r\n", b"GET / HTTP/1.1\r\n" + b"A: b\r\n" * 200 + b"\r\n"):  # fmt: skip
+            head, _, body = self.raw(data).partition(b"\r\n\r\n")
+            self.assertRegex(head, rb"^HTTP/1.1 [45]\d\d ", data[:9])
+            for header in (b"Content-Security-Policy: default-src 'none'", b"X-Content-Type-Options: nosniff", b"Cache-Control: no-store", b"Connection: close"):
+                self.assertIn(header, head, data[:9])
+            self.assertTrue(json.loads(body)["error"])
+        headers = {"Sec-Fetch-Dest": "document"}
+        status, headers, data = self.request("", path="/another/", headers=headers)
+        self.assertEqual((status, headers["Content-Type"]), (403, "text/plain; charset=utf-8"))
+        self.assertIn(b"the one that the server printed", data)
+        self.finish()
+
+    def test_a_body_that_nobody_reads(self):
+        """What is in it is taken for no request."""
+        inner = f"GET /{self.token}/state HTTP/1.1\r\nHost: 127.0.0.1:{self.port}\r\n\r\n"
+        for header in (f"Content-Length: {len(inner)}", "Transfer-Encoding: chunked"):
+            head = f"GET /{self.token}/state HTTP/1.1\r\nHost: 127.0.0.1:{self.port}\r\n{header}\r\n\r\n"
+            answer = self.raw((head + inner).encode())
+            self.assertEqual((answer.count(b"HTTP/1.1 "), answer.count(b"Connection: close")), (1, 1))
+        self.finish()
+
+    def test_a_name_with_controls(self):
+        self.finish()
+        self.start(str(self.folder / "a\x1b[31m\nb\u202e.abc"))
+        self.assertEqual(self.book()["name"], "a?[31m?b?.abc")
+        self.finish()
+        words = [sys.executable, str(trial.CLIENTS / "page"), str(self.folder / "\x1b[31m" / "book"), "--program", str(self.folder / "\x1b[31m")]
+        said = subprocess.run(words, capture_output=True, timeout=trial.SECONDS, env={**os.environ, "XDG_STATE_HOME": str(self.folder)}).stderr
+        self.assertEqual((said.count(b"\x1b"), said.count(b"?[31m"), said.count(b"\n")), (0, 1, 1))
+
+    def test_idle_connections(self):
+        """They use up no descriptors, and the server goes on."""
+        self.finish()
+        self.start(str(self.path), descriptors=300)
+        idle = []
+        for _ in range(600):
+            connection = socket.create_connection(("127.0.0.1", self.port), 10)
+            self.addCleanup(connection.close)
+            idle.append(connection)
+        self.assertEqual(self.edit(0, 1, "X:3")["written"], [3])
+        self.assertLess(len(os.listdir(f"/proc/{self.server.pid}/fd")), 250)
+        slow = idle[-1]
+        slow.settimeout(20)
+        slow.sendall(b"GET / HTTP/1.1\r\n")
+        self.assertEqual(slow.recv(100), b"")
+        self.finish()
+
+    def test_more_windows_than_a_browser_has_connections(self):
+        with self.window("1"), self.window("2"), self.window("3"), self.window("4") as news:
+            while next(news)["state"]["windows"] < 4:
+                pass
+            full = self.ask("events/0/5")
+            self.assertEqual((full["status"], full["full"]), (503, True))
+            self.assertEqual(self.ask("news/0/5")["state"]["windows"], 5)
+            made = self.edit(0, 1, "X:7")
+            told = self.ask("news/0/5")
+            self.assertEqual((told["changes"], told["room"], told["state"]["windows"]), ([made], False, 5))
+            self.assertEqual(self.ask("news/1/5")["changes"], [])
+        while not (told := self.ask("news/1/5"))["room"]:
+            pass
+        with self.window("5") as news:
+            self.assertLess(next(news)["state"]["windows"], 5)
+            self.finish()
+
+    def test_a_program_that_hangs(self):
+        """That is told soon; the book can be saved, the program be started again, and the server be ended."""
+        self.edit(3, 4, "G")
+        with self.window() as news:
+            hung = int((self.folder / "pid").read_text())
+            os.kill(hung, signal.SIGSTOP)
+            answers = []
+            asking = threading.Thread(target=lambda: answers.append(self.edit(3, 4, "A")))
+            asking.start()
+            while not next(news).get("state", {}).get("slow"):
+                pass
+            self.assertEqual(self.save()["unsaved"], False)
+            self.assertEqual(self.path.read_bytes(), BOOK.replace(b"GABc &", b"G"))
+            self.assertEqual(self.ask("restart", {}), {})
+            asking.join(trial.SECONDS)
+            self.assertEqual(answers[0]["status"], 503)
+            self.assertEqual(self.edit(3, 4, "A")["written"], [1])
+        os.kill(int((self.folder / "pid").read_text()), signal.SIGSTOP)
+        with socket.create_connection(("127.0.0.1", self.port)) as connection:
+            connection.sendall(f"GET /{self.token}/midi/1 HTTP/1.1\r\nHost: 127.0.0.1:{self.port}\r\n\r\n".encode())
+            self.server.send_signal(signal.SIGTERM)
+            self.assertEqual(self.server.wait(trial.SECONDS), 0)
+
+    def test_another_program_writes_the_book(self):
+        """Its changes become edits, the last ones first, as few lines as changed."""
+        with self.window() as news:
+            next(news)
+            changed = BOOK.replace(b"Kesh", b"The Kesh").replace(b"CDE -", b"CDE\nF")
+            self.path.write_bytes(changed)
+            edits = [next(news) for _ in range(3)]
+            made = [new["change"] for new in edits if "change" in new]
+            self.assertEqual([tuple(one["edit"].values()) for one in made], [(7, 8, ["CDE", "F"]), (1, 2, ["T:The Kesh"])])
+            self.assertEqual([one["window"] for one in made], [None, None])
+            book = self.book()
+            self.assertEqual(("\n".join(book["lines"]).encode(), book["version"], book["unsaved"]), (changed, 2, False))
+            self.assertEqual(book["disk"], saving.digest(changed))
+            self.assertEqual((book["faults"], book["tunes"][0][2]), ([[3, 5, 6, "BadByte"]], "The Kesh"))
+            rows = BOOK_FAULTS
+            for one in made:
+                start, stop, lines = one["edit"].values()
+                rows = followed(rows, one["faults"], start, stop, len(lines))
+            self.assertEqual(rows, book["faults"])
+            self.save()
+            self.assertEqual(self.path.read_bytes(), changed)
+            self.finish()
+
+    def test_ends_of_lines_that_another_program_changes(self):
+        for written in (b"\xef\xbb\xbfX:1\r\nK:C\r\nC\r\n", b"X:1\nK:C\nC\n", b"X:2\r\nK:C\r\n", b"X:3\nK:C"):
+            self.path.write_bytes(written)
+            lines = written.replace(b"\xef\xbb\xbf", b"").replace(b"\r", b"").decode().split("\n")
+            while (book := self.book())["lines"] != lines:
+                pass
+            self.edit(1, 2, "K:D")
+            self.save()
+            self.assertEqual(self.path.read_bytes(), written.replace(b"K:C", b"K:D"))
+        self.assertEqual([row[1] for row in book["tunes"]], [3])
+        self.finish()
+
+    def told(self, wanted) -> dict:
+        """Waits till the state of the book is as wanted."""
+        until = time.monotonic() + trial.SECONDS
+        while not wanted(state := self.ask("state")):
+            self.assertLess(time.monotonic(), until, state)
+            time.sleep(0.05)
+        return state
+
+    def test_another_program_writes_the_book_while_text_is_unsaved(self):
+        """Nothing changes till the user says which one to take."""
+        self.edit(0, 0, "% mine")
+        self.path.write_bytes(b"X:9\nK:C\nC\n")
+        state = self.told(lambda state: state["disk"] != state["saved"])
+        self.assertEqual((state["version"], state["unsaved"], state["disk"]), (1, True, saving.digest(b"X:9\nK:C\nC\n")))
+        self.assertEqual(self.save()["ask"], state["disk"])
+        asked = {"run": state["run"], "version": 1, "over": "another"}
+        self.assertEqual((self.ask("load", asked)["status"], self.book()["lines"][0]), (409, "% mine"))
+        loaded = self.ask("load", {**asked, "over": state["disk"]})
+        self.assertEqual((loaded["unsaved"], loaded["disk"], self.book()["lines"]), (False, loaded["saved"], ["X:9", "K:C", "C", ""]))
+        self.edit(0, 0, "% mine")
+        self.path.write_bytes(b"another")
+        self.told(lambda state: state["disk"] != state["saved"])
+        self.edit(0, 1)
+        self.told(lambda state: state["disk"] == state["saved"])
+        self.assertEqual(self.book()["lines"], ["another"])
+        self.finish()
+
+    def test_a_book_that_is_gone(self):
+        away = self.folder / "away"
+        self.path.rename(away)
+        state = self.told(lambda state: state["disk"] is None)
+        self.assertEqual((state["unsaved"], self.book()["lines"]), (True, BOOK.decode().split("\n")))
+        away.rename(self.path)
+        self.assertFalse(self.told(lambda state: state["disk"] == state["saved"])["unsaved"])
+        self.path.unlink()
+        self.told(lambda state: state["disk"] is None)
+        self.assertFalse(self.save(over=None)["unsaved"])
+        self.assertEqual(self.path.read_bytes(), BOOK)
+        self.finish()
+
+    def test_no_file_has_the_name_of_the_book(self):
+        """The server goes on, says why, and saves nothing there."""
+        for make, remove in ((os.mkfifo, os.unlink), (os.mkdir, os.rmdir), (lambda path: os.symlink("elsewhere", path), os.unlink)):
+            self.path.unlink()
+            make(self.path)
+            self.edit(0, 0, "%")
+            self.assertEqual(self.save()["status"], 500)
+            self.assertIn("not a regular file", self.save(over=None)["error"])
+            self.assertFalse(stat.S_ISREG(os.lstat(self.path).st_mode))
+            remove(self.path)
+            self.save(over=None)
+        os.unlink(self.path)
+        os.mkfifo(self.path)
+        self.assertTrue(self.told(lambda state: state["trouble"])["trouble"])
+        self.finish()
 
     def test_random_edits(self):
         """What a window makes of the answers is what a fresh run gives."""
@@ -380,9 +644,10 @@ class Faults(trial.Folder):
         book = shared_book.SharedBook(str(path), trial.program, str(self.files))
         self.addCleanup(book.book.process.stdout.close)
         self.addCleanup(book.close)
-        shown, show = [], book.shown
-        book.shown = lambda line: shown.append(line) or show(line)
-        found = [row[:3] for row in book.rows(book.faults)]
+        shown, show = [], shared_book.Text.shown
+        self.addCleanup(setattr, shared_book.Text, "shown", show)
+        shared_book.Text.shown = lambda text, line: shown.append(line) or show(text, line)
+        found = [row[:3] for row in shared_book.shown_rows(book.text, book.rows.faults)]
         self.assertEqual(len(shown), 3)
         self.assertEqual(found[:6], [[2, 0, 1], [2, 1, 3], [2, 3, 4], [2, 4, 5], [2, 5, 6], [2, 6, 7]])
         self.assertEqual(found[6:1006], [[3, n, n + 1] for n in range(1000)])

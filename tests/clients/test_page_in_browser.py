@@ -1,7 +1,11 @@
 """The page in a real browser. It is skipped where there is none."""
 
+import os
 import random
 import signal
+import subprocess
+import sys
+import time
 import unittest
 from contextlib import suppress
 
@@ -34,7 +38,7 @@ return [...document.querySelectorAll("[role=option]")].map((row) => {
 });
 """
 ANSWER = """
-const button = [...document.querySelectorAll("#notice:not([hidden]) button")].find((one) => one.textContent === arguments[0]);
+const button = [...document.querySelectorAll("#notice:not([hidden]) button:enabled")].find((one) => one.textContent === arguments[0]);
 button?.click();
 return Boolean(button);
 """
@@ -67,7 +71,7 @@ HAND_MADE = bytes.fromhex(
     "4D54726B 00000025 00 C029 00 903C1E 8170 803C40 00 903E7F 8170 803E40 00 C005 00 904050 8170 804040 00 FF2F00"
     "4D54726B 0000000E 00 914369 8170 814340 8360 FF2F00"
 )
-CONTROL, HOME, BACKSPACE, ESCAPE, F8 = "\ue009", "\ue011", "\ue003", "\ue00c", "\ue038"
+CONTROL, HOME, END, BACKSPACE, ESCAPE, F8 = "\ue009", "\ue011", "\ue010", "\ue003", "\ue00c", "\ue038"
 TUNE = "X:1\nT:Scale\nM:3/4\nL:1/4\nQ:1/4=240\nK:C\nCEG|[Q:1/4=480]c2 z|\n"
 TUNES = [line for number in range(1, 101) for line in (f"X:{number}", f"T:Tune {number}", "K:C", "C", "")]
 STANDING = """
@@ -79,6 +83,14 @@ SEEN = """
 const mark = document.querySelector("mark").getBoundingClientRect();
 const view = document.querySelector(".scroller").getBoundingClientRect();
 return view.left < mark.left && mark.right < view.right && view.top < mark.top && mark.bottom < view.bottom;
+"""
+THIEF = """
+import socket, sys
+with socket.create_server(("127.0.0.1", int(sys.argv[1]))) as server:
+    while True:
+        with server.accept()[0] as connection:
+            print(connection.recv(65536).decode("latin-1"), flush=True)
+            connection.sendall(b'HTTP/1.1 200 OK\\r\\nContent-Length: 27\\r\\nConnection: close\\r\\n\\r\\n{"run":"0","proof":"0" }    ')
 """
 LACKING = browser.lacking()
 
@@ -356,17 +368,175 @@ class Browser(test_page.Page):
         self.settled("X:1\nK:C\nC")
 
     def test_the_book_on_disk_was_changed(self):
+        """What another program writes is shown, and can be undone; if text is unsaved the page asks which one to take."""
         self.type("X:1\nK:C\nC")
         self.settled("X:1\nK:C\nC")
+        self.press("s", CONTROL)
+        self.wait(lambda: self.text("status") == "Saved book.abc.")
+        self.path.write_bytes(b"X:1\nK:C\nCDE")
+        self.shows("X:1\nK:C\nCDE")
+        self.assertEqual(self.question(), [])
+        self.press("z", CONTROL)
+        self.shows("X:1\nK:C\nC")
+        self.settled("X:1\nK:C\nC")
         self.path.write_bytes(b"another's")
+        self.wait(self.question)
+        self.assertEqual(self.question(), ["Save this text over it", "Load the book from disk", "Decide later"])
+        self.assertEqual(self.run_script("return document.activeElement.tagName"), "TEXTAREA")
+        self.answer("Decide later")
+        self.wait(lambda: self.text("later") == "1 question")
         self.press("s", CONTROL)
-        self.answer("Keep the book on disk")
-        self.assertEqual(self.path.read_bytes(), b"another's")
+        self.answer("Load the book from disk")
+        self.shows("another's")
+        self.assertEqual((self.path.read_bytes(), self.question()), (b"another's", []))
+        self.press("z", CONTROL)
+        self.shows("X:1\nK:C\nC")
+        self.settled("X:1\nK:C\nC")
+        self.path.write_bytes(b"once more")
+        self.answer("Save this text over it")
+        self.wait(lambda: self.path.read_bytes() == b"X:1\nK:C\nC")
+        self.wait(lambda: not self.is_unsaved() and not self.question())
+
+    def question(self) -> list:
+        """The answers to the question that is shown."""
+        return self.run_script("return [...document.querySelectorAll('#notice:not([hidden]) button')].map((one) => one.textContent)")
+
+    def shows(self, text: str):
+        """Waits till the page shows this text."""
+        self.wait(lambda: self.run_script(f"return {AREA}.value") == text)
+
+    def is_unsaved(self) -> bool:
+        return not self.run_script("return document.getElementById('unsaved').hidden")
+
+    def stored(self) -> str:
+        """What the browser keeps."""
+        return self.run_script("return JSON.stringify(localStorage)")
+
+    def test_a_loaded_page_shows_the_book_on_disk(self):
+        self.type("X:1")
+        self.settled("X:1")
+        self.press("s", CONTROL)
+        self.wait(lambda: not self.is_unsaved())
+        self.path.write_bytes(b"X:2")
+        self.load()
+        self.assertEqual(self.run_script(f"return {AREA}.value"), "X:2")
+
+    def test_unsaved(self):
+        """It shows as soon as something is typed, and no more when the text is again what was saved."""
+        self.type("C")
+        self.settled("C")
+        self.press("s", CONTROL)
+        self.wait(lambda: not self.is_unsaved())
+        self.server.send_signal(signal.SIGSTOP)
         self.press("D")
-        self.settled("X:1\nK:C\nCD")
+        self.assertTrue(self.is_unsaved())
+        self.server.send_signal(signal.SIGCONT)
+        self.settled("CD")
+        self.assertTrue(self.is_unsaved())
+        self.press(BACKSPACE)
+        self.settled("C")
+        self.wait(lambda: not self.is_unsaved())
+
+    def test_two_questions(self):
+        """The text of one question survives the other: the server is away, text is typed, the book changes, the server is there
+        again, and the book changes once more."""
+        self.type("X:1\nK:C\nC")
+        self.settled("X:1\nK:C\nC")
         self.press("s", CONTROL)
-        self.answer("Replace it by this text")
-        self.wait(lambda: self.path.read_bytes() == b"X:1\nK:C\nCD")
+        self.wait(lambda: not self.is_unsaved())
+        self.kill()
+        self.type("DEF")
+        self.wait(lambda: "CDEF" in self.stored())
+        self.path.write_bytes(b"X:2\nK:C\nG")
+        self.start(str(self.path), port=str(self.port))
+        self.wait(self.question)
+        self.shows("X:2\nK:C\nG")
+        self.press("s", CONTROL)
+        self.assertIn("answer the question first", self.text("status"))
+        self.type("A")
+        self.settled("X:2\nK:C\nGA")
+        self.path.write_bytes(b"X:3\nK:C\nB")
+        self.wait(lambda: "1 more question" in self.text("notice"))
+        self.press("s", CONTROL)
+        self.assertEqual(self.path.read_bytes(), b"X:3\nK:C\nB")
+        self.answer("Decide later")
+        self.wait(lambda: "Another program changed" in self.text("notice"))
+        self.answer("Decide later")
+        self.type("B")
+        self.settled("X:2\nK:C\nGAB")
+        self.assertIn("CDEF", self.stored())
+        self.press("s", CONTROL)
+        self.answer("Keep this window's text")
+        self.settled("X:1\nK:C\nCDEF")
+        self.press(END, CONTROL)
+        self.press("G")
+        self.settled("X:1\nK:C\nCDEFG")
+        self.press("s", CONTROL)
+        self.answer("Save this text over it")
+        self.wait(lambda: self.path.read_bytes() == b"X:1\nK:C\nCDEFG")
+
+    def test_whoever_takes_the_port(self):
+        """The page sends it no token and no text, and goes on when the server is back."""
+        self.type("X:1\nK:C\nC")
+        self.settled("X:1\nK:C\nC")
+        self.kill()
+        thief = subprocess.Popen([sys.executable, "-c", THIEF, str(self.port)], stdout=subprocess.PIPE, text=True)
+        self.limit(thief)
+        self.wait(lambda: "another program has its port" in self.text("status"))
+        self.type("secret")
+        time.sleep(1)
+        thief.terminate()
+        asked = thief.stdout.read()
+        self.assertIn("GET /proof/", asked)
+        self.assertEqual((self.token in asked, "secret" in asked, asked.count("POST")), (False, False, 0))
+        self.start(str(self.path), port=str(self.port))
+        self.settled("X:1\nK:C\nCsecret")
+        self.assertIn(self.token, self.driver.current_url)
+
+    def test_many_windows(self):
+        """Seven windows of one browser can type and save."""
+        first = self.driver.current_window_handle
+        for _ in range(6):
+            self.driver.switch_to.new_window("tab")
+            self.load()
+        for count, window in enumerate(reversed(self.driver.window_handles)):
+            self.turn_to(window)
+            if window != first:
+                self.shows(count * "C")
+                self.type("C")
+                self.wait(lambda: self.text("status").startswith("no file changed"))
+                self.press("s", CONTROL)
+                self.wait(lambda: self.text("status") == "Saved book.abc.")
+                self.driver.close()
+        self.turn_to(first)
+        self.shows("CCCCCC")
+        self.assertEqual(self.path.read_bytes(), b"CCCCCC")
+
+    def test_a_save_that_is_refused(self):
+        """The reason is shown, and the text can be had."""
+        self.type("C")
+        self.settled("C")
+        self.path.chmod(0o444)
+        self.press("s", CONTROL)
+        self.wait(lambda: self.question() == ["Download the text", "Close"])
+        self.assertIn("the file is read-only", self.text("notice"))
+        self.path.chmod(0o644)
+        self.answer("Close")
+        self.press("s", CONTROL)
+        self.wait(lambda: self.path.read_bytes() == b"C")
+
+    def test_a_program_that_hangs(self):
+        self.type("X:1")
+        self.settled("X:1")
+        os.kill(int((self.folder / "pid").read_text()), signal.SIGSTOP)
+        self.press("2")
+        self.answer("Start it again")
+        self.settled("X:12")
+        self.wait(lambda: not self.question())
+
+    def test_a_number_of_two_tunes(self):
+        self.type("X:1\nK:C\nC\n\nX:1\nK:C\nD")
+        self.wait(lambda: self.text("empty") == "Number 1 is used at line 1; this tune has no file.")
 
     def test_two_windows(self):
         self.type("X:1\nK:C\nC\nD")

@@ -1,35 +1,45 @@
-// Text that the server may not have, kept in the browser, by the book and the window.
+// Text that the server may not have, in the browser's store, by the book and the window.
 
 export class Drafts {
   constructor(book, window) {
     this.prefix = `abc2midi_live ${book} `;
     this.key = this.prefix + window;
+    this.doubts = 0;
   }
 
-  /** Keeps the text; whether there was room for it. */
-  keep(lines) {
+  /** Stores the text of this window; whether there was room for it. */
+  keep(lines, key = this.key) {
     try {
-      localStorage.setItem(this.key, JSON.stringify({ when: Date.now(), text: lines.join("\n") }));
+      localStorage.setItem(key, JSON.stringify({ when: Date.now(), text: lines.join("\n") }));
       return true;
     } catch {
       return false;
     }
   }
 
+  /** Stores text in doubt under a key of its own, which nothing else of this window overwrites; the key, or null if there was
+   * no room. */
+  putAside(lines) {
+    this.doubts += 1;
+    const key = `${this.key} ${this.doubts}`;
+    return this.keep(lines, key) ? key : null;
+  }
+
   forget(key = this.key) {
     try {
       localStorage.removeItem(key);
     } catch {
-      // a browser that keeps nothing
+      // a browser that stores nothing
     }
   }
 
-  /** What other windows, or this one before it was loaded anew, left: the newest that is not this text. */
-  left(lines) {
+  /** What other windows left, or this one before it was loaded anew: the newest that is not this text. */
+  left(lines, passed) {
     const text = lines.join("\n");
     let newest = null;
     try {
-      for (const key of Object.keys(localStorage).filter((one) => one.startsWith(this.prefix) && one !== this.key)) {
+      for (const key of Object.keys(localStorage)) {
+        if (!key.startsWith(this.prefix) || key.startsWith(this.key) || passed.has(key)) continue;
         const draft = { key, ...JSON.parse(localStorage.getItem(key)) };
         if (draft.text === text) this.forget(key);
         else if (!newest || draft.when > newest.when) newest = draft;

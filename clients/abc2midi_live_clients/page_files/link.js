@@ -4,16 +4,20 @@ import { difference } from "./text.js";
 
 const SOON = 10; // milliseconds after a key
 const AGAIN = [500, 1000, 2000, 4000]; // milliseconds before it is tried again
+const POLL = 1000; // milliseconds between questions for news, if there are many windows
+const TRIES = 5; // of a save, while edits of others arrive
 
 export class Link {
-  constructor(text) {
+  constructor(text, server) {
     this.text = text;
+    this.server = server;
     this.window = crypto.randomUUID?.() ?? String(Math.random());
-    this.state = null; // of the server: run, version, saved, savedVersion, windows
+    this.state = null; // of the server: run, version, unsaved, saved, disk, trouble, slow, windows
     this.sent = null; // the edit on its way, or one that was not answered: whether it arrived is not known
     this.stuck = null; // the lines of the text that the server did not take
     this.tries = 0;
-    this.away = false;
+    this.away = "";
+    this.hurry = () => {}; // asks for news now, if the window has to ask
     this.opened = () => {}; // a whole book came
     this.changed = () => {}; // a change came: this window's own, or another's
     this.told = () => {}; // state or `away` is another
@@ -27,26 +31,20 @@ export class Link {
     return !this.sent && !this.text.pending;
   }
 
-  /** Whether the server refused the text as it stands: it is not sent again until it is another one. */
-  get isStuck() {
-    return this.stuck === this.text.lines;
+  /** Whether the text is another one than the file. */
+  get isUnsaved() {
+    return Boolean(this.state) && (this.state.unsaved || !this.settled);
   }
 
-  /** Asks the server; its answer, or an error with its status. */
-  async ask(name, body) {
-    const options = body && { method: "POST", body: JSON.stringify(body) };
-    const answer = await fetch(name, { ...options, signal: AbortSignal.timeout(60000) }).catch(() => {
-      throw new Error("it does not answer");
-    });
-    const told = await answer.json();
-    if (!answer.ok) throw Object.assign(new Error(told.error), { status: answer.status, told });
-    return told;
+  /** Whether the server refused the text as it is now: it is not sent again until it is another one. */
+  get isStuck() {
+    return this.stuck === this.text.lines;
   }
 
   /** Reads the whole book, and what happens to it from then on. */
   async open() {
     try {
-      this.arrive(await this.ask("book"));
+      this.arrive(await this.server.ask("book"));
       this.listen();
       this.present();
     } catch (error) {
@@ -54,18 +52,16 @@ export class Link {
     }
   }
 
-  /** A whole book. Text that only this window has is not lost by it: it goes to the server where the book on disk is the
-   * one that this window knows, and else the user is asked. */
+  /** A whole book. Text that only this window has is not lost by it: it goes to the server if the book on disk is the one that
+   * this window knows, and else the user is asked. */
   arrive(book) {
-    const known = this.state;
-    const own = known && (this.sent || this.text.pending || known.version !== known.savedVersion);
-    const edit = own ? difference(book.lines, this.text.lines) : null;
+    const own = this.isUnsaved ? difference(book.lines, this.text.lines) : null;
+    const known = this.state, mine = this.text.lines;
     this.sent = null;
     this.state = stateOf(book);
-    if (!edit) return this.opened(book, true);
-    const mine = this.text.lines;
-    this.opened(book, false);
-    if (known.saved === book.saved && book.version === book.savedVersion) this.take(mine);
+    this.opened(book, !own);
+    if (!own) return;
+    if (known.saved === book.saved && !book.unsaved) this.take(mine);
     else this.doubted(mine);
   }
 
@@ -73,35 +69,67 @@ export class Link {
   take(lines) {
     const edit = difference(this.text.lines, lines);
     if (edit) this.text.edit(edit.start, edit.stop, edit.put, START, START);
-    this.whole = true;
+    this.whole = Boolean(edit);
     this.opened(null, true);
   }
 
-  /** Follows what happens to the book. */
-  listen() {
-    this.events?.close();
-    this.events = new EventSource(`events/${this.state.version}`);
-    this.events.onmessage = ({ data }) => this.hear(JSON.parse(data));
-    this.events.onerror = () => this.absent(new Error("it does not answer"));
+  /** Follows what happens to the book. A window that is one too many for the browser's connections asks again and again. */
+  async listen() {
+    this.hearing?.abort();
+    const hearing = (this.hearing = new AbortController());
+    try {
+      await this.server.hear(`events/${this.state.version}/${this.window}`, hearing, (news) => this.hear(news));
+    } catch (error) {
+      if (this.hearing !== hearing) return;
+      if (error.told?.full) this.poll();
+      else this.absent(error);
+    }
+  }
+
+  async poll() {
+    const hearing = (this.hearing = new AbortController());
+    try {
+      for (;;) {
+        await this.server.prove();
+        const { state, changes, room } = await this.server.ask(`news/${this.state.version}/${this.window}`);
+        if (this.hearing !== hearing) return;
+        this.hear({ state });
+        for (const change of changes) this.hear({ change });
+        if (this.hearing !== hearing) return;
+        if (room) return this.listen();
+        await new Promise((done) => {
+          this.hurry = done;
+          setTimeout(done, POLL);
+        });
+        if (this.hearing !== hearing) return;
+      }
+    } catch (error) {
+      if (this.hearing === hearing) this.absent(error);
+    }
   }
 
   hear({ state, change }) {
     if (state && state.run !== this.state.run) {
-      this.events.close();
       this.open();
     } else if (state) {
-      this.state = { ...state, version: this.state.version };
-      this.present();
+      this.know(state);
+      this.soon();
     } else {
       this.advance(change);
     }
+  }
+
+  /** The state of the server, which may have made more changes than this window knows. */
+  know(state) {
+    this.state = { ...stateOf(state), version: this.state.version };
+    this.told();
   }
 
   /** A change, which is the next one or is known. */
   advance(change) {
     if (change.version <= this.state.version) return;
     if (change.version > this.state.version + 1) return this.open();
-    this.state.version = change.version;
+    this.state = { ...this.state, version: change.version, unsaved: change.unsaved };
     if (change.window === this.window) {
       if (!isSame(change.edit, this.sent)) return this.open(); // one that was given up, and did arrive
       this.sent = null;
@@ -109,7 +137,7 @@ export class Link {
     } else {
       this.giveBack();
       if (this.whole) return this.open();
-      if (this.text.others(change.edit.start, change.edit.stop, change.edit.lines)) this.twice();
+      if (this.text.others(change.edit.start, change.edit.stop, change.edit.lines, change.window === null)) this.twice();
     }
     this.changed(change, change.window === this.window);
     this.told();
@@ -129,7 +157,7 @@ export class Link {
     this.sent = this.text.take();
     const { run, version } = this.state;
     try {
-      this.advance(await this.ask("edit", { run, version, window: this.window, ...this.sent }));
+      this.advance(await this.server.ask("edit", { run, version, window: this.window, ...this.sent }));
     } catch (error) {
       this.failed(error);
     }
@@ -161,22 +189,28 @@ export class Link {
     this.sent = null;
   }
 
-  /** The server is away: it is tried again. */
+  /** The server is away: it is tried again. Nothing is asked of it before it proved that it is the same. */
   absent(error) {
-    this.events?.close();
+    this.hearing?.abort();
+    this.hearing = null;
     this.away = error.message;
+    this.server.lose();
     this.told();
-    clearTimeout(this.retry);
-    this.retry = setTimeout(() => this.again(), AGAIN[Math.min(this.tries, AGAIN.length - 1)]);
+    if (this.retry) return;
+    this.retry = setTimeout(() => {
+      this.retry = null;
+      this.again();
+    }, AGAIN[Math.min(this.tries, AGAIN.length - 1)]);
     this.tries += 1;
   }
 
   async again() {
-    if (!this.state) return this.open();
     try {
+      await this.server.prove();
+      if (!this.state) return this.open();
       const { run, version } = this.state;
-      const book = await this.ask("state");
-      this.away = false;
+      const book = await this.server.ask("state");
+      this.away = "";
       if (book.run !== run || book.version < version) return this.open();
       if (book.version === version) this.giveBack();
       this.listen();
@@ -189,7 +223,7 @@ export class Link {
   /** The server is there. */
   present() {
     this.tries = 0;
-    this.away = false;
+    this.away = "";
     this.told();
     this.soon();
   }
@@ -200,16 +234,22 @@ export class Link {
       this.send();
       await new Promise((done) => setTimeout(done, 30));
     }
-    if (!this.settled) throw new Error(this.away || "the server does not take the last edit");
+    if (!this.settled || this.away) throw new Error(this.away ? `the server is away (${this.away})` : "the server does not take the last edit");
   }
 
-  /** Saves the book; `over` names the file on disk that is replaced though it was changed. */
-  async save(over) {
-    await this.flush();
-    const { run, version } = this.state;
-    const state = await this.ask("save", { run, version, ...over });
-    this.state = { ...state, version: this.state.version };
-    this.told();
+  /** Saves the book, or loads it from disk; `over` names the content of the file on disk, if it was changed by another program. */
+  async file(name, over) {
+    for (let tries = 1; ; tries += 1) {
+      await this.flush();
+      const { run, version } = this.state;
+      try {
+        return this.know(await this.server.ask(name, { run, version, ...over }));
+      } catch (error) {
+        if (error.told && "ask" in error.told) this.know({ ...this.state, disk: error.told.ask });
+        if (!error.told?.changes || tries === TRIES) throw error;
+        this.failed(error); // another window was first
+      }
+    }
   }
 }
 
@@ -221,6 +261,6 @@ function isSame({ start, stop, lines }, edit) {
 
 const START = { start: { line: 0, column: 0 }, end: { line: 0, column: 0 }, direction: "forward" };
 
-function stateOf({ run, version, saved, savedVersion, windows }) {
-  return { run, version, saved, savedVersion, windows };
+function stateOf({ run, version, unsaved, saved, disk, trouble, slow, windows }) {
+  return { run, version, unsaved, saved, disk, trouble, slow, windows };
 }

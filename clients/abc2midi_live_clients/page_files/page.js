@@ -4,7 +4,9 @@ import { Drafts } from "./drafts.js";
 import { Link } from "./link.js";
 import { scoreOf, secondOf } from "./midi.js";
 import { Player } from "./player.js";
+import { Questions } from "./questions.js";
 import { Roll, nameOf } from "./roll.js";
+import { Server } from "./server.js";
 import { Sheet } from "./sheet.js";
 import { Text } from "./text.js";
 import { Tunes } from "./tunes.js";
@@ -13,8 +15,10 @@ const MOST_TOLD = 50; // faults of a tune in the list below the text
 const find = (id) => document.getElementById(id);
 
 const text = new Text();
-const link = new Link(text);
+const server = new Server(location, document.querySelector("meta[name=key]").content);
+const link = new Link(text, server);
 const sheet = new Sheet(text, find("sheet"));
+const questions = new Questions(find("notice"), find("later"), sheet.area);
 const tunes = new Tunes(find("list"));
 const roll = new Roll(find("roll"), document.querySelector("canvas"));
 const player = new Player();
@@ -103,12 +107,22 @@ function worded(name) {
   });
 }
 
-/** Shows a tune in the roll. */
+/** Shows a tune in the roll, or why it has no file. */
 function show(row) {
   const number = row?.[3] ? row[1] : null;
   const title = row ? `${row[1]} ${row[2]}` : "";
   find("tune").textContent = title;
+  find("empty").textContent = row && !row[3] ? whyNoFile(row) : "";
+  find("empty").hidden = !find("empty").textContent;
   if (number !== shown.number) load(number);
+}
+
+/** Why a tune has no file. */
+function whyNoFile([line, number]) {
+  const owner = rows.find((row) => row[1] === number && row[3]);
+  if (owner) return `Number ${number} is used at line ${owner[0] + 1}; this tune has no file.`;
+  const isLong = faults.some((fault) => fault[0] === line && fault[3] === "TuneTooLong");
+  return isLong ? "This tune is too long; it has no file." : "";
 }
 
 /** Reads the file of a number; one that is asked for later comes in its place. */
@@ -119,8 +133,9 @@ async function load(number) {
   shown = { ...shown, number, asked };
   let score = null;
   try {
-    const answer = number === null ? null : await fetch(`midi/${number}`);
-    if (answer?.ok) score = scoreOf(await answer.arrayBuffer());
+    if (number !== null && link.away) throw new Error(link.away);
+    const bytes = number === null ? null : await server.bytes(`midi/${number}`);
+    if (bytes) score = scoreOf(bytes);
   } catch {
     if (shown.asked === asked) shown.number = null;
     return;
@@ -136,7 +151,7 @@ async function load(number) {
 function describe(score, number) {
   const midi = find("midi");
   find("play").disabled = !score;
-  if (score) Object.assign(midi, { href: `midi/${number}`, download: `${number}.mid` });
+  if (score && !link.away) Object.assign(midi, { href: server.address(`midi/${number}`), download: `${number}.mid` });
   else midi.removeAttribute("href");
   const range = score?.notes.length ? `, from ${nameOf(roll.lowest)} to ${nameOf(roll.highest)}` : "";
   const counted = score && `${score.voices} voice${score.voices === 1 ? "" : "s"}, ${score.bars.length - 1} bars`;
@@ -202,6 +217,11 @@ text.edited = () => {
   follow();
   link.soon();
   keepSoon();
+  showUnsaved();
+};
+server.renewed = () => {
+  history.replaceState(null, "", server.address(""));
+  describe(shown.score, shown.number);
 };
 
 link.opened = (fresh, whole) => {
@@ -226,42 +246,102 @@ link.changed = (change, own) => {
   const { written, removed, milliseconds } = change;
   tunes.light(written, removed);
   if (written.concat(removed).includes(shown.number)) load(shown.number);
+  const by = own ? "" : change.window === null ? ` · ${book.name} was changed on the disk` : " · by another window";
   const names = (what, numbers) => (numbers.length ? [`${what} ${numbers.slice(0, 8).map((n) => `${n}.mid`).join(", ")}${numbers.length > 8 ? " and more" : ""}`] : []);
   const files = [...names("changed", written), ...names("removed", removed)].join("; ") || "no file changed";
-  say(`${files} · ${milliseconds} ms${own ? "" : " · by another window"}`);
+  say(`${files} · ${milliseconds} ms${by}`);
 };
 link.told = () => {
-  const { version, saved, savedVersion, windows } = link.state ?? {};
-  const unsaved = link.state && (version !== savedVersion || !link.settled || saved === null);
-  find("unsaved").hidden = !unsaved;
-  document.title = `${unsaved ? "● " : ""}${book.name || "Tune book"} – abc2midi_live`;
+  const { windows, slow, trouble } = link.state ?? {};
+  showUnsaved();
   find("name").textContent = book.name || "Tune book";
   find("save").textContent = book.name || !link.state ? "Save" : "Download";
   find("windows").hidden = !(windows > 1);
   find("windows").textContent = `${windows} windows have this book`;
-  const footer = find("status");
-  footer.classList.toggle("away", Boolean(link.away));
-  if (link.away) {
-    const kept = keep() ? "what you type is kept in this browser, and sent when it is there again" : "and this browser has no room to keep the text: do not close it";
-    say(`The server is away (${link.away}): ${kept}.`);
-  } else if (footer.dataset.away) {
-    say("The server is there again.");
+  showAway();
+  if (trouble !== book.trouble && (trouble || book.trouble)) {
+    say(trouble ? `${book.name} on disk cannot be read: ${trouble}.` : `${book.name} on disk can be read again.`);
   }
-  footer.dataset.away = link.away ? "away" : "";
-  if (link.state && !link.away && link.settled && !find("notice").dataset.asks) drafts?.forget();
+  book.trouble = trouble;
+  if (link.state && book.name) askAboutTheFile();
+  if (!link.isStuck) questions.withdraw("refused");
+  if (slow && !link.away) {
+    questions.ask({ name: "slow", words: "The program has not answered for some seconds.", answers: { "Start it again": restart, Wait: null } });
+  } else {
+    questions.withdraw("slow");
+  }
+  if (link.state && !link.away && link.settled) drafts?.forget();
 };
 link.refused = (why) => {
   keep();
-  ask(`The server does not take this edit: ${why}. Undo it.`, { Undo: () => sheet.history(true) });
+  const words = `The server does not take this edit: ${why}. Undo it.`;
+  questions.ask({ name: "refused", about: text.lines, words, answers: { Undo: () => sheet.history(true) } });
 };
 link.twice = () => say("Another window changed the same lines: both are there.");
 link.doubted = (mine) => {
-  drafts.keep(mine);
-  ask("This window's text and the book both changed while the server was away.", {
-    "Keep this window's text": () => link.take(mine),
-    "Take the book as it is": () => drafts.forget(),
+  const key = drafts.putAside(mine);
+  const kept = key ? "" : " This browser has no room to keep it: answer before you close the page.";
+  questions.ask({
+    name: `doubt ${(doubts += 1)}`,
+    words: `${book.name || "The book"} was changed while the server was away, and so was this window's text.${kept}`,
+    answers: {
+      "Keep this window's text": () => {
+        link.take(mine);
+        keep();
+        if (key) drafts.forget(key);
+      },
+      "Take the book as it is": () => key && drafts.forget(key),
+      "Decide later": null,
+    },
   });
 };
+
+let doubts = 0;
+
+/** The first question about this window's text that is not answered. Nothing is saved before. */
+const standingDoubt = () => Array.from({ length: doubts }, (_, n) => `doubt ${n + 1}`).find((name) => questions.find(name));
+
+function showUnsaved() {
+  const unsaved = link.isUnsaved;
+  find("unsaved").hidden = !unsaved;
+  const title = `${unsaved ? "● " : ""}${book.name || "Tune book"} – abc2midi_live`;
+  if (document.title !== title) document.title = title;
+}
+
+/** Says that the server is away, or is there again. */
+function showAway() {
+  const footer = find("status"), away = link.away;
+  footer.classList.toggle("away", Boolean(away));
+  if (away) {
+    const kept = keep() ? "what you type is kept in this browser, and sent when it is there again" : "and this browser has no room to keep the text: do not close it";
+    say(`The server is away (${away}): ${kept}.`);
+    find("midi").removeAttribute("href");
+  } else if (footer.dataset.away) {
+    say("The server is there again.");
+    describe(shown.score, shown.number);
+    tell();
+  }
+  footer.dataset.away = away;
+}
+
+/** Asks what to do if another program changed the file while the text has changes too. */
+function askAboutTheFile() {
+  const { saved, disk } = link.state;
+  const gone = disk === null;
+  if (disk === saved || link.away || !(gone || link.isUnsaved)) return questions.withdraw("disk");
+  questions.ask({
+    name: "disk",
+    about: disk,
+    words: gone
+      ? `${book.name} is not on the disk any more.`
+      : `Another program changed ${book.name} on the disk, and this text has changes that are not saved.`,
+    answers: {
+      [gone ? "Save this text" : "Save this text over it"]: () => save({ over: disk }),
+      ...(!gone && { "Load the book from disk": () => loadFromDisk({ over: disk }) }),
+      "Decide later": null,
+    },
+  });
+}
 
 /** A selection, after lines were put in the place of others. */
 function moved(selection, { start, stop, lines }) {
@@ -270,9 +350,9 @@ function moved(selection, { start, stop, lines }) {
   return { ...selection, start: move(selection.start), end: move(selection.end) };
 }
 
-/** Keeps the text in the browser, where the server may not have it: whether there was room. */
+/** Keeps the text in the browser if the server may not have it, or has not saved it: whether there was room. */
 function keep() {
-  return !drafts || !link.state || (link.settled && link.state.version === link.state.savedVersion) || drafts.keep(text.lines);
+  return !drafts || !link.isUnsaved || drafts.keep(text.lines);
 }
 
 let keeping = null;
@@ -285,67 +365,83 @@ function keepSoon() {
 
 /** Offers text that an earlier window left. */
 function offer() {
-  const draft = drafts.left(text.lines);
+  const draft = drafts.left(text.lines, passed);
   if (!draft) return;
-  ask(`This browser kept text of ${new Date(draft.when).toLocaleString()} that the book does not have.`, {
-    "Take it": () => {
-      link.take(draft.text.split("\n"));
-      drafts.forget(draft.key);
+  const done = () => {
+    drafts.forget(draft.key);
+    offer();
+  };
+  questions.ask({
+    name: draft.key,
+    words: `This browser kept text of ${new Date(draft.when).toLocaleString()} that the book does not have.`,
+    answers: {
+      "Take it": () => {
+        link.take(draft.text.split("\n"));
+        keep();
+        done();
+      },
+      "Forget it": done,
+      "Decide later": null,
     },
-    "Forget it": () => drafts.forget(draft.key),
   });
+  passed.add(draft.key);
 }
 
-let behind = null; // what had the focus before a question
-
-/** Asks in a line, with a button for each answer. The focus goes there, and back with the answer. */
-function ask(question, answers) {
-  const notice = find("notice");
-  if (!notice.contains(document.activeElement)) behind = document.activeElement;
-  const words = Object.assign(document.createElement("span"), { textContent: question });
-  const buttons = Object.entries(answers).map(([name, act]) => {
-    const button = Object.assign(document.createElement("button"), { type: "button", textContent: name });
-    button.addEventListener("click", () => {
-      notice.hidden = true;
-      delete notice.dataset.asks;
-      const kept = behind?.isConnected && behind !== document.body && !behind.disabled;
-      (kept ? behind : sheet.area).focus({ preventScroll: true });
-      act();
-    });
-    return button;
-  });
-  notice.replaceChildren(words, ...buttons);
-  notice.hidden = false;
-  notice.dataset.asks = "asks";
-  buttons[0].focus();
-}
+const passed = new Set(); // the keys of text that was offered
 
 function say(words) {
   find("status").textContent = words;
 }
 
-/** Saves the book, or hands it out where no book was named. */
+/** Saves the book, or hands it out if no book was named. */
 async function save(over) {
+  const doubt = standingDoubt();
+  if (doubt) {
+    questions.focus(doubt);
+    return say("Not saved: answer the question first.");
+  }
+  if (!book.name) return download();
+  if (!over && questions.find("disk")) {
+    questions.focus("disk");
+    return say(`Not saved: another program changed ${book.name}.`);
+  }
   try {
-    if (!book.name) return download();
-    await link.save(over);
+    await link.file("save", over);
+    questions.withdraw("failed");
     say(`Saved ${book.name}.`);
   } catch (error) {
-    if (error.told && "ask" in error.told) {
-      ask("The book on disk was changed by another program since it was read.", {
-        "Keep the book on disk": () => say("Not saved."),
-        "Replace it by this text": () => save({ over: error.told.ask }),
-      });
-    } else {
-      say(`Not saved: ${error.message}.`);
-    }
+    failed("saved", error);
   }
+}
+
+/** Makes the book on disk the text. */
+async function loadFromDisk(over) {
+  try {
+    await link.file("load", over);
+    say(`Loaded ${book.name} from the disk. Ctrl-Z takes that back.`);
+  } catch (error) {
+    failed("loaded", error);
+  }
+}
+
+/** Says why the book is not saved or loaded. If there is nothing to ask, the text can be had as a file of the browser. */
+function failed(what, error) {
+  say(`Not ${what}: ${error.message}.`);
+  if (questions.find("disk")) questions.focus("disk");
+  else if (error.status && what === "saved") {
+    const words = `${book.name} is not saved: ${error.message}.`;
+    questions.ask({ name: "failed", about: words, words, answers: { "Download the text": download, Close: () => {} }, focus: true });
+  }
+}
+
+async function restart() {
+  await server.ask("restart", {}).catch((error) => say(`The program was not started again: ${error.message}.`));
 }
 
 function download() {
   const link = document.createElement("a");
   link.href = URL.createObjectURL(new Blob([text.lines.join("\n")], { type: "text/vnd.abc" }));
-  link.download = "book.abc";
+  link.download = book.name || "book.abc";
   link.click();
   setTimeout(() => URL.revokeObjectURL(link.href), 60000);
 }
@@ -366,7 +462,7 @@ document.addEventListener("keydown", (event) => {
   if (command && event.key.toLowerCase() === "s") save();
   else if (event.code === "Space" && (event.ctrlKey || (plain && !event.altKey && !event.metaKey))) playOrStop();
   else if (event.key === "F8") toFault(!event.shiftKey);
-  else if (event.key === "Escape" && inText) find(find("play").disabled ? "save" : "play").focus();
+  else if (event.key === "Escape" && inText) questions.enter() || find(find("play").disabled ? "save" : "play").focus();
   else return;
   event.preventDefault();
 });
@@ -378,6 +474,9 @@ addEventListener("pagehide", keep);
 addEventListener("beforeunload", (event) => {
   if (link.state && !link.settled) event.preventDefault();
 });
-document.addEventListener("visibilitychange", () => document.hidden && link.away && keep());
+document.addEventListener("visibilitychange", () => {
+  if (!document.hidden) link.hurry();
+  else if (link.away) keep();
+});
 
 link.open();

@@ -96,11 +96,17 @@ export class Text {
 
   /** An edit of another window, of the text that the server had. Where this window has changed the same lines too, both
    * are kept, the other's first; then true is answered. Lines put in before a line are not that line; two windows that put
-   * lines in at one place have the other's first, too. */
-  others(start, stop, put) {
+   * lines in at one place have the other's first, too. What came from disk can be undone, all else that came before cannot. */
+  others(start, stop, put, fromDisk = false) {
     const own = this.pending;
-    this.past = [];
+    this.past = fromDisk && !own && this.past[this.past.length - 1]?.fromDisk ? this.past : [];
     this.future = [];
+    if (fromDisk && !own) {
+      const place = { line: Math.min(start, this.lines.length - 1), column: 0 };
+      const selection = { start: place, end: place, direction: "forward" };
+      const taken = this.lines.slice(start, stop);
+      this.past.push({ start, taken, put, before: selection, after: selection, when: -Infinity, fromDisk });
+    }
     const more = own ? own.count - (own.stop - own.start) : 0;
     const shift = put.length - (stop - start);
     if (!own || start > own.stop || (start === own.stop && (start > own.start || stop > start))) {

@@ -1,0 +1,117 @@
+// The server: how it is asked; and how it proves, after a loss, that it is the one of this book, before it is asked anything
+// else. Another program may have taken its port.
+
+const PATIENCE = 5000; // milliseconds for a proof
+const SILENCE = 8000; // milliseconds without a word, after which the server counts as lost: it says one every three seconds
+const NO_ANSWER = "it does not answer";
+
+export class Server {
+  /** `key` is the secret of the book, which came with the page. */
+  constructor({ pathname, port }, key) {
+    this.token = pathname.split("/")[1];
+    this.port = port || "80";
+    this.key = key;
+    this.lost = new AbortController(); // ends what was asked of a server that was lost since
+    this.renewed = () => {}; // the server was started again: it has another token
+  }
+
+  /** The address of a name. */
+  address(name) {
+    return `/${this.token}/${name}`;
+  }
+
+  /** Asks the server; its answer, or an error with its status. */
+  async ask(name, body) {
+    const answer = await fetched(this.address(name), this.lost.signal, body && { method: "POST", body: JSON.stringify(body) });
+    return told(answer);
+  }
+
+  /** The bytes of a file, or null. */
+  async bytes(name) {
+    const answer = await fetched(this.address(name), this.lost.signal);
+    return answer.ok ? answer.arrayBuffer() : null;
+  }
+
+  /** Hears the objects that the server sends, one after another; throws when it says no more, which also aborts `control`. */
+  async hear(name, control, heard) {
+    let timer = null;
+    const wait = () => {
+      clearTimeout(timer);
+      timer = setTimeout(() => control.abort(), SILENCE);
+    };
+    wait();
+    try {
+      const answer = await fetched(this.address(name), control.signal);
+      if (!answer.ok) await told(answer);
+      const reader = answer.body.pipeThrough(new TextDecoderStream()).getReader();
+      for (let rest = ""; ; ) {
+        const { done, value } = await reader.read();
+        if (done) throw new Error(NO_ANSWER);
+        wait();
+        const lines = (rest + value).split("\n");
+        rest = lines.pop();
+        for (const line of lines) if (line && !control.signal.aborted) heard(JSON.parse(line));
+      }
+    } catch (error) {
+      throw error.status ? error : new Error(NO_ANSWER);
+    } finally {
+      clearTimeout(timer);
+      control.abort();
+    }
+  }
+
+  /** What was asked of the server is given up. */
+  lose() {
+    this.lost.abort();
+    this.lost = new AbortController();
+  }
+
+  /** Lets the server prove that it has the key of the book, and shows it that this page has it too; then it gives the token of
+   * its present start. Whoever else has the port gets nothing. */
+  async prove() {
+    if (!this.key || !globalThis.crypto?.subtle) throw new Error("open the address that it prints when it is started again");
+    const nonce = hex(crypto.getRandomValues(new Uint8Array(16)));
+    const { run, proof } = await asked(`/proof/${nonce}`);
+    if (!/^[0-9a-f]{16}$/.test(run) || !/^[0-9a-f]{64}$/.test(proof)) throw stranger();
+    const key = await crypto.subtle.importKey("raw", bytes(this.key), { name: "HMAC", hash: "SHA-256" }, false, ["sign", "verify"]);
+    const message = (who) => new TextEncoder().encode(`${who} ${this.port} ${run} ${nonce}`);
+    if (!(await crypto.subtle.verify("HMAC", key, bytes(proof), message("server")))) throw stranger();
+    const own = hex(new Uint8Array(await crypto.subtle.sign("HMAC", key, message("page"))));
+    const { token } = await asked(`/proof/${nonce}/${own}`);
+    if (token === this.token) return;
+    this.token = token;
+    this.renewed();
+  }
+}
+
+/** Asks without a token. */
+async function asked(path) {
+  const answer = await fetched(path, AbortSignal.timeout(PATIENCE));
+  try {
+    return { ...(await told(answer)) };
+  } catch {
+    throw stranger();
+  }
+}
+
+function stranger() {
+  return new Error("another program has its port; nothing is sent to it");
+}
+
+async function fetched(path, signal, options) {
+  return fetch(path, { ...options, signal, redirect: "error" }).catch(() => {
+    throw new Error(NO_ANSWER);
+  });
+}
+
+/** The object of an answer. */
+async function told(answer) {
+  const object = await answer.json().catch(() => {
+    throw new Error(NO_ANSWER);
+  });
+  if (!answer.ok) throw Object.assign(new Error(object.error), { status: answer.status, told: object });
+  return object;
+}
+
+const hex = (numbers) => [...numbers].map((number) => number.toString(16).padStart(2, "0")).join("");
+const bytes = (digits) => Uint8Array.from(digits.match(/../g), (pair) => parseInt(pair, 16));

@@ -1,0 +1,49 @@
+"""How a page and the server of its book know each other again after a loss, without sending what they know.
+
+Each book has a secret, which the page gets with its files. `proof` is a keyed digest of the port, the server's run and a number
+that the page drew: whoever took the port cannot make it, and cannot get it from a server at another port."""
+
+import hmac
+import os
+import re
+import secrets
+import stat
+from contextlib import suppress
+from pathlib import Path
+from typing import Optional
+
+from .saving import digest
+
+KEY = re.compile(r"[0-9a-f]{64}")
+
+
+def proof(key: str, who: str, port: int, run: str, nonce: str) -> str:
+    """The proof that the `server` or the `page` has the key."""
+    return hmac.new(bytes.fromhex(key), f"{who} {port} {run} {nonce}".encode(), "sha256").hexdigest()
+
+
+def book_key(path: Optional[str]) -> str:
+    """The secret of a book, one and the same for each start. It is in a file that nobody else may read. If there can be no such
+    file, the secret is this start's alone."""
+    state = Path(os.environ.get("XDG_STATE_HOME") or Path.home() / ".local/state")
+    file = state / "abc2midi_live/keys" / digest(os.fsencode(path or ""))[:32]
+    key = secrets.token_hex(32)
+    with suppress(OSError, ValueError, RuntimeError):
+        file.parent.mkdir(mode=0o700, parents=True, exist_ok=True)
+        try:
+            with open(os.open(file, os.O_WRONLY | os.O_CREAT | os.O_EXCL, 0o600), "w") as new:
+                new.write(key)
+        except FileExistsError:
+            return kept_key(file) or key
+    return key
+
+
+def kept_key(file: Path) -> Optional[str]:
+    """The secret in a file, if it is one and nobody else may read it."""
+    descriptor = os.open(file, os.O_RDONLY | os.O_NONBLOCK | os.O_NOFOLLOW | os.O_CLOEXEC)
+    with open(descriptor, "rb") as kept:
+        found = os.fstat(descriptor)
+        if not stat.S_ISREG(found.st_mode) or found.st_uid != os.getuid() or found.st_mode & 0o077:
+            return None
+        key = kept.read(100).decode("ascii", "replace")
+    return key if KEY.fullmatch(key) else None

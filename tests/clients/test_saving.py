@@ -1,0 +1,150 @@
+"""Saving a book without loss."""
+
+import os
+import stat
+import unittest
+import unittest.mock
+
+import trial
+from abc2midi_live_clients import saving
+
+OLD, NEW = b"old\n", b"new\n"
+
+
+class Saving(trial.Folder):
+    def setUp(self):
+        super().setUp()
+        self.path = str(self.files / "book.abc")
+        self.write(OLD)
+
+    def write(self, data: bytes):
+        with open(self.path, "wb") as file:
+            file.write(data)
+
+    def save(self, expected=OLD):
+        saving.save_book(self.path, NEW, saving.digest_of(expected))
+
+    def assert_is(self, data: bytes):
+        """The book has these bytes, and nothing else is in its folder."""
+        self.assertEqual(trial.files_in(self.files), {os.path.basename(self.path): data})
+
+    def test_saves(self):
+        os.chmod(self.path, 0o640)
+        self.save()
+        self.assert_is(NEW)
+        self.assertEqual(stat.S_IMODE(os.stat(self.path).st_mode), 0o640)
+        os.unlink(self.path)
+        self.save(None)
+        self.assert_is(NEW)
+        self.assertEqual(stat.S_IMODE(os.stat(self.path).st_mode), 0o666 & ~saving.UMASK)
+
+    def test_a_book_that_changed(self):
+        with self.assertRaises(saving.BookChanged) as raised:
+            self.save(b"other")
+        self.assertEqual(raised.exception.present, saving.digest(OLD))
+        with self.assertRaises(saving.BookChanged):
+            self.save(None)
+        self.assert_is(OLD)
+
+    def test_a_book_that_changes_while_it_is_saved(self):
+        """Another writer that comes at any time before the replacement is seen, whether it writes the file or replaces it."""
+        for write in (self.write, self.replace):
+            for step in ("refuse_loss", "compare", "written", "keep_owner"):
+                self.write(OLD)
+                with self.subTest(step=step), self.meanwhile(step, lambda: write(b"other")):
+                    with self.assertRaises(saving.BookChanged) as raised:
+                        self.save()
+                    self.assertEqual(raised.exception.present, saving.digest(b"other"))
+                    self.assert_is(b"other")
+        os.unlink(self.path)
+        with self.meanwhile("written", lambda: self.write(b"other")), self.assertRaises(saving.BookChanged):
+            self.save(None)
+        self.assert_is(b"other")
+
+    def replace(self, data: bytes):
+        """Writes the book as editors do that rename a new file."""
+        new = self.folder / "new"
+        new.write_bytes(data)
+        os.replace(new, self.path)
+
+    def meanwhile(self, step: str, act):
+        """Lets something happen once, after a step of saving."""
+        return unittest.mock.patch.object(saving, step, after(getattr(saving, step), act))
+
+    def test_a_file_that_is_read_only(self):
+        os.chmod(self.path, 0o444)
+        with self.assertRaisesRegex(saving.NotSaved, "read-only"):
+            self.save()
+        self.assert_is(OLD)
+
+    def test_a_file_of_two_names(self):
+        os.link(self.path, self.folder / "other name")
+        with self.assertRaisesRegex(saving.NotSaved, "2 names"):
+            self.save()
+        self.assert_is(OLD)
+        self.assertEqual(os.stat(self.path).st_nlink, 2)
+
+    def test_no_regular_file(self):
+        """Nothing is opened that could wait or be replaced: a pipe, a device, a folder, a link."""
+        os.unlink(self.path)
+        for make, remove in ((os.mkfifo, os.unlink), (os.mkdir, os.rmdir), (lambda path: os.symlink(os.devnull, path), os.unlink)):
+            make(self.path)
+            before = os.lstat(self.path)
+            for act in (self.save, lambda: self.save(None), lambda: saving.read_book(self.path)):
+                with self.assertRaises(saving.NotRegular):
+                    act()
+            self.assertEqual(os.lstat(self.path), before)
+            remove(self.path)
+        with self.assertRaises(saving.NotRegular):
+            saving.read_book(os.devnull)
+
+    def test_a_long_name(self):
+        os.unlink(self.path)
+        self.path = str(self.files / ("n" * 251 + ".abc"))
+        self.write(OLD)
+        self.save()
+        self.assert_is(NEW)
+
+    def test_extended_attributes(self):
+        try:
+            os.setxattr(self.path, "user.colour", b"red")
+        except OSError as error:
+            self.skipTest(f"no extended attributes here: {error.strerror}")
+        self.save()
+        self.assertEqual(os.getxattr(self.path, "user.colour"), b"red")
+        with unittest.mock.patch("os.setxattr", side_effect=PermissionError), self.assertRaisesRegex(saving.NotSaved, "extended attributes"):
+            self.save(NEW)
+        self.assert_is(NEW)
+
+    def test_the_owner(self):
+        """It stays, or nothing is saved."""
+        if os.getuid() != 0:
+            self.skipTest("only the superuser gives files away")
+        os.chown(self.path, 1234, 2345)
+        os.chmod(self.path, 0o4755)
+        self.save()
+        found = os.stat(self.path)
+        self.assertEqual((found.st_uid, found.st_gid, stat.S_IMODE(found.st_mode)), (1234, 2345, 0o4755))
+        with unittest.mock.patch("os.fchown", side_effect=PermissionError), self.assertRaisesRegex(saving.NotSaved, "another user"):
+            self.save(NEW)
+        self.assert_is(NEW)
+
+    def test_no_room(self):
+        for call in ("fsync", "replace", "fchmod"):
+            failing = unittest.mock.patch(f"os.{call}", side_effect=OSError(28, "No space left on device"))
+            with self.subTest(call=call), failing, self.assertRaisesRegex(OSError, "No space"):
+                self.save()
+            self.assert_is(OLD)
+
+
+def after(step, act):
+    """A step of saving, after which something happens once."""
+    acts = [act]
+
+    def stepped(*words):
+        result = step(*words)
+        if acts:
+            acts.pop()()
+        return result
+
+    return stepped
