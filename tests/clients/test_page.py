@@ -4,6 +4,7 @@ import hmac
 import http.client
 import json
 import os
+import pwd
 import random
 import re
 import resource
@@ -422,6 +423,20 @@ class Requests(Page):
             words = [sys.executable, str(trial.CLIENTS / "page"), "--program", trial.program, "--port", str(port)]
             again = subprocess.run(words, capture_output=True, timeout=trial.SECONDS)
             self.assertEqual((again.returncode, again.stderr.count(b"\n")), (1, 1))
+
+    def test_the_home(self):
+        """The key is in the user's home, and the tests have another one."""
+        self.finish()
+        self.assertNotEqual(Path.home(), Path(pwd.getpwuid(os.getuid()).pw_dir))
+        words = [sys.executable, str(trial.CLIENTS / "page"), "--program", trial.program]
+        server = subprocess.Popen(words, stdout=subprocess.PIPE)
+        self.limit(server)
+        server.stdout.readline()
+        kept = Path.home() / ".local/state/abc2midi_live/keys"
+        self.assertEqual(oct(kept.stat().st_mode & 0o777), "0o700")
+        self.assertTrue(os.listdir(kept))
+        server.terminate()
+        self.assertEqual(server.wait(trial.SECONDS), 0)
 
     def test_the_terminal_is_closed(self):
         self.finish()

@@ -8,6 +8,7 @@ import sys
 import tempfile
 import threading
 import unittest
+from contextlib import contextmanager
 from pathlib import Path
 from typing import NamedTuple
 
@@ -18,6 +19,18 @@ sys.path.insert(0, str(CLIENTS))
 program = ""
 oracle = []  # the command of the program that says what is wanted
 saves, tunes, changes, seed = 25, 20, 60, 1
+
+
+@contextmanager
+def home():
+    """A home for the clients and the browser, so that the tests leave nothing in the user's."""
+    with tempfile.TemporaryDirectory() as folder:
+        before = dict(os.environ)
+        for name in [name for name in before if name.startswith("XDG_")]:
+            del os.environ[name]
+        os.environ["HOME"] = folder
+        yield
+        os.environ.update(before)
 
 
 class Fresh(NamedTuple):
