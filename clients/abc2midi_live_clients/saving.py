@@ -1,5 +1,6 @@
 """Saving a book without loss: a new file replaces the old one in one step, or the save is refused with the reason."""
 
+import ctypes
 import errno
 import hashlib
 import os
@@ -11,6 +12,8 @@ from typing import NamedTuple, Optional
 
 READ = os.O_RDONLY | os.O_NONBLOCK | os.O_NOCTTY | os.O_CLOEXEC | os.O_NOFOLLOW  # opening a book never waits
 NOT_REGULAR = "it is not a regular file"
+LIBRARY = ctypes.CDLL(None, use_errno=True)
+HERE, RENAME_EXCHANGE = -100, 2  # Linux: names are relative to the present folder; two names are exchanged
 
 
 class NotRegular(OSError):
@@ -146,8 +149,9 @@ def written(folder: str, data: bytes, old: Optional[int]) -> str:
 
 
 def put_in_place(new: str, path: str, expected: Optional[str]) -> None:
-    """Gives a new file the book's name. No call of the system replaces a file only if nobody changed it: between the last look
-    at the old file and its replacement there are some microseconds."""
+    """Gives a new file the book's name. The two files exchange their names, so that the file that is replaced can be looked at
+    once more. What remains unseen is a program that has the old file open and writes it later. If the system cannot exchange names,
+    some microseconds between the last look and the replacement remain, too."""
     if expected is None:
         try:
             os.link(new, path)
@@ -157,7 +161,38 @@ def put_in_place(new: str, path: str, expected: Optional[str]) -> None:
         except OSError:  # a file system without hard links
             pass
     compare(path, expected)
-    os.replace(new, path)
+    own = stamp_of(new)
+    if expected is None or not exchange(new, path):
+        os.replace(new, path)
+        return
+    present = digest_of(read_book(new))
+    if present != expected:
+        take_back(new, path, own)
+        raise BookChanged(present)
+
+
+def take_back(new: str, path: str, own: Optional[Stamp]) -> None:
+    """Exchanges the names again. If yet another program replaced the book meanwhile, its file keeps the name."""
+    try:
+        exchange(new, path)
+    except BookChanged:  # it was removed meanwhile
+        os.replace(new, path)
+    now = stamp_of(new)
+    if own and now and now.inode != own.inode:
+        exchange(new, path)
+
+
+def exchange(one: str, other: str) -> bool:
+    """Exchanges the names of two files in one step; False if the system cannot do that."""
+    call = getattr(LIBRARY, "renameat2", None)
+    if call is None:
+        return False
+    if call(HERE, os.fsencode(one), HERE, os.fsencode(other), RENAME_EXCHANGE) == 0:
+        return True
+    number = ctypes.get_errno()
+    if number in (errno.EINVAL, errno.ENOSYS):
+        return False
+    raise BookChanged(None) if number == errno.ENOENT else OSError(number, os.strerror(number))
 
 
 def keep_owner(old: int, new: int) -> None:

@@ -61,15 +61,32 @@ class Saving(trial.Folder):
             self.save(None)
         self.assert_is(b"other")
 
+    def test_a_book_that_changes_at_the_last_moment(self):
+        """Between the last look and the replacement."""
+        for write in (self.write, self.replace, lambda _: os.unlink(self.path)):
+            self.write(OLD)
+            with self.meanwhile("compare", lambda: write(b"other"), 2), self.assertRaises(saving.BookChanged):
+                self.save()
+            self.assertIn(trial.files_in(self.files), ({"book.abc": b"other"}, {}))
+        self.write(OLD)
+        with self.meanwhile("compare", lambda: self.replace(b"other"), 2), self.meanwhile("exchange", lambda: self.replace(b"third")):
+            with self.assertRaises(saving.BookChanged):
+                self.save()
+        self.assert_is(b"third")
+        self.write(OLD)
+        with unittest.mock.patch.object(saving, "LIBRARY", None):
+            self.save()
+        self.assert_is(NEW)
+
     def replace(self, data: bytes):
         """Writes the book as editors do that rename a new file."""
         new = self.folder / "new"
         new.write_bytes(data)
         os.replace(new, self.path)
 
-    def meanwhile(self, step: str, act):
-        """Lets something happen once, after a step of saving."""
-        return unittest.mock.patch.object(saving, step, after(getattr(saving, step), act))
+    def meanwhile(self, step: str, act, time: int = 1):
+        """Lets something happen once, after a step of saving is done for the first time, or for another."""
+        return unittest.mock.patch.object(saving, step, after(getattr(saving, step), act, time))
 
     def test_a_file_that_is_read_only(self):
         os.chmod(self.path, 0o444)
@@ -130,21 +147,22 @@ class Saving(trial.Folder):
         self.assert_is(NEW)
 
     def test_no_room(self):
-        for call in ("fsync", "replace", "fchmod"):
+        for call in ("fsync", "fchmod"):
             failing = unittest.mock.patch(f"os.{call}", side_effect=OSError(28, "No space left on device"))
             with self.subTest(call=call), failing, self.assertRaisesRegex(OSError, "No space"):
                 self.save()
             self.assert_is(OLD)
 
 
-def after(step, act):
+def after(step, act, time: int):
     """A step of saving, after which something happens once."""
-    acts = [act]
+    times = []
 
     def stepped(*words):
         result = step(*words)
-        if acts:
-            acts.pop()()
+        times.append(step)
+        if len(times) == time:
+            act()
         return result
 
     return stepped
