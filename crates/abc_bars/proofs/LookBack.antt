@@ -6,6 +6,7 @@ pub mod CellPlace
 pub mod Cells
 pub mod Faults
 pub mod FieldFaults
+pub mod Fields
 pub mod Flags
 pub mod Heard
 pub mod Held
@@ -17,6 +18,7 @@ pub mod Named
 pub mod Openings
 pub mod Placed
 pub mod Places
+pub mod Since
 pub mod Step
 pub mod Tied
 pub mod Ties

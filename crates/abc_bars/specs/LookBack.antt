@@ -7,6 +7,7 @@ pub mod Cells
 pub mod Defaults
 pub mod Element
 pub mod Faults
+pub mod Fields
 pub mod Flags
 pub mod Header
 pub mod Held
@@ -14,6 +15,7 @@ pub mod Keys
 pub mod Lengths
 pub mod Openings
 pub mod Place
+pub mod Since
 pub mod Ties
 pub mod TunePlaces
 pub mod Velocities

@@ -37,10 +37,12 @@ use Rattle.abc_cells.specs.Cell.{mentioned_by_chord, tie_ahead}
 use Rattle.abc_bars.specs.LookBack.CellPlace.{Standing, standing_at}
 use Rattle.abc_bars.specs.LookBack.Element.{Element}
 use Rattle.abc_bars.specs.LookBack.Keys.{AreWrittenAlike, ChordsHaveKeys, IsAlteredAt, IsLastAmong, IsNoneAmong, NotesHaveKeys, SoundsKeys, heard_of, key_at, keys_from}
+use Rattle.abc_bars.specs.LookBack.Since.{notes_of_tokens}
 use Rattle.abc_bars.specs.LookBack.Ties.{IsTimeBefore, tied_notes}
 use Rattle.abc_bars.specs.LookBack.Voice.{accidentals_at, accidentals_of, alteration_at, counted_notes, newest_written, notes_among, notes_of_bar, settings_at, shift_at, signature_at, tied_at, written_by}
 use Rattle.abc_bars.proofs.LookBack.Accidentals.{newest_heard}
 use Rattle.abc_bars.proofs.LookBack.CellPlace.{between, body-at, chord-items, here-in-chord, here-is}
+use Rattle.abc_bars.proofs.LookBack.Since.{Heard, heard-since}
 use Rattle.abc_bars.proofs.LookBack.Tied.{AreBehind, alteration-at, behind-none, either, no-room, one-more, room-left}
 use Rattle.abc_bars.proofs.LookBack.Ties.{Passed, altered, left-by, passed-over, tied-last}
 
@@ -94,6 +96,16 @@ module _ (opening : Settings) (before : List Element) (earlier : List Note) (not
   abbrev others : List Note
   others = earlier ++ notes_of_bar before
 
+  -- Those since the voice's last bar line, K: or accepted P:.
+  since : Heard before
+  since = heard-since before
+
+  abbrev heard : List Note
+  heard = earlier ++ notes_of_tokens since.since
+
+  same-heard : heard ≡ others
+  same-heard = ap (λ l. earlier ++ l) (sym since.notes)
+
   found : IsAltered (settings_at opening before) (accidentals_of reach others) note (alteration_of (settings_at opening before) (accidentals_of reach others) note)
   found = altered_by (settings_at opening before) (accidentals_of reach others) note
 
@@ -108,6 +120,9 @@ module _ (opening : Settings) (before : List Element) (earlier : List Note) (not
   not-written : IsNoneAmong reach note others → written_on (accidentals_of reach others) note ≡ None
   not-written none = newest_heard reach others note ∙ none-among reach note others none
 
+  none-heard : IsNoneAmong reach note heard → IsNoneAmong reach note others
+  none-heard none = subst (λ (notes : List Note). IsNoneAmong reach note notes) same-heard none
+
   tied-is : (settings_at opening before).tied ≡ tied_at opening before
   unfolding settings_at
   tied-is = refl
@@ -118,16 +133,19 @@ module _ (opening : Settings) (before : List Element) (earlier : List Note) (not
 
   pub by-rule : IsAlteredAt (record { opening = opening; before = before }) earlier note
   by-rule = record {
+    since = since.since;
+    since_is = since.since_is;
     own = λ accidental e. sym is-altered ∙ found.own accidental e;
-    written = λ by e last. sym is-altered ∙ found.written by e (written-last by last);
+    written = λ by e last.
+        sym is-altered ∙ found.written by e (written-last by (subst (λ (notes : List Note). IsLastAmong reach note notes by) same-heard last));
     tied = λ token further front back last e none time is alike apart.
         sym is-altered
-        ∙ found.tied (map (altered opening further) front) (map (altered opening further) back) (altered opening further last) e (not-written none)
+        ∙ found.tied (map (altered opening further) front) (map (altered opening further) back) (altered opening further last) e (not-written (none-heard none))
         (tied-is ∙ tied-last opening before further token time ∙ ap (map (altered opening further)) is ∙ map-append (altered opening further) front (last ∷ back))
         alike (All-map (Apart note) (altered opening further) back apart);
     signature = λ e none h.
         sym is-altered
-        ∙ found.signature e (not-written none) (All-same (Apart note) (settings_at opening before).tied (tied_at opening before) tied-is (all-apart opening note before h))
+        ∙ found.signature e (not-written (none-heard none)) (All-same (Apart note) (settings_at opening before).tied (tied_at opening before) tied-is (all-apart opening note before h))
         ∙ ap (λ s. signature_alteration s note.letter) signature-is;
   }
 

@@ -19,8 +19,9 @@ use Rattle.abc_music.specs.TokenRole.{has_note}
 use Rattle.abc_cells.specs.Cell.{tie_ahead}
 use Rattle.abc_bars.specs.LookBack.CellPlace.{CellPlace, GivesItem, Standing, standing_at}
 use Rattle.abc_bars.specs.LookBack.Element.{Element}
+use Rattle.abc_bars.specs.LookBack.Since.{IsSince, notes_of_tokens}
 use Rattle.abc_bars.specs.LookBack.Ties.{IsTimeBefore, tied_notes}
-use Rattle.abc_bars.specs.LookBack.Voice.{alteration_at, counted_notes, notes_of_bar, shift_at, signature_at, tied_at, written_by}
+use Rattle.abc_bars.specs.LookBack.Voice.{alteration_at, counted_notes, shift_at, signature_at, tied_at, written_by}
 
 -- By how many semitones a note is altered, where these notes of its chord stand before it, newest first.
 abbrev pub altered_at : Standing → List Note → Note → ℤ
@@ -29,11 +30,6 @@ altered_at at earlier note = alteration_at at.opening (tied_at at.opening at.bef
 -- How far accidentals reach in the tune of a token.
 abbrev pub reach_at : Standing → Reach
 reach_at at = reach_of at.opening.accidentals
-
--- The notes whose accidentals can be heard on a note of a token, newest first: those of its chord before it, and those
--- of its voice since the voice's last bar line, K: or accepted P:.
-abbrev pub heard_at : Standing → List Note → List Note
-heard_at at earlier = earlier ++ notes_of_bar at.before
 
 -- The last accidental that reaches a note among others, newest first.
 pub record IsLastAmong (reach : Reach) (note : Note) (notes : List Note) (by : ℤ) : Type 0 where
@@ -57,14 +53,17 @@ AreWrittenAlike note other = (capital other.letter ≡ capital note.letter) × (
 -- letter and octave in the voice's preceding time token, at its own place; else the signature. That of a tied note is
 -- our own.
 pub record IsAlteredAt (at : Standing) (earlier : List Note) (note : Note) : Type 0 where
+  pub since : List Element
+  pub since_is : IsSince at.before since
   pub own : (accidental : Accidental) → note.accidental ≡ Some accidental → altered_at at earlier note ≡ accidental_alteration accidental
-  pub written : (by : ℤ) → note.accidental ≡ None → IsLastAmong (reach_at at) note (heard_at at earlier) by → altered_at at earlier note ≡ by
+  pub written : (by : ℤ) → note.accidental ≡ None → IsLastAmong (reach_at at) note (earlier ++ notes_of_tokens since) by
+      → altered_at at earlier note ≡ by
   pub tied : (token : Element) (further : List Element) (front back : List (List Note × Note)) (last : List Note × Note)
-      → note.accidental ≡ None → IsNoneAmong (reach_at at) note (heard_at at earlier)
+      → note.accidental ≡ None → IsNoneAmong (reach_at at) note (earlier ++ notes_of_tokens since)
       → IsTimeBefore at.before token further → tied_notes token.kind token.tied ≡ front ++ last ∷ back
       → AreWrittenAlike note last.1 → All (λ other. ¬ AreWrittenAlike note other.1) back
       → altered_at at earlier note ≡ altered_at (record { opening = at.opening; before = further }) last.0 last.1
-  pub signature : note.accidental ≡ None → IsNoneAmong (reach_at at) note (heard_at at earlier)
+  pub signature : note.accidental ≡ None → IsNoneAmong (reach_at at) note (earlier ++ notes_of_tokens since)
       → ((token : Element) (further : List Element) → IsTimeBefore at.before token further → All (λ other. ¬ AreWrittenAlike note other.1) (tied_notes token.kind token.tied))
       → altered_at at earlier note ≡ signature_alteration (signature_at at.opening.signature at.before) note.letter
 
