@@ -27,4 +27,5 @@ pub mod TunePlaces
 pub mod Velocities
 pub mod Tuplets
 pub mod Voice
+pub mod VoicePlaces
 pub mod Voices

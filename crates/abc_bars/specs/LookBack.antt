@@ -20,3 +20,4 @@ pub mod Ties
 pub mod TunePlaces
 pub mod Velocities
 pub mod Voice
+pub mod VoicePlaces

@@ -17,6 +17,7 @@ mod opening_laws;
 mod tie_laws;
 mod velocity_laws;
 mod voice_laws;
+mod voice_place_laws;
 
 pub use abc_cells::{Body, Entry};
 pub use abc_header::{Defaults, TuneProgram, VoiceName, Voices};
@@ -37,3 +38,4 @@ pub use opening_laws::openings_of_voices;
 pub use tie_laws::{loose_ties_of_cells, ties_of_voices};
 pub use velocity_laws::velocities_at_places;
 pub use voice_laws::voice_views;
+pub use voice_place_laws::voices_at_places;
