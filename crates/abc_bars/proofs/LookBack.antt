@@ -24,6 +24,7 @@ pub mod Tied
 pub mod Ties
 pub mod Tokens
 pub mod TunePlaces
+pub mod TupletPlaces
 pub mod Velocities
 pub mod Tuplets
 pub mod Voice

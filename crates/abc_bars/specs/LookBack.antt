@@ -18,6 +18,7 @@ pub mod Place
 pub mod Since
 pub mod Ties
 pub mod TunePlaces
+pub mod TupletPlaces
 pub mod Velocities
 pub mod Voice
 pub mod VoicePlaces
