@@ -13,6 +13,7 @@ pub mod Held
 pub mod Keys
 pub mod Known
 pub mod Lengths
+pub mod LineLengths
 pub mod Marks
 pub mod Named
 pub mod Openings

@@ -13,6 +13,7 @@ pub mod Header
 pub mod Held
 pub mod Keys
 pub mod Lengths
+pub mod LineLengths
 pub mod Openings
 pub mod Place
 pub mod Since
