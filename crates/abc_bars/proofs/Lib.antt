@@ -2,5 +2,7 @@ pub mod DeclaredVoices
 pub mod EntryLaws
 pub mod HeaderLaws
 pub mod HeaderViews
+pub mod KeyModes
+pub mod ListedAccidentals
 pub mod LookBack
 pub mod Titles

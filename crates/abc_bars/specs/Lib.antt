@@ -1,2 +1,3 @@
+pub mod KeyFieldLaws
 pub mod LookBack
 pub mod Titles
