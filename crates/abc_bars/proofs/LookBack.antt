@@ -2,9 +2,13 @@ pub mod Accidentals
 pub mod Along
 pub mod ByName
 pub mod ByPlace
+pub mod CellFaults
 pub mod CellPlace
 pub mod Cells
 pub mod Faults
+pub mod FaultsOfFields
+pub mod FaultsOfLengths
+pub mod FaultsOfSpelling
 pub mod FieldFaults
 pub mod Fields
 pub mod Flags
@@ -15,6 +19,7 @@ pub mod Known
 pub mod Lengths
 pub mod LineLengths
 pub mod Marks
+pub mod Mentions
 pub mod Named
 pub mod Openings
 pub mod Placed

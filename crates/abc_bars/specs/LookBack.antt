@@ -2,6 +2,7 @@ pub mod After
 pub mod AfterBody
 pub mod Along
 pub mod ByName
+pub mod CellFaults
 pub mod CellPlace
 pub mod Cells
 pub mod Defaults
@@ -14,6 +15,7 @@ pub mod Held
 pub mod Keys
 pub mod Lengths
 pub mod LineLengths
+pub mod Mentions
 pub mod Openings
 pub mod Place
 pub mod Since

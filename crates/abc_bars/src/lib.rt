@@ -5,6 +5,7 @@
 mod along_laws;
 mod bar_fold;
 mod body_laws;
+mod cell_fault_laws;
 mod cell_laws;
 mod fault_laws;
 mod header_laws;
@@ -14,6 +15,7 @@ mod key_field_laws;
 mod key_laws;
 mod length_laws;
 mod line_length_laws;
+mod mention_laws;
 mod name_laws;
 mod opening_laws;
 mod tie_laws;
@@ -29,6 +31,9 @@ pub use abc_settings::{TuneMeter, TuneTempo, UnitLength};
 pub use along_laws::{alike_views, tune_places, views_along, views_decide};
 pub use bar_fold::BarFold;
 pub use body_laws::mentioned_voices;
+pub use cell_fault_laws::{
+    field_faults_of_cells, length_faults_of_cells, spelling_faults_of_cells,
+};
 pub use cell_laws::{cell_views, left_by_tokens};
 pub use fault_laws::{bad_marks_of_cells, empty_chords, faults_at_places};
 pub use header_laws::{declared_voices, header_views, places_apart};
@@ -38,6 +43,7 @@ pub use key_field_laws::{listed_accidentals, modes_of_keys};
 pub use key_laws::{alterations_of_notes, keys_at_places};
 pub use length_laws::lengths_at_places;
 pub use line_length_laws::lengths_in_lines;
+pub use mention_laws::voices_by_mention;
 pub use name_laws::named_voices;
 pub use opening_laws::openings_of_voices;
 pub use tie_laws::{loose_ties_of_cells, ties_of_voices};
