@@ -13,7 +13,7 @@ use abc_tune::Built;
 use abc_tunebook::Fault;
 use live_examples::toy::Toy;
 use refused_music::lines_of;
-use refused_music::told::{call, done};
+use refused_music::told::{call, done, silent};
 use std::alloc::{AllocError, Global};
 use std::rt::Runtime;
 
@@ -39,12 +39,31 @@ pub fn empty_text(rt: &impl Runtime, alloc: Global) -> Result<bool, AllocError> 
 pub fn edited_text<R: Runtime>(rt: &R, alloc: Global) -> Result<bool, AllocError> {
     let mut work = Work::mint(rt);
     let lines = lines_of(alloc, &[b"X:1", b"D:5", b"c"])?;
-    let text = KeptText::new(alloc, Toy)?;
+    let mut text = KeptText::new(alloc, Toy)?;
     call(rt, "KeptText::prepare");
     match text.prepare(0, 0, &lines, &mut work) {
         Ok(patch) => {
             done(rt);
+            silent(rt, "KeptText::commit");
+            text.commit(patch);
+            done(rt);
+            Ok(text.lines().len() == 3)
+        }
+        Err(EditError::OutOfMemory) => Err(AllocError),
+        Err(_) => Ok(false),
+    }
+}
+
+/// The same tune, which is given up.
+pub fn dropped_text<R: Runtime>(rt: &R, alloc: Global) -> Result<bool, AllocError> {
+    let mut work = Work::mint(rt);
+    let lines = lines_of(alloc, &[b"X:1", b"D:5", b"c"])?;
+    let text = KeptText::new(alloc, Toy)?;
+    match text.prepare(0, 0, &lines, &mut work) {
+        Ok(patch) => {
+            silent(rt, "KeptPatch::drop_patch");
             patch.drop_patch();
+            done(rt);
             Ok(text.lines().len() == 0)
         }
         Err(EditError::OutOfMemory) => Err(AllocError),
@@ -99,6 +118,19 @@ pub fn edited_book(rt: &impl Runtime, alloc: Global) -> Result<bool, AllocError>
     call(rt, "KeptBook::prepare");
     let patch = book.prepare(alloc, tune)?;
     done(rt);
+    silent(rt, "KeptBook::commit");
     let report = book.commit(patch);
+    done(rt);
     Ok(report.written.as_slice() == [1].as_slice() && book.faults().len() == 1)
+}
+
+/// The same tune, which is given up.
+pub fn dropped_book(rt: &impl Runtime, alloc: Global) -> Result<bool, AllocError> {
+    let tune = new_tune(alloc)?;
+    let book = KeptBook::new(alloc)?;
+    let patch = book.prepare(alloc, tune)?;
+    silent(rt, "BookPatch::drop_patch");
+    patch.drop_patch();
+    done(rt);
+    Ok(book.faults().is_empty())
 }

@@ -24,16 +24,18 @@ pub enum Call {
     ReadLines,
     EmptyText,
     EditedText,
+    DroppedText,
     Outputs,
     TuneFaults,
     CellFaults,
     EditedBook,
+    DroppedBook,
     EmptySession,
     PreparedEdit,
 }
 
 /// All of them.
-pub const CALLS: [Call; 23] = [
+pub const CALLS: [Call; 25] = [
     Call::Piece,
     Call::FollowingPiece,
     Call::KeptPiece,
@@ -51,10 +53,12 @@ pub const CALLS: [Call; 23] = [
     Call::ReadLines,
     Call::EmptyText,
     Call::EditedText,
+    Call::DroppedText,
     Call::Outputs,
     Call::TuneFaults,
     Call::CellFaults,
     Call::EditedBook,
+    Call::DroppedBook,
     Call::EmptySession,
     Call::PreparedEdit,
 ];
@@ -79,10 +83,12 @@ impl Tried for Call {
             Call::ReadLines => books::read_lines(rt, alloc),
             Call::EmptyText => books::empty_text(rt, alloc),
             Call::EditedText => books::edited_text(rt, alloc),
+            Call::DroppedText => books::dropped_text(rt, alloc),
             Call::Outputs => outputs::outputs(rt, alloc),
             Call::TuneFaults => outputs::tune_faults(rt, alloc),
             Call::CellFaults => outputs::cell_faults(rt, alloc),
             Call::EditedBook => books::edited_book(rt, alloc),
+            Call::DroppedBook => books::dropped_book(rt, alloc),
             Call::EmptySession => sessions::empty_session(rt, alloc),
             Call::PreparedEdit => sessions::prepared_edit(rt, alloc),
         }

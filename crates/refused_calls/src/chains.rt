@@ -10,7 +10,7 @@ use abc_fold::{Chain, Piece, Pieces, Work};
 use abc_text::Sequence;
 use live_examples::toy::Toy;
 use refused_music::lent;
-use refused_music::told::{call, done};
+use refused_music::told::{call, done, silent};
 use std::alloc::{AllocError, Global};
 use std::rt::Runtime;
 
@@ -125,19 +125,22 @@ pub fn prepared_chain<R: Runtime>(rt: &R, alloc: Global) -> Result<bool, AllocEr
     let patch = chain.prepare(&Toy, &b'0', pieces.as_slice(), &mut work)?;
     done(rt);
     let count = patch.len();
+    silent(rt, "ChainPatch::drop_patch");
     patch.drop_patch();
+    done(rt);
     Ok(count == 2)
 }
 
 /// The same where it is known which follow each other.
 pub fn prepared_pieces<R: Runtime>(rt: &R, alloc: Global) -> Result<bool, AllocError> {
     let mut work = Work::mint(rt);
-    let chain = chain(alloc, &mut work)?;
+    let mut chain = chain(alloc, &mut work)?;
     let pieces = pieces_of(alloc, &chain)?;
     call(rt, "Chain::prepare_pieces");
     let patch = chain.prepare_pieces(&Toy, &b'0', &pieces, &mut work)?;
     done(rt);
-    let count = patch.len();
-    patch.drop_patch();
-    Ok(count == 2)
+    silent(rt, "Chain::commit");
+    chain.commit(patch);
+    done(rt);
+    Ok(chain.len() == 2)
 }

@@ -16,7 +16,7 @@ pub fn empty_session(rt: &impl Runtime, alloc: Global) -> Result<bool, AllocErro
     Ok(session.line_count() == 0)
 }
 
-/// Prepares an edit, and puts it in place, without memory.
+/// Prepares an edit, and commits it.
 fn put(session: &mut LiveSession<Toy>, edit: &Edit, work: &mut Work) -> Result<(), AllocError> {
     match session.prepare(edit, work) {
         Ok(patch) => {

@@ -16,6 +16,7 @@ pub enum Call {
     RoomyList,
     SplicedList,
     SplicedLines,
+    DroppedLines,
     SortedNumbers,
     CutLine,
     CellsOfTokens,
@@ -55,7 +56,7 @@ pub enum Call {
 }
 
 /// All of them.
-pub const CALLS: [Call; 45] = [
+pub const CALLS: [Call; 46] = [
     Call::Sequence,
     Call::LongerSequence,
     Call::CopiedSequence,
@@ -65,6 +66,7 @@ pub const CALLS: [Call; 45] = [
     Call::RoomyList,
     Call::SplicedList,
     Call::SplicedLines,
+    Call::DroppedLines,
     Call::SortedNumbers,
     Call::CutLine,
     Call::CellsOfTokens,
@@ -115,6 +117,7 @@ impl Tried for Call {
             Call::RoomyList => lists::roomy_list(rt, alloc),
             Call::SplicedList => lists::spliced_list(rt, alloc),
             Call::SplicedLines => lists::spliced_lines(rt, alloc),
+            Call::DroppedLines => lists::dropped_lines(rt, alloc),
             Call::SortedNumbers => lists::sorted_numbers(rt, alloc),
             Call::CutLine => texts::cut_line(rt, alloc),
             Call::CellsOfTokens => texts::cells_of_tokens(rt, alloc),

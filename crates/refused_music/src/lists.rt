@@ -1,7 +1,7 @@
 //! Lists, shared values, and lines.
 
 use crate::lent;
-use crate::told::{call, done};
+use crate::told::{call, done, silent};
 use abc_fold::Shared;
 use abc_lines::{EditError, GapList, LineBuffer};
 use abc_text::{Sequence, ShortSequence};
@@ -70,24 +70,40 @@ pub fn shared_value(rt: &impl Runtime, alloc: Global) -> Result<bool, AllocError
     Ok(*shared.get() == b'a')
 }
 
-/// Room for one byte.
+/// Room for one byte, which comes and goes.
 pub fn roomy_list(rt: &impl Runtime, alloc: Global) -> Result<bool, AllocError> {
     call(rt, "GapList::with_room");
-    let list: GapList<u8> = GapList::with_room(alloc, 1)?;
+    let mut list = GapList::with_room(alloc, 1)?;
     done(rt);
-    Ok(list.len() == 0 && list.room() == 1)
+    silent(rt, "GapList::insert");
+    list.insert(0, b'a');
+    done(rt);
+    silent(rt, "GapList::remove");
+    let byte = list.remove(0);
+    done(rt);
+    Ok(byte == b'a' && list.len() == 0 && list.room() == 1)
 }
 
-/// Three bytes for a list without room.
+/// Three bytes for a list without room, and four more that are given up.
 pub fn spliced_list(rt: &impl Runtime, alloc: Global) -> Result<bool, AllocError> {
     let bytes = Vec::from_slice(alloc, b"abc")?;
-    let list = GapList::with_room(alloc, 0)?;
+    let mut list = GapList::with_room(alloc, 0)?;
     call(rt, "GapList::splice_prepare");
     let patch = list.splice_prepare(alloc, 0, 0, bytes)?;
     done(rt);
-    let count = patch.len(&list);
+    silent(rt, "GapList::commit");
+    list.commit(patch);
+    done(rt);
+    let more = Vec::from_slice(alloc, b"defg")?;
+    // For the prover: the splice is in the list.
+    if list.len() != 3 {
+        return Ok(false);
+    }
+    let patch = list.splice_prepare(alloc, 3, 0, more)?;
+    silent(rt, "SplicePatch::drop_patch");
     patch.drop_patch();
-    Ok(count == 3)
+    done(rt);
+    Ok(list.len() == 3)
 }
 
 /// Each text as a line.
@@ -102,12 +118,30 @@ pub fn lines_of(alloc: Global, texts: &[&[u8]]) -> Result<Vec<Vec<u8>>, AllocErr
 /// Two lines for a text without any.
 pub fn spliced_lines(rt: &impl Runtime, alloc: Global) -> Result<bool, AllocError> {
     let lines = lines_of(alloc, &[b"X:1", b"K:C"])?;
-    let buffer = LineBuffer::new(alloc)?;
+    let mut buffer = LineBuffer::new(alloc)?;
     call(rt, "LineBuffer::splice_prepare");
     match buffer.splice_prepare(0, 0, &lines) {
         Ok(patch) => {
             done(rt);
+            silent(rt, "LineBuffer::commit");
+            buffer.commit(patch);
+            done(rt);
+            Ok(buffer.len() == 2)
+        }
+        Err(EditError::OutOfMemory) => Err(AllocError),
+        Err(_) => Ok(false),
+    }
+}
+
+/// The same lines, which are given up.
+pub fn dropped_lines(rt: &impl Runtime, alloc: Global) -> Result<bool, AllocError> {
+    let lines = lines_of(alloc, &[b"X:1", b"K:C"])?;
+    let buffer = LineBuffer::new(alloc)?;
+    match buffer.splice_prepare(0, 0, &lines) {
+        Ok(patch) => {
+            silent(rt, "LinePatch::drop_patch");
             patch.drop_patch();
+            done(rt);
             Ok(buffer.len() == 0)
         }
         Err(EditError::OutOfMemory) => Err(AllocError),

@@ -1,12 +1,17 @@
-//! What is told on standard output of calls whose requests for memory are refused from outside, one in each run:
+//! What the tests print of calls whose requests for memory are refused from outside, one in each run:
 //! `scripts/refused_calls` refuses those between `call` and `done`. Where the call is refused, what it was lent answers
-//! as before, and the same call is made again, which then succeeds.
+//! as before, and the same call is made again, which then succeeds. Between `silent` and `done` there must be none.
 
 use std::rt::Runtime;
 
 /// A call begins.
 pub fn call(rt: &impl Runtime, name: &str) {
     let _ = println!(rt; "call {name}");
+}
+
+/// A call begins that asks for no memory.
+pub fn silent(rt: &impl Runtime, name: &str) {
+    let _ = println!(rt; "silent {name}");
 }
 
 /// It was refused memory, and is made again.

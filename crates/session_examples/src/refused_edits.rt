@@ -4,7 +4,7 @@ use crate::alike::are_alike;
 use crate::texts::{empty_session, insertion, lines_of};
 use abc_fold::Work;
 use abc_live::{Edit, EditError, Report, Session};
-use refused_music::told::{again, call, done};
+use refused_music::told::{again, call, done, silent};
 use std::alloc::Global;
 use std::process::Abort;
 use std::rt::Runtime;
@@ -40,13 +40,27 @@ impl Twins {
         }
     }
 
+    /// The report of the same edit of the other one, in two steps. Neither giving it up nor committing it asks for memory.
+    fn committed<R: Runtime + Abort>(&mut self, rt: &R, edit: &Edit) -> Report {
+        let patch = self.other.prepare(edit, &mut self.work);
+        let patch = patch.expect(rt, "there is memory");
+        silent(rt, "EditPatch::drop_patch");
+        patch.drop_patch();
+        done(rt);
+        let patch = self.other.prepare(edit, &mut self.work);
+        let patch = patch.expect(rt, "there is memory");
+        silent(rt, "Session::commit");
+        let report = self.other.commit(patch);
+        done(rt);
+        report
+    }
+
     /// Edits both.
     fn edit<R: Runtime + Abort>(&mut self, rt: &R, name: &str, edit: &Edit) {
         call(rt, name);
         let report = self.report(rt, edit);
         done(rt);
-        let other = self.other.apply(edit, &mut self.work);
-        let other = other.expect(rt, "there is memory");
+        let other = self.committed(rt, edit);
         assert!(rt; report.written.as_slice() == other.written.as_slice());
         assert!(rt; report.removed.as_slice() == other.removed.as_slice());
         assert!(rt; are_alike(&self.session, &self.other));

@@ -10,7 +10,7 @@ use abc_fold::Work;
 use abc_live::{Edit, Session};
 use abc_publish::Publisher;
 use live_examples::held::{Held, end_older, finish};
-use refused_music::told::{again, call, done};
+use refused_music::told::{again, call, done, silent};
 use std::alloc::Global;
 use std::process::Abort;
 use std::rt::Runtime;
@@ -51,6 +51,23 @@ fn taken<R: Runtime + Abort>(rt: &R, publisher: &mut Publisher, session: &Sessio
     }
 }
 
+/// Ends a job, which asks for no memory.
+fn end<R: Runtime>(rt: &R, publisher: &mut Publisher, held: Held, ends_well: bool)
+    requires { IsUnderWay (maps_of publisher.old) held }
+{
+    silent(
+        rt,
+        if ends_well {
+            "Publisher::done"
+        } else {
+            "Publisher::failed"
+        },
+    );
+    let held = end_older(publisher, held, ends_well);
+    done(rt);
+    finish(publisher, held);
+}
+
 /// Takes a job that carries a file, and ends it.
 fn take<R: Runtime + Abort>(
     rt: &R,
@@ -64,8 +81,7 @@ fn take<R: Runtime + Abort>(
     let held = taken(rt, publisher, session);
     done(rt);
     check_newest(rt, &held, 1, Some(file));
-    let held = end_older(publisher, held, ends_well);
-    finish(publisher, held);
+    end(rt, publisher, held, ends_well);
 }
 
 /// The jobs of a tune that is there, is changed, and goes.
@@ -109,8 +125,7 @@ fn take_all<R: Runtime + Abort>(
     // no memory is asked for a file that goes
     let held = taken(rt, publisher, session);
     check_newest(rt, &held, 1, None);
-    let held = end_older(publisher, held, true);
-    finish(publisher, held);
+    end(rt, publisher, held, true);
 }
 
 #[test]
