@@ -1,3 +1,4 @@
+pub mod HeaderText
 pub mod Mentions
 pub mod OneTitle
 pub mod Titles

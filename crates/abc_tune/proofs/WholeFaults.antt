@@ -23,7 +23,7 @@ pub lacks_key_in_cells : (cells : List Items) → lacks_key (items_in cells) ≡
 lacks_key_in_cells cells = ap not (any_in_cells is_opening_key cells)
 
 -- what holds behind items and more of them
-past_append : (out : Bool) (items more : List Item) → past_all out_past out (items ++ more) ≡ past_all out_past (past_all out_past out items) more
+pub past_append : (out : Bool) (items more : List Item) → past_all out_past out (items ++ more) ≡ past_all out_past (past_all out_past out items) more
 past_append out [] more = refl
 past_append out (item ∷ items) more = past_append (out_past out item) items more
 

@@ -1,5 +1,6 @@
 pub mod Abc
 pub mod Built
+pub mod HeaderText
 pub mod Lawful
 pub mod Lines
 pub mod Title

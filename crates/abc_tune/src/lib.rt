@@ -4,6 +4,7 @@
 mod abc;
 mod built;
 mod fold_laws;
+mod header_laws;
 mod line_laws;
 mod whole_faults;
 
@@ -12,4 +13,5 @@ pub use abc_compiler::{Built, Compiler};
 pub use abc_memo::{TuneKey, TuneMemo, put_line};
 pub use built::build;
 pub use fold_laws::{one_title, tunes_looked_back};
+pub use header_laws::tunes_by_headers;
 pub use line_laws::tunes_of_lines;
