@@ -7,9 +7,8 @@ use Rattle.abc_voices.proofs.layout.laid_out.Goals as goal
 
 pub stages_of-requires-clause-voices : goal.stages_of-requires-clause-voices
 stages_of-requires-clause-voices c =
-    ap (map (λ (voice : Bor (List ℕ)). voice.now)) c.deref.ensures.value ∙ c.in_ok-voices.ensures ∙ everyone_given (items_of c.args.tune.now) (items_of c.args.given.now) c.requires.given
+    ap (map (λ (voice : Bor (List ℕ)). voice.now)) c.as_slice.ensures.keys ∙ c.in_ok-voices.ensures ∙ everyone_given (items_of c.args.tune.now) (items_of c.args.given.now) c.requires.given
 
 pub laid_along-requires-clause-count : goal.laid_along-requires-clause-count
 laid_along-requires-clause-count c =
-    let voices = ap (map (λ (voice : Bor (List ℕ)). voice.now)) c.deref.ensures.value ∙ c.in_ok-voices.ensures ∙ everyone_given (items_of c.args.tune.now) (items_of c.args.given.now) c.requires.given in
-    c.len.ensures ∙ sym c.deref.ensures.len ∙ sym (length-map c.deref.result.now (λ (voice : Bor (List ℕ)). voice.now)) ∙ ap length voices
+    c.len.ensures.len ∙ sym (length-map c.in_ok-voices.voices.keys (λ (voice : Bor (List ℕ)). voice.now)) ∙ ap length (c.in_ok-voices.ensures ∙ everyone_given (items_of c.args.tune.now) (items_of c.args.given.now) c.requires.given)
