@@ -94,7 +94,7 @@ class Examples(trial.Folder):
             self.book.replace(0, len(self.book.lines), list(lines))
             told = self.book.tunes(), self.book.faults()
             found = finder.hints(lines, *told)
-            self.assertEqual(found, hints(lines, *told), f"change {change}: {lines}")
+            self.assertEqual(found, Finder().hints(lines, *told), f"change {change}: {lines}")
             self.assertEqual(found, sorted(found))
 
     def test_lines_that_nothing_closes(self):

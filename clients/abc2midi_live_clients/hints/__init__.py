@@ -36,7 +36,10 @@ NAMES = (
 )
 
 
+_RECENT = Finder()
+
+
 def hints(lines: Sequence[bytes], tunes: Sequence[Tune], faults: Sequence[Fault]) -> list[Hint]:
-    """Returns the hints on a text in the order of their places; `tunes` and `faults` are the program's for that text. Who
-    asks again after each change keeps a `Finder`, which is faster."""
-    return Finder().hints(lines, tunes, faults)
+    """Returns the hints on a text in the order of their places; `tunes` and `faults` are the program's for that text. Asking
+    again after a change of that text is fast. A client of several books keeps a `Finder` for each."""
+    return _RECENT.hints(lines, tunes, faults)
