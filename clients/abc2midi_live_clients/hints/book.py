@@ -18,8 +18,6 @@ _RETURN = re.compile(rb"\r(?=.)", re.DOTALL)
 _UNREAD = re.compile(rb'"[^"]*"|![^!]*!|\{[^}]*\}|\[[A-Za-z]:[^\]]*\]')
 _MUSIC = re.compile(rb"[A-GZXa-gzxHLMOPSTuvy0-9/,'^_=\[\]|:<>()~. \t\\&-]+\Z")
 _NOTE = re.compile(rb"[A-Ga-gzx]")
-_WORD = re.compile(rb"[A-Za-z]{2,}")
-_NOTES = re.compile(rb"[A-Ga-gzxZHLMOPSTuvy]+\Z")
 
 
 def number_is_used(number: int, line: int) -> str:
@@ -83,8 +81,6 @@ def free_music(lines: tuple[bytes, ...], start: int, after_tune: bool) -> Iterat
 
 
 def looks_like_music(text: bytes) -> bool:
-    """Tells whether a line has a bar line and notes, and no words."""
+    """Tells whether a line has a bar line and notes, and no other letters but those of common decorations."""
     bare = _UNREAD.sub(b"", text)
-    if b"|" not in bare or not _MUSIC.match(bare) or len(_NOTE.findall(bare)) < LEAST_NOTES:
-        return False
-    return all(_NOTES.match(word) for word in _WORD.findall(bare))
+    return b"|" in bare and _MUSIC.match(bare) is not None and len(_NOTE.findall(bare)) >= LEAST_NOTES

@@ -80,7 +80,7 @@ class Strains:
         strain.closes = max(strain.closes, bar.closes)
         if self.where == IN_ENDING and not bar.opens:
             self.where = AFTER_ENDING
-        elif is_repeat or self.where == IN_ENDING or not strain.opening:
+        elif is_repeat or not strain.opening:
             self._begin(item if bar.opens else None)
 
 
@@ -96,7 +96,7 @@ def repeats_of(tune: TuneText, voice: Voice) -> Iterator[TuneHint]:
     for (_, strains), (after, next_strains) in zip(sections, [*sections[1:], (0, [Strain()])]):
         for strain in strains:
             yield from lost_endings(strain)
-        if strains[-1].is_left_open() and not next_strains[0].opening and next_strains[0].closes:
+        if strains[-1].is_left_open() and next_strains[0].closes:
             yield TuneHint(
                 tune.parts[after - 1],
                 "PartInRepeat",
