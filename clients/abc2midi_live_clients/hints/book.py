@@ -65,15 +65,18 @@ def lone_returns(lines: tuple[bytes, ...]) -> Iterator[TuneHint]:
 
 
 def free_music(lines: tuple[bytes, ...], start: int, after_tune: bool) -> Iterator[TuneHint]:
-    """Yields a hint at the first line of each block from a line on that looks like music and is in no tune."""
-    is_open = True
+    """Yields a hint at the first line of each block from a line on that looks like music and is in no tune. After a `K:` of
+    its own every line of music does."""
+    is_open, has_key = True, False
     for n in range(start, len(lines)):
         kind = kind_of(lines[n])
         if kind == BLANK:
-            is_open = True
-        elif kind == MUSIC and is_open and looks_like_music(content(lines[n])):
+            is_open, has_key = True, False
+        elif kind == FIELD:
+            has_key |= lines[n].startswith(b"K:")
+        elif kind == MUSIC and is_open and (has_key or looks_like_music(content(lines[n]))):
             is_open = False
-            if after_tune:
+            if after_tune and not has_key:
                 text = "this music is in no tune: the blank line before it ends the tune; write a `%` on that line"
             else:
                 text = "this music is in no tune; write a line `X:1` before it"
