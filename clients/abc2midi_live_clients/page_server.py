@@ -20,6 +20,7 @@ from typing import Any, Optional
 
 from .connections import Connections
 from .faults import sentences
+from .hint_process import HintProcess
 from .printing import printable
 from .program import ProgramEnded, ProgramMissing, find_program
 from .proofs import book_key, proof
@@ -31,6 +32,7 @@ KINDS = {".html": "text/html; charset=utf-8", ".css": "text/css; charset=utf-8",
 MOST_BYTES = 1 << 25  # of an edit
 SECONDS_OF_SILENCE = 3  # after which a window hears that the server is there
 SECONDS_BETWEEN_LOOKS = 0.5  # at the book on disk
+SECONDS_OF_REST = 0.3  # after an edit, before hints are looked for
 SECONDS_FOR_A_DESCRIPTOR = 0.05
 FIRST_PORT, PORTS, TRIES = 20_000, 12_000, 20
 SAFE = {
@@ -48,6 +50,7 @@ def arguments() -> argparse.Namespace:
     parser = argparse.ArgumentParser(prog="page", description=__doc__)
     parser.add_argument("book", metavar="BOOK", nargs="?", help="the tune book; if it is missing, the first save makes it")
     parser.add_argument("--port", metavar="N", type=int, help="the port, instead of one that goes by the book's name")
+    parser.add_argument("--no-hints", action="store_true", help="show faults alone")
     parser.add_argument("--program", help="the program to start, in the place of the one that ./check left")
     return parser.parse_args()
 
@@ -143,6 +146,8 @@ class Request(BaseHTTPRequestHandler):
             self.send_json({**self.server.book.snapshot(), "sentences": self.server.sentences})
         elif name == "state":
             self.send_json(self.server.book.now())
+        elif name == "hints":
+            self.send_json(self.server.book.hints_now())
         elif midi:
             number = int(midi[1])
             data = self.server.book.midi(number)
@@ -309,6 +314,19 @@ def keep_looking(book: SharedBook) -> None:
         time.sleep(SECONDS_BETWEEN_LOOKS)
 
 
+def keep_hinting(book: SharedBook) -> None:
+    """Finds the hints on each text that is left alone for a moment."""
+    process, version = HintProcess(), -1
+    while True:
+        version, question = book.question(version, SECONDS_OF_REST)
+        try:
+            book.know_hints(version, process.rows(question))
+        except (EOFError, OSError):
+            process.close()
+            time.sleep(SECONDS_OF_REST)
+            process, version = HintProcess(), -1
+
+
 def interrupt(*_: Any) -> None:
     """Ends the client as Ctrl-C does, but between two requests: what is raised while Python lets go of a value is lost."""
     interrupted.set()
@@ -323,7 +341,8 @@ def main() -> int:
         with tempfile.TemporaryDirectory() as directory:
             book = SharedBook(words.book, words.program or find_program(), directory)
             with serving(words, book) as server:
-                threading.Thread(target=keep_looking, args=(book,), daemon=True).start()
+                for keep in [keep_looking] + ([] if words.no_hints else [keep_hinting]):
+                    threading.Thread(target=keep, args=(book,), daemon=True).start()
                 print(f"http://127.0.0.1:{server.server_port}/{server.token}/", flush=True)
                 server.serve_forever(poll_interval=0.1)
         return 0

@@ -11,20 +11,18 @@ from itertools import groupby
 from typing import Any, NamedTuple, Optional
 
 from .book_file import BookFile
-from .edits import Edit, Lines, common_front, edits, joined
+from .edits import Edit, common_front
+from .hint_process import HintRow, Question
 from .places import LinePlaces
 from .printing import printable
-from .program import LiveBook, ProgramEnded, ProgramMissing, files_of, held
+from .program import Fault, LiveBook, ProgramEnded, ProgramMissing, Tune, files_of, held
 from .saving import BookChanged, NotSaved, digest, digest_of, read_book, save_book
+from .texts import Text, bytes_of, edits_of, with_ends
 from .windows import Windows
 
-MARK = b"\xef\xbb\xbf"
 MOST_CHANGES = 200  # for windows that did not see them yet
-MOST_EDITS = 20  # that one writing of another program becomes
 SECONDS_OF_PATIENCE = 3  # with a program that does not answer, before windows are told
 SECONDS_TO_END = 3  # for a program that is told to
-CONTROLS = {byte: 0xDC00 + byte for byte in range(32) if byte not in b"\t\n"}  # halves of pairs show them; no text has halves
-BYTES = {half: byte for byte, half in CONTROLS.items()}
 
 NOTHING_FOUND = {"faults": {"at": 0, "out": 0, "put": []}, "tunes": {"at": 0, "out": 0, "put": []}, "written": [], "removed": []}
 
@@ -40,24 +38,6 @@ class Refused(Exception):
         super().__init__(sentence)
         self.status = status
         self.answer: Json = {"error": sentence, **more}
-
-
-class Text(NamedTuple):
-    """The text of a book as bytes: a mark at its start, its lines, and whether they end in carriage returns. The last line is
-    empty if the text ends with a line feed."""
-
-    mark: bytes
-    lines: Lines
-    returns: bool
-
-    def data(self) -> bytes:
-        """The bytes of the book."""
-        return self.mark + b"\n".join(self.lines)
-
-    def shown(self, line: bytes) -> str:
-        """A line as windows see it: each byte that is no text, and each control, is a half of a pair."""
-        line = line.removesuffix(b"\r") if self.returns else line
-        return line.decode("utf-8", "surrogateescape").translate(CONTROLS)
 
 
 class Rows(NamedTuple):
@@ -101,12 +81,14 @@ class SharedBook:
         self.version = 0
         self.changes: deque[Json] = deque(maxlen=MOST_CHANGES)
         self.windows = Windows()
+        self.hints: list[HintRow] = []
+        self.hints_told = 0  # how often there were other ones
         self.asked_since: Optional[float] = None  # when the program was asked
         self.is_ended = False
         self.file = BookFile(self.path) if self.path else None
         self.was_gone = False  # at the last look
         content = read_book(self.path) if self.path else b""
-        self.text = text_of_book(content or b"")
+        self.text = Text.of(content or b"")
         self.disk = Disk(self.text, digest_of(content), digest_of(content))
         self.is_unsaved = False
         self.begin()
@@ -172,6 +154,7 @@ class SharedBook:
                 "lines": [self.text.shown(line) for line in self.text.lines],
                 "faults": shown_rows(self.text, self.rows.faults),
                 "tunes": self.rows.tunes,
+                "hintRows": self.hints,
                 **self.state(),
             }
 
@@ -187,6 +170,7 @@ class SharedBook:
             "trouble": self.disk.trouble,
             "slow": since is not None and time.monotonic() - since > SECONDS_OF_PATIENCE,
             "windows": self.windows.count(),
+            "hints": self.hints_told,
         }
 
     def now(self) -> Json:
@@ -219,6 +203,30 @@ class SharedBook:
             self.windows.ask(name)
             changes = [change for change in self.changes if change["version"] > seen]
             return {"changes": changes, "state": self.state(), "room": self.windows.has_room()}
+
+    def question(self, known: int, pause: float) -> tuple[int, Question]:
+        """Waits for a text of another version than a known one, till nobody has edited it for so long. Returns its version, and the
+        question what hints there are on it."""
+        with self.moved:
+            self.moved.wait_for(lambda: self.version != known)
+            while (version := self.version) != known and self.moved.wait_for(lambda: self.version != version, pause):
+                pass
+            tunes = [Tune(number, title, line + 1) for line, number, title, _ in self.rows.tunes]
+            faults = [Fault(line + 1, column, name) for line, column, name in self.rows.faults]
+            return self.version, Question(self.text, tunes, faults)
+
+    def know_hints(self, version: int, hints: list[HintRow]) -> None:
+        """Tells the windows the hints on the text, if it is still the one of a version."""
+        with self.moved:
+            if version == self.version and hints != self.hints:
+                self.hints = hints
+                self.hints_told += 1
+                self.moved.notify_all()
+
+    def hints_now(self) -> Json:
+        """The hints on the text."""
+        with self.moved:
+            return {"version": self.version, "hints": self.hints_told, "rows": self.hints}
 
     def midi(self, number: int) -> bytes:
         """The MIDI file of a number."""
@@ -272,6 +280,7 @@ class SharedBook:
             took = round(1000 * (time.perf_counter() - since), 1)
             for change in changes:
                 self.version += 1
+                self.hints = moved(self.hints, change["edit"])
                 change |= {"version": self.version, "unsaved": self.is_unsaved, "milliseconds": took}
             self.changes.extend(changes)
             self.moved.notify_all()
@@ -340,7 +349,7 @@ class SharedBook:
     def take(self, data: bytes) -> None:
         """Makes the content of the file the text, by few edits. Whoever calls this has the turn."""
         since = time.perf_counter()
-        text = text_of_book(data)
+        text = Text.of(data)
         with self.asking():
             self.book.replace(0, len(self.book.lines), held(text.lines))
             rows = self.ask()
@@ -406,34 +415,6 @@ class SharedBook:
                 return self.state()
 
 
-def text_of_book(data: bytes) -> Text:
-    """The text of a book."""
-    mark = MARK if data.startswith(MARK) else b""
-    lines = data[len(mark) :].split(b"\n")
-    return Text(mark, lines, len(lines) > 1 and lines[0].endswith(b"\r"))
-
-
-def edits_of(old: Text, new: Text) -> list[Edit]:
-    """Few edits that make one text of another, as windows see their lines."""
-    if old.returns != new.returns:
-        return [Edit(0, len(old.lines), new.lines)]
-    return joined(edits(old.lines, new.lines), old.lines, MOST_EDITS)
-
-
-def with_ends(text: Text, edit: Edit) -> Edit:
-    """An edit with the carriage returns of the book: the last line has none. So the one before the edit changes if it was the
-    last one, or becomes it."""
-    start, stop, lines = edit
-    if not text.returns:
-        return edit
-    at_end = stop == len(text.lines)
-    if at_end and start > 0 and (not lines or start == len(text.lines)):
-        start -= 1
-        lines = [text.lines[start].removesuffix(b"\r"), *lines]
-    lines = [line + b"\r" for line in lines[:-1]] + [line + (b"" if at_end else b"\r") for line in lines[-1:]]
-    return Edit(start, stop, lines)
-
-
 def moved(rows: Sequence[Any], edit: Json) -> list[Any]:
     """The rows of a text after an edit, without those of the lines that it replaces."""
     start, stop = edit["start"], edit["stop"]
@@ -455,14 +436,6 @@ def shown_rows(text: Text, faults: list[FaultRow]) -> list[list[Any]]:
         places = LinePlaces(text.shown(text.lines[number]))
         found += [[number, *places.span(column, name), name] for _, column, name in those]
     return found
-
-
-def bytes_of(text: str) -> bytes:
-    """The bytes of a line that a window shows."""
-    try:
-        return text.translate(BYTES).encode("utf-8", "surrogateescape")
-    except UnicodeEncodeError:
-        return text.encode("utf-8", "replace")
 
 
 def is_count(value: object) -> bool:

@@ -42,7 +42,7 @@ class Book {
 
   get state() {
     const { run, saved, disk, unsaved } = this;
-    return { run, version: this.changes.length, unsaved, saved, disk, trouble: "", slow: false, windows: 1 };
+    return { run, version: this.changes.length, unsaved, saved, disk, trouble: "", slow: false, windows: 1, hints: 0 };
   }
 
   put(window, { start, stop, lines }) {

@@ -40,9 +40,9 @@ class Page(trial.Folder):
         starter.chmod(0o755)
         self.start(str(self.path))
 
-    def start(self, *words, port="0", descriptors=1024):
+    def start(self, *words, port="0", descriptors=1024, hints=False):
         """Starts it, with a folder for what it leaves, and so many descriptors."""
-        words = [*words, *(["--port", port] if port else [])]
+        words = [*words, *(["--port", port] if port else []), *([] if hints else ["--no-hints"])]
         self.server = subprocess.Popen(
             [sys.executable, str(trial.CLIENTS / "page"), *words, "--program", str(self.folder / "program")],
             stdout=subprocess.PIPE, stderr=subprocess.PIPE,
@@ -443,6 +443,27 @@ class Requests(Page):
         trial.hear_of_the_terminal(self)
         self.start(str(self.path))
         self.finish(signal.SIGHUP)
+
+    def test_hints(self):
+        """They are found when nobody edits for a moment, and move with edits; `--no-hints` turns them off."""
+        self.edit(0, 0, "%")
+        self.assertEqual((self.book()["hintRows"], self.ask("hints")["rows"]), ([], []))
+        self.finish()
+        self.path.write_bytes(b"X:1\nK:C\n\"\xc3\xa9\"C&C\n\nX:1\nK:C\n")
+        self.start(str(self.path), hints=True)
+        self.told(lambda state: state["hints"])
+        hints = self.ask("hints")
+        self.assertEqual([row[:4] for row in hints["rows"]], [[2, 4, 5, "Overlay"], [4, 0, 3, "SameNumber"]])
+        self.assertEqual(hints["rows"][1][4], "Number 1 is used at line 1; this tune has no file.")
+        self.assertEqual((hints["version"], self.book()["hintRows"]), (0, hints["rows"]))
+        self.edit(0, 3)
+        self.assertEqual([row[0] for row in self.book()["hintRows"]], [1])
+        self.told(lambda state: state["hints"] == 2)
+        self.assertEqual(self.ask("hints"), {"version": 1, "hints": 2, "rows": []})
+        self.edit(3, 3, "C&D")
+        self.told(lambda state: state["hints"] == 3)
+        self.assertEqual(self.book()["hintRows"], self.ask("hints")["rows"])
+        self.finish()
 
     def test_answers_to_no_requests(self):
         """They close the connection and have the safe headers, as all answers have."""

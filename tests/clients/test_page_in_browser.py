@@ -534,6 +534,21 @@ class Browser(test_page.Page):
         self.settled("X:12")
         self.wait(lambda: not self.question())
 
+    def test_hints(self):
+        """They are marked in another colour than faults, and told beside them."""
+        self.kill()
+        self.start(str(self.path), hints=True)
+        self.load()
+        self.type("X:1\nK:C\nC -&\n")
+        self.wait(lambda: self.text("count") == "2 faults" and self.text("hinted") == "1 hint")
+        kinds = self.run_script("return [...document.querySelectorAll('mark')].map((mark) => [mark.fault[3], mark.className])")
+        self.assertEqual(sorted(kinds), [["BadByte", ""], ["LooseTie", ""], ["Overlay", "hint"]])
+        self.assertIn("Line 3, hintWhat follows this & is played after", self.text("told"))
+        colours = "return ['mark:not(.hint)', 'mark.hint'].map((one) => getComputedStyle(document.querySelector(one)).backgroundColor)"
+        self.assertEqual(len(set(self.run_script(colours))), 2)
+        self.type("X:2\nK:C\n|:C|")
+        self.wait(lambda: self.text("hinted") == "2 hints")
+
     def test_a_number_of_two_tunes(self):
         self.type("X:1\nK:C\nC\n\nX:1\nK:C\nD")
         self.wait(lambda: self.text("empty") == "Number 1 is used at line 1; this tune has no file.")

@@ -12,6 +12,7 @@ import { Text } from "./text.js";
 import { Tunes } from "./tunes.js";
 
 const MOST_TOLD = 50; // faults of a tune in the list below the text
+const HINT = 50; // milliseconds after which new hints are read
 const find = (id) => document.getElementById(id);
 
 const text = new Text();
@@ -23,9 +24,9 @@ const tunes = new Tunes(find("list"));
 const roll = new Roll(find("roll"), document.querySelector("canvas"));
 const player = new Player();
 
-const book = { name: "", faults: [], tunes: [], sentences: {} }; // as the server has it
+const book = { name: "", faults: [], hints: [], tunes: [], sentences: {} }; // as the server has it
 let drafts = null;
-let faults = [], rows = []; // as they stand in this window's text
+let faults = [], rows = []; // in this window's text; hints are among the faults, and have a sentence each
 let shown = { number: null, score: null, asked: 0 }; // the tune in the roll
 let start = 0; // the tick at which to play
 
@@ -66,12 +67,14 @@ const tuneAt = (line) => placeOf(rows, line + 1) - 1;
 
 /** What stands around the text follows it. */
 function follow() {
-  faults = placed(book.faults);
+  const own = placed(book.faults), hints = placed(book.hints);
+  faults = hints.length ? [...own, ...hints].sort((a, b) => a[0] - b[0] || a[1] - b[1]) : own;
   rows = placed(book.tunes);
   find("tally").textContent = rows.length ? String(rows.length) : "";
-  const count = find("count");
-  count.textContent = faults.length ? `${faults.length} fault${faults.length === 1 ? "" : "s"}` : "No faults";
-  count.classList.toggle("some", faults.length > 0);
+  const count = find("count"), counted = (number, thing) => `${number} ${thing}${number === 1 ? "" : "s"}`;
+  count.textContent = own.length ? counted(own.length, "fault") : "No faults";
+  find("hinted").textContent = hints.length ? counted(hints.length, "hint") : "";
+  count.classList.toggle("some", own.length > 0);
   find("before").disabled = find("after").disabled = !faults.length;
   sheet.drawFaults(sheet.faultsOf(sheet.first, sheet.last));
   tell();
@@ -91,18 +94,22 @@ function tell() {
   if (!player.playing) show(at < 0 ? null : rows[at]);
 }
 
-function told([line, column, , name]) {
+function told(fault) {
+  const [line, column, , , hint] = fault;
   const item = document.createElement("li"), button = document.createElement("button");
   button.type = "button";
-  button.append(Object.assign(document.createElement("b"), { textContent: `Line ${line + 1}` }), ...worded(name));
+  item.classList.toggle("hint", Boolean(hint));
+  button.append(Object.assign(document.createElement("b"), { textContent: `Line ${line + 1}${hint ? ", hint" : ""}` }), ...worded(fault));
   button.addEventListener("click", () => sheet.go(line, column, true));
   item.append(button);
   return item;
 }
 
-/** The sentence of a fault, with what stands in backquotes as code. */
-function worded(name) {
-  return (book.sentences[name] ?? name).split("`").map((part, n) => {
+const sentenceOf = ([, , , name, hint]) => hint ?? book.sentences[name] ?? name;
+
+/** The sentence of a fault or a hint, with what is in backquotes as code. */
+function worded(fault) {
+  return sentenceOf(fault).split("`").map((part, n) => {
     return n % 2 ? Object.assign(document.createElement("code"), { textContent: part }) : part;
   });
 }
@@ -207,7 +214,8 @@ sheet.pointed = (under, event) => {
   const tip = find("tip");
   tip.hidden = !under.length;
   if (!under.length) return;
-  tip.replaceChildren(...[...new Set(under.map((fault) => fault[3]))].flatMap((name) => [...worded(name), " "]));
+  const different = [...new Map(under.map((fault) => [sentenceOf(fault), fault])).values()];
+  tip.replaceChildren(...different.flatMap((fault) => [...worded(fault), " "]));
   tip.style.left = `${Math.max(8, Math.min(event.clientX + 12, innerWidth - tip.offsetWidth - 8))}px`;
   const below = event.clientY + 20;
   tip.style.top = `${below + tip.offsetHeight < innerHeight ? below : event.clientY - tip.offsetHeight - 12}px`;
@@ -226,7 +234,8 @@ server.renewed = () => {
 
 link.opened = (fresh, whole) => {
   if (fresh) {
-    Object.assign(book, { name: fresh.name, faults: fresh.faults, tunes: fresh.tunes, sentences: fresh.sentences });
+    const { name, faults, hintRows, hints, tunes, sentences } = fresh;
+    Object.assign(book, { name, faults, hints: hintRows, hintsTold: hints, tunes, sentences });
     drafts ??= new Drafts(fresh.id, link.window);
     text.open(fresh.lines);
   }
@@ -238,6 +247,7 @@ link.opened = (fresh, whole) => {
 link.changed = (change, own) => {
   book.faults = changed(book.faults, change.edit, change.faults);
   book.tunes = changed(book.tunes, change.edit, change.tunes);
+  book.hints = changed(book.hints, change.edit, { at: 0, out: 0, put: [] });
   if (own) follow();
   else {
     sheet.refresh(moved(sheet.selection(), change.edit));
@@ -259,6 +269,7 @@ link.told = () => {
   find("windows").hidden = !(windows > 1);
   find("windows").textContent = `${windows} windows have this book`;
   showAway();
+  if (link.state && !link.away && link.state.hints !== book.hintsTold) hintSoon();
   if (trouble !== book.trouble && (trouble || book.trouble)) {
     say(trouble ? `${book.name} on disk cannot be read: ${trouble}.` : `${book.name} on disk can be read again.`);
   }
@@ -295,6 +306,20 @@ link.doubted = (mine) => {
     },
   });
 };
+
+let hinting = null;
+
+/** Reads the hints, if they are those of the text that this window knows; else it is tried again. */
+function hintSoon() {
+  hinting ??= setTimeout(async () => {
+    hinting = null;
+    const { version, hints, rows } = await server.ask("hints").catch(() => ({}));
+    if (version === undefined) return;
+    if (version !== link.state.version) return hintSoon();
+    Object.assign(book, { hints: rows, hintsTold: hints });
+    follow();
+  }, HINT);
+}
 
 let doubts = 0;
 

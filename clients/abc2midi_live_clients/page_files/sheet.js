@@ -246,11 +246,13 @@ export class Sheet {
 
   drawFaults(faults) {
     const numbers = document.createDocumentFragment(), marks = document.createDocumentFragment();
-    const faulty = new Set(faults.map(([line]) => line));
+    const faulty = new Map(); // by line: whether all that is there are hints
+    for (const [line, , , , hint] of faults) faulty.set(line, Boolean(hint) && (faulty.get(line) ?? true));
     let plain = "";
     for (let line = this.first; line < this.last; line += 1) {
       if (faulty.has(line)) {
-        numbers.append(plain, Object.assign(document.createElement("b"), { textContent: line + 1 }), "\n");
+        const className = faulty.get(line) ? "hint" : "";
+        numbers.append(plain, Object.assign(document.createElement("b"), { textContent: line + 1, className }), "\n");
         plain = "";
       } else {
         plain += `${line + 1}\n`;
@@ -270,6 +272,7 @@ export class Sheet {
     row.style.top = `${(number - this.first) * this.height}px`;
     mark.textContent = line.slice(start, Math.max(end, start + 1)) || " ";
     mark.fault = fault;
+    if (fault[4]) mark.className = "hint";
     row.append(line.slice(0, start), mark);
     return row;
   }
