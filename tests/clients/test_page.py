@@ -96,6 +96,33 @@ class Page(trial.Folder):
             connection.shutdown(socket.SHUT_WR)
             return b"".join(iter(lambda: connection.recv(65536), b""))
 
+    @contextmanager
+    def window(self, name="window"):
+        """What a window is told, one after another, while it is open."""
+        head = f"GET /{self.token}/events/0/{name} HTTP/1.1\r\nHost: 127.0.0.1:{self.port}\r\n\r\n".encode()
+        with socket.create_connection(("127.0.0.1", self.port), trial.SECONDS) as connection:
+            connection.sendall(head)
+            stream = connection.makefile("rb")
+            yield (json.loads(line) for line in stream if line.startswith(b"{"))
+            stream.close()
+
+    def told(self, wanted) -> dict:
+        """Waits till the state of the book is as wanted."""
+        until = time.monotonic() + trial.SECONDS
+        while not wanted(state := self.ask("state")):
+            self.assertLess(time.monotonic(), until, state)
+            time.sleep(0.05)
+        return state
+
+    def key(self) -> str:
+        """The key of the book, which comes with the page."""
+        return re.search(r'<meta name="key" content="([^"]*)">', self.request("")[2].decode())[1]
+
+    def kept_key(self) -> Path:
+        """The only file with a key."""
+        (kept,) = (self.folder / "state/abc2midi_live/keys").iterdir()
+        return kept
+
 
 class Requests(Page):
     """What the server answers."""
@@ -168,38 +195,136 @@ class Requests(Page):
             self.assertEqual(self.request(name)[0], 404, name)
         self.assertEqual(self.request("midi/000000001")[2], files["1.mid"])
 
-    def test_whoever_may_not(self):
-        own = f"127.0.0.1:{self.port}"
-        for path in ("/", "//", "/book", f"/{self.token[:-1]}/book", f"/{self.token}x/book", f"/{self.token.swapcase()}/book", f"book/{self.token}/"):
-            self.assertEqual(self.request("", path=path)[0], 403, path)
-        for host in ("evil.example", f"evil.example:{self.port}", "127.0.0.1", "", f"{own}.evil.example", f"127.0.0.2:{self.port}"):
-            self.assertEqual(self.request("book", headers={"Host": host})[0], 403, host)
-        for origin in ("http://evil.example", "null", f"https://{own}", f"http://127.0.0.1:{self.port + 1}", f"http://{own}.evil.example"):
-            self.assertEqual(self.request("edit", {}, {"Origin": origin})[0], 403, origin)
-        for host in (own, f"localhost:{self.port}"):
-            self.assertEqual(self.request("book", headers={"Host": host, "Origin": f"http://{host}"})[0], 200)
-        self.assertIn(b" 403 ", self.raw(f"GET /{self.token}/book HTTP/1.0\r\n\r\n".encode()))
-        twice = f"GET /{self.token}/book HTTP/1.1\r\nHost: {own}\r\nHost: evil\r\n\r\n"
-        self.assertIn(b" 403 ", self.raw(twice.encode()))
-        with socket.socket() as other:
-            self.assertNotEqual(other.connect_ex(("127.0.0.2", self.port)), 0)
-
-    def test_bodies(self):
-        head = f"POST /{self.token}/edit HTTP/1.1\r\nHost: 127.0.0.1:{self.port}\r\n"
-        for more, status in (
-            ("Content-Length: 33554433\r\n\r\n", 413),
-            ("Content-Length: 99999999999999999999\r\n\r\n", 411),
-            ("Content-Length: -1\r\n\r\n", 411),
-            ("\r\n", 411),
-            ("Transfer-Encoding: chunked\r\n\r\n2\r\n{}\r\n0\r\n\r\n", 411),
-            ("Content-Length: 9\r\n\r\n{}", 400),
-        ):
-            self.assertIn(f" {status} ".encode(), self.raw((head + more).encode()).partition(b"\r\n")[0], more)
-        for cut in (head[:3], head[:40], head, head + "Content-Le"):
-            self.raw(cut.encode())
-        self.assertEqual(self.request("edit/", {})[0], 404)
-        self.assertEqual(self.edit(0, 1, "X:3")["written"], [3])
+    def test_the_program_ends(self):
+        self.edit(3, 4, "G")
+        os.kill(int((self.folder / "pid").read_text()), signal.SIGKILL)
+        self.assertEqual(self.edit(3, 4, "A")["status"], 503)
+        self.assertEqual(self.edit(3, 4, "A")["written"], [1])
+        self.assertEqual(self.book()["lines"][3], "A")
         self.finish()
+
+    def test_no_program_for_a_while(self):
+        starter, away = self.folder / "program", self.folder / "away"
+        starter.rename(away)
+        os.kill(int((self.folder / "pid").read_text()), signal.SIGKILL)
+        self.assertEqual([self.edit(3, 4, "A")["status"] for _ in range(2)], [503, 503])
+        away.rename(starter)
+        self.assertEqual(self.edit(3, 4, "A")["status"], 503)
+        self.assertEqual(self.edit(3, 4, "A")["written"], [1])
+        self.finish()
+
+    def test_windows(self):
+        with self.window() as news:
+            self.assertEqual(next(news)["state"]["windows"], 1)
+            made = self.edit(0, 1, "X:7")
+            told = [next(news), next(news)]
+            self.assertEqual([one["change"] for one in told if "change" in one], [made])
+            self.assertEqual([one["state"]["unsaved"] for one in told if "state" in one], [True])
+            self.save()
+            self.assertEqual(next(news)["state"]["unsaved"], False)
+            self.finish()
+
+    def test_a_window_that_left(self):
+        """It is not counted any more when the next one comes."""
+        with self.window() as news:
+            self.assertEqual(next(news)["state"]["windows"], 1)
+        with self.window() as news:
+            while next(news)["state"]["windows"] != 1:
+                pass
+            self.finish()
+
+    def test_the_terminal_is_closed(self):
+        self.finish()
+        trial.hear_of_the_terminal(self)
+        self.start(str(self.path))
+        self.finish(signal.SIGHUP)
+
+    def test_hints(self):
+        """They are found when nobody edits for a moment, and move with edits; `--no-hints` turns them off."""
+        self.edit(0, 0, "%")
+        self.assertEqual((self.book()["hintRows"], self.ask("hints")["rows"]), ([], []))
+        self.finish()
+        self.path.write_bytes(b"X:1\nK:C\n\"\xc3\xa9\"C&C\n\nX:1\nK:C\n")
+        self.start(str(self.path), hints=True)
+        self.told(lambda state: state["hints"])
+        hints = self.ask("hints")
+        self.assertEqual([row[:4] for row in hints["rows"]], [[2, 4, 5, "Overlay"], [4, 0, 3, "SameNumber"]])
+        self.assertEqual(hints["rows"][1][4], "Number 1 is used at line 1; this tune has no file.")
+        self.assertEqual((hints["version"], self.book()["hintRows"]), (0, hints["rows"]))
+        self.edit(0, 3)
+        self.assertEqual([row[0] for row in self.book()["hintRows"]], [1])
+        self.told(lambda state: state["hints"] == 2)
+        self.assertEqual(self.ask("hints"), {"version": 1, "hints": 2, "rows": []})
+        self.edit(3, 3, "C&D")
+        self.told(lambda state: state["hints"] == 3)
+        self.assertEqual(self.book()["hintRows"], self.ask("hints")["rows"])
+        self.finish()
+
+    def test_more_windows_than_a_browser_has_connections(self):
+        with self.window("1"), self.window("2"), self.window("3"), self.window("4") as news:
+            while next(news)["state"]["windows"] < 4:
+                pass
+            full = self.ask("events/0/5")
+            self.assertEqual((full["status"], full["full"]), (503, True))
+            self.assertEqual(self.ask("news/0/5")["state"]["windows"], 5)
+            made = self.edit(0, 1, "X:7")
+            told = self.ask("news/0/5")
+            self.assertEqual((told["changes"], told["room"], told["state"]["windows"]), ([made], False, 5))
+            self.assertEqual(self.ask("news/1/5")["changes"], [])
+        while not (told := self.ask("news/1/5"))["room"]:
+            pass
+        with self.window("5") as news:
+            self.assertLess(next(news)["state"]["windows"], 5)
+            self.finish()
+
+    def test_a_program_that_hangs(self):
+        """That is told soon; the book can be saved, the program be started again, and the server be ended."""
+        self.edit(3, 4, "G")
+        with self.window() as news:
+            hung = int((self.folder / "pid").read_text())
+            os.kill(hung, signal.SIGSTOP)
+            answers = []
+            asking = threading.Thread(target=lambda: answers.append(self.edit(3, 4, "A")))
+            asking.start()
+            while not next(news).get("state", {}).get("slow"):
+                pass
+            self.assertEqual(self.save()["unsaved"], False)
+            self.assertEqual(self.path.read_bytes(), BOOK.replace(b"GABc &", b"G"))
+            self.assertEqual(self.ask("restart", {}), {})
+            asking.join(trial.SECONDS)
+            self.assertEqual(answers[0]["status"], 503)
+            self.assertEqual(self.edit(3, 4, "A")["written"], [1])
+        os.kill(int((self.folder / "pid").read_text()), signal.SIGSTOP)
+        with socket.create_connection(("127.0.0.1", self.port)) as connection:
+            connection.sendall(f"GET /{self.token}/midi/1 HTTP/1.1\r\nHost: 127.0.0.1:{self.port}\r\n\r\n".encode())
+            self.server.send_signal(signal.SIGTERM)
+            self.assertEqual(self.server.wait(trial.SECONDS), 0)
+
+    def test_random_edits(self):
+        """What a window makes of the answers is what a fresh run gives."""
+        chance = random.Random(trial.seed)
+        book = self.book()
+        lines, faults, tunes = book["lines"], book["faults"], book["tunes"]
+        for number in range(trial.changes):
+            start = chance.randrange(len(lines) + 1)
+            stop = min(len(lines), start + chance.choice([0, 1, 1, 2, 5]))
+            put = [trial.random_line(chance) for _ in range(chance.choice([0, 1, 1, 3]))] + chance.choice([[], [f"X:{number % 9}"]])
+            if not put and stop - start == len(lines):
+                continue
+            change = self.edit(start, stop, *put)
+            lines[start:stop] = put
+            faults, tunes = (followed(rows, change[name], start, stop, len(put)) for rows, name in ((faults, "faults"), (tunes, "tunes")))
+        book = self.book()
+        self.assertEqual((book["lines"], book["faults"], book["tunes"]), (lines, faults, tunes))
+        fresh = trial.fresh("\n".join(lines).encode())
+        self.assertEqual([(line + 1, name) for line, _, _, name in faults], [(line, name) for line, _, name in fresh.faults])
+        self.assertEqual({f"{number}.mid" for _, number, _, has_file in tunes if has_file}, set(fresh.files))
+        for name, data in fresh.files.items():
+            self.assertEqual(self.request(f"midi/{name[:-4]}")[2], data)
+
+
+class Files(Page):
+    """The book on disk: saving it, and what other programs do to it."""
 
     def test_saves(self):
         self.path.chmod(0o640)
@@ -306,53 +431,108 @@ class Requests(Page):
             self.assertEqual(self.book()["lines"], book.decode().replace("\r", "").split("\n"))
         self.finish()
 
-    def test_the_program_ends(self):
-        self.edit(3, 4, "G")
-        os.kill(int((self.folder / "pid").read_text()), signal.SIGKILL)
-        self.assertEqual(self.edit(3, 4, "A")["status"], 503)
-        self.assertEqual(self.edit(3, 4, "A")["written"], [1])
-        self.assertEqual(self.book()["lines"][3], "A")
-        self.finish()
-
-    def test_no_program_for_a_while(self):
-        starter, away = self.folder / "program", self.folder / "away"
-        starter.rename(away)
-        os.kill(int((self.folder / "pid").read_text()), signal.SIGKILL)
-        self.assertEqual([self.edit(3, 4, "A")["status"] for _ in range(2)], [503, 503])
-        away.rename(starter)
-        self.assertEqual(self.edit(3, 4, "A")["status"], 503)
-        self.assertEqual(self.edit(3, 4, "A")["written"], [1])
-        self.finish()
-
-    @contextmanager
-    def window(self, name="window"):
-        """What a window is told, one after another, while it is open."""
-        head = f"GET /{self.token}/events/0/{name} HTTP/1.1\r\nHost: 127.0.0.1:{self.port}\r\n\r\n".encode()
-        with socket.create_connection(("127.0.0.1", self.port), trial.SECONDS) as connection:
-            connection.sendall(head)
-            stream = connection.makefile("rb")
-            yield (json.loads(line) for line in stream if line.startswith(b"{"))
-            stream.close()
-
-    def test_windows(self):
+    def test_another_program_writes_the_book(self):
+        """Its changes become edits, the last ones first, as few lines as changed."""
         with self.window() as news:
-            self.assertEqual(next(news)["state"]["windows"], 1)
-            made = self.edit(0, 1, "X:7")
-            told = [next(news), next(news)]
-            self.assertEqual([one["change"] for one in told if "change" in one], [made])
-            self.assertEqual([one["state"]["unsaved"] for one in told if "state" in one], [True])
+            next(news)
+            changed = BOOK.replace(b"Kesh", b"The Kesh").replace(b"CDE -", b"CDE\nF")
+            self.path.write_bytes(changed)
+            edits = [next(news) for _ in range(3)]
+            made = [new["change"] for new in edits if "change" in new]
+            self.assertEqual([tuple(one["edit"].values()) for one in made], [(7, 8, ["CDE", "F"]), (1, 2, ["T:The Kesh"])])
+            self.assertEqual([one["window"] for one in made], [None, None])
+            book = self.book()
+            self.assertEqual(("\n".join(book["lines"]).encode(), book["version"], book["unsaved"]), (changed, 2, False))
+            self.assertEqual(book["disk"], saving.digest(changed))
+            self.assertEqual((book["faults"], book["tunes"][0][2]), ([[3, 5, 6, "BadByte"]], "The Kesh"))
+            rows = BOOK_FAULTS
+            for one in made:
+                start, stop, lines = one["edit"].values()
+                rows = followed(rows, one["faults"], start, stop, len(lines))
+            self.assertEqual(rows, book["faults"])
             self.save()
-            self.assertEqual(next(news)["state"]["unsaved"], False)
+            self.assertEqual(self.path.read_bytes(), changed)
             self.finish()
 
-    def test_a_window_that_left(self):
-        """It is not counted any more when the next one comes."""
-        with self.window() as news:
-            self.assertEqual(next(news)["state"]["windows"], 1)
-        with self.window() as news:
-            while next(news)["state"]["windows"] != 1:
+    def test_ends_of_lines_that_another_program_changes(self):
+        for written in (b"\xef\xbb\xbfX:1\r\nK:C\r\nC\r\n", b"X:1\nK:C\nC\n", b"X:2\r\nK:C\r\n", b"X:3\nK:C"):
+            self.path.write_bytes(written)
+            lines = written.replace(b"\xef\xbb\xbf", b"").replace(b"\r", b"").decode().split("\n")
+            while (book := self.book())["lines"] != lines:
                 pass
-            self.finish()
+            self.edit(1, 2, "K:D")
+            self.save()
+            self.assertEqual(self.path.read_bytes(), written.replace(b"K:C", b"K:D"))
+        self.assertEqual([row[1] for row in book["tunes"]], [3])
+        self.finish()
+
+    def test_another_program_writes_the_book_while_text_is_unsaved(self):
+        """Nothing changes till the user says which one to take."""
+        self.edit(0, 0, "% mine")
+        self.path.write_bytes(b"X:9\nK:C\nC\n")
+        state = self.told(lambda state: state["disk"] != state["saved"])
+        self.assertEqual((state["version"], state["unsaved"], state["disk"]), (1, True, saving.digest(b"X:9\nK:C\nC\n")))
+        self.assertEqual(self.save()["ask"], state["disk"])
+        asked = {"run": state["run"], "version": 1, "over": "another"}
+        self.assertEqual((self.ask("load", asked)["status"], self.book()["lines"][0]), (409, "% mine"))
+        loaded = self.ask("load", {**asked, "over": state["disk"]})
+        self.assertEqual((loaded["unsaved"], loaded["disk"], self.book()["lines"]), (False, loaded["saved"], ["X:9", "K:C", "C", ""]))
+        self.edit(0, 0, "% mine")
+        self.path.write_bytes(b"another")
+        self.told(lambda state: state["disk"] != state["saved"])
+        self.edit(0, 1)
+        self.told(lambda state: state["disk"] == state["saved"])
+        self.assertEqual(self.book()["lines"], ["another"])
+        self.finish()
+
+    def test_a_book_that_is_gone(self):
+        away = self.folder / "away"
+        self.path.rename(away)
+        state = self.told(lambda state: state["disk"] is None)
+        self.assertEqual((state["unsaved"], self.book()["lines"]), (True, BOOK.decode().split("\n")))
+        away.rename(self.path)
+        self.assertFalse(self.told(lambda state: state["disk"] == state["saved"])["unsaved"])
+        self.path.unlink()
+        self.told(lambda state: state["disk"] is None)
+        self.assertFalse(self.save(over=None)["unsaved"])
+        self.assertEqual(self.path.read_bytes(), BOOK)
+        self.finish()
+
+    def test_no_file_has_the_name_of_the_book(self):
+        """The server goes on, says why, and saves nothing there."""
+        for make, remove in ((os.mkfifo, os.unlink), (os.mkdir, os.rmdir), (lambda path: os.symlink("elsewhere", path), os.unlink)):
+            self.path.unlink()
+            make(self.path)
+            self.edit(0, 0, "%")
+            self.assertEqual(self.save()["status"], 500)
+            self.assertIn("not a regular file", self.save(over=None)["error"])
+            self.assertFalse(stat.S_ISREG(os.lstat(self.path).st_mode))
+            remove(self.path)
+            self.save(over=None)
+        os.unlink(self.path)
+        os.mkfifo(self.path)
+        self.assertTrue(self.told(lambda state: state["trouble"])["trouble"])
+        self.finish()
+
+
+class Strangers(Page):
+    """Whoever may not ask, and whatever is no request."""
+
+    def test_whoever_may_not(self):
+        own = f"127.0.0.1:{self.port}"
+        for path in ("/", "//", "/book", f"/{self.token[:-1]}/book", f"/{self.token}x/book", f"/{self.token.swapcase()}/book", f"book/{self.token}/"):
+            self.assertEqual(self.request("", path=path)[0], 403, path)
+        for host in ("evil.example", f"evil.example:{self.port}", "127.0.0.1", "", f"{own}.evil.example", f"127.0.0.2:{self.port}"):
+            self.assertEqual(self.request("book", headers={"Host": host})[0], 403, host)
+        for origin in ("http://evil.example", "null", f"https://{own}", f"http://127.0.0.1:{self.port + 1}", f"http://{own}.evil.example"):
+            self.assertEqual(self.request("edit", {}, {"Origin": origin})[0], 403, origin)
+        for host in (own, f"localhost:{self.port}"):
+            self.assertEqual(self.request("book", headers={"Host": host, "Origin": f"http://{host}"})[0], 200)
+        self.assertIn(b" 403 ", self.raw(f"GET /{self.token}/book HTTP/1.0\r\n\r\n".encode()))
+        twice = f"GET /{self.token}/book HTTP/1.1\r\nHost: {own}\r\nHost: evil\r\n\r\n"
+        self.assertIn(b" 403 ", self.raw(twice.encode()))
+        with socket.socket() as other:
+            self.assertNotEqual(other.connect_ex(("127.0.0.2", self.port)), 0)
 
     def test_started_again(self):
         """A token is one start's, and the port is the book's. A key that others may read, or that is none, is not used."""
@@ -380,15 +560,6 @@ class Requests(Page):
         self.start(str(self.folder / "other.abc"))
         self.assertNotEqual(self.key(), key)
         self.finish()
-
-    def key(self) -> str:
-        """The key of the book, which comes with the page."""
-        return re.search(r'<meta name="key" content="([^"]*)">', self.request("")[2].decode())[1]
-
-    def kept_key(self) -> Path:
-        """The only file with a key."""
-        (kept,) = (self.folder / "state/abc2midi_live/keys").iterdir()
-        return kept
 
     def test_proofs(self):
         """A page that has the key gets the token of this start, and nobody else does."""
@@ -437,33 +608,6 @@ class Requests(Page):
         self.assertTrue(os.listdir(kept))
         server.terminate()
         self.assertEqual(server.wait(trial.SECONDS), 0)
-
-    def test_the_terminal_is_closed(self):
-        self.finish()
-        trial.hear_of_the_terminal(self)
-        self.start(str(self.path))
-        self.finish(signal.SIGHUP)
-
-    def test_hints(self):
-        """They are found when nobody edits for a moment, and move with edits; `--no-hints` turns them off."""
-        self.edit(0, 0, "%")
-        self.assertEqual((self.book()["hintRows"], self.ask("hints")["rows"]), ([], []))
-        self.finish()
-        self.path.write_bytes(b"X:1\nK:C\n\"\xc3\xa9\"C&C\n\nX:1\nK:C\n")
-        self.start(str(self.path), hints=True)
-        self.told(lambda state: state["hints"])
-        hints = self.ask("hints")
-        self.assertEqual([row[:4] for row in hints["rows"]], [[2, 4, 5, "Overlay"], [4, 0, 3, "SameNumber"]])
-        self.assertEqual(hints["rows"][1][4], "Number 1 is used at line 1; this tune has no file.")
-        self.assertEqual((hints["version"], self.book()["hintRows"]), (0, hints["rows"]))
-        self.edit(0, 3)
-        self.assertEqual([row[0] for row in self.book()["hintRows"]], [1])
-        self.told(lambda state: state["hints"] == 2)
-        self.assertEqual(self.ask("hints"), {"version": 1, "hints": 2, "rows": []})
-        self.edit(3, 3, "C&D")
-        self.told(lambda state: state["hints"] == 3)
-        self.assertEqual(self.book()["hintRows"], self.ask("hints")["rows"])
-        self.finish()
 
     def test_answers_to_no_requests(self):
         """They close the connection and have the safe headers, as all answers have."""
@@ -516,158 +660,22 @@ class Requests(Page):
         self.assertEqual(slow.recv(100), b"")
         self.finish()
 
-    def test_more_windows_than_a_browser_has_connections(self):
-        with self.window("1"), self.window("2"), self.window("3"), self.window("4") as news:
-            while next(news)["state"]["windows"] < 4:
-                pass
-            full = self.ask("events/0/5")
-            self.assertEqual((full["status"], full["full"]), (503, True))
-            self.assertEqual(self.ask("news/0/5")["state"]["windows"], 5)
-            made = self.edit(0, 1, "X:7")
-            told = self.ask("news/0/5")
-            self.assertEqual((told["changes"], told["room"], told["state"]["windows"]), ([made], False, 5))
-            self.assertEqual(self.ask("news/1/5")["changes"], [])
-        while not (told := self.ask("news/1/5"))["room"]:
-            pass
-        with self.window("5") as news:
-            self.assertLess(next(news)["state"]["windows"], 5)
-            self.finish()
-
-    def test_a_program_that_hangs(self):
-        """That is told soon; the book can be saved, the program be started again, and the server be ended."""
-        self.edit(3, 4, "G")
-        with self.window() as news:
-            hung = int((self.folder / "pid").read_text())
-            os.kill(hung, signal.SIGSTOP)
-            answers = []
-            asking = threading.Thread(target=lambda: answers.append(self.edit(3, 4, "A")))
-            asking.start()
-            while not next(news).get("state", {}).get("slow"):
-                pass
-            self.assertEqual(self.save()["unsaved"], False)
-            self.assertEqual(self.path.read_bytes(), BOOK.replace(b"GABc &", b"G"))
-            self.assertEqual(self.ask("restart", {}), {})
-            asking.join(trial.SECONDS)
-            self.assertEqual(answers[0]["status"], 503)
-            self.assertEqual(self.edit(3, 4, "A")["written"], [1])
-        os.kill(int((self.folder / "pid").read_text()), signal.SIGSTOP)
-        with socket.create_connection(("127.0.0.1", self.port)) as connection:
-            connection.sendall(f"GET /{self.token}/midi/1 HTTP/1.1\r\nHost: 127.0.0.1:{self.port}\r\n\r\n".encode())
-            self.server.send_signal(signal.SIGTERM)
-            self.assertEqual(self.server.wait(trial.SECONDS), 0)
-
-    def test_another_program_writes_the_book(self):
-        """Its changes become edits, the last ones first, as few lines as changed."""
-        with self.window() as news:
-            next(news)
-            changed = BOOK.replace(b"Kesh", b"The Kesh").replace(b"CDE -", b"CDE\nF")
-            self.path.write_bytes(changed)
-            edits = [next(news) for _ in range(3)]
-            made = [new["change"] for new in edits if "change" in new]
-            self.assertEqual([tuple(one["edit"].values()) for one in made], [(7, 8, ["CDE", "F"]), (1, 2, ["T:The Kesh"])])
-            self.assertEqual([one["window"] for one in made], [None, None])
-            book = self.book()
-            self.assertEqual(("\n".join(book["lines"]).encode(), book["version"], book["unsaved"]), (changed, 2, False))
-            self.assertEqual(book["disk"], saving.digest(changed))
-            self.assertEqual((book["faults"], book["tunes"][0][2]), ([[3, 5, 6, "BadByte"]], "The Kesh"))
-            rows = BOOK_FAULTS
-            for one in made:
-                start, stop, lines = one["edit"].values()
-                rows = followed(rows, one["faults"], start, stop, len(lines))
-            self.assertEqual(rows, book["faults"])
-            self.save()
-            self.assertEqual(self.path.read_bytes(), changed)
-            self.finish()
-
-    def test_ends_of_lines_that_another_program_changes(self):
-        for written in (b"\xef\xbb\xbfX:1\r\nK:C\r\nC\r\n", b"X:1\nK:C\nC\n", b"X:2\r\nK:C\r\n", b"X:3\nK:C"):
-            self.path.write_bytes(written)
-            lines = written.replace(b"\xef\xbb\xbf", b"").replace(b"\r", b"").decode().split("\n")
-            while (book := self.book())["lines"] != lines:
-                pass
-            self.edit(1, 2, "K:D")
-            self.save()
-            self.assertEqual(self.path.read_bytes(), written.replace(b"K:C", b"K:D"))
-        self.assertEqual([row[1] for row in book["tunes"]], [3])
+    def test_bodies(self):
+        head = f"POST /{self.token}/edit HTTP/1.1\r\nHost: 127.0.0.1:{self.port}\r\n"
+        for more, status in (
+            ("Content-Length: 33554433\r\n\r\n", 413),
+            ("Content-Length: 99999999999999999999\r\n\r\n", 411),
+            ("Content-Length: -1\r\n\r\n", 411),
+            ("\r\n", 411),
+            ("Transfer-Encoding: chunked\r\n\r\n2\r\n{}\r\n0\r\n\r\n", 411),
+            ("Content-Length: 9\r\n\r\n{}", 400),
+        ):
+            self.assertIn(f" {status} ".encode(), self.raw((head + more).encode()).partition(b"\r\n")[0], more)
+        for cut in (head[:3], head[:40], head, head + "Content-Le"):
+            self.raw(cut.encode())
+        self.assertEqual(self.request("edit/", {})[0], 404)
+        self.assertEqual(self.edit(0, 1, "X:3")["written"], [3])
         self.finish()
-
-    def told(self, wanted) -> dict:
-        """Waits till the state of the book is as wanted."""
-        until = time.monotonic() + trial.SECONDS
-        while not wanted(state := self.ask("state")):
-            self.assertLess(time.monotonic(), until, state)
-            time.sleep(0.05)
-        return state
-
-    def test_another_program_writes_the_book_while_text_is_unsaved(self):
-        """Nothing changes till the user says which one to take."""
-        self.edit(0, 0, "% mine")
-        self.path.write_bytes(b"X:9\nK:C\nC\n")
-        state = self.told(lambda state: state["disk"] != state["saved"])
-        self.assertEqual((state["version"], state["unsaved"], state["disk"]), (1, True, saving.digest(b"X:9\nK:C\nC\n")))
-        self.assertEqual(self.save()["ask"], state["disk"])
-        asked = {"run": state["run"], "version": 1, "over": "another"}
-        self.assertEqual((self.ask("load", asked)["status"], self.book()["lines"][0]), (409, "% mine"))
-        loaded = self.ask("load", {**asked, "over": state["disk"]})
-        self.assertEqual((loaded["unsaved"], loaded["disk"], self.book()["lines"]), (False, loaded["saved"], ["X:9", "K:C", "C", ""]))
-        self.edit(0, 0, "% mine")
-        self.path.write_bytes(b"another")
-        self.told(lambda state: state["disk"] != state["saved"])
-        self.edit(0, 1)
-        self.told(lambda state: state["disk"] == state["saved"])
-        self.assertEqual(self.book()["lines"], ["another"])
-        self.finish()
-
-    def test_a_book_that_is_gone(self):
-        away = self.folder / "away"
-        self.path.rename(away)
-        state = self.told(lambda state: state["disk"] is None)
-        self.assertEqual((state["unsaved"], self.book()["lines"]), (True, BOOK.decode().split("\n")))
-        away.rename(self.path)
-        self.assertFalse(self.told(lambda state: state["disk"] == state["saved"])["unsaved"])
-        self.path.unlink()
-        self.told(lambda state: state["disk"] is None)
-        self.assertFalse(self.save(over=None)["unsaved"])
-        self.assertEqual(self.path.read_bytes(), BOOK)
-        self.finish()
-
-    def test_no_file_has_the_name_of_the_book(self):
-        """The server goes on, says why, and saves nothing there."""
-        for make, remove in ((os.mkfifo, os.unlink), (os.mkdir, os.rmdir), (lambda path: os.symlink("elsewhere", path), os.unlink)):
-            self.path.unlink()
-            make(self.path)
-            self.edit(0, 0, "%")
-            self.assertEqual(self.save()["status"], 500)
-            self.assertIn("not a regular file", self.save(over=None)["error"])
-            self.assertFalse(stat.S_ISREG(os.lstat(self.path).st_mode))
-            remove(self.path)
-            self.save(over=None)
-        os.unlink(self.path)
-        os.mkfifo(self.path)
-        self.assertTrue(self.told(lambda state: state["trouble"])["trouble"])
-        self.finish()
-
-    def test_random_edits(self):
-        """What a window makes of the answers is what a fresh run gives."""
-        chance = random.Random(trial.seed)
-        book = self.book()
-        lines, faults, tunes = book["lines"], book["faults"], book["tunes"]
-        for number in range(trial.changes):
-            start = chance.randrange(len(lines) + 1)
-            stop = min(len(lines), start + chance.choice([0, 1, 1, 2, 5]))
-            put = [trial.random_line(chance) for _ in range(chance.choice([0, 1, 1, 3]))] + chance.choice([[], [f"X:{number % 9}"]])
-            if not put and stop - start == len(lines):
-                continue
-            change = self.edit(start, stop, *put)
-            lines[start:stop] = put
-            faults, tunes = (followed(rows, change[name], start, stop, len(put)) for rows, name in ((faults, "faults"), (tunes, "tunes")))
-        book = self.book()
-        self.assertEqual((book["lines"], book["faults"], book["tunes"]), (lines, faults, tunes))
-        fresh = trial.fresh("\n".join(lines).encode())
-        self.assertEqual([(line + 1, name) for line, _, _, name in faults], [(line, name) for line, _, name in fresh.faults])
-        self.assertEqual({f"{number}.mid" for _, number, _, has_file in tunes if has_file}, set(fresh.files))
-        for name, data in fresh.files.items():
-            self.assertEqual(self.request(f"midi/{name[:-4]}")[2], data)
 
 
 class Faults(trial.Folder):

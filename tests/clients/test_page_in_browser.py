@@ -236,6 +236,30 @@ class Browser(test_page.Page):
         self.run_script("clock = arguments[0]", seconds)
         self.wait(lambda: [key for _, key in self.run_script("return played")] == list(keys))
 
+    def kill(self):
+        """Ends the server at once."""
+        self.server.send_signal(signal.SIGKILL)
+        self.server.wait(trial.SECONDS)
+
+    def question(self) -> list:
+        """The answers to the question that is shown."""
+        return self.run_script("return [...document.querySelectorAll('#notice:not([hidden]) button')].map((one) => one.textContent)")
+
+    def shows(self, text: str):
+        """Waits till the page shows this text."""
+        self.wait(lambda: self.run_script(f"return {AREA}.value") == text)
+
+    def is_unsaved(self) -> bool:
+        return not self.run_script("return document.getElementById('unsaved').hidden")
+
+    def stored(self) -> str:
+        """What the browser keeps."""
+        return self.run_script("return JSON.stringify(localStorage)")
+
+
+class Editing(Browser):
+    """Typing, hearing, and going about."""
+
     def test_type_hear_and_save(self):
         self.type(TUNE)
         self.settled(TUNE)
@@ -333,6 +357,78 @@ class Browser(test_page.Page):
         self.stands_at("X:3")
         self.assertEqual(self.run_script("return document.querySelector('.scroller').scrollLeft"), 0)
 
+    def test_hints(self):
+        """They are marked in another colour than faults, and told beside them."""
+        self.kill()
+        self.start(str(self.path), hints=True)
+        self.load()
+        self.type("X:1\nK:C\nC -&\n")
+        self.wait(lambda: self.text("count") == "2 faults" and self.text("hinted") == "1 hint")
+        kinds = self.run_script("return [...document.querySelectorAll('mark')].map((mark) => [mark.fault[3], mark.className])")
+        self.assertEqual(sorted(kinds), [["BadByte", ""], ["LooseTie", ""], ["Overlay", "hint"]])
+        self.assertIn("Line 3, hintWhat follows this & is played after", self.text("told"))
+        colours = "return ['mark:not(.hint)', 'mark.hint'].map((one) => getComputedStyle(document.querySelector(one)).backgroundColor)"
+        self.assertEqual(len(set(self.run_script(colours))), 2)
+        self.type("X:2\nK:C\n|:C|")
+        self.wait(lambda: self.text("hinted") == "2 hints")
+
+    def test_a_number_of_two_tunes(self):
+        self.type("X:1\nK:C\nC\n\nX:1\nK:C\nD")
+        self.wait(lambda: self.text("empty") == "Number 1 is used at line 1; this tune has no file.")
+
+    def test_two_windows(self):
+        self.type("X:1\nK:C\nC\nD")
+        first = self.driver.current_window_handle
+        self.settled("X:1\nK:C\nC\nD")
+        self.driver.switch_to.new_window("tab")
+        self.load()
+        self.wait(lambda: self.text("windows") == "2 windows have this book")
+        self.type(HOME, CONTROL)
+        self.press("% words\n")
+        self.settled("% words\nX:1\nK:C\nC\nD")
+        second = self.driver.current_window_handle
+        self.turn_to(first)
+        self.wait(lambda: self.run_script(f"return {AREA}.value") == "% words\nX:1\nK:C\nC\nD")
+        self.wait(lambda: self.text("windows") == "2 windows have this book")
+        self.type("E")
+        self.settled("% words\nX:1\nK:C\nC\nDE")
+        self.turn_to(second)
+        self.wait(lambda: self.run_script(f"return {AREA}.value") == "% words\nX:1\nK:C\nC\nDE")
+        self.driver.close()
+        self.turn_to(first)
+        self.wait(lambda: self.run_script("return document.getElementById('windows').hidden"))
+
+    def test_random_edits(self):
+        """After edits at random the page's faults and titles are those of a fresh run."""
+        chance = random.Random(trial.seed)
+        tunes = [trial.random_tune(chance, number + 1) for number in range(4)]
+        edits = [[0, 0, "\n".join(line for tune in tunes for line in tune), 0]]
+        for _ in range(trial.changes):
+            kind = chance.random()
+            put = chance.choice([trial.random_line(chance), "\n", "C", f"\n\nX:{chance.randrange(9)}\nT:New\nK:D\nD-|&\n", "\u00e9-"])
+            put = None if kind < 0.1 else "" if kind < 0.45 else put
+            edits.append([chance.random(), chance.choice([0, 0, 1, 3, 30]), put, chance.choice([0, 0, 5, 50])])
+        for at in range(0, len(edits), 20):
+            self.assertEqual(self.driver.execute_async_script(EDITS, edits[at : at + 20]), True)
+        self.settled(self.run_script(f"return {AREA}.value"))
+        book = self.book()
+        lines = self.run_script(LINES)
+        fresh = trial.fresh("\n".join(book["lines"]).encode())
+        self.assertEqual([(line + 1, name) for line, _, _, name in book["faults"]], [(line, name) for line, _, name in fresh.faults])
+        self.wait(lambda: self.run_script(FAULTS) == [fault for fault in book["faults"] if fault[0] + 1 in lines])
+        titles = [[at, str(tune[1]), tune[2] or "(no title)"] for at, tune in enumerate(book["tunes"])]
+        self.wait(lambda: self.shows_some_of(titles))
+        self.assertTrue(titles or not fresh.files)
+
+    def shows_some_of(self, titles: list) -> bool:
+        """Whether the list shows those of these titles that stand at its places, one at least where there is one."""
+        shown = self.run_script(TITLES)
+        return bool(shown or not titles) and shown == [titles[row[0]] for row in shown if row[0] < len(titles)]
+
+
+class Losing(Browser):
+    """Text that could be lost: the server is away, the book changes, or somebody asks who may not."""
+
     def test_the_server_is_away(self):
         self.type("X:1\nK:C\nC")
         self.settled("X:1\nK:C\nC")
@@ -350,11 +446,6 @@ class Browser(test_page.Page):
         self.answer("Keep this window's text")
         self.settled("X:1\nK:C\nCDE")
         self.assertEqual(self.path.read_bytes(), b"X:9\n")
-
-    def kill(self):
-        """Ends the server at once."""
-        self.server.send_signal(signal.SIGKILL)
-        self.server.wait(trial.SECONDS)
 
     def test_text_of_an_earlier_window(self):
         self.type("X:1\nK:C\nC")
@@ -396,21 +487,6 @@ class Browser(test_page.Page):
         self.answer("Save this text over it")
         self.wait(lambda: self.path.read_bytes() == b"X:1\nK:C\nC")
         self.wait(lambda: not self.is_unsaved() and not self.question())
-
-    def question(self) -> list:
-        """The answers to the question that is shown."""
-        return self.run_script("return [...document.querySelectorAll('#notice:not([hidden]) button')].map((one) => one.textContent)")
-
-    def shows(self, text: str):
-        """Waits till the page shows this text."""
-        self.wait(lambda: self.run_script(f"return {AREA}.value") == text)
-
-    def is_unsaved(self) -> bool:
-        return not self.run_script("return document.getElementById('unsaved').hidden")
-
-    def stored(self) -> str:
-        """What the browser keeps."""
-        return self.run_script("return JSON.stringify(localStorage)")
 
     def test_a_loaded_page_shows_the_book_on_disk(self):
         self.type("X:1")
@@ -533,71 +609,3 @@ class Browser(test_page.Page):
         self.answer("Start it again")
         self.settled("X:12")
         self.wait(lambda: not self.question())
-
-    def test_hints(self):
-        """They are marked in another colour than faults, and told beside them."""
-        self.kill()
-        self.start(str(self.path), hints=True)
-        self.load()
-        self.type("X:1\nK:C\nC -&\n")
-        self.wait(lambda: self.text("count") == "2 faults" and self.text("hinted") == "1 hint")
-        kinds = self.run_script("return [...document.querySelectorAll('mark')].map((mark) => [mark.fault[3], mark.className])")
-        self.assertEqual(sorted(kinds), [["BadByte", ""], ["LooseTie", ""], ["Overlay", "hint"]])
-        self.assertIn("Line 3, hintWhat follows this & is played after", self.text("told"))
-        colours = "return ['mark:not(.hint)', 'mark.hint'].map((one) => getComputedStyle(document.querySelector(one)).backgroundColor)"
-        self.assertEqual(len(set(self.run_script(colours))), 2)
-        self.type("X:2\nK:C\n|:C|")
-        self.wait(lambda: self.text("hinted") == "2 hints")
-
-    def test_a_number_of_two_tunes(self):
-        self.type("X:1\nK:C\nC\n\nX:1\nK:C\nD")
-        self.wait(lambda: self.text("empty") == "Number 1 is used at line 1; this tune has no file.")
-
-    def test_two_windows(self):
-        self.type("X:1\nK:C\nC\nD")
-        first = self.driver.current_window_handle
-        self.settled("X:1\nK:C\nC\nD")
-        self.driver.switch_to.new_window("tab")
-        self.load()
-        self.wait(lambda: self.text("windows") == "2 windows have this book")
-        self.type(HOME, CONTROL)
-        self.press("% words\n")
-        self.settled("% words\nX:1\nK:C\nC\nD")
-        second = self.driver.current_window_handle
-        self.turn_to(first)
-        self.wait(lambda: self.run_script(f"return {AREA}.value") == "% words\nX:1\nK:C\nC\nD")
-        self.wait(lambda: self.text("windows") == "2 windows have this book")
-        self.type("E")
-        self.settled("% words\nX:1\nK:C\nC\nDE")
-        self.turn_to(second)
-        self.wait(lambda: self.run_script(f"return {AREA}.value") == "% words\nX:1\nK:C\nC\nDE")
-        self.driver.close()
-        self.turn_to(first)
-        self.wait(lambda: self.run_script("return document.getElementById('windows').hidden"))
-
-    def test_random_edits(self):
-        """After edits at random the page's faults and titles are those of a fresh run."""
-        chance = random.Random(trial.seed)
-        tunes = [trial.random_tune(chance, number + 1) for number in range(4)]
-        edits = [[0, 0, "\n".join(line for tune in tunes for line in tune), 0]]
-        for _ in range(trial.changes):
-            kind = chance.random()
-            put = chance.choice([trial.random_line(chance), "\n", "C", f"\n\nX:{chance.randrange(9)}\nT:New\nK:D\nD-|&\n", "\u00e9-"])
-            put = None if kind < 0.1 else "" if kind < 0.45 else put
-            edits.append([chance.random(), chance.choice([0, 0, 1, 3, 30]), put, chance.choice([0, 0, 5, 50])])
-        for at in range(0, len(edits), 20):
-            self.assertEqual(self.driver.execute_async_script(EDITS, edits[at : at + 20]), True)
-        self.settled(self.run_script(f"return {AREA}.value"))
-        book = self.book()
-        lines = self.run_script(LINES)
-        fresh = trial.fresh("\n".join(book["lines"]).encode())
-        self.assertEqual([(line + 1, name) for line, _, _, name in book["faults"]], [(line, name) for line, _, name in fresh.faults])
-        self.wait(lambda: self.run_script(FAULTS) == [fault for fault in book["faults"] if fault[0] + 1 in lines])
-        titles = [[at, str(tune[1]), tune[2] or "(no title)"] for at, tune in enumerate(book["tunes"])]
-        self.wait(lambda: self.shows_some_of(titles))
-        self.assertTrue(titles or not fresh.files)
-
-    def shows_some_of(self, titles: list) -> bool:
-        """Whether the list shows those of these titles that stand at its places, one at least where there is one."""
-        shown = self.run_script(TITLES)
-        return bool(shown or not titles) and shown == [titles[row[0]] for row in shown if row[0] < len(titles)]
