@@ -3,6 +3,9 @@
 use clap::{Arg, Command};
 use std::alloc::{AllocError, Global};
 
+/// The version of the program, its clients and its packages. `scripts/version` reads this line.
+const VERSION: &str = "1.0.0";
+
 /// The commands in a line each, and what is answered.
 const COMMANDS: &str = "\
 Commands, one on a line of standard input:
@@ -33,7 +36,7 @@ pub(crate) fn command<'a>(alloc: Global) -> Result<Command<'a>, AllocError> {
     );
     Command::new(alloc, "abc2midi_live")
         .bin_name("abc2midi_live")?
-        .version("0.1.0")
+        .version(VERSION)
         .about("Compiles tunes in ABC notation to MIDI files while they are edited.")
         .after_help(COMMANDS)
         .arg(dir)?

@@ -1,0 +1,103 @@
+"""The crates of crates.txt, how long their proofs take, and when each is done: what `./build` and `./check` show."""
+
+from __future__ import annotations
+
+import re
+from dataclasses import dataclass, field
+from pathlib import Path
+
+# Processor seconds of a crate's proof, fitted to the times of a whole `./check`; the order is not exact, the sum is.
+SECONDS_OF_A_CRATE = 15.0
+SECONDS_OF_A_LINE_OF_CODE = 0.09
+SECONDS_OF_A_LINE_OF_PROOF = 0.03
+
+
+@dataclass
+class Crate:
+    """A crate: what it uses of the repository, its functions, and the estimated seconds of its proof."""
+
+    name: str
+    row: str  # its line of crates.txt
+    uses: list[str]
+    functions: int = 0
+    seconds: float = 0.0
+    edits: int = 0
+
+
+@dataclass
+class Schedule:
+    """When the proof of each crate ends, in seconds from the start, by the estimates."""
+
+    ends: dict[str, float] = field(default_factory=dict)
+
+    @property
+    def end(self) -> float:
+        return max(self.ends.values(), default=0.0)
+
+
+def read_crates(top: Path) -> dict[str, Crate]:
+    """The crates that crates.txt lists, lowest first."""
+    crates: dict[str, Crate] = {}
+    for row in (top / "crates.txt").read_text(encoding="utf-8").splitlines():
+        head, _, uses = row.partition("#")[0].partition(":")
+        if head.strip():
+            name = head.split()[0]
+            crates[name] = Crate(name, row, uses.split())
+    for crate in crates.values():
+        crate.uses = [name for name in crate.uses if name in crates]
+        measure(crate, top / "crates" / crate.name)
+    return crates
+
+
+def measure(crate: Crate, folder: Path) -> None:
+    """Counts the functions, the lines and the must-fail edits of a crate."""
+    code = [path.read_text(encoding="utf-8") for path in (folder / "src").rglob("*.rt")]
+    proof = [path for part in ("specs", "proofs") for path in (folder / part).rglob("*.antt")]
+    crate.functions = sum(len(re.findall(r"^\s*(?:pub(?:\(\w+\))? )?(?:const )?fn \w", text, re.M)) for text in code)
+    crate.edits = len(list((folder / "must-fail").glob("*.edit")))
+    crate.seconds = (
+        SECONDS_OF_A_CRATE
+        + SECONDS_OF_A_LINE_OF_CODE * sum(text.count("\n") for text in code)
+        + SECONDS_OF_A_LINE_OF_PROOF * sum(path.read_bytes().count(b"\n") for path in proof)
+    )
+
+
+def needed_by(crates: dict[str, Crate], top: str) -> dict[str, Crate]:
+    """The crate of this name and all below it, lowest first."""
+    names = {top}
+    for crate in reversed(list(crates.values())):
+        if crate.name in names:
+            names.update(crate.uses)
+    return {name: crate for name, crate in crates.items() if name in names}
+
+
+def chain_from(crates: dict[str, Crate]) -> dict[str, float]:
+    """For each crate the seconds from the start of its proof to the end of the longest chain that needs it."""
+    behind = {name: crate.seconds for name, crate in crates.items()}
+    for crate in reversed(list(crates.values())):
+        for name in crate.uses:
+            behind[name] = max(behind[name], crates[name].seconds + behind[crate.name])
+    return behind
+
+
+def schedule(crates: dict[str, Crate], processors: int, kept: frozenset[str] = frozenset()) -> Schedule:
+    """When the proofs end if each processor takes the crate with the longest chain next, as `rt ci` does. Kept crates take no
+    time."""
+    behind, made = chain_from(crates), Schedule()
+    free = [0.0] * processors
+    left = sorted(crates.values(), key=lambda crate: -behind[crate.name])
+    while left:
+        crate = min(left, key=lambda it: (max(ready(it, made), min(free)), -behind[it.name]))
+        left.remove(crate)
+        if crate.name in kept:
+            made.ends[crate.name] = ready(crate, made)
+            continue
+        lane = min(range(processors), key=free.__getitem__)
+        free[lane] = max(free[lane], ready(crate, made)) + crate.seconds
+        made.ends[crate.name] = free[lane]
+    return made
+
+
+def ready(crate: Crate, made: Schedule) -> float:
+    """When the proofs of all that a crate uses have ended."""
+    return max((made.ends.get(name, float("inf")) for name in crate.uses), default=0.0)
