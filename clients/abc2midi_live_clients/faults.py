@@ -1,11 +1,25 @@
 """What each fault means, in sentences."""
 
-import re
+import json
+from typing import NamedTuple
 
-from .program import TOP
+from .program import PACKAGE
+
+
+class FaultMeaning(NamedTuple):
+    """A fault: its name, whether the program or the clients find it, what is wrong, and what to write instead."""
+
+    name: str
+    of: str
+    wrong: str
+    instead: str
+
+
+def meanings() -> list[FaultMeaning]:
+    """The meaning of each fault, in the order in which faults at one place are listed."""
+    return [FaultMeaning(**row) for row in json.loads((PACKAGE / "faults.json").read_text("utf-8"))]
 
 
 def sentences() -> dict[str, str]:
-    """By the name of each fault: what is wrong, and what to write instead. They are those of `docs/faults.md`."""
-    rows = re.findall(r"^\| `(\w+)` \| (.+) \| (.+) \|$", (TOP / "docs/faults.md").read_text("utf-8"), re.M)
-    return {name: f"{wrong} {instead}".replace("\\|", "|") for name, wrong, instead in rows}
+    """By the name of each fault: what is wrong, and what to write instead."""
+    return {fault.name: f"{fault.wrong} {fault.instead}" for fault in meanings()}

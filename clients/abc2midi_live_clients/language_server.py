@@ -31,7 +31,7 @@ from .messages import (
     write_message,
 )
 from .players import Player
-from .program import ProgramEnded, ProgramMissing, find_program
+from .program import ProgramEnded, ProgramMissing, add_common_options, find_program
 from .remarks import diagnostic, remarks
 from .signals import when_told_to_end
 
@@ -317,11 +317,11 @@ def serve(server: Server) -> int:
 
 def arguments() -> argparse.Namespace:
     """What the command line says."""
-    parser = argparse.ArgumentParser(prog="language_server", description=__doc__)
+    parser = argparse.ArgumentParser(description=__doc__)
     parser.add_argument(
         "--play", metavar="COMMAND", type=shlex.split, help="the player that the command 'play' runs on the file it names"
     )
-    parser.add_argument("--program", help="the program to start, in the place of the one that ./check left")
+    add_common_options(parser)
     parser.add_argument("--no-hints", action="store_true", help="publish faults alone")
     return parser.parse_args()
 

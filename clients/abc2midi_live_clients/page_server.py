@@ -22,7 +22,7 @@ from .connections import Connections
 from .faults import sentences
 from .hint_process import HintProcess
 from .printing import printable
-from .program import ProgramEnded, ProgramMissing, find_program
+from .program import ProgramEnded, ProgramMissing, add_common_options, find_program
 from .proofs import book_key, proof
 from .shared_book import Json, Refused, SharedBook
 from .signals import when_told_to_end
@@ -47,11 +47,11 @@ SAFE = {
 
 def arguments() -> argparse.Namespace:
     """What the command line says."""
-    parser = argparse.ArgumentParser(prog="page", description=__doc__)
+    parser = argparse.ArgumentParser(description=__doc__)
     parser.add_argument("book", metavar="BOOK", nargs="?", help="the tune book; if it is missing, the first save makes it")
     parser.add_argument("--port", metavar="N", type=int, help="the port, instead of one that goes by the book's name")
     parser.add_argument("--no-hints", action="store_true", help="show faults alone")
-    parser.add_argument("--program", help="the program to start, in the place of the one that ./check left")
+    add_common_options(parser)
     return parser.parse_args()
 
 

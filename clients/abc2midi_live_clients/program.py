@@ -1,15 +1,18 @@
 """The program: finding it, starting it, and asking it."""
 
+import argparse
 import os
 import subprocess
 from collections.abc import Sequence
 from pathlib import Path
-from typing import NamedTuple, Optional
+from typing import Any, NamedTuple, Optional
 
 from .edits import Edit, Lines, edits, joined
 from .places import is_inside_character, text_of
 
-TOP = Path(__file__).resolve().parent.parent.parent
+PACKAGE = Path(__file__).resolve().parent
+TOP = PACKAGE.parent.parent  # of the checkout; in an installation the folder `share`
+INSTALLED = PACKAGE.parent / "version"  # only an installation has this file
 MOST_BYTES = 65_535  # of a line that the program takes
 MOST_LINES = 1_048_576  # of a text that the program takes
 MOST_EDITS = 1_000  # for one change of the text
@@ -49,7 +52,12 @@ class Built(NamedTuple):
 
 
 def find_program() -> str:
-    """The build of the present sources that `./check` left, as `./abc2midi_live` looks for it."""
+    """The installed program, or in a checkout the build of the present sources, as `./abc2midi_live` looks for it."""
+    if INSTALLED.is_file():
+        program = TOP.parent / "bin/abc2midi_live"
+        if not os.access(program, os.X_OK):
+            raise ProgramMissing(f"{program} is missing; install it again, or name a program by --program")
+        return str(program)
     program = TOP / "crates/program/out/program"
     try:
         built = Path(f"{program}.digest").read_text().strip()
@@ -58,8 +66,29 @@ def find_program() -> str:
     except (OSError, subprocess.CalledProcessError):
         built = present = ""
     if not built or built != present or not os.access(program, os.X_OK):
-        raise ProgramMissing("./check left no proved build of these sources here; run it, or name one by --program")
+        raise ProgramMissing("there is no build of these sources; run ./build, or name a program by --program")
     return str(program)
+
+
+def version() -> str:
+    """The version of the installation, or of the checkout."""
+    if INSTALLED.is_file():
+        return INSTALLED.read_text().strip()
+    return subprocess.run([TOP / "scripts/version"], capture_output=True, text=True, check=True).stdout.strip()
+
+
+class ShowVersion(argparse.Action):
+    """The option `--version`."""
+
+    def __call__(self, parser: argparse.ArgumentParser, *_: Any) -> None:
+        print(f"{parser.prog} {version()}")
+        parser.exit()
+
+
+def add_common_options(parser: argparse.ArgumentParser) -> None:
+    """Adds the options that all clients have."""
+    parser.add_argument("--program", metavar="FILE", help="start this program instead of the one that was installed or built")
+    parser.add_argument("--version", action=ShowVersion, nargs=0, help="print the version and end")
 
 
 class LiveBook:

@@ -15,7 +15,7 @@ from .hints import Finder
 from .midi_folder import FolderTaken, MidiFolder
 from .players import Player
 from .printing import printable
-from .program import LiveBook, ProgramMissing, find_program
+from .program import LiveBook, ProgramMissing, add_common_options, find_program
 from .reports import JsonReport, Report, TextReport
 from .signals import when_told_to_end
 from .watched_book import FAILED, WatchedBook, prepare
@@ -35,7 +35,6 @@ def command(text: str) -> list[str]:
 def arguments() -> argparse.Namespace:
     """What the command line says."""
     parser = argparse.ArgumentParser(
-        prog="watch",
         description=__doc__,
         epilog="Exit status: 0 at Ctrl-C, or after --once if the book has no fault; 3 after --once if it has faults; "
         "1 if something failed; 2 for wrong arguments; 127 if there is no program.",
@@ -48,7 +47,7 @@ def arguments() -> argparse.Namespace:
     parser.add_argument("--json", action="store_true", help="print one JSON object a line, for other programs")
     parser.add_argument("--clean", action="store_true", help="at the start remove files N.mid that no tune of the book has")
     parser.add_argument("--play", metavar="COMMAND", type=command, help="after each save play the last changed file by this player")
-    parser.add_argument("--program", help="start this program instead of the one that ./check built")
+    add_common_options(parser)
     words = parser.parse_args()
     if words.once and words.play:
         parser.error("--once plays nothing: leave out --once or --play")
