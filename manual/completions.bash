@@ -1,23 +1,17 @@
-# Completions for bash of abc2midi_live and its clients. An option is completed as --help lists it, a value by its kind.
+# Completions for bash of abc2midi_live and its clients. The options are those that --help prints; a value goes by its option.
 
 _abc2midi_live() {
     local word=${COMP_WORDS[COMP_CWORD]} before=${COMP_WORDS[COMP_CWORD - 1]}
-    local options='--help --version'
-    case ${COMP_WORDS[0]##*/} in
-    abc2midi_live) options+=' --dir' ;;
-    abc2midi_live-watch) options+=' --dir --play --program' ;;
-    abc2midi_live-page) options+=' --port --program' ;;
-    abc2midi_live-language-server) options+=' --play --program' ;;
-    esac
-    compopt -o filenames
+    compopt -o filenames 2>/dev/null
+    COMPREPLY=()
     case $before in
     --dir) mapfile -t COMPREPLY < <(compgen -d -- "$word") ;;
     --play) mapfile -t COMPREPLY < <(compgen -c -- "$word") ;;
     --program) mapfile -t COMPREPLY < <(compgen -f -- "$word") ;;
-    --port) COMPREPLY=() ;;
+    --port) ;;
     *)
         if [[ $word == -* ]]; then
-            mapfile -t COMPREPLY < <(compgen -W "$options" -- "$word")
+            mapfile -t COMPREPLY < <(compgen -W "$("$1" --help 2>&1 | grep -oE -- '--[a-z][a-z-]*' | sort -u)" -- "$word")
         else
             mapfile -t COMPREPLY < <(compgen -d -- "$word"; compgen -f -X '!*.abc' -- "$word")
         fi
