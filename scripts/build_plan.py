@@ -10,6 +10,7 @@ from pathlib import Path
 SECONDS_OF_A_CRATE = 15.0
 SECONDS_OF_A_LINE_OF_CODE = 0.09
 SECONDS_OF_A_LINE_OF_PROOF = 0.03
+SECONDS_OF_AN_EDIT = 30.0  # and of the first of several as much as the proof of the crate
 
 
 @dataclass
@@ -21,7 +22,11 @@ class Crate:
     uses: list[str]
     functions: int = 0
     seconds: float = 0.0
-    edits: int = 0
+    edits: int = 0  # must-fail edits that are tried
+
+    @property
+    def seconds_of_edits(self) -> float:
+        return SECONDS_OF_AN_EDIT * self.edits + (self.seconds if self.edits else 0)
 
 
 @dataclass
@@ -29,10 +34,11 @@ class Schedule:
     """When the proof of each crate ends, in seconds from the start, by the estimates."""
 
     ends: dict[str, float] = field(default_factory=dict)
+    work: float = 0.0  # seconds of all proofs and edits, on all processors
 
     @property
     def end(self) -> float:
-        return max(self.ends.values(), default=0.0)
+        return max([self.work, *self.ends.values()])
 
 
 def read_crates(top: Path) -> dict[str, Crate]:
@@ -81,8 +87,8 @@ def chain_from(crates: dict[str, Crate]) -> dict[str, float]:
 
 
 def schedule(crates: dict[str, Crate], processors: int, kept: frozenset[str] = frozenset()) -> Schedule:
-    """When the proofs end if each processor takes the crate with the longest chain next, as `rt ci` does. Kept crates take no
-    time."""
+    """When the proofs end if each processor takes the crate with the longest chain next, as `rt ci` does; edits fill the rest.
+    Kept crates take no time."""
     behind, made = chain_from(crates), Schedule()
     free = [0.0] * processors
     left = sorted(crates.values(), key=lambda crate: -behind[crate.name])
@@ -95,6 +101,7 @@ def schedule(crates: dict[str, Crate], processors: int, kept: frozenset[str] = f
         lane = min(range(processors), key=free.__getitem__)
         free[lane] = max(free[lane], ready(crate, made)) + crate.seconds
         made.ends[crate.name] = free[lane]
+    made.work = sum(crate.seconds * (crate.name not in kept) + crate.seconds_of_edits for crate in crates.values()) / processors
     return made
 
 

@@ -65,14 +65,16 @@ class Progress:
         functions = sum(self.crates[name].functions for name in self.done)
         of = sum(crate.functions for crate in self.crates.values())
         words = f"{len(self.done)} of {len(self.crates)} crates, {functions:,} of {of:,} functions, {minutes(self.now() - self.since)}"
-        return words if len(self.done) == len(self.crates) else f"{words}, about {minutes(self.left())} left"
+        return f"{words}, about {minutes(self.left())} left" if self.left() or len(self.done) < len(self.crates) else words
 
 
 class Display:
-    """The line at the bottom of a terminal, or plain lines if standard error is none."""
+    """The line at the bottom of a terminal, or plain lines if standard error is none. The output of the run may go to the same
+    terminal; the line makes way for it then."""
 
-    def __init__(self, progress: Progress, to: TextIO):
-        self.progress, self.to = progress, to
+    def __init__(self, progress: Progress, to: TextIO, out: TextIO):
+        self.progress, self.to, self.out = progress, to, out
+        self.makes_way = out is sys.stdout
         self.is_terminal = to.isatty()
         self.writing = threading.Lock()
         self.last = time.monotonic()
@@ -84,17 +86,19 @@ class Display:
     def look(self) -> None:
         """Writes the line anew, unless output has just passed."""
         with self.writing:
-            if self.is_terminal and time.monotonic() - self.last > SECONDS_BETWEEN_LOOKS / 2:
+            has_room = not self.makes_way or time.monotonic() - self.last > SECONDS_BETWEEN_LOOKS / 2
+            if self.is_terminal and has_room:
                 width = os.get_terminal_size(self.to.fileno()).columns - 1
                 print(f"\r\x1b[K{self.progress.words()[:width]}", end="", file=self.to, flush=True)
 
-    def take(self, line: str, out: TextIO) -> None:
+    def take(self, line: str) -> None:
         """Passes a line of the run on, and writes what it says of the progress."""
         with self.writing:
-            self.clear()
+            if self.makes_way:
+                self.clear()
             self.last = time.monotonic()
-            out.write(line)
-            out.flush()
+            self.out.write(line)
+            self.out.flush()
             name = self.progress.read(line)
             if name and not self.is_terminal:
                 how = "is kept" if name in self.progress.kept else "is proved"
@@ -103,7 +107,7 @@ class Display:
 
 def run(words: list[str], folder: Path, crates: dict[str, Crate], out: TextIO) -> int:
     """Runs a command in a folder, writes its output to `out` and its progress to standard error, and returns its status."""
-    display = Display(Progress(crates), sys.stderr)
+    display = Display(Progress(crates), sys.stderr, out)
     ended = threading.Event()
 
     def tick() -> None:
@@ -116,7 +120,7 @@ def run(words: list[str], folder: Path, crates: dict[str, Crate], out: TextIO) -
         assert child.stdout
         try:
             for line in child.stdout:
-                display.take(line, out)
+                display.take(line)
         except BaseException:
             child.send_signal(signal.SIGTERM)
             raise
