@@ -86,6 +86,17 @@ def chain_from(crates: dict[str, Crate]) -> dict[str, float]:
     return behind
 
 
+def longest_chain(crates: dict[str, Crate]) -> list[str]:
+    """The crates that the proofs of the others wait for longest, lowest first."""
+    behind, found = chain_from(crates), []
+    name = max(behind, key=lambda it: behind[it])
+    while name:
+        found.append(name)
+        above = [crate.name for crate in crates.values() if name in crate.uses]
+        name = max(above, key=lambda it: behind[it], default="")
+    return found
+
+
 def schedule(crates: dict[str, Crate], processors: int, kept: frozenset[str] = frozenset()) -> Schedule:
     """When the proofs end if each processor takes the crate with the longest chain next, as `rt ci` does; edits fill the rest.
     Kept crates take no time."""
