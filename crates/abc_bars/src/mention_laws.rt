@@ -2,9 +2,9 @@
 
 ghost use Rattle.abc_bars.specs.LookBack.Mentions.{TokensMention};
 
-/// A body mentions its voices in order: those of the header first; then each accepted V: the one that it names, behind the others,
-/// if there is room. The voice without a name is mentioned by the first note, chord, rest or rest of bars, if no voice was
-/// mentioned before it. So it is the first of all, or none.
+/// Each token of a body mentions at most one voice, after those that are mentioned before it. An accepted V: mentions the voice that
+/// it names, if there is room. A note, chord, rest or rest of bars mentions the voice without a name, if no voice is mentioned
+/// before it; so that voice comes first, or is not mentioned.
 pub fn voices_by_mention()
     ensures { TokensMention }
 {}

@@ -1,6 +1,6 @@
 -- The faults of the tokens of a cell, token by token.
 use Rattle.std.proofs.Common.{◌≡◌, ◌∙◌, ℕ, Bool, true, false, cond, List, [], ◌∷◌, ◌++◌, Option, Some, None, refl, sym, ap, subst, append-nil, append_assoc}
-use Rattle.std.specs.Prelude.{filter, is_none}
+use Rattle.std.specs.Prelude.{is_none}
 use Rattle.std.proofs.lemmas.List.Elements.{filter-append}
 use Rattle.abc_fields.specs.declared.fault.FaultCode.{FaultCode}
 use Rattle.abc_fields.specs.declared.fault.FaultCode.TheVariants.{BadBroken, BadByte, BadEnding, BadLength, BadProgram, BadTuplet, FreeBarRest, KeyRange, LooseTie, NestedTuplet, Unclosed}
@@ -27,7 +27,7 @@ use Rattle.abc_cells.specs.declared.cell.Given.{Given}
 use Rattle.abc_cells.specs.Body.{here, mentioned}
 use Rattle.abc_cells.specs.BodyFields.{field_given}
 use Rattle.abc_cells.specs.Cell.{is_tie_token, may_be_tied, mentioned_by_chord, nothing_given, tie_ahead, with_directive, with_ending, with_fault, with_fault_if, with_item, with_kind, with_some_fault, with_token}
-use Rattle.abc_bars.specs.LookBack.CellFaults.{AreFaultsBehind, AreFaultsOfCells, CellStart, Faults, ending_faults, place_in}
+use Rattle.abc_bars.specs.LookBack.CellFaults.{AreFaultsAfter, AreFaultsOfCells, CellStart, Faults, ending_faults, place_in}
 use Rattle.abc_bars.specs.LookBack.CellPlace.{CellPlace, before_place}
 use Rattle.abc_bars.specs.LookBack.Cells.{behind_tokens, looked_back}
 use Rattle.abc_bars.specs.LookBack.Element.{Element}
@@ -164,7 +164,7 @@ module _ (told : FaultCode → Bool) (Has : CellPlace → TokenKind → Faults �
   begin = opening_at start.values start.fields start.key
 
   are : (front cell : List (Spanned TokenKind)) (after : Bool)
-      → AreFaultsBehind Has start front cell (Told told (rest_faults begin (behind_front front cell start.before) (behind_from Nothing front) after cell))
+      → AreFaultsAfter Has start front cell (Told told (rest_faults begin (behind_front front cell start.before) (behind_from Nothing front) after cell))
   unfolding rest_faults
   are front [] after = refl
   are front (token ∷ ahead) after =
@@ -175,14 +175,14 @@ module _ (told : FaultCode → Bool) (Has : CellPlace → TokenKind → Faults �
         Told told later,
         filter-append (λ fault. told fault.1) own later,
         each (place_in start front token ahead) token.kind now after (no-tie front ahead token start.before),
-        subst (AreFaultsBehind Has start (front ++ token ∷ []) ahead)
+        subst (AreFaultsAfter Has start (front ++ token ∷ []) ahead)
             (λ i. Told told (rest_faults begin (one-more front ahead token start.before i) (behind-more Nothing front token i) (may_be_tied token.kind) ahead))
             (are (front ++ token ∷ []) ahead (may_be_tied token.kind)),
       )
 
-  faults_are : (cell : List (Spanned TokenKind)) → AreFaultsBehind Has start [] cell (Told told (looked_back begin start.before (nothing_given begin) cell).items.faults)
+  faults_are : (cell : List (Spanned TokenKind)) → AreFaultsAfter Has start [] cell (Told told (looked_back begin start.before (nothing_given begin) cell).items.faults)
   faults_are cell =
-      subst (λ l. AreFaultsBehind Has start [] cell (Told told l)) (sym (from-here begin start.before (nothing_given begin) cell)) (are [] cell false)
+      subst (λ l. AreFaultsAfter Has start [] cell (Told told l)) (sym (from-here begin start.before (nothing_given begin) cell)) (are [] cell false)
 
 pub faults_of_cells : (told : FaultCode → Bool) (Has : CellPlace → TokenKind → Faults → Type 0) → EachHas told Has → AreFaultsOfCells told Has
 faults_of_cells told Has each start cell = faults_are told Has each start cell

@@ -10,8 +10,6 @@ use Rattle.std.proofs.lemmas.Bool.Decides.{nat_tests}
 use Rattle.std.proofs.lemmas.Slice.Eq.{bytes_eq-Decides}
 use Rattle.abc_fields.specs.declared.fault.FaultCode.{FaultCode}
 use Rattle.abc_fields.specs.declared.fault.FaultCode.TheVariants.{BadBroken, BadKey, BadLength, BadMeter, BadPart, BadTempo, BadUnit, BadVoice, BigChord, LooseTie, TempoRange, TooManyVoices}
-use Rattle.abc_fields.specs.declared.key.Key.{Key}
-use Rattle.abc_fields.specs.declared.meter.Meter.{Meter}
 use Rattle.abc_fields.specs.declared.tempo.Tempo.{Tempo}
 use Rattle.abc_fields.specs.declared.tempo.Tempo.TheVariants.{Unset, Units, Beat}
 use Rattle.abc_fields.specs.declared.voice.Voice.{Voice}
@@ -32,11 +30,9 @@ use Rattle.abc_fields.proofs.Tempos.{tempo_read}
 use Rattle.abc_fields.proofs.Units.{unit_read}
 use Rattle.abc_fields.proofs.Voices.{voice_read}
 use Rattle.abc_scan.specs.declared.chord.Chord.{Chord}
-use Rattle.abc_scan.specs.declared.field.Field.{Field}
 use Rattle.abc_scan.specs.declared.parts.ChordPartKind.{ChordPartKind}
 use Rattle.abc_scan.specs.declared.parts.ChordPartKind.TheVariants as parts
 use Rattle.abc_scan.specs.declared.spanned.Spanned.{Spanned}
-use Rattle.abc_scan.specs.declared.token.TokenKind.{TokenKind}
 use Rattle.abc_scan.specs.declared.token.TokenKind.TheVariants as kinds
 use Rattle.abc_time.specs.declared.ratio.Ratio.{Ratio}
 use Rattle.abc_time.specs.Tempo.{IsQuarter, in_tempo_event, quarter_micros_of, quarter_of}

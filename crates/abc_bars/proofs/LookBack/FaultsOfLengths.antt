@@ -1,12 +1,11 @@
 -- BadLength and BigChord are where the rules say.
-use Rattle.std.proofs.Common.{◌≡◌, ◌∙◌, ℕ, ◌+◌, ◌<◌, Bool, true, false, cond, Option, Some, None, List, [], ◌∷◌, ◌++◌, drop, length, take, refl, sym, ap, subst, arith, append-nil}
+use Rattle.std.proofs.Common.{◌≡◌, ◌∙◌, ℕ, ◌+◌, ◌<◌, Bool, true, false, cond, Option, Some, None, List, [], ◌∷◌, ◌++◌, length, take, refl, sym, ap, subst, arith, append-nil}
 use Rattle.std.specs.Prelude.{filter, is_none, slice_index_or}
 use Rattle.std.specs.List.{Contains}
 use Rattle.abc_fields.specs.declared.fault.FaultCode.{FaultCode}
-use Rattle.abc_fields.specs.declared.fault.FaultCode.TheVariants.{BadBroken, BadByte, BadLength, BigChord, FreeBarRest, KeyRange, LooseTie}
+use Rattle.abc_fields.specs.declared.fault.FaultCode.TheVariants.{BadBroken, BadByte, BadLength, KeyRange, LooseTie}
 use Rattle.abc_fields.specs.declared.meter.Meter.{Meter}
 use Rattle.abc_fields.specs.declared.meter.Meter.TheVariants.{Free, Of}
-use Rattle.abc_fields.specs.Meter.{HasMeterRange}
 use Rattle.abc_scan.specs.declared.chord.Chord.{Chord}
 use Rattle.abc_scan.specs.declared.length.WrittenLength.{WrittenLength}
 use Rattle.abc_scan.specs.declared.note.Note.{Note}
@@ -21,17 +20,15 @@ use Rattle.abc_items.specs.Column.{column_of}
 use Rattle.abc_items.specs.declared.item.Item.{Item}
 use Rattle.abc_settings.specs.declared.settings.Settings.{Settings}
 use Rattle.abc_settings.specs.Tuplet.{tuplet_by}
-use Rattle.abc_music.specs.declared.broken.Behind.{Behind}
 use Rattle.abc_music.specs.declared.broken.Behind.TheVariants.{Nothing}
 use Rattle.abc_music.specs.declared.chords.Outside.{Outside}
-use Rattle.abc_music.specs.declared.sound.Around.{Around}
 use Rattle.abc_music.specs.declared.sound.Inside.{Inside}
-use Rattle.abc_music.specs.BarRest.{AreBars, bar_rest_length, bar_rest_of}
-use Rattle.abc_music.specs.Broken.{behind_from, factors_of, is_bad_mark}
+use Rattle.abc_music.specs.BarRest.{bar_rest_of}
+use Rattle.abc_music.specs.Broken.{behind_from, factors_of}
 use Rattle.abc_music.specs.ChordFaults.{AreFaultsOf}
 use Rattle.abc_music.specs.ChordNotes.{notes_of}
-use Rattle.abc_music.specs.Chords.{around_part, inside_from, inside_of, tie_follows, with_fault as with_part_fault}
-use Rattle.abc_music.specs.Lasting.{HasLengthFault, IsPlace, Lasts, RestsForBars, factors_at}
+use Rattle.abc_music.specs.Chords.{inside_from, inside_of, with_fault as with_part_fault}
+use Rattle.abc_music.specs.Lasting.{HasLengthFault, Lasts, RestsForBars, factors_at}
 use Rattle.abc_music.specs.Sound.{fault_if, key_in, length_in, no_notes}
 use Rattle.abc_music.specs.TimeTokens.{chord_by, chord_played, note_played, rest_played}
 use Rattle.abc_music.specs.TokenRole.{has_note, is_note_part}
@@ -41,7 +38,7 @@ use Rattle.abc_music.proofs.Lasting.{bar_rests_last, notes_last, rests_last}
 use Rattle.abc_cells.specs.declared.body.Body.{Body}
 use Rattle.abc_cells.specs.Body.{here, mentioned}
 use Rattle.abc_cells.specs.Cell.{mentioned_by_chord, tie_ahead}
-use Rattle.abc_bars.specs.LookBack.CellFaults.{AreFaultsOfCells, Faults, HasBigChord, HasLengthFaults, IsBarsFault, IsChordFault, IsLengthFault, is_bad_length_code, is_big_chord}
+use Rattle.abc_bars.specs.LookBack.CellFaults.{AreFaultsOfCells, Faults, HasBigChord, HasLengthFaults, IsBarsFault, IsLengthFault, is_bad_length_code, is_big_chord}
 use Rattle.abc_bars.specs.LookBack.CellPlace.{CellPlace, before_place, cell_with, standing_at}
 use Rattle.abc_bars.specs.LookBack.Element.{Element}
 use Rattle.abc_bars.specs.LookBack.Held.{held_at}

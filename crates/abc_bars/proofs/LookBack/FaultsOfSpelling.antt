@@ -1,34 +1,29 @@
 -- BadByte, Unclosed, BadEnding and BadProgram are where the rules say.
-use Rattle.std.proofs.Common.{◌≡◌, ◌∙◌, ℕ, ◌+◌, ◌<◌, ◌≤◌, Bool, true, false, cond, leb, Option, Some, None, List, [], ◌∷◌, ◌++◌, inl, inr, ⊎_elim, refl, sym, ap, arith, append-nil, append_assoc}
+use Rattle.std.proofs.Common.{◌≡◌, ◌∙◌, ℕ, ◌+◌, Bool, true, false, cond, leb, Some, None, List, [], ◌∷◌, ◌++◌, inl, inr, ⊎_elim, refl, ap, arith, append-nil, append_assoc}
 use Rattle.std.specs.Prelude.{is_none}
 use Rattle.std.proofs.lemmas.Bool.{cases_lt}
 use Rattle.std.proofs.lemmas.Bool.Decides.{nat_tests}
 use Rattle.abc_fields.specs.declared.fault.FaultCode.TheVariants.{BadBroken, BadByte, BadLength, BigChord, BadProgram, LooseTie}
 use Rattle.abc_scan.specs.declared.chord.Chord.{Chord}
-use Rattle.abc_scan.specs.declared.directive.Directive.{Directive}
 use Rattle.abc_scan.specs.declared.directive.Directive.TheVariants as directives
 use Rattle.abc_scan.specs.declared.parts.ChordPartKind.{ChordPartKind}
 use Rattle.abc_scan.specs.declared.parts.ChordPartKind.TheVariants as parts
 use Rattle.abc_scan.specs.declared.spanned.Spanned.{Spanned}
-use Rattle.abc_scan.specs.declared.token.TokenKind.{TokenKind}
 use Rattle.abc_scan.specs.declared.token.TokenKind.TheVariants as kinds
 use Rattle.abc_time.specs.declared.ratio.Ratio.{Ratio}
 use Rattle.abc_header.specs.FieldKind.{kind_of}
 use Rattle.abc_items.specs.Column.{column_of}
-use Rattle.abc_items.specs.Program.{program_of}
 use Rattle.abc_settings.specs.declared.settings.Settings.{Settings}
 use Rattle.abc_settings.specs.Tuplet.{tuplet_by}
 use Rattle.abc_music.specs.declared.chords.Outside.{Outside}
 use Rattle.abc_music.specs.declared.sound.Inside.{Inside}
-use Rattle.abc_music.specs.Broken.{factors_of, is_bad_mark}
-use Rattle.abc_music.specs.Chords.{around_part, inside_from, inside_of, tie_follows, with_fault as with_part_fault, with_part}
+use Rattle.abc_music.specs.Chords.{around_part, inside_from, inside_of, tie_follows, with_fault as with_part_fault}
 use Rattle.abc_music.specs.Sound.{fault_if, no_notes, note_faults, with_note as with_sounding}
 use Rattle.abc_music.specs.TimeTokens.{chord_by, chord_played}
 use Rattle.abc_music.specs.TokenRole.{has_note}
 use Rattle.abc_cells.specs.declared.body.Body.{Body}
 use Rattle.abc_cells.specs.Body.{here, mentioned}
-use Rattle.abc_bars.specs.LookBack.CellFaults.{AreFaultsOfCells, Faults, HasSpellingFaults, IsProgramFault, byte_fault, byte_faults, is_of_spelling}
-use Rattle.abc_bars.specs.LookBack.CellPlace.{CellPlace}
+use Rattle.abc_bars.specs.LookBack.CellFaults.{AreFaultsOfCells, Faults, HasSpellingFaults, IsProgramFault, byte_faults, is_of_spelling}
 use Rattle.abc_bars.specs.LookBack.Held.{held_at}
 use Rattle.abc_bars.proofs.LookBack.CellFaults.{EachHas, directive_faults, faults_of_cells, none-bars, none-if, none-note, none-tie, none-tuplet, opening}
 use Rattle.abc_bars.proofs.LookBack.FieldFaults.{Told, more, none-more, of-field}

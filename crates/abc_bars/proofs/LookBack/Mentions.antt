@@ -1,11 +1,10 @@
 -- Tokens mention voices one by one.
-use Rattle.std.proofs.Common.{◌≡◌, ◌∙◌, ℕ, zero, suc, ◌<◌, ◌≤◌, Bool, true, false, cond, ◌||◌, ◌⊎◌, inl, inr, ⊎_elim, Option, Some, None, Result, Ok, Err, List, [], ◌∷◌, ◌++◌, length, bytes_eq, position, refl, sym, ap, subst, arith}
-use Rattle.std.specs.Prelude.{filter, nat_le, slice_get, slice_index_or, slice_range}
+use Rattle.std.proofs.Common.{◌≡◌, ◌∙◌, ℕ, ◌<◌, ◌≤◌, true, false, cond, ◌||◌, ◌⊎◌, inl, ⊎_elim, Option, Some, None, Result, Ok, Err, List, [], ◌∷◌, ◌++◌, length, bytes_eq, refl, sym, ap, subst, arith}
+use Rattle.std.specs.Prelude.{filter, nat_le, slice_get, slice_range}
 use Rattle.std.specs.List.{Contains, list_any}
-use Rattle.std.proofs.lemmas.Bool.{cases_Bool, cases_lt, cond-false, cond-true, or_from, or_left, or_right}
+use Rattle.std.proofs.lemmas.Bool.{cases_Bool, cond-false, cond-true, or_from, or_left, or_right}
 use Rattle.std.proofs.lemmas.Bool.Decides.{nat_tests}
 use Rattle.abc_fields.specs.declared.fault.FaultCode.{FaultCode}
-use Rattle.abc_fields.specs.declared.key.Key.{Key}
 use Rattle.abc_fields.specs.declared.voice.Voice.{Voice}
 use Rattle.abc_fields.specs.Voice.{voice_of}
 use Rattle.abc_fields.proofs.Voices.{voice_read}
@@ -15,17 +14,14 @@ use Rattle.abc_scan.specs.declared.spanned.Spanned.{Spanned}
 use Rattle.abc_scan.specs.declared.token.TokenKind.{TokenKind}
 use Rattle.abc_scan.specs.declared.token.TokenKind.TheVariants as kinds
 use Rattle.abc_header.specs.FieldKind.{kind_of}
-use Rattle.abc_header.specs.HeaderLine.{HeaderLine}
-use Rattle.abc_header.specs.declared.defaults.Defaults.{Defaults}
 use Rattle.abc_header.specs.declared.field_kind.FieldKind.{FieldKind}
 use Rattle.abc_header.specs.declared.field_kind.FieldKind.TheVariants as fields
 use Rattle.abc_items.specs.declared.item.TheConstants.{MOST_VOICES}
-use Rattle.abc_music.specs.ChordNotes.{notes_of}
 use Rattle.abc_music.specs.TokenRole.{has_note, is_note_part}
 use Rattle.abc_cells.specs.BodyFields.{part_of}
 use Rattle.abc_bars.specs.LookBack.AfterBody.{mentions}
-use Rattle.abc_bars.specs.LookBack.ByName.{Current, Everyone, Named, Naming, Owner, names_behind, naming_at, owner_by, owner_of, owner_of_field, owner_of_part, owner_of_voice}
-use Rattle.abc_bars.specs.LookBack.Element.{Element, field_of}
+use Rattle.abc_bars.specs.LookBack.ByName.{Current, Named, Naming, names_behind, naming_at, owner_by, owner_of, owner_of_field, owner_of_part, owner_of_voice}
+use Rattle.abc_bars.specs.LookBack.Element.{field_of}
 use Rattle.abc_bars.specs.LookBack.Header.{with_name}
 use Rattle.abc_bars.specs.LookBack.Held.{roll_of}
 use Rattle.abc_bars.specs.LookBack.Mentions.{IsHeard, Mentions, NamesVoice, TokensMention, mentioned_at}

@@ -69,20 +69,20 @@ place_in start front token ahead = record {
   ahead = ahead;
 }
 
--- The faults of the tokens of a cell behind these: for each token those that it has at its place, in the order of the tokens, and no
--- more.
-abbrev pub AreFaultsBehind : (CellPlace → TokenKind → Faults → Type 0) → CellStart → List (Spanned TokenKind) → List (Spanned TokenKind) → Faults → Type 0
-AreFaultsBehind Has start front [] faults = faults ≡ []
-AreFaultsBehind Has start front (token ∷ ahead) faults =
+-- The faults of the tokens of a cell after these: for each token those that it has at its place, in the order of the tokens, and no
+-- others.
+abbrev pub AreFaultsAfter : (CellPlace → TokenKind → Faults → Type 0) → CellStart → List (Spanned TokenKind) → List (Spanned TokenKind) → Faults → Type 0
+AreFaultsAfter Has start front [] faults = faults ≡ []
+AreFaultsAfter Has start front (token ∷ ahead) faults =
     (own : Faults) × (others : Faults) × (faults ≡ own ++ others)
     × Has (place_in start front token ahead) token.kind own
-    × AreFaultsBehind Has start (front ++ token ∷ []) ahead others
+    × AreFaultsAfter Has start (front ++ token ∷ []) ahead others
 
 -- Of the faults of each cell of each body those that pass a test are just these.
 abbrev pub AreFaultsOfCells : (FaultCode → Bool) → (CellPlace → TokenKind → Faults → Type 0) → Type 0
 AreFaultsOfCells passes Has =
     (start : CellStart) (cell : List (Spanned TokenKind))
-    → AreFaultsBehind Has start [] cell
+    → AreFaultsAfter Has start [] cell
     (filter (λ fault. passes fault.1) (given_in_body start.values start.fields start.key start.before cell).faults)
 
 -- BadByte, Unclosed, BadEnding and BadProgram.

@@ -1,6 +1,6 @@
 -- How the tokens of a body mention voices, one by one. ABC 2.1 section 7; when the voice without a name is mentioned, and that there are
 -- fifteen voices, is not in ABC 2.1.
-use Rattle.std.specs.Prelude.{◌≡◌, ◌⊎◌, ◌<◌, ◌≤◌, ℕ, ⊤, List, [], ◌∷◌, ◌++◌, length, All, slice_range, Some}
+use Rattle.std.specs.Prelude.{◌≡◌, ◌⊎◌, ◌<◌, ◌≤◌, ℕ, ⊤, List, [], ◌∷◌, ◌++◌, length, slice_range, Some}
 use Rattle.std.specs.List.{Contains}
 use Rattle.abc_fields.specs.declared.key.Key.{Key}
 use Rattle.abc_fields.specs.declared.voice.Voice.{Voice}
@@ -34,8 +34,9 @@ IsHeard (kinds.BarRest bars) = ⊤
 IsHeard (kinds.Chord chord) = ¬ (notes_of chord ≡ [])
 IsHeard _ = ⊥
 
--- What the voices that are mentioned become behind one token. A V: mentions the voice that it names, behind those before it, if there
--- is room. What is heard before any voice is mentioned is of the voice without a name, which so comes first. Nothing else mentions one.
+-- The names of the voices that are mentioned before and after one token. An accepted V: adds the name of its voice at the end, if it
+-- is a new one and there is room. What is heard before any voice is mentioned adds the voice without a name, so that this one comes
+-- first. Nothing else adds one.
 pub record Mentions (old : List (List ℕ)) (kind : TokenKind) (new : List (List ℕ)) : Type 0 where
   pub named_new : (name : List ℕ) → NamesVoice kind name → ¬ Contains old name → length old < 15 → new ≡ old ++ name ∷ []
   pub named_again : (name : List ℕ) → NamesVoice kind name → Contains old name ⊎ (15 ≤ length old) → new ≡ old
@@ -47,7 +48,7 @@ pub record Mentions (old : List (List ℕ)) (kind : TokenKind) (new : List (List
 abbrev pub mentioned_at : Defaults → List HeaderLine → Key → List Element → List (List ℕ)
 mentioned_at values lines key before = (roll_of (held_at (opening_at values lines key) before)).names
 
--- So each token does, wherever it is.
+-- Each token does so, at any place.
 abbrev pub TokensMention : Type 0
 TokensMention =
     (values : Defaults) (lines : List HeaderLine) (key : Key) (before : List Element) (element : Element)
