@@ -6,20 +6,20 @@ use Rattle.std.proofs.lemmas.Grind.{common_steps}
 use Rattle.std.proofs.lemmas.Bool.Decides.{nat_tests}
 use Rattle.std.specs.Io.KnownBytes.{Appends, Keeps, Consumes, IsAtEnd}
 use Rattle.std.proofs.KnownBytes.{Appends-nil, Appends-trans, Appends-kept, Consumes-nil, Consumes-trans, Consumes-kept}
-use Rattle.std.proofs.lemmas.List.Elements.{All-append}
+use Rattle.std.proofs.lemmas.List.Elements.{All-append, All-nil}
 use Rattle.abc_fold.specs.Work.{raised}
 use Rattle.abc_publish.specs.Publisher.{Directory}
 use Rattle.abc2midi_live.specs.Cut.{IsCut}
-use Rattle.abc2midi_live.specs.Machine.{Future, telling, IsClean, Answers, ahead}
-use Rattle.abc2midi_live.specs.Outcome.{Ends, Outlets, outlets, CarriesOut, Serves, Tells, TellsFirst, BrokenOff, Unserved, EndUnserved, Ended, Turn, Leaves, Within, AtTheEnd, read_counts, Reads, Failed, read_faults}
-use Rattle.abc2midi_live.specs.Storing.{StoreAnswer, StoreSeen, Follows, IsAsked}
-use Rattle.abc2midi_live.specs.Told.{Told, told, behind, nothing_more}
+use Rattle.abc2midi_live.specs.Machine.{Future, telling, IsClean, Answers, AsksNothing, CarriesOut, EndsOneAtMost, ahead}
+use Rattle.abc2midi_live.specs.Outcome.{Ends, Outlets, outlets, Serves, Tells, TellsFirst, BrokenOff, Unserved, EndUnserved, Ended, Turn, Leaves, Within, AtTheEnd, InHand, LastInHand, read_counts, Reads, Failed, read_faults}
+use Rattle.abc2midi_live.specs.Storing.{StoreAnswer, StoreSeen, Follows}
+use Rattle.abc2midi_live.specs.Told.{Extent, Whole, SoFar, Stopped, Told, told, behind, is_whole, nothing_more}
 use Rattle.abc2midi_live.specs.Transcript.{input_lines, most_kept}
 use Rattle.abc2midi_live.specs.declared.fault.RunFault.{RunFault}
 use Rattle.abc2midi_live.specs.declared.fault.RunFault.TheVariants.{Read, Write, Memory}
 use Rattle.abc2midi_live.proofs.Counts.{raised_none, raised_twice}
 use Rattle.abc2midi_live.proofs.InputLines.{input_lines-line, input_lines-kept, input_lines-begun, input_lines-last, input_lines-nil}
-use Rattle.abc2midi_live.proofs.Storing.{follows_none, follows_both}
+use Rattle.abc2midi_live.proofs.Storing.{follows_none, follows_same, follows_both}
 use Rattle.abc2midi_live.proofs.Told.{behind_none, answers_both, answers_none, ended_with, continued_with}
 
 abbrev OfLines : Type 0
@@ -29,9 +29,9 @@ abbrev Ahead : Type 0
 Ahead = Future ℕ
 
 -- what is to be told to bytes, by the lines behind those that have begun
-ahead_is : (future : OfLines) (begun : List ℕ) (ended : Bool) (bytes line : List ℕ) (stored : List StoreAnswer) → begun ++ bytes ≡ line → ahead future begun ended bytes stored ≡ future ended (input_lines ended line) stored
+ahead_is : (future : OfLines) (begun : List ℕ) (extent : Extent) (bytes line : List ℕ) (stored : List StoreAnswer) → begun ++ bytes ≡ line → ahead future begun extent bytes stored ≡ future extent (input_lines (is_whole extent) line) stored
 unfolding ahead
-ahead_is future begun ended bytes line stored e = ap (λ l. future ended (input_lines ended l) stored) e
+ahead_is future begun extent bytes line stored e = ap (λ l. future extent (input_lines (is_whole extent) l) stored) e
 
 take_short : (n : ℕ) (line : List ℕ) → length line ≤ n → take n line ≡ line
 take_short n line h = grind (arith, common_steps)
@@ -44,53 +44,60 @@ no_length (b ∷ bytes) h = absurd (omega arith)
 line_ended : (before after : OfLines) (d : Directory) (begun piece line begun' : List ℕ) (stored : List StoreAnswer) (text : List ℕ) (goes_on : Bool) → IsClean begun → IsClean piece
     → line ≡ take most_kept (begun ++ piece) → begun' ≡ [] → Answers (telling before after d) (line ∷ []) stored text goes_on
     → Answers (telling (ahead before begun) (ahead after begun') d) (piece ++ 10 ∷ []) stored text goes_on
-line_ended before after d begun piece line begun' stored text goes_on clean clean_piece e none served ended rest later =
+line_ended before after d begun piece line begun' stored text goes_on clean clean_piece e none served extent rest later =
     let whole : begun ++ ((piece ++ 10 ∷ []) ++ rest) ≡ (begun ++ piece) ++ 10 ∷ rest = ap (λ l. begun ++ l) (append_assoc piece (10 ∷ []) rest) ∙ sym (append_assoc begun piece (10 ∷ rest)) in
-    let next : ahead after begun' ended rest later ≡ after ended (input_lines ended rest) later = ahead_is after begun' ended rest rest later (ap (λ b. b ++ rest) none) in
-    ahead_is before begun ended ((piece ++ 10 ∷ []) ++ rest) ((begun ++ piece) ++ 10 ∷ rest) (stored ++ later) whole
-    ∙ ap (λ l. before ended l (stored ++ later)) (input_lines-line ended (begun ++ piece) rest (All-append (λ b. (b == 10) ≡ false) begun piece clean clean_piece))
-    ∙ ap (λ l. before ended (l ∷ input_lines ended rest) (stored ++ later)) (sym e)
-    ∙ served ended (input_lines ended rest) later
+    let next : ahead after begun' extent rest later ≡ after extent (input_lines (is_whole extent) rest) later = ahead_is after begun' extent rest rest later (ap (λ b. b ++ rest) none) in
+    ahead_is before begun extent ((piece ++ 10 ∷ []) ++ rest) ((begun ++ piece) ++ 10 ∷ rest) (stored ++ later) whole
+    ∙ ap (λ l. before extent l (stored ++ later)) (input_lines-line (is_whole extent) (begun ++ piece) rest (All-append (λ b. (b == 10) ≡ false) begun piece clean clean_piece))
+    ∙ ap (λ l. before extent (l ∷ input_lines (is_whole extent) rest) (stored ++ later)) (sym e)
+    ∙ served extent (input_lines (is_whole extent) rest) later
     ∙ ap (λ t. behind text (if goes_on then t else nothing_more d later)) (sym next)
 
 -- what is told to a line that a piece ends, where nothing comes behind it
-line_alone : (future : OfLines) (begun piece line : List ℕ) (stored : List StoreAnswer) → IsClean begun → IsClean piece → line ≡ take most_kept (begun ++ piece)
-    → ahead future begun false (piece ++ 10 ∷ []) stored ≡ future false (line ∷ []) stored
-line_alone future begun piece line stored clean clean_piece e =
-    ahead_is future begun false (piece ++ 10 ∷ []) ((begun ++ piece) ++ 10 ∷ []) stored (sym (append_assoc begun piece (10 ∷ [])))
-    ∙ ap (λ l. future false l stored) (input_lines-line false (begun ++ piece) [] (All-append (λ b. (b == 10) ≡ false) begun piece clean clean_piece))
-    ∙ ap (λ l. future false (take most_kept (begun ++ piece) ∷ l) stored) (input_lines-nil false)
-    ∙ ap (λ l. future false (l ∷ []) stored) (sym e)
+line_alone : (future : OfLines) (begun piece line : List ℕ) (extent : Extent) (stored : List StoreAnswer) → IsClean begun → IsClean piece → line ≡ take most_kept (begun ++ piece)
+    → ahead future begun extent (piece ++ 10 ∷ []) stored ≡ future extent (line ∷ []) stored
+line_alone future begun piece line extent stored clean clean_piece e =
+    ahead_is future begun extent (piece ++ 10 ∷ []) ((begun ++ piece) ++ 10 ∷ []) stored (sym (append_assoc begun piece (10 ∷ [])))
+    ∙ ap (λ l. future extent l stored) (input_lines-line (is_whole extent) (begun ++ piece) [] (All-append (λ b. (b == 10) ≡ false) begun piece clean clean_piece))
+    ∙ ap (λ l. future extent (take most_kept (begun ++ piece) ∷ l) stored) (input_lines-nil (is_whole extent))
+    ∙ ap (λ l. future extent (l ∷ []) stored) (sym e)
 
 -- a piece without the end of a line is kept
 pub piece_kept : (future : OfLines) (d : Directory) (begun piece begun' : List ℕ) → IsClean begun → IsClean piece → begun' ≡ take most_kept (begun ++ piece)
     → Answers (telling (ahead future begun) (ahead future begun') d) piece [] [] true
-piece_kept future d begun piece begun' clean clean_piece e ended rest later =
-    ahead_is future begun ended (piece ++ rest) ((begun ++ piece) ++ rest) later (sym (append_assoc begun piece rest))
-    ∙ sym (ap (λ l. future ended l later) (input_lines-kept ended (begun ++ piece) rest (All-append (λ b. (b == 10) ≡ false) begun piece clean clean_piece)))
-    ∙ sym (ahead_is future begun' ended rest (take most_kept (begun ++ piece) ++ rest) later (ap (λ b. b ++ rest) e))
-    ∙ sym (behind_none (ahead future begun' ended rest later))
+piece_kept future d begun piece begun' clean clean_piece e extent rest later =
+    ahead_is future begun extent (piece ++ rest) ((begun ++ piece) ++ rest) later (sym (append_assoc begun piece rest))
+    ∙ sym (ap (λ l. future extent l later) (input_lines-kept (is_whole extent) (begun ++ piece) rest (All-append (λ b. (b == 10) ≡ false) begun piece clean clean_piece)))
+    ∙ sym (ahead_is future begun' extent rest (take most_kept (begun ++ piece) ++ rest) later (ap (λ b. b ++ rest) e))
+    ∙ sym (behind_none (ahead future begun' extent rest later))
+
+-- nothing is asked for before the store answers
+pub unasked_ahead : (future : OfLines) (d : Directory) (begun bytes : List ℕ) (s : StoreSeen) → ((lines : List (List ℕ)) → AsksNothing d (future Stopped lines)) → CarriesOut d (ahead future begun Stopped bytes) s s
+unfolding ahead
+unasked_ahead future d begun bytes s none =
+    let t = none (input_lines false (begun ++ bytes)) in
+    ([], t.0, t.1, follows_same s d t.0.directory t.2)
 
 -- nothing is told to a line that has only begun
-pub nothing_ahead : (future : OfLines) (d : Directory) (begun : List ℕ) → IsClean begun → future false [] [] ≡ Some (told [] d) → ahead future begun false [] [] ≡ Some (told [] d)
+pub nothing_ahead : (future : OfLines) (d : Directory) (begun : List ℕ) → IsClean begun → future SoFar [] [] ≡ Some (told [] d) → ahead future begun SoFar [] [] ≡ Some (told [] d)
 nothing_ahead future d begun clean waits =
-    ahead_is future begun false [] begun [] (append-nil begun) ∙ ap (λ l. future false l []) (input_lines-begun begun clean) ∙ waits
+    ahead_is future begun SoFar [] begun [] (append-nil begun) ∙ ap (λ l. future SoFar l []) (input_lines-begun begun clean) ∙ waits
 
 -- the end of the input ends a line that has begun
-last_ahead : (future : OfLines) (begun : List ℕ) (stored : List StoreAnswer) → IsClean begun → 0 < length begun → length begun ≤ most_kept → ahead future begun true [] stored ≡ future true (begun ∷ []) stored
+last_ahead : (future : OfLines) (begun : List ℕ) (stored : List StoreAnswer) → IsClean begun → 0 < length begun → length begun ≤ most_kept → ahead future begun Whole [] stored ≡ future Whole (begun ∷ []) stored
 last_ahead future begun stored clean some short =
-    ahead_is future begun true [] begun stored (append-nil begun) ∙ ap (λ l. future true l stored) (input_lines-last begun clean some) ∙ ap (λ l. future true (l ∷ []) stored) (take_short most_kept begun short)
+    ahead_is future begun Whole [] begun stored (append-nil begun) ∙ ap (λ l. future Whole l stored) (input_lines-last begun clean some) ∙ ap (λ l. future Whole (l ∷ []) stored) (take_short most_kept begun short)
 
 -- it ends that line as a line feed does
-last_alone : (future : OfLines) (begun line : List ℕ) (stored : List StoreAnswer) → IsClean begun → length begun ≤ most_kept → line ≡ begun → ahead future begun false (10 ∷ []) stored ≡ future false (line ∷ []) stored
-last_alone future begun line stored clean short e =
-    ahead_is future begun false (10 ∷ []) (begun ++ 10 ∷ []) stored refl
-    ∙ ap (λ l. future false l stored) (input_lines-line false begun [] clean)
-    ∙ ap (λ l. future false (take most_kept begun ∷ l) stored) (input_lines-nil false)
-    ∙ ap (λ l. future false (l ∷ []) stored) (take_short most_kept begun short ∙ sym e)
+last_alone : (future : OfLines) (begun line : List ℕ) (extent : Extent) (stored : List StoreAnswer) → IsClean begun → length begun ≤ most_kept → line ≡ begun → ahead future begun extent (10 ∷ []) stored ≡ future extent (line ∷ []) stored
+last_alone future begun line extent stored clean short e =
+    ahead_is future begun extent (10 ∷ []) (begun ++ 10 ∷ []) stored refl
+    ∙ ap (λ l. future extent l stored) (input_lines-line (is_whole extent) begun [] clean)
+    ∙ ap (λ l. future extent (take most_kept begun ∷ l) stored) (input_lines-nil (is_whole extent))
+    ∙ ap (λ l. future extent (l ∷ []) stored) (take_short most_kept begun short ∙ sym e)
 
-none_ahead : (future : OfLines) (begun : List ℕ) (stored : List StoreAnswer) → length begun ≤ 0 → ahead future begun true [] stored ≡ future true [] stored
-none_ahead future begun stored none = ahead_is future begun true [] [] stored (append-nil begun ∙ no_length begun none) ∙ ap (λ l. future true l stored) (input_lines-nil true)
+none_ahead : (future : OfLines) (begun : List ℕ) (stored : List StoreAnswer) → length begun ≤ 0 → ahead future begun Whole [] stored ≡ future Whole [] stored
+none_ahead future begun stored none = ahead_is future begun Whole [] [] stored (append-nil begun ∙ no_length begun none) ∙ ap (λ l. future Whole l stored) (input_lines-nil true)
 
 -- what serving a line says, as clauses have it
 abbrev pub Served : OfLines → OfLines → Directory → Directory → List ℕ → Outlets → Outlets → Bool → Type 0
@@ -113,52 +120,52 @@ serves_none : {X : Type 0} (before after : Future X) (d : Directory) (w : Outlet
 serves_none before after d w same = ([], [], Appends-nil w.output, answers_none before after d same, follows_none w.store d)
 
 -- what is told behind a piece that is served
-tells_behind : {X : Type 0} (before mid : Future X) (d e : Directory) (piece : List X) (ended : Bool) (rest : List X) (old w new : Outlets)
-    → Serves d (telling before mid e) piece old w true → Tells e (mid ended rest) w new → Tells d (before ended (piece ++ rest)) old new
-tells_behind before mid d e piece ended rest old w new (text, stored, wrote, says, follows) (stored', t, is, wrote', follows') = (
+tells_behind : {X : Type 0} (before mid : Future X) (d e : Directory) (piece : List X) (extent : Extent) (rest : List X) (old w new : Outlets)
+    → Serves d (telling before mid e) piece old w true → Tells e (mid extent rest) w new → Tells d (before extent (piece ++ rest)) old new
+tells_behind before mid d e piece extent rest old w new (text, stored, wrote, says, follows) (stored', t, is, wrote', follows') = (
   stored ++ stored',
   told (text ++ t.text) t.directory,
-  continued_with before mid e piece stored stored' text t ended rest says is,
+  continued_with before mid e piece stored stored' text t extent rest says is,
   Appends-trans old.output w.output new.output text t.text wrote wrote',
   follows_both old.store w.store new.store stored stored' d e t.directory follows follows',
 )
 
 -- what is told where the machine ends with a piece
-tells_ended : {X : Type 0} (before after : Future X) (d e : Directory) (piece : List X) (ended : Bool) (rest : List X) (old new : Outlets)
-    → Serves d (telling before after e) piece old new false → Tells d (before ended (piece ++ rest)) old new
-tells_ended before after d e piece ended rest old new (text, stored, wrote, says, follows) = (
+tells_ended : {X : Type 0} (before after : Future X) (d e : Directory) (piece : List X) (extent : Extent) (rest : List X) (old new : Outlets)
+    → Serves d (telling before after e) piece old new false → Tells d (before extent (piece ++ rest)) old new
+tells_ended before after d e piece extent rest old new (text, stored, wrote, says, follows) = (
   stored,
   told text e,
-  ended_with before after e piece stored text ended rest says,
+  ended_with before after e piece stored text extent rest says,
   wrote,
   follows,
 )
 
 -- what is told to a piece, where nothing is to be told yet behind it
 tells_all : {X : Type 0} (before mid : Future X) (d e : Directory) (piece : List X) (old new : Outlets)
-    → Serves d (telling before mid e) piece old new true → mid false [] [] ≡ Some (told [] e) → Tells d (before false piece) old new
+    → Serves d (telling before mid e) piece old new true → mid SoFar [] [] ≡ Some (told [] e) → Tells d (before SoFar piece) old new
 tells_all before mid d e piece old new served none =
-    subst (λ p. Tells d (before false p) old new) (append-nil piece)
-    (tells_behind before mid d e piece false [] old new new served ([], told [] e, none, Appends-nil new.output, follows_none new.store e))
+    subst (λ p. Tells d (before SoFar p) old new) (append-nil piece)
+    (tells_behind before mid d e piece SoFar [] old new new served ([], told [] e, none, Appends-nil new.output, follows_none new.store e))
 
 -- a piece that the store has answered is carried out, where nothing is to be told yet behind it
 pub carried_all : {X : Type 0} (before after : Future X) (d e : Directory) (piece : List X) (stored : List StoreAnswer) (text : List ℕ) (old new : StoreSeen)
-    → Answers (telling before after e) piece stored text true → Follows old new stored d e → after false [] [] ≡ Some (told [] e) → CarriesOut d (before false piece) old new
+    → Answers (telling before after e) piece stored text true → Follows old new stored d e → after SoFar [] [] ≡ Some (told [] e) → CarriesOut d (before SoFar piece) old new
 carried_all before after d e piece stored text old new says follows none =
-    subst (λ p. CarriesOut d (before false p) old new) (append-nil piece) (
+    subst (λ p. CarriesOut d (before SoFar p) old new) (append-nil piece) (
       stored ++ [],
       told (text ++ []) e,
-      continued_with before after e piece stored [] text (told [] e) false [] says none,
+      continued_with before after e piece stored [] text (told [] e) SoFar [] says none,
       follows_both old new new stored [] d e e follows (follows_none new e),
     )
 
 -- a piece behind one that is served is carried out
-carried_behind : {X : Type 0} (before mid : Future X) (d e : Directory) (piece rest : List X) (old w new : Outlets) → Serves d (telling before mid e) piece old w true → CarriesOut e (mid false rest) w.store new.store
-    → CarriesOut d (before false (piece ++ rest)) old.store new.store
+carried_behind : {X : Type 0} (before mid : Future X) (d e : Directory) (piece rest : List X) (old w new : Outlets) → Serves d (telling before mid e) piece old w true → CarriesOut e (mid SoFar rest) w.store new.store
+    → CarriesOut d (before SoFar (piece ++ rest)) old.store new.store
 carried_behind before mid d e piece rest old w new (text, stored, wrote, says, follows) (stored', t, is, follows') = (
   stored ++ stored',
   told (text ++ t.text) t.directory,
-  continued_with before mid e piece stored stored' text t false rest says is,
+  continued_with before mid e piece stored stored' text t SoFar rest says is,
   follows_both old.store w.store new.store stored stored' d e t.directory follows follows',
 )
 
@@ -192,8 +199,8 @@ fed_end before mid after d e f piece rest line behind old w new fed is served =
       all.0,
       all.1,
       all.2,
-      λ ended more later. ap (λ p. before ended (p ++ more) (all.1 ++ later)) (fed_split piece fed.front rest line behind fed.split is)
-          ∙ ap (λ p. before ended p (all.1 ++ later)) (append_assoc front behind more) ∙ all.3 ended (behind ++ more) later,
+      λ extent more later. ap (λ p. before extent (p ++ more) (all.1 ++ later)) (fed_split piece fed.front rest line behind fed.split is)
+          ∙ ap (λ p. before extent p (all.1 ++ later)) (append_assoc front behind more) ∙ all.3 extent (behind ++ more) later,
       all.4,
     )
 
@@ -204,31 +211,63 @@ fed_all before mid after d e piece rest line old new fed is says =
     subst (λ p. Serves d (telling before after e) p old new true) (sym (fed.split ∙ ap (λ l. fed.front ++ l) is))
     (serves_both before mid after d e e fed.front line old new new true fed.served ([], [], Appends-nil new.output, says, follows_none new.store e))
 
+-- what is told first, behind a piece that is served
+pub first_behind : (before mid : Ahead) (d e : Directory) (piece front next : List ℕ) (old w new : Outlets) → Serves d (telling before mid e) piece old w true
+    → TellsFirst e (mid SoFar front) (mid Stopped (front ++ next)) w new → TellsFirst d (before SoFar (piece ++ front)) (before Stopped ((piece ++ front) ++ next)) old new
+first_behind before mid d e piece front next old w new (text, stored, wrote, says, follows) (stored', t, between, is, wrote', follows', (more, t', is', follows'')) = (
+  stored ++ stored',
+  told (text ++ t.text) t.directory,
+  between,
+  continued_with before mid e piece stored stored' text t SoFar front says is,
+  Appends-trans old.output w.output new.output text t.text wrote wrote',
+  follows_both old.store w.store between stored stored' d e t.directory follows follows',
+  (
+    more,
+    told (text ++ t'.text) t'.directory,
+    ap (λ p. before Stopped p ((stored ++ stored') ++ more)) (append_assoc piece front next)
+        ∙ ap (before Stopped (piece ++ (front ++ next))) (append_assoc stored stored' more)
+        ∙ continued_with before mid e piece stored (stored' ++ more) text t' Stopped (front ++ next) says is',
+    follows'',
+  ),
+)
+
+-- nothing is written of what comes next
+kept_first : (future : Ahead) (d : Directory) (next : List ℕ) (w new : Outlets) → Keeps w.output new.output → CarriesOut d (future Stopped next) w.store new.store → future SoFar [] [] ≡ Some (told [] d)
+    → TellsFirst d (future SoFar []) (future Stopped ([] ++ next)) w new
+kept_first future d next w new kept asked none =
+    ([], told [] d, w.store, none, Appends-kept w.output w.output new.output [] (Appends-nil w.output) kept, follows_none w.store d, asked)
+
+pub none_ends : EndsOneAtMost []
+none_ends = ([], All-nil (λ b. (b == 10) ≡ false), inl refl)
+
 -- memory is short
-pub fed_broken : (before mid : Ahead) (d e : Directory) (piece rest : List ℕ) (old w new : Outlets) → Fed before mid d e piece rest old w → Keeps w.output new.output
-    → IsAsked w.store new.store e → mid false [] [] ≡ Some (told [] e) → BrokenOff d before piece old new Memory
-fed_broken before mid d e piece rest old w new fed kept asked none =
-    let text = fed.served.0 in
-    let stored = fed.served.1 in (
-      fed.front,
-      rest,
-      fed.split,
-      subst (λ p. TellsFirst d (before false p) old new) (append-nil fed.front) (
-        stored ++ [],
-        told (text ++ []) e,
-        w.store,
-        continued_with before mid e fed.front stored [] text (told [] e) false [] fed.served.3 none,
-        Appends-trans old.output w.output new.output text [] fed.served.2 (Appends-kept w.output w.output new.output [] (Appends-nil w.output) kept),
-        follows_both old.store w.store w.store stored [] d e e fed.served.4 (follows_none w.store e),
-        asked,
-      ),
-    )
+pub fed_broken : (before mid : Ahead) (d e : Directory) (piece rest next behind : List ℕ) (old w new : Outlets) → Fed before mid d e piece rest old w → rest ≡ next ++ behind → EndsOneAtMost next
+    → Keeps w.output new.output → CarriesOut e (mid Stopped next) w.store new.store → mid SoFar [] [] ≡ Some (told [] e) → BrokenOff d before piece old new Memory
+fed_broken before mid d e piece rest next behind old w new fed is one kept asked none = (
+  fed.front,
+  next,
+  behind,
+  fed.split ∙ ap (λ r. fed.front ++ r) is,
+  one,
+  subst (λ p. TellsFirst d (before SoFar p) (before Stopped (p ++ next)) old new) (append-nil fed.front)
+      (first_behind before mid d e fed.front [] next old w new fed.served (kept_first mid e next w new kept asked none)),
+)
+
+-- a line that a piece ends is carried out, or so far as the run goes
+line_carried : (before before' : OfLines) (d d' : Directory) (begun piece line : List ℕ) (extent : Extent) (old new : StoreSeen) → before' ≡ before → d' ≡ d → IsClean begun → IsClean piece → line ≡ take most_kept (begun ++ piece)
+    → CarriesOut d' (before' extent (line ∷ [])) old new → CarriesOut d (ahead before begun extent (piece ++ 10 ∷ [])) old new
+line_carried before before' d d' begun piece line extent old new same same' clean clean_piece is (stored, t, says, follows) = (
+  stored,
+  t,
+  line_alone before begun piece line extent stored clean clean_piece is ∙ sym (ap (λ f. f extent (line ∷ []) stored) same) ∙ says,
+  subst (λ d. Follows old new stored d t.directory) same' follows,
+)
 
 -- a line that a piece ends is served, or a fault comes
 pub serve_line : (r : Result Bool RunFault) (before before' after : OfLines) (d d' e : Directory) (begun piece line begun' : List ℕ) (old new : Outlets) → before' ≡ before → d' ≡ d → IsClean begun → IsClean piece
     → line ≡ take most_kept (begun ++ piece) → begun' ≡ []
-    → MatchResult r (Served before' after d' e line old new) (Unserved d' (before' false (line ∷ [])) old new)
-    → MatchResult r (Serves d (telling (ahead before begun) (ahead after begun') e) (piece ++ 10 ∷ []) old new) (Unserved d (ahead before begun false (piece ++ 10 ∷ [])) old new)
+    → MatchResult r (Served before' after d' e line old new) (Unserved d' (λ x. before' x (line ∷ [])) old new)
+    → MatchResult r (Serves d (telling (ahead before begun) (ahead after begun') e) (piece ++ 10 ∷ []) old new) (Unserved d (λ x. ahead before begun x (piece ++ 10 ∷ [])) old new)
 serve_line (Ok goes_on) before before' after d d' e begun piece line begun' old new same same' clean clean_piece is none (text, stored, wrote, says, follows) = (
   text,
   stored,
@@ -237,37 +276,34 @@ serve_line (Ok goes_on) before before' after d d' e begun piece line begun' old 
   subst (λ d. Follows old.store new.store stored d e) same' follows,
 )
 serve_line (Err Read) before before' after d d' e begun piece line begun' old new same same' clean clean_piece is none h = absurd h
-serve_line (Err Write) before before' after d d' e begun piece line begun' old new same same' clean clean_piece is none (stored, t, says, follows) = (
-  stored,
-  t,
-  line_alone before begun piece line stored clean clean_piece is ∙ sym (ap (λ f. f false (line ∷ []) stored) same) ∙ says,
-  subst (λ d. Follows old.store new.store stored d t.directory) same' follows,
-)
-serve_line (Err Memory) before before' after d d' e begun piece line begun' old new same same' clean clean_piece is none h = (h.0, subst (IsAsked old.store new.store) same' h.1)
+serve_line (Err Write) before before' after d d' e begun piece line begun' old new same same' clean clean_piece is none h =
+    line_carried before before' d d' begun piece line SoFar old.store new.store same same' clean clean_piece is h
+serve_line (Err Memory) before before' after d d' e begun piece line begun' old new same same' clean clean_piece is none h =
+    (h.0, line_carried before before' d d' begun piece line Stopped old.store new.store same same' clean clean_piece is h.1)
 
 -- the last line is served: what is then told is what is told behind the line that has begun
 last_line : (before before' : OfLines) (d d' : Directory) (begun line : List ℕ) (old new : Outlets) → before' ≡ before → d' ≡ d → line ≡ begun → IsClean begun → 0 < length begun → length begun ≤ most_kept
-    → Tells d' (before' true (line ∷ [])) old new → Tells d (ahead before begun true []) old new
+    → Tells d' (before' Whole (line ∷ [])) old new → Tells d (ahead before begun Whole []) old new
 last_line before before' d d' begun line old new same same' e clean some short (stored, t, is, wrote, follows) = (
   stored,
   t,
-  last_ahead before begun stored clean some short ∙ ap (λ l. before true (l ∷ []) stored) (sym e) ∙ sym (ap (λ f. f true (line ∷ []) stored) same) ∙ is,
+  last_ahead before begun stored clean some short ∙ ap (λ l. before Whole (l ∷ []) stored) (sym e) ∙ sym (ap (λ f. f Whole (line ∷ []) stored) same) ∙ is,
   wrote,
   subst (λ d. Follows old.store new.store stored d t.directory) same' follows,
 )
 
 -- the last line, where the machine ends with it
 pub last_served : (before before' after : OfLines) (d d' e : Directory) (begun line : List ℕ) (old new : Outlets) → before' ≡ before → d' ≡ d → line ≡ begun → IsClean begun → 0 < length begun → length begun ≤ most_kept
-    → Served before' after d' e line old new false → Tells d (ahead before begun true []) old new
+    → Served before' after d' e line old new false → Tells d (ahead before begun Whole []) old new
 last_served before before' after d d' e begun line old new same same' is clean some short served =
-    last_line before before' d d' begun line old new same same' is clean some short (tells_ended before' after d' e (line ∷ []) true [] old new served)
+    last_line before before' d d' begun line old new same same' is clean some short (tells_ended before' after d' e (line ∷ []) Whole [] old new served)
 
 -- the last line, and then the last words
 last_said : (before before' after : OfLines) (d d' e : Directory) (begun line words : List ℕ) (old w : Outlets) (new : Option (List ℕ)) → before' ≡ before → d' ≡ d → line ≡ begun → IsClean begun → 0 < length begun → length begun ≤ most_kept
-    → Served before' after d' e line old w true → after true [] [] ≡ Some (told words e) → Appends w.output new words → Tells d (ahead before begun true []) old (outlets new w.store)
+    → Served before' after d' e line old w true → after Whole [] [] ≡ Some (told words e) → Appends w.output new words → Tells d (ahead before begun Whole []) old (outlets new w.store)
 last_said before before' after d d' e begun line words old w new same same' is clean some short served words_are said =
     last_line before before' d d' begun line old (outlets new w.store) same same' is clean some short
-    (tells_behind before' after d' e (line ∷ []) true [] old w (outlets new w.store) served ([], told words e, words_are, said, follows_none w.store e))
+    (tells_behind before' after d' e (line ∷ []) Whole [] old w (outlets new w.store) served ([], told words e, words_are, said, follows_none w.store e))
 
 -- the exit of a `?`, by the fault that it passes on
 pub fault_exit : {T : Type 0} (r : Result T RunFault) (P : T → Type 0) (Q : RunFault → Type 0) (fault : RunFault) → IsErr r × IsErrAnd r (λ e. e ≡ fault) → Q fault → MatchResult r P Q
@@ -285,41 +321,49 @@ cut_none text front (Some b) c e = cc
 
 -- a fault while a line is served breaks the piece off
 pub fed_fault : (before mid : Ahead) (d e : Directory) (piece rest line behind : List ℕ) (old w new : Outlets) (fault : RunFault) → Fed before mid d e piece rest old w → rest ≡ line ++ 10 ∷ behind
-    → Unserved e (mid false (line ++ 10 ∷ [])) w new fault → mid false [] [] ≡ Some (told [] e) → BrokenOff d before piece old new fault
-fed_fault before mid d e piece rest line behind old w new Read fed is h none = h
-fed_fault before mid d e piece rest line behind old w new Write fed is h none = (
+    → IsClean line → Unserved e (λ x. mid x (line ++ 10 ∷ [])) w new fault → mid SoFar [] [] ≡ Some (told [] e) → BrokenOff d before piece old new fault
+fed_fault before mid d e piece rest line behind old w new Read fed is clean h none = h
+fed_fault before mid d e piece rest line behind old w new Write fed is clean h none = (
   fed.front ++ (line ++ 10 ∷ []),
   behind,
   fed_split piece fed.front rest line behind fed.split is,
   carried_behind before mid d e fed.front (line ++ 10 ∷ []) old w new fed.served h,
 )
-fed_fault before mid d e piece rest line behind old w new Memory fed is h none = fed_broken before mid d e piece rest old w new fed h.0 h.1 none
+fed_fault before mid d e piece rest line behind old w new Memory fed is clean h none =
+    fed_broken before mid d e piece rest (line ++ 10 ∷ []) behind old w new fed (is ∙ sym (append_assoc line (10 ∷ []) behind)) (line, clean, inr refl) h.0 h.1 none
+
+-- the last line is carried out, or so far as the run goes
+last_carried : (before before' : OfLines) (d d' : Directory) (begun line : List ℕ) (extent : Extent) (old new : StoreSeen) → before' ≡ before → d' ≡ d → line ≡ begun → IsClean begun → length begun ≤ most_kept
+    → CarriesOut d' (before' extent (line ∷ [])) old new → CarriesOut d (ahead before begun extent (10 ∷ [])) old new
+last_carried before before' d d' begun line extent old new same same' is clean short (stored, t, says, follows) = (
+  stored,
+  t,
+  last_alone before begun line extent stored clean short is ∙ sym (ap (λ f. f extent (line ∷ []) stored) same) ∙ says,
+  subst (λ d. Follows old new stored d t.directory) same' follows,
+)
 
 -- a fault while the last line is served leaves the end of the input unserved
 pub last_fault : (fault : RunFault) (before before' : OfLines) (d d' : Directory) (begun line : List ℕ) (old new : Outlets) → before' ≡ before → d' ≡ d → line ≡ begun → IsClean begun → length begun ≤ most_kept
-    → Unserved d' (before' false (line ∷ [])) old new fault → EndUnserved d (ahead before begun) old new fault
+    → Unserved d' (λ x. before' x (line ∷ [])) old new fault → EndUnserved d (ahead before begun) old new fault
 last_fault Read before before' d d' begun line old new same same' is clean short h = h
-last_fault Write before before' d d' begun line old new same same' is clean short (stored, t, says, follows) = inr (
-  stored,
-  t,
-  last_alone before begun line stored clean short is ∙ sym (ap (λ f. f false (line ∷ []) stored) same) ∙ says,
-  subst (λ d. Follows old.store new.store stored d t.directory) same' follows,
-)
-last_fault Memory before before' d d' begun line old new same same' is clean short h = (h.0, subst (IsAsked old.store new.store) same' h.1)
+last_fault Write before before' d d' begun line old new same same' is clean short h =
+    inr (last_carried before before' d d' begun line SoFar old.store new.store same same' is clean short h)
+last_fault Memory before before' d d' begun line old new same same' is clean short h =
+    (h.0, last_carried before before' d d' begun line Stopped old.store new.store same same' is clean short h.1)
 
 -- where nothing has come of a last line, the last words are written
-pub finish_none : (r : Result (Unit {0}) RunFault) (future : OfLines) (d : Directory) (begun words : List ℕ) (old : Outlets) (new : Option (List ℕ)) → length begun ≤ 0 → future true [] [] ≡ Some (told words d)
-    → ahead future begun false [] [] ≡ Some (told [] d) → MatchResult r (λ _. Appends old.output new words) (λ fault. fault ≡ Write)
-    → MatchResult r (λ _. Tells d (ahead future begun true []) old (outlets new old.store)) (EndUnserved d (ahead future begun) old (outlets new old.store))
+pub finish_none : (r : Result (Unit {0}) RunFault) (future : OfLines) (d : Directory) (begun words : List ℕ) (old : Outlets) (new : Option (List ℕ)) → length begun ≤ 0 → future Whole [] [] ≡ Some (told words d)
+    → ahead future begun SoFar [] [] ≡ Some (told [] d) → MatchResult r (λ _. Appends old.output new words) (λ fault. fault ≡ Write)
+    → MatchResult r (λ _. Tells d (ahead future begun Whole []) old (outlets new old.store)) (EndUnserved d (ahead future begun) old (outlets new old.store))
 finish_none (Ok x) future d begun words old new none e waits said = ([], told words d, none_ahead future begun [] none ∙ e, said, follows_none old.store d)
 finish_none (Err fault) future d begun words old new none e waits said =
     subst (EndUnserved d (ahead future begun) old (outlets new old.store)) (sym said) (inl ([], told [] d, waits, follows_none old.store d))
 
 -- else they are written behind the answer to the last line
 pub finish_said : (r : Result (Unit {0}) RunFault) (before before' after : OfLines) (d d' e : Directory) (begun line words : List ℕ) (old w : Outlets) (new : Option (List ℕ)) → before' ≡ before → d' ≡ d → line ≡ begun → IsClean begun → 0 < length begun → length begun ≤ most_kept
-    → Served before' after d' e line old w true → after true [] [] ≡ Some (told words e) → after false [] [] ≡ Some (told [] e)
+    → Served before' after d' e line old w true → after Whole [] [] ≡ Some (told words e) → after SoFar [] [] ≡ Some (told [] e)
     → MatchResult r (λ _. Appends w.output new words) (λ fault. fault ≡ Write)
-    → MatchResult r (λ _. Tells d (ahead before begun true []) old (outlets new w.store)) (EndUnserved d (ahead before begun) old (outlets new w.store))
+    → MatchResult r (λ _. Tells d (ahead before begun Whole []) old (outlets new w.store)) (EndUnserved d (ahead before begun) old (outlets new w.store))
 finish_said (Ok x) before before' after d d' e begun line words old w new same same' is clean some short served are waits said =
     last_said before before' after d d' e begun line words old w new same same' is clean some short served are said
 finish_said (Err fault) before before' after d d' e begun line words old w new same same' is clean some short served are waits said =
@@ -365,13 +409,13 @@ heard_turn made before mid after d e f input left left' old w new h (taken, some
 
 -- all of the input is answered
 heard_text : (before mid : Ahead) (taken : List ℕ) (first second : List StoreAnswer) (text : List ℕ) (t : Told) (input left old w new : Option (List ℕ)) → Consumes input left taken → Appends old w text
-    → ((rest : List ℕ) → mid true rest second ≡ Some t → before true (taken ++ rest) (first ++ second) ≡ Some (told (text ++ t.text) t.directory))
-    → IfSome left (λ rest. (mid true rest second ≡ Some t) × Appends w new t.text)
-    → IfSome input (λ bytes. (before true bytes (first ++ second) ≡ Some (told (text ++ t.text) t.directory)) × Appends old new (text ++ t.text))
+    → ((rest : List ℕ) → mid Whole rest second ≡ Some t → before Whole (taken ++ rest) (first ++ second) ≡ Some (told (text ++ t.text) t.directory))
+    → IfSome left (λ rest. (mid Whole rest second ≡ Some t) × Appends w new t.text)
+    → IfSome input (λ bytes. (before Whole bytes (first ++ second) ≡ Some (told (text ++ t.text) t.directory)) × Appends old new (text ++ t.text))
 heard_text before mid taken first second text t None left old w new took wrote says h = tt
 heard_text before mid taken first second text t (Some bytes) None old w new took wrote says h = absurd took
 heard_text before mid taken first second text t (Some bytes) (Some rest) old w new took wrote says h =
-    (ap (λ b. before true b (first ++ second)) took ∙ says rest h.0, Appends-trans old w new text t.text wrote h.1)
+    (ap (λ b. before Whole b (first ++ second)) took ∙ says rest h.0, Appends-trans old w new text t.text wrote h.1)
 
 pub heard_end : {made : ℕ} (before mid after : Ahead) (d e f : Directory) (input left left' : Option (List ℕ)) (old w new : Outlets) → Heard made before mid d e input left old w
     → Turn e (telling mid after f) (at left w) (at left' new) false → Ended d before (at input old) (at left' new)
@@ -381,41 +425,33 @@ heard_end before mid after d e f input left left' old w new h (stored', t, follo
       stored ++ stored',
       told (text ++ t.text) t.directory,
       follows_both old.store w.store new.store stored stored' d e t.directory h.served.4 follows',
-      heard_text before mid h.taken stored stored' text t input left old.output w.output new.output h.took h.served.2 (λ more is. continued_with before mid e h.taken stored stored' text t true more h.served.3 is) rest,
+      heard_text before mid h.taken stored stored' text t input left old.output w.output new.output h.took h.served.2 (λ more is. continued_with before mid e h.taken stored stored' text t Whole more h.served.3 is) rest,
     )
 
 -- a fault leaves what it leaves of the rest
 pub heard_left : {made : ℕ} (before mid : Ahead) (d e : Directory) (input left left' : Option (List ℕ)) (old w new : Outlets) (fault : RunFault) → Heard made before mid d e input left old w
-    → Leaves e (mid false) (at left w) (at left' new) fault → Leaves d (before false) (at input old) (at left' new) fault
+    → Leaves e mid (at left w) (at left' new) fault → Leaves d before (at input old) (at left' new) fault
 heard_left before mid d e input left left' old w new Read h (taken, took, tells) = (
   h.taken ++ taken,
   Consumes-trans input left left' h.taken taken h.took took,
-  tells_behind before mid d e h.taken false taken old w new h.served tells,
+  tells_behind before mid d e h.taken SoFar taken old w new h.served tells,
 )
 heard_left before mid d e input left left' old w new Write h (Within front behind took carried) =
     Within (h.taken ++ front) behind (subst (Consumes input left') (sym (append_assoc h.taken front behind)) (Consumes-trans input left left' h.taken (front ++ behind) h.took took))
     (carried_behind before mid d e h.taken front old w new h.served carried)
 heard_left before mid d e input left left' old w new Write h (AtTheEnd taken took end carried) =
     AtTheEnd (h.taken ++ taken) (Consumes-trans input left left' h.taken taken h.took took) end
-    (subst (λ b. CarriesOut d (before false b) old.store new.store) (sym (append_assoc h.taken taken (10 ∷ []))) (carried_behind before mid d e h.taken (taken ++ 10 ∷ []) old w new h.served carried))
-heard_left before mid d e input left left' old w new Memory h (front, behind, took, (stored, t, between, is, wrote, follows, asked)) = (
-  h.taken ++ front,
-  behind,
-  subst (Consumes input left') (sym (append_assoc h.taken front behind)) (Consumes-trans input left left' h.taken (front ++ behind) h.took took),
-  (
-    h.served.1 ++ stored,
-    told (h.served.0 ++ t.text) t.directory,
-    between,
-    continued_with before mid e h.taken h.served.1 stored h.served.0 t false front h.served.3 is,
-    Appends-trans old.output w.output new.output h.served.0 t.text h.served.2 wrote,
-    follows_both old.store w.store between h.served.1 stored d e t.directory h.served.4 follows,
-    asked,
-  ),
-)
+    (subst (λ b. CarriesOut d (before SoFar b) old.store new.store) (sym (append_assoc h.taken taken (10 ∷ []))) (carried_behind before mid d e h.taken (taken ++ 10 ∷ []) old w new h.served carried))
+heard_left before mid d e input left left' old w new Memory h (InHand front next behind took one first) =
+    InHand (h.taken ++ front) next behind
+    (subst (Consumes input left') (sym (append_assoc h.taken front (next ++ behind))) (Consumes-trans input left left' h.taken (front ++ (next ++ behind)) h.took took))
+    one (first_behind before mid d e h.taken front next old w new h.served first)
+heard_left before mid d e input left left' old w new Memory h (LastInHand taken took end first) =
+    LastInHand (h.taken ++ taken) (Consumes-trans input left left' h.taken taken h.took took) end (first_behind before mid d e h.taken taken (10 ∷ []) old w new h.served first)
 
 -- so many reads were made
 pub heard_so_far : {made : ℕ} (before mid : Ahead) (d e : Directory) (input left : Option (List ℕ)) (old new : Outlets) → Heard made before mid d e input left old new
-    → mid false [] [] ≡ Some (told [] e) → Leaves d (before false) (at input old) (at left new) Read
+    → mid SoFar [] [] ≡ Some (told [] e) → Leaves d before (at input old) (at left new) Read
 heard_so_far before mid d e input left old new h none = (h.taken, h.took, tells_all before mid d e h.taken old new h.served none)
 
 -- each of the reads took a byte or more of the input
@@ -425,14 +461,14 @@ heard_enough made before now d e (Some bytes) None old new h = absurd h.took
 heard_enough made before now d e (Some bytes) (Some rest) old new h = omega (arith, h.enough, ap length h.took, length-append h.taken rest)
 
 -- a read failed
-pub turn_failed : (before : Ahead) (d : Directory) (input left : Option (List ℕ)) (w : Outlets) → Keeps input left → before false [] [] ≡ Some (told [] d) → Leaves d (before false) (at input w) (at left w) Read
+pub turn_failed : (before : Ahead) (d : Directory) (input left : Option (List ℕ)) (w : Outlets) → Keeps input left → before SoFar [] [] ≡ Some (told [] d) → Leaves d before (at input w) (at left w) Read
 turn_failed before d input left w kept none = ([], Consumes-kept input input left [] (Consumes-nil input) kept, ([], told [] d, none, Appends-nil w.output, follows_none w.store d))
 
 -- bytes were read
 pub some_read : (count : ℕ) (buffer : List ℕ) → 0 < count → count ≤ length buffer → 0 < length (take count buffer)
 some_read count buffer some within = omega (arith, length-take count buffer)
 
--- the machine ended with a piece
+-- the machine extent with a piece
 all_told : (future : List ℕ → Option Told) (piece : List ℕ) (t : Told) (input left old new : Option (List ℕ)) → Consumes input left piece → Appends old new t.text → ((rest : List ℕ) → future (piece ++ rest) ≡ Some t)
     → IfSome input (λ bytes. (future bytes ≡ Some t) × Appends old new t.text)
 all_told future piece t None left old new took wrote says = tt
@@ -442,19 +478,19 @@ all_told future piece t (Some bytes) (Some rest) old new took wrote says = (ap f
 -- a piece was fed
 pub turn_fed : (r : Result Bool RunFault) (before after : Ahead) (d e : Directory) (piece : List ℕ) (input left : Option (List ℕ)) (old new : Outlets) → 0 < length piece → Consumes input left piece
     → MatchResult r (Serves d (telling before after e) piece old new) (BrokenOff d before piece old new)
-    → MatchResult r (Turn d (telling before after e) (at input old) (at left new)) (Leaves d (before false) (at input old) (at left new))
+    → MatchResult r (Turn d (telling before after e) (at input old) (at left new)) (Leaves d before (at input old) (at left new))
 turn_fed (Ok true) before after d e piece input left old new some took served = (piece, some, took, served)
 turn_fed (Ok false) before after d e piece input left old new some took (text, stored, wrote, says, follows) = (
   stored,
   told text e,
   follows,
-  all_told (λ bytes. before true bytes stored) piece (told text e) input left old.output new.output took wrote (λ rest. ended_with before after e piece stored text true rest says),
+  all_told (λ bytes. before Whole bytes stored) piece (told text e) input left old.output new.output took wrote (λ rest. ended_with before after e piece stored text Whole rest says),
 )
 turn_fed (Err Read) before after d e piece input left old new some took h = absurd h
 turn_fed (Err Write) before after d e piece input left old new some took (front, back, split, carried) =
     Within front back (subst (Consumes input left) split took) carried
-turn_fed (Err Memory) before after d e piece input left old new some took (front, back, split, first) =
-    (front, back, subst (Consumes input left) split took, first)
+turn_fed (Err Memory) before after d e piece input left old new some took (front, next, back, split, one, first) =
+    InHand front next back (subst (Consumes input left) split took) one first
 
 -- the end of the input came
 end_told : (future : List ℕ → Option Told) (t : Told) (input left old new : Option (List ℕ)) → Consumes input left [] → IsAtEnd left → Appends old new t.text → future [] ≡ Some t
@@ -463,21 +499,16 @@ end_told future t None left old new took end wrote is = tt
 end_told future t (Some bytes) None old new took end wrote is = absurd took
 end_told future t (Some bytes) (Some rest) old new took end wrote is = (ap future (took ∙ end) ∙ is, wrote)
 
-pub turn_ended : (before : Ahead) (d : Directory) (input left : Option (List ℕ)) (old new : Outlets) → Consumes input left [] → IsAtEnd left → Tells d (before true []) old new → Ended d before (at input old) (at left new)
+pub turn_ended : (before : Ahead) (d : Directory) (input left : Option (List ℕ)) (old new : Outlets) → Consumes input left [] → IsAtEnd left → Tells d (before Whole []) old new → Ended d before (at input old) (at left new)
 turn_ended before d input left old new took end (stored, t, is, wrote, follows) =
-    (stored, t, follows, end_told (λ bytes. before true bytes stored) t input left old.output new.output took end wrote is)
+    (stored, t, follows, end_told (λ bytes. before Whole bytes stored) t input left old.output new.output took end wrote is)
 
-pub turn_unserved : (before : Ahead) (d : Directory) (input left : Option (List ℕ)) (old new : Outlets) (fault : RunFault) → Consumes input left [] → IsAtEnd left → before false [] [] ≡ Some (told [] d)
-    → EndUnserved d before old new fault → Leaves d (before false) (at input old) (at left new) fault
+pub turn_unserved : (before : Ahead) (d : Directory) (input left : Option (List ℕ)) (old new : Outlets) (fault : RunFault) → Consumes input left [] → IsAtEnd left → before SoFar [] [] ≡ Some (told [] d)
+    → EndUnserved d before old new fault → Leaves d before (at input old) (at left new) fault
 turn_unserved before d input left old new Read took end none h = absurd h
 turn_unserved before d input left old new Write took end none (inl carried) = Within [] [] took carried
 turn_unserved before d input left old new Write took end none (inr carried) = AtTheEnd [] took end carried
-turn_unserved before d input left old new Memory took end none h = (
-  [],
-  [],
-  took,
-  ([], told [] d, old.store, none, Appends-kept old.output old.output new.output [] (Appends-nil old.output) h.0, follows_none old.store d, h.1),
-)
+turn_unserved before d input left old new Memory took end none h = LastInHand [] took end (kept_first before d (10 ∷ []) old new h.0 h.1 none)
 
 -- nothing was read
 pub nothing_read : (count : ℕ) (buffer : List ℕ) (input left : Option (List ℕ)) → count ≤ 0 → Consumes input left (take count buffer) → Consumes input left []

@@ -1,5 +1,5 @@
 -- Laws of bringing a directory up to date.
-use Rattle.std.proofs.Common.{◌≡◌, ℕ, zero, suc, ◌+◌, ◌-◌, ◌^◌, ◌<◌, ◌≤◌, ◌&&◌, Bool, true, false, cond, List, [], ◌∷◌, ◌++◌, Option, Some, None, MatchOption, Result, Ok, Err, MatchResult, ◌≢◌, ◌⊎◌, inl, inr, ⊎_elim, refl, sym, ap, ◌∙◌, subst, arith, append_assoc, append-nil}
+use Rattle.std.proofs.Common.{◌≡◌, ℕ, zero, suc, ◌+◌, ◌-◌, ◌^◌, ◌<◌, ◌≤◌, ◌&&◌, Bool, true, false, cond, List, [], ◌∷◌, ◌++◌, length, Option, Some, None, MatchOption, Result, Ok, Err, MatchResult, ◌≢◌, ◌⊎◌, inl, inr, ⊎_elim, refl, sym, ap, ◌∙◌, subst, arith, append_assoc, append-nil}
 use Rattle.std.specs.Prelude.{filter, is_none, is_ok, SomeIff, IfOk, IfSome, OnErr}
 use Rattle.std.specs.declared.alloc.AllocError.{AllocError}
 use Rattle.std.specs.Result.{result_unwrap_or}
@@ -12,13 +12,14 @@ use Rattle.abc_publish.specs.declared.slot.Stored.TheVariants.{Unknown}
 use Rattle.abc_tunebook.specs.Files.{Files, file_at}
 use Rattle.abc2midi_live.specs.Answer.{end_line, failed_line, stored_line}
 use Rattle.abc2midi_live.specs.Book.{files_of}
-use Rattle.abc2midi_live.specs.Building.{answer_line, answer_of, entry_behind, numbers_from, pending_from, pending_numbers, stage, storing, storing_at, Builds, Stage, IsIdle, Stores}
+use Rattle.abc2midi_live.specs.Building.{answer_line, answer_of, entry_behind, numbers_from, pending_from, pending_numbers, stage, storing, storing_at, Builds, BuildStops, Stage, IsIdle, StopsAtOnce, StopsBy, Stores, StoresOneAtMost}
 use Rattle.abc2midi_live.specs.Storing.{StoreAnswer, Done, Fault, StoreSeen, Follows, file_name}
 use Rattle.abc2midi_live.specs.Streams.{Puts, TakesOut, KeepsOthers, faults}
 use Rattle.abc2midi_live.specs.declared.streams.StoreFault.{StoreFault}
-use Rattle.abc2midi_live.proofs.Storing.{follows_put, follows_removed, follows_fault, follows_none, follows_both}
+use Rattle.abc2midi_live.proofs.Storing.{follows_put, follows_removed, follows_fault, follows_none, follows_same, follows_both}
 use Rattle.abc_fold.specs.Work.{raised}
-use Rattle.abc2midi_live.specs.Told.{Answered, answered_by, line_before}
+use Rattle.abc2midi_live.specs.Told.{Answered, Stopped, answered_by, line_before}
+use Rattle.abc2midi_live.specs.Waiting.{storing_unasked}
 
 -- a number that passes a test, or does not, before others
 passes : (p : ℕ → Bool) (n : ℕ) (rest : List ℕ) → p n ≡ true → filter p (n ∷ rest) ≡ n ∷ filter p rest
@@ -116,19 +117,19 @@ none_pending p files from small idle none = none_kept (is_pending p.directory fi
 -- none is pending, and the build ends
 pub stores_none : (text : Text) (p : Publishing) (files : Files) (from : ℕ) → files ≡ files_of text → from < 2 ^ 32 → IsIdle p → HasNone p files from → Stores text (stage p.directory (Some from)) [] [] (stage p.directory None)
 unfolding storing pending_from
-stores_none text p files from e small idle none = λ later.
-    ap (λ ns. storing text p.directory ns later) (none_pending p (files_of text) from small idle (subst (λ fs. HasNone p fs from) e none))
+stores_none text p files from e small idle none = λ extent later.
+    ap (λ ns. storing extent text p.directory ns later) (none_pending p (files_of text) from small idle (subst (λ fs. HasNone p fs from) e none))
 
 -- the file of the least number is stored, and the build goes on behind it
 pub stores_done : (text : Text) (p : Publishing) (files : Files) (from m : ℕ) (bytes : Option (List ℕ)) (next : Option ℕ) → files ≡ files_of text → m < 2 ^ 32 → IsIdle p → IsNext p files from m
     → bytes ≡ file_at files m → IsBehind m next
     → Stores text (stage p.directory (Some from)) (Done ∷ []) (stored_line m bytes) (stage (with_entry p.directory m (stored_as bytes)) next)
 unfolding storing
-stores_done text p files from m bytes next e small idle is file behind = λ later.
+stores_done text p files from m bytes next e small idle is file behind = λ extent later.
     let d = p.directory in
     let same : file_at (files_of text) m ≡ bytes = sym (file ∙ ap (λ fs. file_at fs m) e) in
-    ap (λ ns. storing text d ns (Done ∷ later)) (first_pending p (files_of text) from m next (stored_as (file_at (files_of text) m)) idle (subst (λ fs. IsNext p fs from m) e is) small behind)
-    ∙ ap (λ b. line_before (stored_line m b) (storing text (with_entry d m (stored_as b)) (pending_from (with_entry d m (stored_as b)) (files_of text) next) later)) same
+    ap (λ ns. storing extent text d ns (Done ∷ later)) (first_pending p (files_of text) from m next (stored_as (file_at (files_of text) m)) idle (subst (λ fs. IsNext p fs from m) e is) small behind)
+    ∙ ap (λ b. line_before (stored_line m b) (storing extent text (with_entry d m (stored_as b)) (pending_from (with_entry d m (stored_as b)) (files_of text) next) later)) same
 
 some_next : (m : ℕ) → (next : Option ℕ) × IsBehind m next
 some_next m = ⊎_elim (λ fits. (Some (m + 1), (fits, refl))) (λ not. (None, not)) (fits_or_not m)
@@ -137,10 +138,10 @@ some_next m = ⊎_elim (λ fits. (Some (m + 1), (fits, refl))) (λ not. (None, n
 pub stores_fault : (text : Text) (p : Publishing) (files : Files) (from m : ℕ) → files ≡ files_of text → m < 2 ^ 32 → IsIdle p → IsNext p files from m
     → Stores text (stage p.directory (Some from)) (Fault ∷ []) (failed_line m) (stage (with_entry p.directory m (Some Unknown)) None)
 unfolding storing pending_from
-stores_fault text p files from m e small idle is = λ later.
+stores_fault text p files from m e small idle is = λ extent later.
     let d = p.directory in
     let some : (next : Option ℕ) × IsBehind m next = some_next m in
-    ap (λ ns. storing text d ns (Fault ∷ later)) (first_pending p (files_of text) from m some.0 (Some Unknown) idle (subst (λ fs. IsNext p fs from m) e is) small some.1)
+    ap (λ ns. storing extent text d ns (Fault ∷ later)) (first_pending p (files_of text) from m some.0 (Some Unknown) idle (subst (λ fs. IsNext p fs from m) e is) small some.1)
 
 line_before_both : (a b : List ℕ) (rest : Option Answered) → line_before a (line_before b rest) ≡ line_before (a ++ b) rest
 line_before_both a b None = refl
@@ -152,19 +153,75 @@ line_before_none (Some r) = refl
 
 -- nothing is stored yet
 pub stores_first : (text : Text) (d : Directory) (from : Option ℕ) → Stores text (stage d from) [] [] (stage d from)
-stores_first text d from = λ later. line_before_none (storing_at text (stage d from) later)
+stores_first text d from = λ extent later. line_before_none (storing_at extent text (stage d from) later)
 
 -- what is stored behind what was stored
 pub stores_both : (text : Text) (d e f : Directory) (at from next : Option ℕ) (a b : List StoreAnswer) (x y : List ℕ) → Stores text (stage d at) a x (stage e from) → Stores text (stage e from) b y (stage f next)
     → Stores text (stage d at) (a ++ b) (x ++ y) (stage f next)
-stores_both text d e f at from next a b x y first second = λ later.
-    ap (storing text d (pending_from d (files_of text) at)) (append_assoc a b later) ∙ first (b ++ later) ∙ ap (line_before x) (second later)
-    ∙ line_before_both x y (storing_at text (stage f next) later)
+stores_both text d e f at from next a b x y first second = λ extent later.
+    ap (storing extent text d (pending_from d (files_of text) at)) (append_assoc a b later) ∙ first extent (b ++ later) ∙ ap (line_before x) (second extent later)
+    ∙ line_before_both x y (storing_at extent text (stage f next) later)
 
 -- no number is left
 pub builds_all : (text : Text) (d e : Directory) (now : List StoreAnswer) (told : List ℕ) → Stores text (stage d (Some 0)) now told (stage e None) → Builds text d now (told ++ end_line) e
 unfolding pending_from pending_numbers storing
-builds_all text d e now told stores = λ later. stores later
+builds_all text d e now told stores = λ extent later. stores extent later
+
+-- a build that stops, and the answers that the store has given
+abbrev pub StopsWith : Text → Stage → List StoreAnswer → StoreSeen → StoreSeen → Type 0
+StopsWith text at now old new = (stopped : StopsBy at.directory (storing_at Stopped text at) old new) × (stopped.0 ≡ now)
+
+-- it stops before the store gives an answer
+pub stops_first : (text : Text) (at : Stage) (s : StoreSeen) → StopsWith text at [] s s
+stops_first text at s =
+    let d = at.directory in
+    let none = storing_unasked text d (pending_from d (files_of text) at.from) in
+    (([], none.0, none.1, none.2, follows_same s d none.0.after.directory none.3), refl)
+
+-- it stops behind what was stored
+pub stops_behind : (text : Text) (d e : Directory) (at next : Option ℕ) (now more : List StoreAnswer) (told : List ℕ) (old mid new : StoreSeen) → Stores text (stage d at) now told (stage e next) → Follows old mid now d e
+    → StopsWith text (stage e next) more mid new → StopsWith text (stage d at) (now ++ more) old new
+stops_behind text d e at next now more told old mid new stores follows ((later, a, is, left, follows'), same) = (
+  (
+    now ++ later,
+    answered_by (told ++ a.text) a.after a.left,
+    stores Stopped later ∙ ap (line_before told) is,
+    left,
+    follows_both old mid new now later d e a.after.directory follows follows',
+  ),
+  ap (λ l. now ++ l) same,
+)
+
+pub stops_uncalled : (text : Text) (at : Stage) (s : StoreSeen) → StopsAtOnce text at s s
+stops_uncalled text at s =
+    let first = stops_first text at s in
+    let none : length first.0.0 ≡ 0 = ap length first.1 in
+    (first.0, omega arith)
+
+stops_called : (text : Text) (at : Stage) (answer : StoreAnswer) (old new : StoreSeen) → StopsWith text at (answer ∷ []) old new → StopsAtOnce text at old new
+stops_called text at answer old new h =
+    let one : length h.0.0 ≡ 1 = ap length h.1 in
+    (h.0, omega arith)
+
+-- It was called for the least number, if it was called.
+pub stops_once : (text : Text) (p : Publishing) (from m : ℕ) (bytes : Option (List ℕ)) (old new : StoreSeen) → m < 2 ^ 32 → IsIdle p → IsNext p (files_of text) from m → bytes ≡ file_at (files_of text) m
+    → StoresOneAtMost old new m bytes → StopsAtOnce text (stage p.directory (Some from)) old new
+stops_once text p from m bytes old new small idle least file (inl same) =
+    let at = stage p.directory (Some from) in
+    subst (λ (new : StoreSeen). StopsAtOnce text at old new) (sym same) (stops_uncalled text at old)
+stops_once text p from m bytes old new small idle least file (inr (Done, one)) =
+    let d = p.directory in
+    let e = with_entry d m (stored_as bytes) in
+    let next : (next : Option ℕ) × IsBehind m next = some_next m in
+    stops_called text (stage d (Some from)) Done old new
+    (stops_behind text d e (Some from) next.0 (Done ∷ []) [] (stored_line m bytes) old new new
+    (stores_done text p (files_of text) from m bytes next.0 refl small idle least file next.1) (one d) (stops_first text (stage e next.0) new))
+stops_once text p from m bytes old new small idle least file (inr (Fault, one)) =
+    let d = p.directory in
+    let e = with_entry d m (Some Unknown) in
+    stops_called text (stage d (Some from)) Fault old new
+    (stops_behind text d e (Some from) None (Fault ∷ []) [] (failed_line m) old new new
+    (stores_fault text p (files_of text) from m refl small idle least) (one d) (stops_first text (stage e None) new))
 
 -- how many numbers there are from one on
 abbrev pub left_from : Option ℕ → ℕ
@@ -343,3 +400,9 @@ so_far_all text first after told answer start s at is e h = (
   subst (λ (x : List ℕ). Builds text first h.0 x after) (sym e) (builds_all text first after h.0 told (subst (λ o. Stores text (stage first (Some 0)) h.0 told (stage after o)) is h.1)),
   h.2,
 )
+
+-- a build that stops
+pub so_far_stops : (text : Text) (first d : Directory) (told : List ℕ) (start s t : StoreSeen) (at : Option ℕ) → StoresSoFar text first start (stage d at) (build_seen told s) → StopsBy d (storing_at Stopped text (stage d at)) s t
+    → BuildStops text first start t
+unfolding pending_from pending_numbers
+so_far_stops text first d told start s t at h stops = (stops_behind text first d (Some 0) at h.0 stops.0 told start s t h.1 h.2 (stops, refl)).0

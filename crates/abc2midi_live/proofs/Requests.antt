@@ -14,16 +14,18 @@ use Rattle.abc_tunebook.specs.Files.{file_at, written, removed}
 use Rattle.abc2midi_live.specs.Answer.{report_line, refusal}
 use Rattle.abc2midi_live.specs.Command.{line_count, command_of}
 use Rattle.abc_publish.specs.Publisher.{Directory}
-use Rattle.abc2midi_live.specs.Building.{Builds}
-use Rattle.abc2midi_live.specs.Storing.{StoreAnswer}
-use Rattle.abc2midi_live.specs.Told.{Answered, Holding, Told, answered_by, behind, holding, nothing_more, told}
+use Rattle.abc2midi_live.specs.Building.{Builds, BuildStops, StopsBy}
+use Rattle.abc2midi_live.specs.Storing.{StoreAnswer, StoreSeen}
+use Rattle.abc2midi_live.specs.Told.{Answered, Extent, Whole, Stopped, Holding, Told, answered_by, behind, holding, nothing_more, told}
 use Rattle.abc2midi_live.specs.Transcript.{edit_answer, Request, Edits, CutOff, request_of, requests, answered, answers, goes_on}
 use Rattle.abc2midi_live.specs.Answer.{fault_list, title_list, hex_line, unknown_line, truncated_line}
 use Rattle.abc2midi_live.specs.declared.command.Command.{Command}
 use Rattle.abc2midi_live.specs.declared.command.Command.TheVariants.{Faults, Titles, Hex, Build, Quit, Unknown}
 use Rattle.abc2midi_live.specs.declared.command.Command.TheVariants as commands
+use Rattle.abc2midi_live.specs.Waiting.{request_unasked}
+use Rattle.abc2midi_live.proofs.Storing.{follows_same}
 use Rattle.abc2midi_live.specs.Dialogue.{Begun, awaited, is_taken, AnswersWith, Says, Responds}
-use Rattle.abc2midi_live.specs.Machine.{Future, Replies, telling}
+use Rattle.abc2midi_live.specs.Machine.{AsksNothing, CarriesOut, Future, Replies, telling}
 use Rattle.abc_tunebook.specs.declared.fault.Fault.{Fault}
 use Rattle.abc_tunebook.specs.declared.title.Title.{Title}
 use Rattle.abc2midi_live.specs.declared.machine.Reply.{Reply}
@@ -64,7 +66,7 @@ edited_answer : (old new : Text) (d : Directory) (splice : Option Splice) (text 
     → Carried (holding old d) (holding new d) (Edits splice) [] text
 unfolding answered
 edited_answer old new d splice text t n =
-    (λ ended later. ap (λ x. Some (answered_by x (holding (result_unwrap_or (edited old splice) old) d) later)) (sym t) ∙ ap (λ x. Some (answered_by text (holding x d) later)) (sym n), refl)
+    (λ extent later. ap (λ x. Some (answered_by x (holding (result_unwrap_or (edited old splice) old) d) later)) (sym t) ∙ ap (λ x. Some (answered_by text (holding x d) later)) (sym n), refl)
 
 responds_edit : (old new : Text) (d : Directory) (request : Request) (splice : Option Splice) (text : List ℕ) → request ≡ Edits splice → text ≡ edit_answer old (edited old splice)
     → new ≡ result_unwrap_or (edited old splice) old → Carried (holding old d) (holding new d) request [] text
@@ -113,34 +115,34 @@ pub responds_faults : (h : Holding) (command : Command) (lines : Text) (faults :
     → Carried h h (request_of command lines) [] text
 unfolding request_of answered
 responds_faults h command lines faults text is f t =
-    subst (λ c. Carried h h (request_of c lines) [] text) (sym is) (λ ended later. ap (λ x. Some (answered_by x h later)) (sym (t ∙ ap fault_list f)), refl)
+    subst (λ c. Carried h h (request_of c lines) [] text) (sym is) (λ extent later. ap (λ x. Some (answered_by x h later)) (sym (t ∙ ap fault_list f)), refl)
 
 pub responds_titles : (h : Holding) (command : Command) (lines : Text) (titles : List Title) (text : List ℕ) → command ≡ Titles → titles ≡ titles_of h.text → text ≡ title_list titles
     → Carried h h (request_of command lines) [] text
 unfolding request_of answered
 responds_titles h command lines titles text is f t =
-    subst (λ c. Carried h h (request_of c lines) [] text) (sym is) (λ ended later. ap (λ x. Some (answered_by x h later)) (sym (t ∙ ap title_list f)), refl)
+    subst (λ c. Carried h h (request_of c lines) [] text) (sym is) (λ extent later. ap (λ x. Some (answered_by x h later)) (sym (t ∙ ap title_list f)), refl)
 
 pub responds_hex : (h : Holding) (command : Command) (number : ℕ) (lines : Text) (file : Option (List ℕ)) (text : List ℕ) → command ≡ Hex number → file ≡ file_at (files_of h.text) number → text ≡ hex_line file
     → Carried h h (request_of command lines) [] text
 unfolding request_of answered
 responds_hex h command number lines file text is f t =
-    subst (λ c. Carried h h (request_of c lines) [] text) (sym is) (λ ended later. ap (λ x. Some (answered_by x h later)) (sym (t ∙ ap hex_line f)), refl)
+    subst (λ c. Carried h h (request_of c lines) [] text) (sym is) (λ extent later. ap (λ x. Some (answered_by x h later)) (sym (t ∙ ap hex_line f)), refl)
 
 pub responds_build : (text : Text) (before after : Directory) (command : Command) (lines : Text) (now : List StoreAnswer) (answer : List ℕ) → command ≡ Build → Builds text before now answer after
     → Carried (holding text before) (holding text after) (request_of command lines) now answer
 unfolding request_of answered
 responds_build text before after command lines now answer is builds =
-    subst (λ c. Carried (holding text before) (holding text after) (request_of c lines) now answer) (sym is) (λ ended later. builds later, refl)
+    subst (λ c. Carried (holding text before) (holding text after) (request_of c lines) now answer) (sym is) (λ extent later. builds extent later, refl)
 
 pub responds_unknown : (h : Holding) (command : Command) (lines : Text) (text : List ℕ) → command ≡ Unknown → text ≡ unknown_line → Carried h h (request_of command lines) [] text
 unfolding request_of answered
 responds_unknown h command lines text is t =
-    subst (λ c. Carried h h (request_of c lines) [] text) (sym is) (λ ended later. ap (λ x. Some (answered_by x h later)) (sym t), refl)
+    subst (λ c. Carried h h (request_of c lines) [] text) (sym is) (λ extent later. ap (λ x. Some (answered_by x h later)) (sym t), refl)
 
 pub responds_quit : (h : Holding) (command : Command) (lines : Text) → command ≡ Quit → AnswersWith h (request_of command lines) [] [] h × (goes_on (request_of command lines) ≡ false)
 unfolding request_of answered
-responds_quit h command lines is = subst (λ c. AnswersWith h (request_of c lines) [] [] h × (goes_on (request_of c lines) ≡ false)) (sym is) (λ ended later. refl, refl)
+responds_quit h command lines is = subst (λ c. AnswersWith h (request_of c lines) [] [] h × (goes_on (request_of c lines) ≡ false)) (sym is) (λ extent later. refl, refl)
 
 -- lines behind those of a command are none of its own
 pub request_of-append : (command : Command) (lines more : Text) → length lines ≡ line_count command → request_of command (lines ++ more) ≡ request_of command lines
@@ -164,17 +166,17 @@ request_of-append Quit lines more whole = refl
 request_of-append Unknown lines more whole = refl
 
 -- what is told behind the answer to a request
-told_on : Bool → Request → List Request → Answered → Option Told
-told_on ended request rest a = behind a.text (if goes_on request then answers ended a.after rest a.left else nothing_more a.after.directory a.left)
+told_on : Extent → Request → List Request → Answered → Option Told
+told_on extent request rest a = behind a.text (if goes_on request then answers extent a.after rest a.left else nothing_more a.after.directory a.left)
 
-awaited_whole : (old : Holding) (command : Command) (lines more : Text) (ended : Bool) (stored : List StoreAnswer) → length lines ≡ line_count command
-    → awaited old (Some (record { command = command; lines = lines })) ended more stored
-    ≡ option_and_then (told_on ended (request_of command lines) (requests 0 more)) (answered ended old (request_of command lines) stored)
+awaited_whole : (old : Holding) (command : Command) (lines more : Text) (extent : Extent) (stored : List StoreAnswer) → length lines ≡ line_count command
+    → awaited old (Some (record { command = command; lines = lines })) extent more stored
+    ≡ option_and_then (told_on extent (request_of command lines) (requests 0 more)) (answered extent old (request_of command lines) stored)
 unfolding awaited answers told_on
-awaited_whole old command lines more ended stored whole =
+awaited_whole old command lines more extent stored whole =
     let none : line_count command - length lines ≡ 0 = omega arith in
-    ap (λ k. answers ended old (request_of command (lines ++ more) ∷ requests k more) stored) none
-    ∙ ap (λ r. answers ended old (r ∷ requests 0 more) stored) (request_of-append command lines more whole)
+    ap (λ k. answers extent old (request_of command (lines ++ more) ∷ requests k more) stored) none
+    ∙ ap (λ r. answers extent old (r ∷ requests 0 more) stored) (request_of-append command lines more whole)
 
 pub behind_nothing : (rest : Option Told) → behind [] rest ≡ rest
 behind_nothing None = refl
@@ -186,55 +188,55 @@ pub says_whole : (old new : Holding) (command : Command) (lines : Text) (now : L
 unfolding awaited told_on
 says_whole old new command lines now Nothing whole h = absurd h
 says_whole old new command lines now (Answer text) whole h =
-    λ ended more later. awaited_whole old command lines more ended (now ++ later) whole
-    ∙ ap (option_and_then (told_on ended (request_of command lines) (requests 0 more))) (h.0 ended later)
-    ∙ ap (λ b. behind text.items (cond b (answers ended new (requests 0 more) later) (nothing_more new.directory later))) h.1
+    λ extent more later. awaited_whole old command lines more extent (now ++ later) whole
+    ∙ ap (option_and_then (told_on extent (request_of command lines) (requests 0 more))) (h.0 extent later)
+    ∙ ap (λ b. behind text.items (cond b (answers extent new (requests 0 more) later) (nothing_more new.directory later))) h.1
 says_whole old new command lines now End whole h =
-    λ ended more later. awaited_whole old command lines more ended (now ++ later) whole
-    ∙ ap (option_and_then (told_on ended (request_of command lines) (requests 0 more))) (h.0 ended later)
-    ∙ ap (λ b. behind [] (cond b (answers ended new (requests 0 more) later) (nothing_more new.directory later))) h.1
+    λ extent more later. awaited_whole old command lines more extent (now ++ later) whole
+    ∙ ap (option_and_then (told_on extent (request_of command lines) (requests 0 more))) (h.0 extent later)
+    ∙ ap (λ b. behind [] (cond b (answers extent new (requests 0 more) later) (nothing_more new.directory later))) h.1
     ∙ behind_nothing (nothing_more new.directory later)
 
 -- a line that is a command begins it
-pub awaited_command : (h : Holding) (line : List ℕ) (command : Command) (ended : Bool) (more : Text) (stored : List StoreAnswer) → command ≡ command_of line
-    → awaited h None ended (line ∷ more) stored ≡ awaited h (Some (record { command = command; lines = [] })) ended more stored
+pub awaited_command : (h : Holding) (line : List ℕ) (command : Command) (extent : Extent) (more : Text) (stored : List StoreAnswer) → command ≡ command_of line
+    → awaited h None extent (line ∷ more) stored ≡ awaited h (Some (record { command = command; lines = [] })) extent more stored
 unfolding awaited requests
-awaited_command h line command ended more stored is =
+awaited_command h line command extent more stored is =
     let same : line_count command - 0 ≡ line_count command = omega arith in
-    ap (λ c. answers ended h (request_of c more ∷ requests (line_count c) more) stored) (sym is)
-    ∙ ap (λ k. answers ended h (request_of command more ∷ requests k more) stored) (sym same)
+    ap (λ c. answers extent h (request_of c more ∷ requests (line_count c) more) stored) (sym is)
+    ∙ ap (λ k. answers extent h (request_of command more ∷ requests k more) stored) (sym same)
 
 skip_one : (k : ℕ) (line : List ℕ) (more : Text) → requests (k + 1) (line ∷ more) ≡ requests k more
 unfolding requests
 skip_one k line more = rw add-one refl
 
 -- a line that belongs to a command is one more of its lines
-pub awaited_line : (h : Holding) (command : Command) (lines : Text) (line : List ℕ) (ended : Bool) (more : Text) (stored : List StoreAnswer) → length lines < line_count command
-    → awaited h (Some (record { command = command; lines = lines })) ended (line ∷ more) stored ≡ awaited h (Some (record { command = command; lines = lines ++ line ∷ [] })) ended more stored
+pub awaited_line : (h : Holding) (command : Command) (lines : Text) (line : List ℕ) (extent : Extent) (more : Text) (stored : List StoreAnswer) → length lines < line_count command
+    → awaited h (Some (record { command = command; lines = lines })) extent (line ∷ more) stored ≡ awaited h (Some (record { command = command; lines = lines ++ line ∷ [] })) extent more stored
 unfolding awaited
-awaited_line h command lines line ended more stored few =
+awaited_line h command lines line extent more stored few =
     let left = line_count command - length (lines ++ line ∷ []) in
     let count : line_count command - length lines ≡ left + 1 = omega (arith, length-append lines (line ∷ [])) in
-    ap (λ ls. answers ended h (request_of command ls ∷ requests (line_count command - length lines) (line ∷ more)) stored) (sym (append_assoc lines (line ∷ []) more))
-    ∙ ap (λ k. answers ended h (request_of command ((lines ++ line ∷ []) ++ more) ∷ requests k (line ∷ more)) stored) count
-    ∙ ap (λ rs. answers ended h (request_of command ((lines ++ line ∷ []) ++ more) ∷ rs) stored) (skip_one left line more)
+    ap (λ ls. answers extent h (request_of command ls ∷ requests (line_count command - length lines) (line ∷ more)) stored) (sym (append_assoc lines (line ∷ []) more))
+    ∙ ap (λ k. answers extent h (request_of command ((lines ++ line ∷ []) ++ more) ∷ requests k (line ∷ more)) stored) count
+    ∙ ap (λ rs. answers extent h (request_of command ((lines ++ line ∷ []) ++ more) ∷ rs) stored) (skip_one left line more)
 
 -- the reply to a line
 pub replies : (before mid after : Future (List ℕ)) (directory : Directory) (line : List ℕ) (now : List StoreAnswer) (reply : Reply)
-    → ((ended : Bool) (more : List (List ℕ)) (stored : List StoreAnswer) → before ended (line ∷ more) stored ≡ mid ended more stored) → Says (telling mid after directory) now reply
+    → ((extent : Extent) (more : List (List ℕ)) (stored : List StoreAnswer) → before extent (line ∷ more) stored ≡ mid extent more stored) → Says (telling mid after directory) now reply
     → Replies (telling before after directory) line now reply
-replies before mid after directory line now Nothing step says = λ ended more later. step ended more (now ++ later) ∙ says ended more later ∙ sym (behind_nothing (after ended more later))
-replies before mid after directory line now (Answer text) step says = λ ended more later. step ended more (now ++ later) ∙ says ended more later
-replies before mid after directory line now End step says = λ ended more later. step ended more (now ++ later) ∙ says ended more later ∙ sym (behind_nothing (nothing_more directory later))
+replies before mid after directory line now Nothing step says = λ extent more later. step extent more (now ++ later) ∙ says extent more later ∙ sym (behind_nothing (after extent more later))
+replies before mid after directory line now (Answer text) step says = λ extent more later. step extent more (now ++ later) ∙ says extent more later
+replies before mid after directory line now End step says = λ extent more later. step extent more (now ++ later) ∙ says extent more later ∙ sym (behind_nothing (nothing_more directory later))
 
 -- the last words, where lines are missing and where not
-pub last_cut : (h : Holding) (begun : Begun) → request_of begun.command begun.lines ≡ CutOff → awaited h (Some begun) true [] [] ≡ Some (told truncated_line h.directory)
+pub last_cut : (h : Holding) (begun : Begun) → request_of begun.command begun.lines ≡ CutOff → awaited h (Some begun) Whole [] [] ≡ Some (told truncated_line h.directory)
 unfolding awaited answers answered requests
 last_cut h begun cut =
-    ap (λ ls. answers true h (request_of begun.command ls ∷ []) []) (append-nil begun.lines) ∙ ap (λ r. answers true h (r ∷ []) []) cut
+    ap (λ ls. answers Whole h (request_of begun.command ls ∷ []) []) (append-nil begun.lines) ∙ ap (λ r. answers Whole h (r ∷ []) []) cut
     ∙ ap (λ t. Some (told t h.directory)) (append-nil truncated_line)
 
-pub last_none : (h : Holding) → awaited h None true [] [] ≡ Some (told [] h.directory)
+pub last_none : (h : Holding) → awaited h None Whole [] [] ≡ Some (told [] h.directory)
 unfolding awaited answers requests
 last_none h = refl
 
@@ -245,3 +247,40 @@ text_of-push old new line e = ap (map (λ l. l.items)) e ∙ map-append (λ l. l
 -- fewer lines have come than the command takes
 pub few_lines : (command : Command) (lines : Text) → leb (line_count command) (length lines) ≡ false → length lines < line_count command
 few_lines command lines e = grind (arith, nat_tests)
+
+-- a request that stops before the store is called
+pub stops_unasked : (h : Holding) (request : Request) (s : StoreSeen) → StopsBy h.directory (answered Stopped h request) s s
+stops_unasked h request s = let none = request_unasked h request in ([], none.0, none.1, none.2, follows_same s h.directory none.0.after.directory none.3)
+
+-- a build that stops
+pub stops_build : (h : Holding) (command : Command) (lines : Text) (old new : StoreSeen) → command ≡ Build → BuildStops h.text h.directory old new → StopsBy h.directory (answered Stopped h (request_of command lines)) old new
+unfolding request_of answered
+stops_build h command lines old new is stops = subst (λ c. StopsBy h.directory (answered Stopped h (request_of c lines)) old new) (sym is) stops
+
+nothing_behind : (h : Holding) (b : Bool) → cond b (answers Stopped h (requests 0 []) []) (nothing_more h.directory []) ≡ Some (told [] h.directory)
+unfolding answers requests
+nothing_behind h true = refl
+nothing_behind h false = refl
+
+-- a command with all its lines that stops
+pub stops_whole : (h : Holding) (command : Command) (lines : Text) (old new : StoreSeen) → length lines ≡ line_count command → StopsBy h.directory (answered Stopped h (request_of command lines)) old new
+    → CarriesOut h.directory (awaited h (Some (record { command = command; lines = lines })) Stopped []) old new
+unfolding told_on
+stops_whole h command lines old new whole (stored, a, is, left, follows) =
+    let request = request_of command lines in (
+      stored,
+      told (a.text ++ []) a.after.directory,
+      awaited_whole h command lines [] Stopped stored whole
+          ∙ ap (option_and_then (told_on Stopped request (requests 0 []))) is
+          ∙ ap (λ l. behind a.text (cond (goes_on request) (answers Stopped a.after (requests 0 []) l) (nothing_more a.after.directory l))) left
+          ∙ ap (behind a.text) (nothing_behind a.after (goes_on request)),
+      follows,
+    )
+
+-- where nothing has been asked of a store
+pub carried_none : (d : Directory) (told_to : List StoreAnswer → Option Told) (s : StoreSeen) → AsksNothing d told_to → CarriesOut d told_to s s
+carried_none d told_to s (t, is, same) = ([], t, is, follows_same s d t.directory same)
+
+-- what is told in the same words is carried out
+pub carried_as : (d : Directory) (f g : List StoreAnswer → Option Told) (old new : StoreSeen) → ((stored : List StoreAnswer) → f stored ≡ g stored) → CarriesOut d g old new → CarriesOut d f old new
+carried_as d f g old new same (stored, t, is, follows) = (stored, t, same stored ∙ is, follows)

@@ -17,7 +17,7 @@ use Rattle.abc_publish.specs.Publisher.{Directory, stored_as, with_entry}
 use Rattle.abc_publish.specs.declared.slot.Stored.{Stored}
 use Rattle.abc_publish.specs.declared.slot.Stored.TheVariants.{Unknown}
 use Rattle.abc2midi_live.specs.Streams.{Contents, Puts, TakesOut, KeepsOthers}
-use Rattle.abc2midi_live.specs.Storing.{StoreAnswer, Done, Fault, faults_among, file_name, IsStored, Mirrors, MirrorsWhereTold, HasNoFiles, StoreSeen, Follows, IsAsked}
+use Rattle.abc2midi_live.specs.Storing.{StoreAnswer, Done, Fault, faults_among, file_name, IsStored, Mirrors, MirrorsWhereTold, HasNoFiles, StoreSeen, Follows}
 use Rattle.abc2midi_live.specs.Transcript.{no_directory}
 use Rattle.abc2midi_live.proofs.Counts.{raised_none, raised_twice}
 
@@ -150,17 +150,3 @@ mirrors_first (Some contents) h = record { files = h; others = λ name away. ref
 pub on_err : {T E : Type 0} (r : Result T E) (P : Type 0) → P → OnErr r P
 on_err (Ok x) P p = tt
 on_err (Err e) P p = p
-
--- A store that was not called, one that was asked for a file, and one that was asked for more.
-pub asked_none : (s : StoreSeen) (d : Directory) → IsAsked s s d
-asked_none s d = record { answers = []; after = d; follows = follows_none s d }
-
-pub asked : (old new : StoreSeen) (answers : List StoreAnswer) (d e : Directory) → Follows old new answers d e → IsAsked old new d
-asked old new answers d e follows = record { answers = answers; after = e; follows = follows }
-
-pub asked_more : (old mid new : StoreSeen) (answers : List StoreAnswer) (d e : Directory) → Follows old mid answers d e → IsAsked mid new e → IsAsked old new d
-asked_more old mid new answers d e follows more = record {
-  answers = answers ++ more.answers;
-  after = more.after;
-  follows = follows_both old mid new answers more.answers d e more.after follows more.follows;
-}

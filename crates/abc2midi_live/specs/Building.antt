@@ -1,5 +1,5 @@
 -- Bringing the directory up to date with the text. Our own.
-use Rattle.std.specs.Prelude.{◌≡◌, ℕ, zero, suc, ◌+◌, ◌-◌, ◌^◌, Bool, true, false, List, [], ◌∷◌, ◌++◌, filter, Option, Some, None}
+use Rattle.std.specs.Prelude.{◌≡◌, ℕ, ◌≤◌, zero, suc, ◌+◌, ◌-◌, ◌^◌, Bool, true, false, List, [], ◌∷◌, ◌++◌, filter, length, Option, Some, None, ◌⊎◌}
 use Rattle.abc_lines.specs.Text.{Text}
 use Rattle.abc_publish.specs.Publisher.{Directory, Publishing, is_pending, stored_as, with_entry}
 use Rattle.abc_publish.specs.declared.slot.Stored.{Stored}
@@ -8,7 +8,7 @@ use Rattle.abc_tunebook.specs.Files.{Files, file_at}
 use Rattle.abc2midi_live.specs.Answer.{end_line, failed_line, stored_line}
 use Rattle.abc2midi_live.specs.Book.{files_of}
 use Rattle.abc2midi_live.specs.Storing.{StoreAnswer, StoreSeen, Follows, Done, Fault}
-use Rattle.abc2midi_live.specs.Told.{Answered, answered_by, holding, line_before}
+use Rattle.abc2midi_live.specs.Told.{Answered, Extent, Stopped, answered_by, holding, line_before, unanswered}
 
 -- so many numbers, rising, the first of which is this one
 unfoldable pub numbers_from : ℕ → ℕ → List ℕ
@@ -21,12 +21,12 @@ pending_numbers directory files = filter (is_pending directory files) (numbers_f
 
 -- The files of numbers are put or removed one after another, up to the first fault of the store. Of a text whose
 -- files are to be stored, what is known of the directory, the numbers, and what the store answers.
-unfoldable pub storing : Text → Directory → List ℕ → List StoreAnswer → Option Answered
-storing text directory [] answers = Some (answered_by end_line (holding text directory) answers)
-storing text directory (n ∷ numbers) [] = None
-storing text directory (n ∷ numbers) (Done ∷ answers) =
-    line_before (stored_line n (file_at (files_of text) n)) (storing text (with_entry directory n (stored_as (file_at (files_of text) n))) numbers answers)
-storing text directory (n ∷ numbers) (Fault ∷ answers) =
+unfoldable pub storing : Extent → Text → Directory → List ℕ → List StoreAnswer → Option Answered
+storing extent text directory [] answers = Some (answered_by end_line (holding text directory) answers)
+storing extent text directory (n ∷ numbers) [] = unanswered extent (holding text directory)
+storing extent text directory (n ∷ numbers) (Done ∷ answers) =
+    line_before (stored_line n (file_at (files_of text) n)) (storing extent text (with_entry directory n (stored_as (file_at (files_of text) n))) numbers answers)
+storing extent text directory (n ∷ numbers) (Fault ∷ answers) =
     Some (answered_by (failed_line n ++ end_line) (holding text (with_entry directory n (Some Unknown))) answers)
 
 -- The numbers that are pending from one on, where there is one.
@@ -54,6 +54,10 @@ abbrev pub StoresOne : StoreSeen → StoreSeen → StoreAnswer → ℕ → Optio
 StoresOne old new answer number bytes =
     (directory : Directory) → Follows old new (answer ∷ []) directory (with_entry directory number (entry_behind answer bytes))
 
+-- A store was not called, or it gave one answer to the file of a number.
+abbrev pub StoresOneAtMost : StoreSeen → StoreSeen → ℕ → Option (List ℕ) → Type 0
+StoresOneAtMost old new number bytes = (new ≡ old) ⊎ ((answer : StoreAnswer) × StoresOne old new answer number bytes)
+
 -- no job is under way
 abbrev pub IsIdle : Publishing → Type 0
 IsIdle p = (n : ℕ) → p.jobs n ≡ None
@@ -67,26 +71,40 @@ abbrev pub stage : Directory → Option ℕ → Stage
 stage directory from = record { directory = directory; from = from }
 
 -- what is told of the numbers that are pending at a stage, for what the store answers
-abbrev pub storing_at : Text → Stage → List StoreAnswer → Option Answered
-storing_at text at answers = storing text at.directory (pending_from at.directory (files_of text) at.from) answers
+abbrev pub storing_at : Extent → Text → Stage → List StoreAnswer → Option Answered
+storing_at extent text at answers = storing extent text at.directory (pending_from at.directory (files_of text) at.from) answers
 
 -- Whatever the store answers behind these answers: what is told of the numbers pending at one stage is the text, and
 -- then what is told of those pending at another.
 abbrev pub Stores : Text → Stage → List StoreAnswer → List ℕ → Stage → Type 0
 Stores text before now told after =
-    (later : List StoreAnswer) → storing_at text before (now ++ later) ≡ line_before told (storing_at text after later)
+    (extent : Extent) (later : List StoreAnswer) → storing_at extent text before (now ++ later) ≡ line_before told (storing_at extent text after later)
 
 -- Whatever the store answers behind these answers: bringing the directory up to date tells this text, and leads to
 -- this directory.
 abbrev pub Builds : Text → Directory → List StoreAnswer → List ℕ → Directory → Type 0
 Builds text before now told after =
-    (later : List StoreAnswer)
-    → storing text before (pending_numbers before (files_of text)) (now ++ later) ≡ Some (answered_by told (holding text after) later)
+    (extent : Extent) (later : List StoreAnswer)
+    → storing extent text before (pending_numbers before (files_of text)) (now ++ later) ≡ Some (answered_by told (holding text after) later)
 
 -- What a store answered led from one stage of a build to another, and such a text was told of it.
 abbrev pub StoresBy : Text → Stage → Stage → (List ℕ → Type 0) → StoreSeen → StoreSeen → Type 0
 StoresBy text before after Tells old new =
     (now : List StoreAnswer) × (told : List ℕ) × Tells told × Stores text before now told after × Follows old new now before.directory after.directory
+
+-- Want of memory stops what a request leads to: the store gave these answers, each to what the request asks for, and was
+-- called for nothing else.
+abbrev pub StopsBy : Directory → (List StoreAnswer → Option Answered) → StoreSeen → StoreSeen → Type 0
+StopsBy before answered old new =
+    (stored : List StoreAnswer) × (a : Answered) × (answered stored ≡ Some a) × (a.left ≡ []) × Follows old new stored before a.after.directory
+
+-- A build stops: the store was called for the first of the files of the numbers that are pending.
+abbrev pub BuildStops : Text → Directory → StoreSeen → StoreSeen → Type 0
+BuildStops text directory old new = StopsBy directory (storing Stopped text directory (pending_numbers directory (files_of text))) old new
+
+-- A build stops at a stage: the store was called for the first of the files that are pending there, if for any.
+abbrev pub StopsAtOnce : Text → Stage → StoreSeen → StoreSeen → Type 0
+StopsAtOnce text at old new = (stopped : StopsBy at.directory (storing_at Stopped text at) old new) × (length stopped.0 ≤ 1)
 
 -- What a store answered brought the directory up to date, and this was told of it.
 abbrev pub BuildsBy : Text → Directory → Directory → List ℕ → StoreSeen → StoreSeen → Type 0

@@ -3,10 +3,11 @@ use Rattle.std.specs.Prelude.{◌≡◌, ℕ, ◌-◌, Bool, true, false, is_ok,
 use Rattle.abc_lines.specs.Text.{Text}
 use Rattle.abc_lines.specs.Edits.{edited}
 use Rattle.abc2midi_live.specs.Command.{line_count, command_of}
-use Rattle.abc2midi_live.specs.Machine.{Future, Telling, telling}
+use Rattle.abc2midi_live.specs.Building.{StopsBy}
+use Rattle.abc2midi_live.specs.Machine.{CarriesOut, Future, Telling, telling}
 use Rattle.abc_publish.specs.Publisher.{Directory}
 use Rattle.abc2midi_live.specs.Storing.{StoreAnswer, StoreSeen, Follows}
-use Rattle.abc2midi_live.specs.Told.{Holding, answered_by, behind, nothing_more}
+use Rattle.abc2midi_live.specs.Told.{Extent, Stopped, Holding, answered_by, behind, nothing_more}
 use Rattle.abc2midi_live.specs.Transcript.{Request, Edits, ListsFaults, ListsTitles, Shows, Builds, Misspelled, CutOff, Ends, request_of, requests, book_requests, answers, answered, at_first, goes_on}
 use Rattle.abc2midi_live.specs.declared.command.Command.{Command}
 use Rattle.abc2midi_live.specs.declared.machine.Reply.{Reply}
@@ -22,20 +23,20 @@ begun_with command lines = record { command = command; lines = lines }
 
 -- what is told to the lines that come, behind what holds and what has begun
 unfoldable pub awaited : Holding → Option Begun → Future (List ℕ)
-awaited h None ended lines stored = answers ended h (requests 0 lines) stored
-awaited h (Some begun) ended lines stored =
-    answers ended h (request_of begun.command (begun.lines ++ lines) ∷ requests (line_count begun.command - length begun.lines) lines) stored
+awaited h None extent lines stored = answers extent h (requests 0 lines) stored
+awaited h (Some begun) extent lines stored =
+    answers extent h (request_of begun.command (begun.lines ++ lines) ∷ requests (line_count begun.command - length begun.lines) lines) stored
 
 -- a reply, and the answers that the store gave, from what is to be told before it to what is to be told after it
 abbrev pub Says : Telling (List ℕ) → List StoreAnswer → Reply → Type 0
-Says t now Nothing = (ended : Bool) (lines : List (List ℕ)) (later : List StoreAnswer) → t.before ended lines (now ++ later) ≡ t.after ended lines later
-Says t now (Answer text) = (ended : Bool) (lines : List (List ℕ)) (later : List StoreAnswer) → t.before ended lines (now ++ later) ≡ behind text.items (t.after ended lines later)
-Says t now End = (ended : Bool) (lines : List (List ℕ)) (later : List StoreAnswer) → t.before ended lines (now ++ later) ≡ nothing_more t.directory later
+Says t now Nothing = (extent : Extent) (lines : List (List ℕ)) (later : List StoreAnswer) → t.before extent lines (now ++ later) ≡ t.after extent lines later
+Says t now (Answer text) = (extent : Extent) (lines : List (List ℕ)) (later : List StoreAnswer) → t.before extent lines (now ++ later) ≡ behind text.items (t.after extent lines later)
+Says t now End = (extent : Extent) (lines : List (List ℕ)) (later : List StoreAnswer) → t.before extent lines (now ++ later) ≡ nothing_more t.directory later
 
 -- whatever the store answers behind these answers, the answer to a request and what holds behind it
 abbrev pub AnswersWith : Holding → Request → List StoreAnswer → List ℕ → Holding → Type 0
 AnswersWith old request now text new =
-    (ended : Bool) (later : List StoreAnswer) → answered ended old request (now ++ later) ≡ Some (answered_by text new later)
+    (extent : Extent) (later : List StoreAnswer) → answered extent old request (now ++ later) ≡ Some (answered_by text new later)
 
 -- a reply to a whole request, the answers that the store gave, and what holds behind it
 abbrev pub Responds : Holding → Holding → Request → List StoreAnswer → Reply → Type 0
@@ -66,8 +67,8 @@ proceeding old first new begun = telling (awaited old (Some first)) (awaited new
 -- What is told to a tune book is this text, and then what is told to the lines that come behind it.
 abbrev pub Opens : Option (List ℕ) → List ℕ → Holding → Option Begun → Type 0
 Opens book text h begun =
-    (ended : Bool) (lines : List (List ℕ)) (stored : List StoreAnswer)
-    → answers ended at_first (book_requests book ++ requests 0 lines) stored ≡ behind text (awaited h begun ended lines stored)
+    (extent : Extent) (lines : List (List ℕ)) (stored : List StoreAnswer)
+    → answers extent at_first (book_requests book ++ requests 0 lines) stored ≡ behind text (awaited h begun extent lines stored)
 
 -- What is told to the lines that come is this reply, for what a store answered, and then what is told behind it.
 abbrev pub SaysBy : Telling (List ℕ) → Directory → Reply → StoreSeen → StoreSeen → Type 0
@@ -77,3 +78,11 @@ SaysBy t before reply old new = (stored : List StoreAnswer) × Says t stored rep
 abbrev pub RespondsBy : Holding → Holding → Request → Reply → StoreSeen → StoreSeen → Type 0
 RespondsBy before after request reply old new =
     (stored : List StoreAnswer) × Responds before after request stored reply × Follows old new stored before.directory after.directory
+
+-- A request stops: the store was called for the first of what it asks for.
+abbrev pub RequestStops : Holding → Request → StoreSeen → StoreSeen → Type 0
+RequestStops before request old new = StopsBy before.directory (answered Stopped before request) old new
+
+-- The same of a command that has the first of its lines.
+abbrev pub CommandStops : Holding → Begun → StoreSeen → StoreSeen → Type 0
+CommandStops before begun old new = CarriesOut before.directory (awaited before (Some begun) Stopped []) old new

@@ -3,10 +3,10 @@ use Rattle.std.specs.Prelude.{◌≡◌, ℕ, ◌<◌, ◌≤◌, Bool, true, fa
 use Rattle.std.specs.Io.KnownBytes.{Appends, Consumes, IsAtEnd, Keeps}
 use Rattle.abc_publish.specs.Publisher.{Directory}
 use Rattle.abc_text.specs.Byte.{line_feed}
-use Rattle.abc2midi_live.specs.Machine.{between, Answers, Future, Standing, Telling}
-use Rattle.abc2midi_live.specs.Storing.{Follows, HasNoFiles, IsAsked, MirrorsWhereTold, StoreAnswer, StoreSeen, faults_among}
-use Rattle.abc2midi_live.specs.Told.{Told}
-use Rattle.abc2midi_live.specs.Transcript.{input_lines, no_directory, transcript, transcript_so_far}
+use Rattle.abc2midi_live.specs.Machine.{between, Answers, CarriesOut, EndsOneAtMost, Future, Standing, Telling}
+use Rattle.abc2midi_live.specs.Storing.{Follows, HasNoFiles, MirrorsWhereTold, StoreAnswer, StoreSeen, faults_among}
+use Rattle.abc2midi_live.specs.Told.{Extent, Whole, SoFar, Stopped, Told, is_whole}
+use Rattle.abc2midi_live.specs.Transcript.{input_lines, no_directory, transcript, transcript_of}
 use Rattle.abc_fold.specs.Work.{raised}
 use Rattle.abc2midi_live.specs.declared.reading.TheConstants.{MOST_READS}
 use Rattle.abc2midi_live.specs.declared.fault.RunFault.{RunFault}
@@ -33,18 +33,13 @@ Unopened old new Read = ⊥
 Unopened old new Write = ⊤
 Unopened old new Memory = Keeps old new
 
--- What is told for the answers of a store is carried out: these are its answers. Nothing is said of what is written.
-abbrev pub CarriesOut : Directory → (List StoreAnswer → Option Told) → StoreSeen → StoreSeen → Type 0
-CarriesOut before answered old new =
-    (stored : List StoreAnswer) × (told : Told) × (answered stored ≡ Some told) × Follows old new stored before told.directory
-
--- What a fault leaves where a line is served, of what is told for all of it: where its answer cannot be written, it is
--- carried out; want of memory comes before anything is written of its answer, and the store may have been asked for some
--- of what the line asks for. Of what the directory was known to hold before it.
-abbrev pub Unserved : Directory → (List StoreAnswer → Option Told) → Outlets → Outlets → RunFault → Type 0
+-- What a fault leaves where a line is served, of what is told to it: where its answer cannot be written, it is carried
+-- out; want of memory comes before anything is written of its answer, and the run stops within it. Of what the directory
+-- was known to hold before it.
+abbrev pub Unserved : Directory → (Extent → List StoreAnswer → Option Told) → Outlets → Outlets → RunFault → Type 0
 Unserved before answered old new Read = ⊥
-Unserved before answered old new Write = CarriesOut before answered old.store new.store
-Unserved before answered old new Memory = Keeps old.output new.output × IsAsked old.store new.store before
+Unserved before answered old new Write = CarriesOut before (answered SoFar) old.store new.store
+Unserved before answered old new Memory = Keeps old.output new.output × CarriesOut before (answered Stopped) old.store new.store
 
 -- A piece is served: a text is written and the store gives answers, which are what is told to the piece. Of what the
 -- directory was known to hold before it.
@@ -57,7 +52,7 @@ Serves before t piece old new goes_on =
 abbrev pub ServesOrFails : {X : Type 0} → Standing X → Standing X → List X → Outlets → Outlets → Result Bool RunFault → Type 0
 ServesOrFails before after piece old new result =
     MatchResult result (Serves before.directory (between before after) piece old new)
-    (Unserved before.directory (before.future false piece) old new)
+    (Unserved before.directory (λ extent. before.future extent piece) old new)
 
 -- What is told for the answers of a store is written, and these are its answers.
 abbrev pub Tells : Directory → (List StoreAnswer → Option Told) → Outlets → Outlets → Type 0
@@ -66,33 +61,35 @@ Tells before answered old new =
     × Follows old.store new.store stored before told.directory
 
 -- What a fault leaves where the end of the input is served, which ends a line that has begun as a line feed does: where
--- something cannot be written, that line is carried out, where there is one.
+-- something cannot be written, that line is carried out, where there is one; for want of memory the run stops within it.
 abbrev pub EndUnserved : Directory → Future ℕ → Outlets → Outlets → RunFault → Type 0
 EndUnserved before future old new Read = ⊥
 EndUnserved before future old new Write =
-    CarriesOut before (future false []) old.store new.store ⊎ CarriesOut before (future false (line_feed ∷ [])) old.store new.store
-EndUnserved before future old new Memory = Keeps old.output new.output × IsAsked old.store new.store before
+    CarriesOut before (future SoFar []) old.store new.store ⊎ CarriesOut before (future SoFar (line_feed ∷ [])) old.store new.store
+EndUnserved before future old new Memory = Keeps old.output new.output × CarriesOut before (future Stopped (line_feed ∷ [])) old.store new.store
 
 -- What comes of the end of the input, or of the fault that serving it ends in.
 abbrev pub TellsOrFails : Standing ℕ → Outlets → Outlets → Result Unit RunFault → Type 0
 TellsOrFails before old new result =
-    MatchResult result (λ _. Tells before.directory (before.future true []) old new) (EndUnserved before.directory before.future old new)
+    MatchResult result (λ _. Tells before.directory (before.future Whole []) old new) (EndUnserved before.directory before.future old new)
 
--- What is told for answers of a store is written, and these are the answers that it gave first; it may have been asked
--- for more since, of which nothing is written.
-abbrev pub TellsFirst : Directory → (List StoreAnswer → Option Told) → Outlets → Outlets → Type 0
-TellsFirst before answered old new =
+-- What is told for answers of a store is written, and these are the answers that it gave first. Those that it gave since
+-- are to what the command in hand asks for, within which the run stops: `in_hand` is what is told to that one too, and
+-- nothing of it is written.
+abbrev pub TellsFirst : Directory → (List StoreAnswer → Option Told) → (List StoreAnswer → Option Told) → Outlets → Outlets → Type 0
+TellsFirst before answered in_hand old new =
     (stored : List StoreAnswer) × (told : Told) × (between : StoreSeen) × (answered stored ≡ Some told) × Appends old.output new.output told.text
-    × Follows old.store between stored before told.directory × IsAsked between new.store told.directory
+    × Follows old.store between stored before told.directory × CarriesOut told.directory (λ more. in_hand (stored ++ more)) between new.store
 
 -- What a fault leaves where a piece of the input is served: where an answer cannot be written, a front of it is carried
--- out; for want of memory a front of it is answered.
+-- out; for want of memory a front of it is answered, and the run stops within the command of the next line.
 abbrev pub BrokenOff : Directory → Future ℕ → List ℕ → Outlets → Outlets → RunFault → Type 0
 BrokenOff before future piece old new Read = ⊥
 BrokenOff before future piece old new Write =
-    (front : List ℕ) × (back : List ℕ) × (piece ≡ front ++ back) × CarriesOut before (future false front) old.store new.store
+    (front : List ℕ) × (back : List ℕ) × (piece ≡ front ++ back) × CarriesOut before (future SoFar front) old.store new.store
 BrokenOff before future piece old new Memory =
-    (front : List ℕ) × (back : List ℕ) × (piece ≡ front ++ back) × TellsFirst before (future false front) old new
+    (front : List ℕ) × (next : List ℕ) × (back : List ℕ) × (piece ≡ front ++ (next ++ back)) × EndsOneAtMost next
+    × TellsFirst before (future SoFar front) (future Stopped (front ++ next)) old new
 
 -- What comes of a piece of the input that is served, or of the fault within it.
 abbrev pub FeedsOrBreaks : Standing ℕ → Standing ℕ → List ℕ → Outlets → Outlets → Result Bool RunFault → Type 0
@@ -120,21 +117,32 @@ pub data Unwritten (before : Directory) (answered : List ℕ → List StoreAnswe
       (taken : List ℕ) → Consumes old.input new.input taken → IsAtEnd new.input
       → CarriesOut before (answered (taken ++ line_feed ∷ [])) old.out.store new.out.store → Unwritten before answered old new
 
--- What a fault leaves of a run, from its ends at first to those at last; `answered` is what is to be told for the
--- beginning of an input and answers of the store, and `before` what the directory is known to hold at first.
-abbrev pub Leaves : Directory → (List ℕ → List StoreAnswer → Option Told) → Ends → Ends → RunFault → Type 0
+-- Which commands were answered before the one in hand, for which memory was wanting: for these and for the first of what
+-- that one asks for, if for anything, the store was called, and for nothing else.
+pub data Unfinished (before : Directory) (answered : Future ℕ) (old new : Ends) : Type 0 where
+  -- those before one that ends within what was read, or that had not ended yet
+  InHand :
+      (front next behind : List ℕ) → Consumes old.input new.input (front ++ (next ++ behind)) → EndsOneAtMost next
+      → TellsFirst before (answered SoFar front) (answered Stopped (front ++ next)) old.out new.out → Unfinished before answered old new
+  -- those before the last, which the end of the input ends as a line feed does
+  LastInHand :
+      (taken : List ℕ) → Consumes old.input new.input taken → IsAtEnd new.input
+      → TellsFirst before (answered SoFar taken) (answered Stopped (taken ++ line_feed ∷ [])) old.out new.out → Unfinished before answered old new
+
+-- What a fault leaves of a run, from its ends at first to those at last; `answered` is what is to be told for so much of
+-- an input and answers of the store, and `before` what the directory is known to hold at first.
+abbrev pub Leaves : Directory → Future ℕ → Ends → Ends → RunFault → Type 0
 -- the answers to the commands wholly read
-Leaves before answered old new Read = (taken : List ℕ) × Consumes old.input new.input taken × Tells before (answered taken) old.out new.out
+Leaves before answered old new Read = (taken : List ℕ) × Consumes old.input new.input taken × Tells before (answered SoFar taken) old.out new.out
 -- the store as the commands up to the one in hand leave it
-Leaves before answered old new Write = Unwritten before answered old new
--- the answers to the commands before the one in hand
-Leaves before answered old new Memory =
-    (front : List ℕ) × (behind : List ℕ) × Consumes old.input new.input (front ++ behind) × TellsFirst before (answered front) old.out new.out
+Leaves before answered old new Write = Unwritten before (answered SoFar) old new
+-- the answers to the commands before the one in hand, and the store as it was asked for some of what this asks for
+Leaves before answered old new Memory = Unfinished before answered old new
 
 -- What a fault leaves of a run that a tune book came before. The book counts as a command: where its answer cannot be
 -- written, no other command is carried out; for want of memory its answer may not come, and then nothing is read or
 -- written, and the store is not called.
-abbrev pub LeavesRun : Option (List ℕ) → (List ℕ → List StoreAnswer → Option Told) → Ends → Ends → RunFault → Type 0
+abbrev pub LeavesRun : Option (List ℕ) → Future ℕ → Ends → Ends → RunFault → Type 0
 LeavesRun book answered old new Read = Leaves no_directory answered old new Read
 LeavesRun book answered old new Write = Leaves no_directory answered old new Write
 LeavesRun book answered old new Memory =
@@ -146,7 +154,7 @@ LeavesRun book answered old new Memory =
 abbrev pub Ended : Directory → Future ℕ → Ends → Ends → Type 0
 Ended before future old new =
     (stored : List StoreAnswer) × (told : Told) × Follows old.out.store new.out.store stored before told.directory
-    × IfSome old.input (λ bytes. (future true bytes stored ≡ Some told) × Appends old.out.output new.out.output told.text)
+    × IfSome old.input (λ bytes. (future Whole bytes stored ≡ Some told) × Appends old.out.output new.out.output told.text)
 
 -- What one read leads to, from what the directory was known to hold before it: where the run goes on, it took bytes,
 -- and these are answered so far as they can be; else all that there was to read is.
@@ -158,13 +166,13 @@ Turn before t old new false = Ended before t.before old new
 -- What comes of one read, or of the fault that it ends in.
 abbrev pub TurnsOrFails : Standing ℕ → Standing ℕ → Ends → Ends → Result Bool RunFault → Type 0
 TurnsOrFails before after old new result =
-    MatchResult result (Turn before.directory (between before after) old new) (Leaves before.directory (before.future false) old new)
+    MatchResult result (Turn before.directory (between before after) old new) (Leaves before.directory before.future old new)
 
 -- All of an input is answered by a machine that stands so at first, or what a fault leaves of that.
 abbrev pub AnswersAll : {T : Type 0} → Standing (List ℕ) → Ends → Ends → Result T RunFault → Type 0
 AnswersAll before old new result =
-    MatchResult result (λ _. Ended before.directory (λ ended input. before.future ended (input_lines ended input)) old new)
-    (Leaves before.directory (λ input. before.future false (input_lines false input)) old new)
+    MatchResult result (λ _. Ended before.directory (λ extent input. before.future extent (input_lines (is_whole extent) input)) old new)
+    (Leaves before.directory (λ extent input. before.future extent (input_lines (is_whole extent) input)) old new)
 
 -- What was written is what is told for all of an input and the answers that the store gave; it was called once for
 -- each of these, and they are its only faults; and where none of the files stood there at first, it holds what the
@@ -180,7 +188,7 @@ pub record Completes (answered : List ℕ → List StoreAnswer → Option Told) 
 -- The transcript of a tune book, if there is one, and of an input is complete, or what a fault leaves of it.
 abbrev pub Transcribes : {T : Type 0} → Option (List ℕ) → Ends → Ends → Result T RunFault → Type 0
 Transcribes book old new result =
-    MatchResult result (λ _. Completes (transcript book) old new) (LeavesRun book (transcript_so_far book) old new)
+    MatchResult result (λ _. Completes (transcript book) old new) (LeavesRun book (transcript_of book) old new)
 
 -- how many faults of the reader a read tells of
 abbrev pub read_faults : {T : Type 0} → Result T RunFault → ℕ

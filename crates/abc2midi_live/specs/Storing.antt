@@ -60,9 +60,3 @@ pub record Follows (old new : StoreSeen) (answers : List StoreAnswer) (before af
   pub failures : new.failures ≡ raised old.failures (faults_among answers)
   pub calls : new.calls ≡ raised old.calls (length answers)
   pub contents : (first : Option Contents) → MirrorsWhereTold first old.contents before → MirrorsWhereTold first new.contents after
-
--- A store was called once for each of some answers that it gave, whatever they led to.
-pub record IsAsked (old new : StoreSeen) (before : Directory) : Type 0 where
-  pub answers : List StoreAnswer
-  pub after : Directory
-  pub follows : Follows old new answers before after

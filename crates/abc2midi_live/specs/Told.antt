@@ -1,8 +1,19 @@
 -- What a run tells. Our own.
-use Rattle.std.specs.Prelude.{ℕ, List, [], ◌∷◌, ◌++◌, Option, Some, None, option_map}
+use Rattle.std.specs.Prelude.{ℕ, Bool, true, false, List, [], ◌∷◌, ◌++◌, Option, Some, None, option_map}
 use Rattle.abc_lines.specs.Text.{Text}
 use Rattle.abc_publish.specs.Publisher.{Directory}
 use Rattle.abc2midi_live.specs.Storing.{StoreAnswer}
+
+-- How much of what a run is given has come.
+pub data Extent : Type 0 where
+  Whole : Extent  -- all of it
+  SoFar : Extent  -- more may come
+  Stopped : Extent  -- more may come, but the run stops within its last request, so the store need not answer all of that
+
+abbrev pub is_whole : Extent → Bool
+is_whole Whole = true
+is_whole SoFar = false
+is_whole Stopped = false
 
 -- What holds between two commands: the text, and what the directory is known to hold.
 pub record Holding : Type 0 where
@@ -37,6 +48,12 @@ pub record Answered : Type 0 where
 
 abbrev pub answered_by : List ℕ → Holding → List StoreAnswer → Answered
 answered_by text after left = record { text = text; after = after; left = left }
+
+-- What a request leads to that asks the store for more than it answers: nothing, unless the run stops there.
+abbrev pub unanswered : Extent → Holding → Option Answered
+unanswered Whole h = None
+unanswered SoFar h = None
+unanswered Stopped h = Some (answered_by [] h [])
 
 -- a line before the answer
 abbrev pub line_before : List ℕ → Option Answered → Option Answered

@@ -14,7 +14,7 @@ use Rattle.abc2midi_live.specs.Command.{command_of, line_count}
 use Rattle.abc2midi_live.specs.Answer.{report, refusal, fault_list, title_list, hex_line, unknown_line, truncated_line}
 use Rattle.abc2midi_live.specs.Building.{pending_numbers, storing}
 use Rattle.abc2midi_live.specs.Storing.{StoreAnswer}
-use Rattle.abc2midi_live.specs.Told.{Holding, holding, Told, behind, nothing_more, Answered, answered_by}
+use Rattle.abc2midi_live.specs.Told.{Extent, Whole, is_whole, Holding, holding, Told, behind, nothing_more, Answered, answered_by}
 use Rattle.abc_lines.specs.declared.edit_error.EditError.{EditError}
 use Rattle.abc2midi_live.specs.declared.command.Command.{Command}
 use Rattle.abc2midi_live.specs.declared.command.Command.TheVariants.{Insert, Replace, Delete, Faults, Titles, Hex, Build, Quit, Unknown}
@@ -81,17 +81,17 @@ edit_answer before (Ok after) = report (files_of before) (files_of after)
 edit_answer before (Err error) = refusal error
 
 -- The answer to a request. One that is cut off has its answer where the input has ended. There is none where the
--- store gives fewer answers than are asked for.
-unfoldable pub answered : Bool → Holding → Request → List StoreAnswer → Option Answered
-answered ended h (Edits splice) answers =
+-- store gives fewer answers than are asked for, unless the run stops within the request.
+unfoldable pub answered : Extent → Holding → Request → List StoreAnswer → Option Answered
+answered extent h (Edits splice) answers =
     Some (answered_by (edit_answer h.text (edited h.text splice)) (holding (result_unwrap_or (edited h.text splice) h.text) h.directory) answers)
-answered ended h ListsFaults answers = Some (answered_by (fault_list (faults_of h.text)) h answers)
-answered ended h ListsTitles answers = Some (answered_by (title_list (titles_of h.text)) h answers)
-answered ended h (Shows number) answers = Some (answered_by (hex_line (file_at (files_of h.text) number)) h answers)
-answered ended h Builds answers = storing h.text h.directory (pending_numbers h.directory (files_of h.text)) answers
-answered ended h Misspelled answers = Some (answered_by unknown_line h answers)
-answered ended h CutOff answers = Some (answered_by (if ended then truncated_line else []) h answers)
-answered ended h Ends answers = Some (answered_by [] h answers)
+answered extent h ListsFaults answers = Some (answered_by (fault_list (faults_of h.text)) h answers)
+answered extent h ListsTitles answers = Some (answered_by (title_list (titles_of h.text)) h answers)
+answered extent h (Shows number) answers = Some (answered_by (hex_line (file_at (files_of h.text) number)) h answers)
+answered extent h Builds answers = storing extent h.text h.directory (pending_numbers h.directory (files_of h.text)) answers
+answered extent h Misspelled answers = Some (answered_by unknown_line h answers)
+answered extent h CutOff answers = Some (answered_by (if is_whole extent then truncated_line else []) h answers)
+answered extent h Ends answers = Some (answered_by [] h answers)
 
 -- whether the run goes on after a request
 abbrev pub goes_on : Request → Bool
@@ -106,11 +106,11 @@ goes_on Ends = false
 
 -- What is told in answer to requests, for these answers of a store, neither more nor fewer. No request has an answer
 -- after `quit`.
-unfoldable pub answers : Bool → Holding → List Request → List StoreAnswer → Option Told
-answers ended h [] stored = nothing_more h.directory stored
-answers ended h (request ∷ rest) stored =
-    option_and_then (λ a. behind a.text (if goes_on request then answers ended a.after rest a.left else nothing_more a.after.directory a.left))
-    (answered ended h request stored)
+unfoldable pub answers : Extent → Holding → List Request → List StoreAnswer → Option Told
+answers extent h [] stored = nothing_more h.directory stored
+answers extent h (request ∷ rest) stored =
+    option_and_then (λ a. behind a.text (if goes_on request then answers extent a.after rest a.left else nothing_more a.after.directory a.left))
+    (answered extent h request stored)
 
 -- A tune book comes before the commands, and is an insertion before line 1.
 abbrev pub book_requests : Option (List ℕ) → List Request
@@ -128,8 +128,9 @@ at_first = holding [] no_directory
 -- What is told for a tune book, if there is one, the whole of an input, and all the answers of a store; None where
 -- a store would give more of them, or fewer.
 unfoldable pub transcript : Option (List ℕ) → List ℕ → List StoreAnswer → Option Told
-transcript book input stored = answers true at_first (book_requests book ++ requests 0 (input_lines true input)) stored
+transcript book input stored = answers Whole at_first (book_requests book ++ requests 0 (input_lines true input)) stored
 
--- The same for a tune book and the beginning of an input: the answers to the commands that stand wholly in it.
-unfoldable pub transcript_so_far : Option (List ℕ) → List ℕ → List StoreAnswer → Option Told
-transcript_so_far book input stored = answers false at_first (book_requests book ++ requests 0 (input_lines false input)) stored
+-- The same for a tune book and so much of an input: where that is not all of it, the answers to the commands that stand
+-- wholly in it.
+unfoldable pub transcript_of : Option (List ℕ) → Extent → List ℕ → List StoreAnswer → Option Told
+transcript_of book extent input stored = answers extent at_first (book_requests book ++ requests 0 (input_lines (is_whole extent) input)) stored

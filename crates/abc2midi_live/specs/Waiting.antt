@@ -1,16 +1,24 @@
--- Why nothing is told before a line comes. It stands here and not among the proofs since the law `waits` of the machine names
--- it, and a law names nothing of those.
-use Rattle.std.specs.Prelude.{◌≡◌, false, nat_le, cond, [], ◌∷◌, length, take, Option, Some, None, refl}
+-- Why nothing is told before a line comes, and nothing is asked for before a store answers. It stands here and not among the
+-- proofs since the laws `waits` and `unasked` of the machine name it, and a law names nothing of those.
+use Rattle.std.specs.Prelude.{◌≡◌, ℕ, ◌-◌, Bool, true, false, nat_le, cond, List, [], ◌∷◌, ◌++◌, length, take, Option, Some, None, option_and_then, refl}
+use Rattle.std.specs.Result.{result_unwrap_or}
 use Rattle.std.proofs.Common.{sym, ap, ◌∙◌, append-nil}
 use Rattle.std.proofs.lemmas.List.{length-map}
 use Rattle.std.proofs.lemmas.Bool.{false≢true}
 use Rattle.std.proofs.Math.Dec.{leb-zero}
 use Rattle.abc_lines.specs.Text.{Text, text_of}
-use Rattle.abc_lines.specs.Edits.{insertion, replacement}
+use Rattle.abc_lines.specs.Edits.{edited, insertion, replacement}
+use Rattle.abc_publish.specs.Publisher.{Directory}
+use Rattle.abc_tunebook.specs.Files.{file_at}
+use Rattle.abc2midi_live.specs.Answer.{end_line, fault_list, hex_line, title_list, unknown_line}
+use Rattle.abc2midi_live.specs.Book.{faults_of, files_of, titles_of}
+use Rattle.abc2midi_live.specs.Building.{pending_numbers, storing}
 use Rattle.abc2midi_live.specs.Command.{line_count}
-use Rattle.abc2midi_live.specs.Told.{Holding, told}
-use Rattle.abc2midi_live.specs.Transcript.{Edits, CutOff, request_of, requests, answers, answered}
-use Rattle.abc2midi_live.specs.Dialogue.{awaited}
+use Rattle.abc2midi_live.specs.Machine.{AsksNothing}
+use Rattle.abc2midi_live.specs.Storing.{StoreAnswer}
+use Rattle.abc2midi_live.specs.Told.{Answered, Holding, SoFar, Stopped, Told, answered_by, behind, holding, nothing_more, told}
+use Rattle.abc2midi_live.specs.Transcript.{Request, Edits, ListsFaults, ListsTitles, Shows, Builds, Misspelled, CutOff, Ends, answers, answered, edit_answer, goes_on, request_of, requests}
+use Rattle.abc2midi_live.specs.Dialogue.{Begun, awaited}
 use Rattle.abc2midi_live.specs.Gathering.{begun_of}
 use Rattle.abc2midi_live.specs.declared.dialogue.Gathering.{Gathering}
 use Rattle.abc2midi_live.specs.declared.command.Command.{Command}
@@ -37,9 +45,56 @@ pub request_of-gathering : (g : Gathering) → request_of g.command (text_of g.l
 request_of-gathering g = request_of-cut g.command (text_of g.lines) (gathering_few g)
 
 -- nothing is told before a line comes
-pub dialogue_waits : (h : Holding) (gathering : Option Gathering) → awaited h (begun_of gathering) false [] [] ≡ Some (told [] h.directory)
+pub dialogue_waits : (h : Holding) (gathering : Option Gathering) → awaited h (begun_of gathering) SoFar [] [] ≡ Some (told [] h.directory)
 unfolding awaited answers answered requests
 dialogue_waits h None = refl
 dialogue_waits h (Some g) =
-    ap (λ ls. answers false h (request_of g.command ls ∷ []) []) (append-nil (text_of g.lines))
-    ∙ ap (λ r. answers false h (r ∷ []) []) (request_of-gathering g)
+    ap (λ ls. answers SoFar h (request_of g.command ls ∷ []) []) (append-nil (text_of g.lines))
+    ∙ ap (λ r. answers SoFar h (r ∷ []) []) (request_of-gathering g)
+
+-- What a request leads to where the run stops before the store gives an answer.
+abbrev pub Unasked : Holding → Option Answered → Type 0
+Unasked h answered = (a : Answered) × (answered ≡ Some a) × (a.left ≡ []) × (a.after.directory ≡ h.directory)
+
+pub storing_unasked : (text : Text) (d : Directory) (numbers : List ℕ) → Unasked (holding text d) (storing Stopped text d numbers [])
+unfolding storing
+storing_unasked text d [] = (answered_by end_line (holding text d) [], refl, refl, refl)
+storing_unasked text d (n ∷ numbers) = (answered_by [] (holding text d) [], refl, refl, refl)
+
+pub request_unasked : (h : Holding) (request : Request) → Unasked h (answered Stopped h request [])
+unfolding answered
+request_unasked h (Edits splice) =
+    (answered_by (edit_answer h.text (edited h.text splice)) (holding (result_unwrap_or (edited h.text splice) h.text) h.directory) [], refl, refl, refl)
+request_unasked h ListsFaults = (answered_by (fault_list (faults_of h.text)) h [], refl, refl, refl)
+request_unasked h ListsTitles = (answered_by (title_list (titles_of h.text)) h [], refl, refl, refl)
+request_unasked h (Shows number) = (answered_by (hex_line (file_at (files_of h.text) number)) h [], refl, refl, refl)
+request_unasked h Builds = storing_unasked h.text h.directory (pending_numbers h.directory (files_of h.text))
+request_unasked h Misspelled = (answered_by unknown_line h [], refl, refl, refl)
+request_unasked h CutOff = (answered_by [] h [], refl, refl, refl)
+request_unasked h Ends = (answered_by [] h [], refl, refl, refl)
+
+-- what is told behind an answer, where nothing is asked for behind it
+behind_unasked : (text : List ℕ) (d : Directory) (b : Bool) (rest : List StoreAnswer → Option Told) → AsksNothing d rest
+    → (t : Told) × (behind text (cond b (rest []) (nothing_more d [])) ≡ Some t) × (t.directory ≡ d)
+behind_unasked text d true rest (t, is, same) = (told (text ++ t.text) t.directory, ap (behind text) is, same)
+behind_unasked text d false rest h = (told (text ++ []) d, refl, refl)
+
+-- the same of all the requests that come
+pub answers_unasked : (h : Holding) (requests : List Request) → AsksNothing h.directory (answers Stopped h requests)
+unfolding answers
+answers_unasked h [] = (told [] h.directory, refl, refl)
+answers_unasked h (request ∷ rest) =
+    let one : Unasked h (answered Stopped h request []) = request_unasked h request in
+    let a : Answered = one.0 in
+    let all = behind_unasked a.text a.after.directory (goes_on request) (answers Stopped a.after rest) (answers_unasked a.after rest) in (
+      all.0,
+      ap (option_and_then (λ b. behind b.text (cond (goes_on request) (answers Stopped b.after rest b.left) (nothing_more b.after.directory b.left)))) one.1
+          ∙ ap (λ left. behind a.text (cond (goes_on request) (answers Stopped a.after rest left) (nothing_more a.after.directory left))) one.2
+          ∙ all.1,
+      all.2 ∙ one.3,
+    )
+
+pub dialogue_unasked : (h : Holding) (begun : Option Begun) (lines : List (List ℕ)) → AsksNothing h.directory (awaited h begun Stopped lines)
+unfolding awaited
+dialogue_unasked h None lines = answers_unasked h (requests 0 lines)
+dialogue_unasked h (Some begun) lines = answers_unasked h (request_of begun.command (begun.lines ++ lines) ∷ requests (line_count begun.command - length begun.lines) lines)

@@ -1,10 +1,10 @@
 //! Bringing the files of a store up to date with a session.
 
 ghost use Rattle.std.specs.Prelude.{◌≡◌, string_bytes, ◌<◌, ◌^◌, ◌++◌, ◌∷◌, [], None, Some, IfOk, IfSome, OnErr, is_ok, option_copied};
-ghost use Rattle.abc_publish.specs.Publisher.{ended, maps_of, with_entry, Directory};
+ghost use Rattle.abc_publish.specs.Publisher.{ended, maps_of, with_entry};
 ghost use Rattle.abc_publish.specs.declared.slot.Stored.TheVariants.{Unknown};
-ghost use Rattle.abc2midi_live.specs.Building.{answer_line, answer_of, entry_behind, stage, BuildsBy, IsIdle, StoresBy, StoresOne};
-ghost use Rattle.abc2midi_live.specs.Storing.{file_name, Follows, IsAsked};
+ghost use Rattle.abc2midi_live.specs.Building.{answer_line, answer_of, entry_behind, stage, BuildsBy, BuildStops, IsIdle, StopsAtOnce, StoresBy, StoresOne, StoresOneAtMost};
+ghost use Rattle.abc2midi_live.specs.Storing.{file_name, Follows};
 
 use crate::answer::{put_failed, put_stored};
 use crate::streams::{Store, StoreFault};
@@ -45,7 +45,7 @@ fn store_file<S: Store>(
 ) -> Result<bool, AllocError>
     ensures text { IfOk result (λ stored. text.new.items ≡ text.old.items ++ answer_line (answer_of stored) job.now.number job.now.bytes) }
     ensures store { IfOk result (λ stored. StoresOne (S.seen store.old) (S.seen store.new) (answer_of stored) job.now.number job.now.bytes) }
-    ensures asked { OnErr result ((directory : Directory) → IsAsked (S.seen store.old) (S.seen store.new) directory) }
+    ensures unchanged { OnErr result (StoresOneAtMost (S.seen store.old) (S.seen store.new) job.now.number job.now.bytes) }
 {
     let number = job.number();
     let bytes = job.bytes();
@@ -73,7 +73,7 @@ fn carry_out<S: Store>(
     ensures err { OnErr result (maps_of publisher.new ≡ ended (maps_of publisher.old) job.number (Some Unknown)) }
     ensures store { IfOk result (λ stored. Follows (S.seen store.old) (S.seen store.new)
         (answer_of stored ∷ []) (maps_of publisher.old).directory (maps_of publisher.new).directory) }
-    ensures asked { OnErr result ((directory : Directory) → IsAsked (S.seen store.old) (S.seen store.new) directory) }
+    ensures unchanged { OnErr result (StoresOneAtMost (S.seen store.old) (S.seen store.new) job.number job.bytes) }
     ensures jobs { (maps_of publisher.new).jobs ≡ with_entry (maps_of publisher.old).jobs job.number None }
 {
     let stored = store_file(alloc, &job, store, text);
@@ -98,7 +98,8 @@ fn store_next<S: Store>(
     requires { IsIdle (maps_of publisher.old) }
     ensures stored { let before = stage (maps_of publisher.old).directory (Some from) in let after = (maps_of publisher.new).directory in
         IfOk result (λ next. StoresBy session.now.text before (stage after next) (λ told. text.new.items ≡ text.old.items ++ told) (S.seen store.old) (S.seen store.new)) }
-    ensures asked { OnErr result (IsAsked (S.seen store.old) (S.seen store.new) (maps_of publisher.old).directory) }
+    ensures unchanged { let at = stage (maps_of publisher.old).directory (Some from) in
+        OnErr result (StopsAtOnce session.now.text at (S.seen store.old) (S.seen store.new)) }
     ensures onward { IfOk result (λ next. IfSome next (λ n. (from < n) × (n < 2 ^ 32))) }
     ensures idle { IsIdle (maps_of publisher.new) }
 {
@@ -124,7 +125,7 @@ pub fn build<S: Store>(
     requires { IsIdle (maps_of publisher.old) }
     ensures answer { let before = (maps_of publisher.old).directory in let after = (maps_of publisher.new).directory in
         IfOk result (λ text. BuildsBy session.now.text before after text.items (S.seen store.old) (S.seen store.new)) }
-    ensures asked { OnErr result (IsAsked (S.seen store.old) (S.seen store.new) (maps_of publisher.old).directory) }
+    ensures unchanged { OnErr result (BuildStops session.now.text (maps_of publisher.old).directory (S.seen store.old) (S.seen store.new)) }
     ensures idle { IsIdle (maps_of publisher.new) }
 {
     let mut text = Vec::new(alloc);

@@ -1,10 +1,9 @@
 //! What takes the lines of an input one after another, and answers some of them.
 
-ghost use Rattle.std.specs.Prelude.{◌≡◌, Bool, true, false, Some, List, ℕ, [], IfOk, OnErr, OnOk};
+ghost use Rattle.std.specs.Prelude.{◌≡◌, Bool, false, Some, List, ℕ, [], ◌∷◌, IfOk, OnErr, OnOk};
 ghost use Rattle.abc_publish.specs.Publisher.{Directory};
-ghost use Rattle.abc2midi_live.specs.Machine.{standing, Future, TakesLine};
-ghost use Rattle.abc2midi_live.specs.Storing.{IsAsked};
-ghost use Rattle.abc2midi_live.specs.Told.{told};
+ghost use Rattle.abc2midi_live.specs.Machine.{standing, AsksNothing, CarriesOut, Future, TakesLine};
+ghost use Rattle.abc2midi_live.specs.Told.{told, SoFar, Stopped, Whole};
 
 use crate::streams::Store;
 use abc_fold::Work;
@@ -23,8 +22,7 @@ pub enum Reply {
 
 /// A machine that takes lines, and puts and removes files in a store.
 pub trait Machine {
-    // What it tells to the lines that come, where they are all of them and where they are not, for what the store
-    // answers.
+    // What it tells to the lines that come, by how many of all they are, for what the store answers.
     ghost future: { Self → Future (List ℕ) };
 
     // What the store is known to hold.
@@ -42,13 +40,16 @@ pub trait Machine {
     ) -> Result<Reply, AllocError>
         ensures reply { let before = standing (future self.old) (directory self.old) in let after = standing (future self.new) (directory self.new) in
             IfOk result (TakesLine before after line.items (S.seen store.old) (S.seen store.new)) }
-        ensures asked { OnErr result (IsAsked (S.seen store.old) (S.seen store.new) (directory self.old)) }
+        ensures unchanged { OnErr result (CarriesOut (directory self.old) (future self.old Stopped (line.items ∷ [])) (S.seen store.old) (S.seen store.new)) }
         ensures uncounted { OnOk result (costs self.old line.items ≡ false → work.new ≡ work.old) };
 
     /// What it tells where no more lines come.
     fn last_words(&self) -> &'static [u8]
-        ensures { future self.now true [] [] ≡ Some (told result.now (directory self.now)) };
+        ensures { future self.now Whole [] [] ≡ Some (told result.now (directory self.now)) };
 
     // Nothing is told before a line comes.
-    ghost waits: { (m : Self) → future m false [] [] ≡ Some (told [] (directory m)) };
+    ghost waits: { (m : Self) → future m SoFar [] [] ≡ Some (told [] (directory m)) };
+
+    // Nothing is asked for before the store answers.
+    ghost unasked: { (m : Self) (lines : List (List ℕ)) → AsksNothing (directory m) (future m Stopped lines) };
 }

@@ -1,10 +1,9 @@
-use Rattle.std.proofs.Common.{ℕ, List, Some, sym, subst, arith}
+use Rattle.std.proofs.Common.{ℕ, List, Option, Some, sym, subst, arith}
 use Rattle.abc_publish.specs.Publisher.{maps_of}
 use Rattle.abc2midi_live.specs.Answer.{end_line}
 use Rattle.abc2midi_live.specs.Building.{stage}
-use Rattle.abc2midi_live.specs.Storing.{IsAsked}
-use Rattle.abc2midi_live.proofs.Pending.{build_seen, StoresSoFar, so_far_none, so_far_more, so_far_all, left_fewer, left_small}
-use Rattle.abc2midi_live.proofs.Storing.{asked_more, on_err}
+use Rattle.abc2midi_live.proofs.Pending.{build_seen, StoresSoFar, so_far_none, so_far_more, so_far_all, so_far_stops, stops_first, left_fewer, left_small}
+use Rattle.abc2midi_live.proofs.Storing.{on_err}
 use Rattle.abc2midi_live.proofs.building.build.Goals as goal
 
 pub loop-next-init : goal.loop-next-init
@@ -46,12 +45,21 @@ returns-in_err-extend_from_slice-clause-idle g c = c.loop-next.invariant.idle
 pub returns-in_err-next-clause-idle : goal.returns-in_err-next-clause-idle
 returns-in_err-next-clause-idle g c = c.store_next.ensures.idle
 
-pub returns-in_err-next-clause-asked : goal.returns-in_err-next-clause-asked
-returns-in_err-next-clause-asked g c =
+pub returns-in_err-next-clause-unchanged : goal.returns-in_err-next-clause-unchanged
+returns-in_err-next-clause-unchanged g c =
     let seen = g.S.Store.seen in
-    let old = seen c.args.store.now in
-    let mid = seen c.loop-next.store in
-    let new = seen c.store_next.new.store in
-    let before = (maps_of c.args.publisher.now).directory in
-    on_err c.from_residual.result (IsAsked old new before)
-    (asked_more old mid new c.loop-next.invariant.stored.0 before (maps_of c.loop-next.publisher).directory c.loop-next.invariant.stored.2 c.in_err-next.ensures.asked)
+    let text = c.args.session.now.text in
+    let first = (maps_of c.args.publisher.now).directory in
+    let d = (maps_of c.loop-next.publisher).directory in
+    let so_far = subst (λ (o : Option ℕ). StoresSoFar text first (seen c.args.store.now) (stage d o) (build_seen c.loop-next.text.items (seen c.loop-next.store))) c.in-Some.is c.loop-next.invariant.stored in
+    on_err c.from_residual.result _
+    (so_far_stops text first d c.loop-next.text.items (seen c.args.store.now) (seen c.loop-next.store) (seen c.store_next.new.store) (Some c.in-Some.from) so_far c.in_err-next.ensures.unchanged.0)
+
+pub returns-in_err-extend_from_slice-clause-unchanged : goal.returns-in_err-extend_from_slice-clause-unchanged
+returns-in_err-extend_from_slice-clause-unchanged g c =
+    let seen = g.S.Store.seen in
+    let text = c.args.session.now.text in
+    let d = (maps_of c.loop-next.publisher).directory in
+    on_err c.from_residual-in_err-extend_from_slice.result _
+    (so_far_stops text (maps_of c.args.publisher.now).directory d c.loop-next.text.items (seen c.args.store.now) (seen c.loop-next.store) (seen c.loop-next.store) c.loop-next.next c.loop-next.invariant.stored
+    (stops_first text (stage d c.loop-next.next) (seen c.loop-next.store)).0)

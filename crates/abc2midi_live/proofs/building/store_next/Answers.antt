@@ -1,10 +1,10 @@
-use Rattle.std.proofs.Common.{◌≡◌, ℕ, ◌<◌, ◌^◌, sym, subst}
+use Rattle.std.proofs.Common.{◌≡◌, ℕ, ◌<◌, ◌^◌, Some, sym, subst}
 use Rattle.abc_publish.specs.Publisher.{IsNext, HasNone, Slots, begun, maps_of}
 use Rattle.abc_tunebook.specs.Files.{file_at}
 use Rattle.abc2midi_live.specs.Book.{files_of}
-use Rattle.abc2midi_live.specs.Building.{IsIdle}
-use Rattle.abc2midi_live.proofs.Pending.{IsBehind, at_none, at_some, next_none, next_done, next_fault, idle_again, under_way, onward}
-use Rattle.abc2midi_live.proofs.Storing.{asked_none, on_err}
+use Rattle.abc2midi_live.specs.Building.{stage, IsIdle}
+use Rattle.abc2midi_live.proofs.Pending.{IsBehind, at_none, at_some, next_none, next_done, next_fault, idle_again, under_way, onward, stops_uncalled, stops_once}
+use Rattle.abc2midi_live.proofs.Storing.{on_err}
 use Rattle.abc2midi_live.proofs.building.store_next.Goals as goal
 
 pub returns-in_default-clause-stored : goal.returns-in_default-clause-stored
@@ -70,5 +70,17 @@ returns-else-branch-clause-idle g c =
     let taken : maps_of c.take_from.new.self ≡ begun (maps_of c.args.publisher.now) c.in-Some.job.number c.in-Some.job.bytes = at_some c.in_ok-job.field-0 c.in-Some.job _ _ c.in-Some.is c.in_ok-job.ensures.after in
     idle_again (maps_of c.args.publisher.now) (maps_of c.take_from.new.self) (maps_of c.carry_out.new.publisher) c.in-Some.job.number c.in-Some.job.bytes c.requires taken c.carry_out.ensures.jobs
 
-pub returns-in_err-job-clause-asked : goal.returns-in_err-job-clause-asked
-returns-in_err-job-clause-asked g c = on_err c.from_residual.result _ (asked_none _ _)
+pub returns-in_err-job-clause-unchanged : goal.returns-in_err-job-clause-unchanged
+returns-in_err-job-clause-unchanged g c =
+    let at = stage (maps_of c.args.publisher.now).directory (Some c.args.from) in
+    on_err c.from_residual.result _ (stops_uncalled c.args.session.now.text at _)
+
+pub returns-in_err-carry_out-clause-unchanged : goal.returns-in_err-carry_out-clause-unchanged
+unfolding files_of
+returns-in_err-carry_out-clause-unchanged g c =
+    let p : Slots = c.args.publisher.now in
+    let job = c.in-Some.job in
+    let least : IsNext (maps_of p) (files_of c.args.session.now.text) c.args.from job.number × (job.bytes ≡ file_at (files_of c.args.session.now.text) job.number) = at_some c.in_ok-job.field-0 job _ _ c.in-Some.is c.in_ok-job.ensures.job in
+    let small : job.number < 2 ^ 32 = subst (λ (k : ℕ). k < 2 ^ 32) c.number-number.ensures c.number-number.type_inv in
+    on_err c.from_residual-in_err-carry_out.result _
+    (stops_once c.args.session.now.text (maps_of p) c.args.from job.number job.bytes _ _ small c.requires least.0 least.1 c.in_err-carry_out.ensures.unchanged)

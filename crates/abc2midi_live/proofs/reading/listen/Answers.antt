@@ -1,4 +1,4 @@
-use Rattle.std.proofs.Common.{◌≡◌, ◌≤◌, ◌+◌, length, [], sym, ap, ◌∙◌, subst, refl, Bool, false, Err, arith}
+use Rattle.std.proofs.Common.{◌≡◌, ◌≤◌, ◌+◌, length, [], sym, ap, ◌∙◌, subst, refl, Bool, Err, arith}
 use Rattle.std.specs.Prelude.{IfSome}
 use Rattle.abc2midi_live.specs.declared.reading.TheConstants.{MOST_READS}
 use Rattle.abc2midi_live.specs.Machine.{ahead, telling}
@@ -22,7 +22,7 @@ pub returns-in_err-turn-clause-answers : goal.returns-in_err-turn-clause-answers
 unfolding ahead
 returns-in_err-turn-clause-answers g c =
     let now = c.reads.listener in
-    fault_exit c.from_residual.result _ (Leaves (g.M.Machine.directory c.args.machine) (ahead (g.M.Machine.future c.args.machine) [] false) (ends (g.R.Source.remaining c.args.reader.now) (g.W.Sink.contents c.args.writer.now) (g.S.Store.seen c.args.store.now)) (ends (g.R.Source.remaining c.turn.new.reader) (g.W.Sink.contents c.turn.new.writer) (g.S.Store.seen c.turn.new.store))) c.in_err-turn.field-0.0 c.from_residual.ensures
+    fault_exit c.from_residual.result _ (Leaves (g.M.Machine.directory c.args.machine) (ahead (g.M.Machine.future c.args.machine) []) (ends (g.R.Source.remaining c.args.reader.now) (g.W.Sink.contents c.args.writer.now) (g.S.Store.seen c.args.store.now)) (ends (g.R.Source.remaining c.turn.new.reader) (g.W.Sink.contents c.turn.new.writer) (g.S.Store.seen c.turn.new.store))) c.in_err-turn.field-0.0 c.from_residual.ensures
     (heard_left (ahead (g.M.Machine.future c.args.machine) []) (ahead (g.M.Machine.future now.machine) now.begun.items) (g.M.Machine.directory c.args.machine) (g.M.Machine.directory now.machine) (g.R.Source.remaining c.args.reader.now) (g.R.Source.remaining c.reads.reader) (g.R.Source.remaining c.turn.new.reader)
     (outlets (g.W.Sink.contents c.args.writer.now) (g.S.Store.seen c.args.store.now)) (outlets (g.W.Sink.contents c.reads.writer) (g.S.Store.seen c.reads.store))
     (outlets (g.W.Sink.contents c.turn.new.writer) (g.S.Store.seen c.turn.new.store)) c.in_err-turn.field-0.0 c.reads.invariant.heard c.in_err-turn.ensures.answers)

@@ -1,4 +1,4 @@
-use Rattle.std.proofs.Common.{◌≡◌, ◌<◌, length, false, arith}
+use Rattle.std.proofs.Common.{◌≡◌, ◌<◌, length, arith}
 use Rattle.abc2midi_live.specs.Machine.{ahead}
 use Rattle.abc2midi_live.specs.Outcome.{ends, outlets, Leaves}
 use Rattle.abc2midi_live.proofs.Feeding.{turn_failed, some_read, turn_fed, turn_ended, turn_unserved, nothing_ahead, nothing_read, fault_exit}
@@ -31,7 +31,7 @@ returns-in_err-finish-clause-answers g c =
     let left = g.R.Source.remaining c.read.new.self in
     let old = outlets (g.W.Sink.contents c.args.writer.now) (g.S.Store.seen c.args.store.now) in
     let new = outlets (g.W.Sink.contents c.finish.new.writer) (g.S.Store.seen c.finish.new.store) in
-    fault_exit c.from_residual.result _ (Leaves d (ahead (g.M.Machine.future now.machine) now.begun.items false) (ends input old.output old.store) (ends left new.output new.store)) c.in_err-finish.field-0.0 c.from_residual.ensures
+    fault_exit c.from_residual.result _ (Leaves d (ahead (g.M.Machine.future now.machine) now.begun.items) (ends input old.output old.store) (ends left new.output new.store)) c.in_err-finish.field-0.0 c.from_residual.ensures
     (turn_unserved (ahead (g.M.Machine.future now.machine) now.begun.items) d input left old new c.in_err-finish.field-0.0
     (nothing_read c.in-Ok.count c.read.new.buf input left c.if-count-gt0.false c.in-Ok.ensures.bytes.0)
     (c.in-Ok.ensures.bytes.1 none room)

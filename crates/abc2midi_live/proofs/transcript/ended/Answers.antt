@@ -4,7 +4,7 @@ use Rattle.abc_fold.specs.Work.{raised}
 use Rattle.abc_publish.specs.Publisher.{maps_of}
 use Rattle.abc2midi_live.specs.Gathering.{begun_of}
 use Rattle.abc2midi_live.specs.Outcome.{ends, outlets, LeavesRun, write_faults}
-use Rattle.abc2midi_live.specs.Transcript.{transcript_so_far}
+use Rattle.abc2midi_live.specs.Transcript.{transcript_of}
 use Rattle.abc2midi_live.proofs.Counts.{raised_none}
 use Rattle.abc2midi_live.proofs.Feeding.{fault_exit}
 use Rattle.abc2midi_live.proofs.Runs.{told_run, not_opened}
@@ -16,7 +16,7 @@ returns-in_err-dialogue-clause-transcript g c =
     let book = option_copied c.args.book in
     let old = outlets (g.W.Sink.contents c.args.writer.now) (g.S.Store.seen c.args.store.now) in
     let new = outlets (g.W.Sink.contents c.opened.new.writer) old.store in
-    fault_exit c.from_residual.result _ (LeavesRun book (transcript_so_far book) (ends input old.output old.store) (ends input new.output old.store)) c.in_err-dialogue.field-0.0 c.from_residual.ensures
+    fault_exit c.from_residual.result _ (LeavesRun book (transcript_of book) (ends input old.output old.store) (ends input new.output old.store)) c.in_err-dialogue.field-0.0 c.from_residual.ensures
     (not_opened c.in_err-dialogue.field-0.0 book input old new.output c.in_err-dialogue.ensures.answer)
 
 pub returns-in_err-dialogue-clause-calls : goal.returns-in_err-dialogue-clause-calls

@@ -1,5 +1,5 @@
 use Rattle.std.proofs.Common.{◌≡◌, length, [], refl, sym, ◌∙◌, subst, arith}
-use Rattle.std.proofs.lemmas.Result.{IfOk-weaker}
+use Rattle.std.proofs.lemmas.Result.{IfOk-weaker, on_err_weaker}
 use Rattle.std.proofs.lemmas.List.{length-map}
 use Rattle.abc_lines.specs.Text.{text_of}
 use Rattle.abc_publish.specs.Publisher.{maps_of}
@@ -7,7 +7,7 @@ use Rattle.abc2midi_live.specs.Command.{line_count}
 use Rattle.abc2midi_live.specs.Dialogue.{Says, begun_with, proceeding}
 use Rattle.abc2midi_live.specs.Gathering.{begun_of}
 use Rattle.abc2midi_live.specs.Told.{holding}
-use Rattle.abc2midi_live.proofs.Requests.{says_whole}
+use Rattle.abc2midi_live.proofs.Requests.{says_whole, stops_whole}
 use Rattle.abc2midi_live.proofs.Storing.{follows_none}
 use Rattle.abc2midi_live.proofs.dialogue.Dialogue.proceed.Goals as goal
 
@@ -15,7 +15,7 @@ pub invariant_of-self : goal.invariant_of-self
 invariant_of-self g c = record { idle = c.args.self.now.idle }
 
 pub returns-then-len-line_count-clause-reply : goal.returns-then-len-line_count-clause-reply
-returns-then-len-line_count-clause-reply g c = ([], (λ ended lines later. refl), follows_none _ (maps_of c.args.self.now.publisher).directory)
+returns-then-len-line_count-clause-reply g c = ([], (λ extent lines later. refl), follows_none _ (maps_of c.args.self.now.publisher).directory)
 
 pub returns-clause-reply : goal.returns-clause-reply
 returns-clause-reply g c =
@@ -26,3 +26,10 @@ returns-clause-reply g c =
     IfOk-weaker c.respond.result _ _
     (λ reply h. (h.0, subst (λ o. Says (proceeding old (begun_with c.args.command lines) new (begun_of o)) h.0 reply) (sym (c.respond.ensures.gathering ∙ c.requires.idle)) (says_whole old new c.args.command lines h.0 reply whole h.1), h.2))
     c.respond.ensures.reply
+
+pub returns-clause-unchanged : goal.returns-clause-unchanged
+returns-clause-unchanged g c =
+    let lines = text_of c.args.lines in
+    let h = holding c.args.self.now.session.text (maps_of c.args.self.now.publisher).directory in
+    let whole : length lines ≡ line_count c.args.command = length-map c.args.lines.items (λ line. line.items) ∙ (omega (arith, c.args.lines.ok.0)) in
+    on_err_weaker c.respond.result (λ stops. stops_whole h c.args.command lines _ _ whole stops) c.respond.ensures.unchanged

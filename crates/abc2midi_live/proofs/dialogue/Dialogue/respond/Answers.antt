@@ -8,8 +8,8 @@ use Rattle.abc2midi_live.specs.Command.{line_count}
 use Rattle.abc2midi_live.specs.Answer.{unknown_line}
 use Rattle.abc2midi_live.specs.Told.{holding}
 use Rattle.abc2midi_live.specs.Transcript.{request_of}
-use Rattle.abc2midi_live.proofs.Requests.{untaken, responds_change, request_of-insert, request_of-replace, request_of-delete, responds_faults, responds_titles, responds_hex, responds_build, responds_unknown, responds_quit}
-use Rattle.abc2midi_live.proofs.Storing.{asked_none, follows_none, follows_same, on_err}
+use Rattle.abc2midi_live.proofs.Requests.{untaken, responds_change, request_of-insert, request_of-replace, request_of-delete, responds_faults, responds_titles, responds_hex, responds_build, responds_unknown, responds_quit, stops_build, stops_unasked}
+use Rattle.abc2midi_live.proofs.Storing.{follows_none, follows_same, on_err}
 use Rattle.abc2midi_live.proofs.dialogue.Dialogue.respond.Goals as goal
 
 pub returns-in_ok-text-in-Insert-clause-reply : goal.returns-in_ok-text-in-Insert-clause-reply
@@ -114,23 +114,42 @@ returns-in_ok-text-in-Delete-clause-uncounted g c = λ none.
     (untaken c.args.self.now.session.text (request_of c.args.command lines) (deletion c.in-Delete.from c.in-Delete.to)
     (request_of-delete c.args.command c.in-Delete.from c.in-Delete.to lines c.in-Delete.is) none)
 
-pub returns-in_err-text-in-Insert-clause-asked : goal.returns-in_err-text-in-Insert-clause-asked
-returns-in_err-text-in-Insert-clause-asked g c = on_err c.from_residual.result _ (asked_none _ (maps_of c.args.self.now.publisher).directory)
+pub returns-in_err-text-in-Insert-clause-unchanged : goal.returns-in_err-text-in-Insert-clause-unchanged
+returns-in_err-text-in-Insert-clause-unchanged g c =
+    on_err c.from_residual.result _
+    (stops_unasked (holding c.args.self.now.session.text (maps_of c.args.self.now.publisher).directory) (request_of c.args.command (text_of c.args.lines)) _)
 
-pub returns-in_err-text-in-Replace-clause-asked : goal.returns-in_err-text-in-Replace-clause-asked
-returns-in_err-text-in-Replace-clause-asked g c = on_err c.from_residual-in_err-text-in-Replace.result _ (asked_none _ (maps_of c.args.self.now.publisher).directory)
+pub returns-in_err-text-in-Replace-clause-unchanged : goal.returns-in_err-text-in-Replace-clause-unchanged
+returns-in_err-text-in-Replace-clause-unchanged g c =
+    on_err c.from_residual-in_err-text-in-Replace.result _
+    (stops_unasked (holding c.args.self.now.session.text (maps_of c.args.self.now.publisher).directory) (request_of c.args.command (text_of c.args.lines)) _)
 
-pub returns-in_err-text-in-Delete-clause-asked : goal.returns-in_err-text-in-Delete-clause-asked
-returns-in_err-text-in-Delete-clause-asked g c = on_err c.from_residual-in_err-text-in-Delete.result _ (asked_none _ (maps_of c.args.self.now.publisher).directory)
+pub returns-in_err-text-in-Delete-clause-unchanged : goal.returns-in_err-text-in-Delete-clause-unchanged
+returns-in_err-text-in-Delete-clause-unchanged g c =
+    on_err c.from_residual-in_err-text-in-Delete.result _
+    (stops_unasked (holding c.args.self.now.session.text (maps_of c.args.self.now.publisher).directory) (request_of c.args.command (text_of c.args.lines)) _)
 
-pub returns-in_err-text-in-Faults-clause-asked : goal.returns-in_err-text-in-Faults-clause-asked
-returns-in_err-text-in-Faults-clause-asked g c = on_err c.from_residual-in_err-text-in-Faults.result _ (asked_none _ (maps_of c.args.self.now.publisher).directory)
+pub returns-in_err-text-in-Faults-clause-unchanged : goal.returns-in_err-text-in-Faults-clause-unchanged
+returns-in_err-text-in-Faults-clause-unchanged g c =
+    on_err c.from_residual-in_err-text-in-Faults.result _
+    (stops_unasked (holding c.args.self.now.session.text (maps_of c.args.self.now.publisher).directory) (request_of c.args.command (text_of c.args.lines)) _)
 
-pub returns-in_err-text-in-Titles-clause-asked : goal.returns-in_err-text-in-Titles-clause-asked
-returns-in_err-text-in-Titles-clause-asked g c = on_err c.from_residual-in_err-text-in-Titles.result _ (asked_none _ (maps_of c.args.self.now.publisher).directory)
+pub returns-in_err-text-in-Titles-clause-unchanged : goal.returns-in_err-text-in-Titles-clause-unchanged
+returns-in_err-text-in-Titles-clause-unchanged g c =
+    on_err c.from_residual-in_err-text-in-Titles.result _
+    (stops_unasked (holding c.args.self.now.session.text (maps_of c.args.self.now.publisher).directory) (request_of c.args.command (text_of c.args.lines)) _)
 
-pub returns-in_err-text-in-Hex-clause-asked : goal.returns-in_err-text-in-Hex-clause-asked
-returns-in_err-text-in-Hex-clause-asked g c = on_err c.from_residual-in_err-text-in-Hex.result _ (asked_none _ (maps_of c.args.self.now.publisher).directory)
+pub returns-in_err-text-in-Hex-clause-unchanged : goal.returns-in_err-text-in-Hex-clause-unchanged
+returns-in_err-text-in-Hex-clause-unchanged g c =
+    on_err c.from_residual-in_err-text-in-Hex.result _
+    (stops_unasked (holding c.args.self.now.session.text (maps_of c.args.self.now.publisher).directory) (request_of c.args.command (text_of c.args.lines)) _)
 
-pub returns-in_err-text-in-Unknown-clause-asked : goal.returns-in_err-text-in-Unknown-clause-asked
-returns-in_err-text-in-Unknown-clause-asked g c = on_err c.from_residual-in_err-text-in-Unknown.result _ (asked_none _ (maps_of c.args.self.now.publisher).directory)
+pub returns-in_err-text-in-Unknown-clause-unchanged : goal.returns-in_err-text-in-Unknown-clause-unchanged
+returns-in_err-text-in-Unknown-clause-unchanged g c =
+    on_err c.from_residual-in_err-text-in-Unknown.result _
+    (stops_unasked (holding c.args.self.now.session.text (maps_of c.args.self.now.publisher).directory) (request_of c.args.command (text_of c.args.lines)) _)
+
+pub returns-in_err-text-in-Build-clause-unchanged : goal.returns-in_err-text-in-Build-clause-unchanged
+returns-in_err-text-in-Build-clause-unchanged g c =
+    on_err c.from_residual-in_err-text-in-Build.result _
+    (stops_build (holding c.args.self.now.session.text (maps_of c.args.self.now.publisher).directory) c.args.command (text_of c.args.lines) _ _ c.in-Build.is c.in_err-text-in-Build.ensures.unchanged)

@@ -1,10 +1,10 @@
-use Rattle.std.proofs.Common.{[], ◌∷◌, ◌++◌, false, ap, ◌∙◌}
+use Rattle.std.proofs.Common.{[], ◌∷◌, ◌++◌, ap, ◌∙◌}
 use Rattle.std.proofs.KnownBytes.{Keeps-refl}
 use Rattle.abc2midi_live.specs.Machine.{ahead}
 use Rattle.abc2midi_live.specs.Outcome.{outlets, Unserved}
 use Rattle.abc2midi_live.specs.declared.fault.RunFault.TheVariants.{Memory}
 use Rattle.abc2midi_live.proofs.Feeding.{fault_exit, serve_line}
-use Rattle.abc2midi_live.proofs.Storing.{asked_none}
+use Rattle.abc2midi_live.proofs.Feeding.{unasked_ahead}
 use Rattle.abc2midi_live.proofs.listener.Listener.end_line.Goals as goal
 
 pub returns-clause-answer : goal.returns-clause-answer
@@ -21,4 +21,5 @@ returns-in_err-keep-clause-answer g c =
     let now = c.args.self.now in
     let d = g.M.Machine.directory now.machine in
     let old = outlets (g.W.Sink.contents c.args.writer.now) (g.S.Store.seen c.args.store.now) in
-    fault_exit c.from_residual.result _ (Unserved d (ahead (g.M.Machine.future now.machine) now.begun.items false (c.args.piece.now ++ 10 ∷ [])) old old) Memory c.from_residual.ensures (Keeps-refl old.output, asked_none old.store d)
+    fault_exit c.from_residual.result _ (Unserved d (λ x. ahead (g.M.Machine.future now.machine) now.begun.items x (c.args.piece.now ++ 10 ∷ [])) old old) Memory c.from_residual.ensures
+    (Keeps-refl old.output, unasked_ahead (g.M.Machine.future now.machine) d now.begun.items (c.args.piece.now ++ 10 ∷ []) old.store (g.met.M.Machine.unasked now.machine))

@@ -5,8 +5,7 @@ use Rattle.std.proofs.KnownBytes.{Keeps-refl}
 use Rattle.abc2midi_live.specs.Machine.{ahead, telling}
 use Rattle.abc2midi_live.specs.Outcome.{BrokenOff, Serves, outlets}
 use Rattle.abc2midi_live.specs.declared.fault.RunFault.TheVariants.{Memory}
-use Rattle.abc2midi_live.proofs.Feeding.{Fed, fed_none, fed_more, fed_end, fed_all, fed_broken, fed_fault, nothing_ahead, piece_kept, fault_exit, cut_some, cut_none}
-use Rattle.abc2midi_live.proofs.Storing.{asked_none}
+use Rattle.abc2midi_live.proofs.Feeding.{Fed, fed_none, fed_more, fed_end, fed_all, fed_broken, fed_fault, nothing_ahead, piece_kept, fault_exit, cut_some, cut_none, none_ends, unasked_ahead}
 use Rattle.abc2midi_live.proofs.listener.Listener.feed.Goals as goal
 
 pub lines-init : goal.lines-init
@@ -30,7 +29,7 @@ returns-in_err-end_line-in_default-Some-clause-answer g c =
     let new = outlets (g.W.Sink.contents c.end_line.new.writer) (g.S.Store.seen c.end_line.new.store) in
     fault_exit c.from_residual.result _ (BrokenOff from start c.args.piece.now first new) c.in_err-end_line-in_default-Some.field-0.0 c.from_residual.ensures
     (fed_fault start (ahead (g.M.Machine.future now.machine) now.begun.items) from d c.args.piece.now c.lines.rest.now c.cut.result.0.now c.in_default-Some.behind.now first out new c.in_err-end_line-in_default-Some.field-0.0 c.lines.invariant.fed
-    (cut_some c.lines.rest.now c.cut.result.0.now c.cut.result.1 c.in_default-Some.behind c.cut.ensures c.in_default-Some.is-1) c.in_err-end_line-in_default-Some.ensures.answer
+    (cut_some c.lines.rest.now c.cut.result.0.now c.cut.result.1 c.in_default-Some.behind c.cut.ensures c.in_default-Some.is-1) c.cut.ensures.clean c.in_err-end_line-in_default-Some.ensures.answer
     (nothing_ahead (g.M.Machine.future now.machine) d now.begun.items now.whole (g.met.M.Machine.waits now.machine)))
 
 pub returns-then-not-branch-clause-answer : goal.returns-then-not-branch-clause-answer
@@ -81,7 +80,8 @@ returns-in_err-keep-in_default-None-clause-answer g c =
     let from = g.M.Machine.directory c.args.self.now.machine in
     let first = outlets (g.W.Sink.contents c.args.writer.now) (g.S.Store.seen c.args.store.now) in
     fault_exit c.from_residual-in_err-keep-in_default-None.result _ (BrokenOff from start c.args.piece.now first out) Memory c.from_residual-in_err-keep-in_default-None.ensures
-    (fed_broken start (ahead (g.M.Machine.future now.machine) now.begun.items) from d c.args.piece.now c.lines.rest.now first out out c.lines.invariant.fed (Keeps-refl _) (asked_none out.store d)
+    (fed_broken start (ahead (g.M.Machine.future now.machine) now.begun.items) from d c.args.piece.now c.lines.rest.now [] c.lines.rest.now first out out c.lines.invariant.fed refl none_ends (Keeps-refl _)
+    (unasked_ahead (g.M.Machine.future now.machine) d now.begun.items [] out.store (g.met.M.Machine.unasked now.machine))
     (nothing_ahead (g.M.Machine.future now.machine) d now.begun.items now.whole (g.met.M.Machine.waits now.machine)))
 
 pub returns-in_default-None-clause-answer : goal.returns-in_default-None-clause-answer
