@@ -1,27 +1,45 @@
 """The faults or hints that a reader knows already."""
 
 from collections import Counter
-from typing import Generic, TypeVar
+from typing import Generic, TypeVar, Union
 
 from .edits import Lines
 from .hints import Hint
 from .program import Fault
 
 Remark = TypeVar("Remark", Fault, Hint)
+Item = TypeVar("Item")
 
 
 class KnownRemarks(Generic[Remark]):
     """The faults or hints of the last text."""
 
     def __init__(self) -> None:
-        self.places: Counter[tuple[bytes, int, str]] = Counter()
+        self.places: list[tuple[bytes, int, str]] = []  # of each: its line, its column and its name
+        self.sentences: list[str] = []  # of each hint
 
     def marked(self, remarks: list[Remark], lines: Lines) -> list[tuple[Remark, bool]]:
-        """Remarks, each with whether it is new: no line of the same text had it before."""
+        """Remarks, each with whether it is new: no line of the same text had it before. A hint in a changed line is not new
+        either if its sentence stays, for many are about a whole tune."""
         places = [(lines[remark.line - 1], remark.column, remark.name) for remark in remarks]
-        before, self.places = self.places, Counter(places)
-        found = []
-        for remark, place in zip(remarks, places):
-            found.append((remark, before[place] <= 0))
-            before[place] -= 1
-        return found
+        sentences = [sentence_of(remark) for remark in remarks]
+        known = Counter(self.places)
+        are_new = [not taken(known, place) for place in places]
+        gone = Counter(sentence for place, sentence in zip(self.places, self.sentences) if taken(known, place) and sentence)
+        self.places, self.sentences = places, sentences
+        return [
+            (remark, is_new and not taken(gone, sentence)) for remark, is_new, sentence in zip(remarks, are_new, sentences)
+        ]
+
+
+def sentence_of(remark: Union[Fault, Hint]) -> str:
+    """The sentence of a hint. A fault brings none."""
+    return remark.text if isinstance(remark, Hint) else ""
+
+
+def taken(counts: Counter[Item], item: Item) -> bool:
+    """Takes one item away, and returns whether there was one."""
+    if counts[item] <= 0:
+        return False
+    counts[item] -= 1
+    return True

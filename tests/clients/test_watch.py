@@ -271,6 +271,16 @@ class Hints(Looks):
         self.assertEqual(told[0], "written 1.mid (Kesh); 1 fault, 1 new; 1 hint, 1 new")
         self.assertEqual([line.split(": ")[1] for line in told[1:]], ["LooseTie", "hint"])
 
+    def test_a_hint_on_a_whole_tune(self):
+        """It is at a line that is edited again and again."""
+        self.save(TUNE + b'"Am"c "C"e\n')
+        chords = "/book.abc:5:1: hint: NotPlayed: not played in this tune: 3 chord names"
+        told = self.save(TUNE + b'"Am"c "C"e "G"d\n')
+        self.assertEqual(told, ["written 1.mid (Kesh); 1 hint, 1 new", chords])
+        self.assertEqual(self.save(TUNE + b'"Am"C "C"E "G"D\n'), ["written 1.mid (Kesh); 1 hint, 0 new"])
+        told = self.save(TUNE + b'"Am"C "C"E "G"D\n' + OTHER + b'"Am"c "C"e "G"d\n')
+        self.assertEqual([told[0], len(told)], ["written 2.mid; 2 hints, 1 new", 2])
+
     def test_many_hints_at_the_start(self):
         """Only their number is printed; later ones are."""
         book = b"".join(b"X:1\nK:C\n%d\n" % n for n in range(22))
