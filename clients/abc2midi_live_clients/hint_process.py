@@ -15,6 +15,7 @@ from .texts import Text
 
 NICENESS = 10
 START = "from abc2midi_live_clients.hint_process import serve; serve()"
+ENDED = (EOFError, OSError, ValueError, pickle.UnpicklingError)
 HintRow = tuple[int, int, int, str, str]  # line from 0, where it begins and ends there in UTF-16, name, sentence
 
 
@@ -39,7 +40,7 @@ class HintProcess:
         self.questions, self.answers = self.process.stdin, self.process.stdout
 
     def rows(self, question: Question) -> list[HintRow]:
-        """The hints on a text as windows see them, in order. Raises `EOFError` or `OSError` if the process ended."""
+        """The hints on a text as windows see them, in order. Raises one of `ENDED` if the process ended."""
         text = question.text
         pickle.dump((b"\n".join(text.lines), text.returns, question.tunes, question.faults), self.questions)
         self.questions.flush()
@@ -60,7 +61,7 @@ def serve() -> None:
     os.nice(NICENESS)
     finder = Finder()
     questions, answers = sys.stdin.buffer, sys.stdout.buffer
-    with suppress(EOFError, BrokenPipeError):
+    with suppress(EOFError, OSError, pickle.UnpicklingError):
         while True:
             data, returns, tunes, faults = pickle.load(questions)
             text = Text(b"", data.split(b"\n"), returns)

@@ -20,7 +20,7 @@ from typing import Any, Optional
 
 from .connections import Connections
 from .faults import sentences
-from .hint_process import HintProcess
+from .hint_process import ENDED, HintProcess
 from .printing import printable
 from .program import ProgramEnded, ProgramMissing, add_common_options, find_program
 from .proofs import book_key, proof
@@ -314,17 +314,31 @@ def keep_looking(book: SharedBook) -> None:
         time.sleep(SECONDS_BETWEEN_LOOKS)
 
 
-def keep_hinting(book: SharedBook) -> None:
+class HintKeeper:
     """Finds the hints on each text that is left alone for a moment."""
-    process, version = HintProcess(), -1
-    while True:
-        version, question = book.question(version, SECONDS_OF_REST)
-        try:
-            book.know_hints(version, process.rows(question))
-        except (EOFError, OSError):
-            process.close()
-            time.sleep(SECONDS_OF_REST)
-            process, version = HintProcess(), -1
+
+    def __init__(self, book: SharedBook):
+        self.book = book
+        self.process = HintProcess()
+        self.is_closed = False
+
+    def keep(self) -> None:
+        """Looks for hints again and again."""
+        version = -1
+        while not self.is_closed:
+            version, question = self.book.question(version, SECONDS_OF_REST)
+            try:
+                self.book.know_hints(version, self.process.rows(question))
+            except ENDED:
+                self.process.close()
+                time.sleep(SECONDS_OF_REST)
+                if not self.is_closed:
+                    self.process, version = HintProcess(), -1
+
+    def close(self) -> None:
+        """Ends the process."""
+        self.is_closed = True
+        self.process.close()
 
 
 def interrupt(*_: Any) -> None:
@@ -336,13 +350,15 @@ def main() -> int:
     """Serves the page till Ctrl-C; the exit status."""
     words = arguments()
     when_told_to_end(interrupt)
-    book = None
+    book = keeper = None
     try:
         with tempfile.TemporaryDirectory() as directory:
             book = SharedBook(words.book, words.program or find_program(), directory)
             with serving(words, book) as server:
-                for keep in [keep_looking] + ([] if words.no_hints else [keep_hinting]):
-                    threading.Thread(target=keep, args=(book,), daemon=True).start()
+                threading.Thread(target=keep_looking, args=(book,), daemon=True).start()
+                keeper = None if words.no_hints else HintKeeper(book)
+                if keeper:
+                    threading.Thread(target=keeper.keep, daemon=True).start()
                 print(f"http://127.0.0.1:{server.server_port}/{server.token}/", flush=True)
                 server.serve_forever(poll_interval=0.1)
         return 0
@@ -352,5 +368,7 @@ def main() -> int:
         tell(str(error))
         return 127 if isinstance(error, ProgramMissing) else 1
     finally:
+        if keeper:
+            keeper.close()
         if book:
             book.close()

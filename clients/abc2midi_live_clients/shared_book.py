@@ -419,7 +419,7 @@ def moved(rows: Sequence[Any], edit: Json) -> list[Any]:
     """The rows of a text after an edit, without those of the lines that it replaces."""
     start, stop = edit["start"], edit["stop"]
     grown = len(edit["lines"]) - (stop - start)
-    return [row if row[0] < start else (row[0] + grown, *row[1:]) for row in rows if not start <= row[0] < stop]
+    return [row if row[0] < start or not grown else (row[0] + grown, *row[1:]) for row in rows if not start <= row[0] < stop]
 
 
 def difference(old: Sequence[Any], new: Sequence[Any]) -> Json:
