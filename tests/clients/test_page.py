@@ -649,13 +649,12 @@ class Strangers(Page):
         self.start(str(self.path), descriptors=300)
         idle = []
         for _ in range(600):
-            connection = socket.create_connection(("127.0.0.1", self.port), 10)
+            connection = socket.create_connection(("127.0.0.1", self.port), trial.SECONDS)
             self.addCleanup(connection.close)
             idle.append(connection)
         self.assertEqual(self.edit(0, 1, "X:3")["written"], [3])
         self.assertLess(len(os.listdir(f"/proc/{self.server.pid}/fd")), 250)
         slow = idle[-1]
-        slow.settimeout(20)
         slow.sendall(b"GET / HTTP/1.1\r\n")
         self.assertEqual(slow.recv(100), b"")
         self.finish()

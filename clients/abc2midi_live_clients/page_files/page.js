@@ -87,7 +87,7 @@ function tell() {
   tunes.show(rows, at);
   const from = at < 0 ? 0 : rows[at][0], to = rows[at + 1]?.[0] ?? text.lines.length;
   const those = faults.slice(placeOf(faults, from), placeOf(faults, to)).slice(0, MOST_TOLD);
-  const nearest = those.filter((fault) => fault[0] === line).concat(those.filter((fault) => fault[0] !== line));
+  const nearest = those.sort((a, b) => (a[0] !== line) - (b[0] !== line) || Boolean(a[4]) - Boolean(b[4]));
   const list = find("told");
   const items = nearest.map(told);
   if (list.textContent !== items.map((item) => item.textContent).join("")) list.replaceChildren(...items);
