@@ -297,7 +297,7 @@ def serving(words: argparse.Namespace, book: SharedBook) -> Server:
         except OSError:
             continue
         if port != first:
-            tell(f"another program has port {first} of this book; the page is at port {server.server_port} this time")
+            tell(f"port {first} of this book is taken; the page is at port {server.server_port} this time")
         return server
     raise OSError("there is no free port")
 

@@ -590,7 +590,7 @@ class Strangers(Page):
             self.assertNotEqual(self.port, port)
             self.server.send_signal(signal.SIGTERM)
             said = self.server.communicate(timeout=trial.SECONDS)[1].decode()
-            self.assertEqual(said, f"page: another program has port {port} of this book; the page is at port {self.port} this time\n")
+            self.assertEqual(said, f"page: port {port} of this book is taken; the page is at port {self.port} this time\n")
             words = [sys.executable, str(trial.CLIENTS / "page"), "--program", trial.program, "--port", str(port)]
             again = subprocess.run(words, capture_output=True, timeout=trial.SECONDS)
             self.assertEqual((again.returncode, again.stderr.count(b"\n")), (1, 1))
