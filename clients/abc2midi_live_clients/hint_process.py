@@ -13,7 +13,7 @@ from .places import LinePlaces
 from .program import Fault, Tune, held
 from .texts import Text
 
-NICENESS = 10
+NICENESS = 19
 START = "from abc2midi_live_clients.hint_process import serve; serve()"
 ENDED = (EOFError, OSError, ValueError, pickle.UnpicklingError)
 HintRow = tuple[int, int, int, str, str]  # line from 0, where it begins and ends there in UTF-16, name, sentence

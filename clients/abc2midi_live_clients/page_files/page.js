@@ -26,33 +26,33 @@ const player = new Player();
 
 const book = { name: "", faults: [], hints: [], tunes: [], sentences: {} }; // as the server has it
 let drafts = null;
-let faults = [], rows = []; // in this window's text; hints are among the faults, and have a sentence each
+let faults = [], hints = [], rows = []; // in this window's text
 let shown = { number: null, score: null, asked: 0 }; // the tune in the roll
 let start = 0; // the tick at which to play
 
-/** Rows of the server's text, as they stand in this window's. */
+/** Rows of the server's text, as they are in this window's. */
 function placed(found) {
   const { sent } = link;
   const regions = [sent && { ...sent, count: sent.lines.length }, text.pending].filter(Boolean);
   return regions.reduce((those, { start, stop, count }) => {
-    const more = count - (stop - start);
-    return those.flatMap((row) => {
-      if (row[0] < start || (row[0] < stop && row[0] - start < count)) return [row];
-      return row[0] < stop ? [] : [[row[0] + more, ...row.slice(1)]];
-    });
+    return without(those, start + Math.min(count, stop - start), stop, count - (stop - start));
   }, found);
 }
 
 /** Rows after a change of the server's text. */
 function changed(old, { start, stop, lines }, { at, out, put }) {
-  const more = lines.length - (stop - start);
-  const moved = old.filter(([line]) => line < start || line >= stop)
-    .map((row) => (row[0] < start || !more ? row : [row[0] + more, ...row.slice(1)]));
-  moved.splice(at, out, ...put.slice(0, 1000));
-  return put.length > 1000 ? moved.slice(0, at + 1000).concat(put.slice(1000), moved.slice(at + 1000)) : moved;
+  const found = without(old, start, stop, lines.length - (stop - start));
+  return found.slice(0, at).concat(put, found.slice(at + out));
 }
 
-/** The place in sorted rows of the first that stands at a line or behind it. */
+/** Rows but for those of some lines; those after them are moved. Rows are sorted by their lines. */
+function without(found, start, stop, more) {
+  const from = placeOf(found, start), to = placeOf(found, stop);
+  if (from === to && !more) return found;
+  return found.slice(0, from).concat(more ? found.slice(to).map(([line, ...row]) => [line + more, ...row]) : found.slice(to));
+}
+
+/** The place in sorted rows of the first that is at a line or after it. */
 function placeOf(found, line) {
   let low = 0, high = found.length;
   while (low < high) {
@@ -63,20 +63,26 @@ function placeOf(found, line) {
   return low;
 }
 
+/** Faults and hints of some lines, in order. */
+function foundIn(first, last) {
+  const some = (found) => found.slice(placeOf(found, first), placeOf(found, last));
+  return some(faults).concat(some(hints)).sort((a, b) => a[0] - b[0] || a[1] - b[1]);
+}
+
 const tuneAt = (line) => placeOf(rows, line + 1) - 1;
 
 /** What stands around the text follows it. */
 function follow() {
-  const own = placed(book.faults), hints = placed(book.hints);
-  faults = hints.length ? [...own, ...hints].sort((a, b) => a[0] - b[0] || a[1] - b[1]) : own;
+  faults = placed(book.faults);
+  hints = placed(book.hints);
   rows = placed(book.tunes);
   find("tally").textContent = rows.length ? String(rows.length) : "";
   const count = find("count"), counted = (number, thing) => `${number} ${thing}${number === 1 ? "" : "s"}`;
-  count.textContent = own.length ? counted(own.length, "fault") : "No faults";
+  count.textContent = faults.length ? counted(faults.length, "fault") : "No faults";
   find("hinted").textContent = hints.length ? counted(hints.length, "hint") : "";
-  count.classList.toggle("some", own.length > 0);
-  find("before").disabled = find("after").disabled = !faults.length;
-  sheet.drawFaults(sheet.faultsOf(sheet.first, sheet.last));
+  count.classList.toggle("some", faults.length > 0);
+  find("before").disabled = find("after").disabled = !faults.length && !hints.length;
+  sheet.drawFaults(foundIn(sheet.first, sheet.last));
   tell();
 }
 
@@ -86,7 +92,7 @@ function tell() {
   const at = tuneAt(line);
   tunes.show(rows, at);
   const from = at < 0 ? 0 : rows[at][0], to = rows[at + 1]?.[0] ?? text.lines.length;
-  const those = faults.slice(placeOf(faults, from), placeOf(faults, to)).slice(0, MOST_TOLD);
+  const those = foundIn(from, to).slice(0, MOST_TOLD);
   const nearest = those.sort((a, b) => (a[0] !== line) - (b[0] !== line) || Boolean(a[4]) - Boolean(b[4]));
   const list = find("told");
   const items = nearest.map(told);
@@ -205,7 +211,7 @@ roll.picked = (tick) => {
   time(tick);
 };
 
-sheet.faultsOf = (first, last) => faults.slice(placeOf(faults, first), placeOf(faults, last));
+sheet.faultsOf = foundIn;
 sheet.moved = () => {
   find("tip").hidden = true;
   tell();
@@ -471,12 +477,13 @@ function download() {
   setTimeout(() => URL.revokeObjectURL(link.href), 60000);
 }
 
-/** Goes to the next fault, or the one before. */
+/** Goes to the next fault or hint, or the one before. */
 function toFault(forward) {
   const { line, column } = sheet.caret();
   const later = ([at, from]) => at > line || (at === line && from > column);
   const earlier = ([at, from]) => at < line || (at === line && from < column);
-  const fault = forward ? (faults.find(later) ?? faults[0]) : (faults.findLast(earlier) ?? faults[faults.length - 1]);
+  const found = foundIn(0, Infinity);
+  const fault = forward ? (found.find(later) ?? found[0]) : (found.findLast(earlier) ?? found[found.length - 1]);
   if (fault) sheet.go(fault[0], fault[1], true);
 }
 
