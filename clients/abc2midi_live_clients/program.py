@@ -3,6 +3,7 @@
 import argparse
 import os
 import subprocess
+from bisect import bisect_left
 from collections.abc import Sequence
 from pathlib import Path
 from typing import Any, NamedTuple, Optional
@@ -41,6 +42,14 @@ class Tune(NamedTuple):
     number: int
     title: str
     line: int
+
+
+class Known(NamedTuple):
+    """What is known of the tunes: the titles as the program sent them, the lines that begin tunes, and the tunes."""
+
+    titles: list[bytes]
+    starts: list[int]
+    tunes: list[Tune]
 
 
 class Built(NamedTuple):
@@ -97,6 +106,9 @@ class LiveBook:
 
     def __init__(self, program: str, directory: str):
         self.lines: Lines = []
+        self.starts: list[int] = []  # the lines that begin tunes, counted from 0
+        self.left_out: list[int] = []  # the lines that are too long, counted from 0
+        self.known = Known([], [], [])
         self.reported: dict[int, bool] = {}  # the numbers that the last replacement changed: whether they have a file
         self.directory = directory
         try:
@@ -127,6 +139,9 @@ class LiveBook:
         for edit in reversed(sent):
             self._send(edit)
         self.lines = new
+        starts, left_out = places_in(lines)
+        self.starts = spliced(self.starts, start, stop, starts, len(lines))
+        self.left_out = spliced(self.left_out, start, stop, left_out, len(lines))
         return sent
 
     def _send(self, edit: Edit) -> None:
@@ -155,9 +170,7 @@ class LiveBook:
     def faults(self) -> list[Fault]:
         """The faults of the text in order, and of the lines that are left out. Of `BadByte` at each byte of a character only
         the first one counts."""
-        found = []
-        if max(map(len, self.lines), default=0) > MOST_BYTES:
-            found = [Fault(n, MOST_BYTES + 1, "BadLine") for n, line in enumerate(self.lines, 1) if len(line) > MOST_BYTES]
+        found = [Fault(n + 1, MOST_BYTES + 1, "BadLine") for n in self.left_out]
         if len(self.lines) > MOST_LINES:
             found.append(Fault(MOST_LINES + 1, 1, "TooLarge"))
         for answer in self._list("faults"):
@@ -168,10 +181,14 @@ class LiveBook:
         return sorted(found, key=lambda fault: fault[:2])
 
     def tunes(self) -> list[Tune]:
-        """The tunes of the text in order: each `X:` line begins one."""
-        answers = (line.partition(b" ") for line in self._list("titles"))
-        starts = (n for n, line in enumerate(self.lines, 1) if line.startswith(b"X:") and len(line) <= MOST_BYTES)
-        return [Tune(int(number), text_of(title), line) for (number, _, title), line in zip(answers, starts)]
+        """The tunes of the text in order: each `X:` line begins one. If no title and no place changed, they are those of the
+        last time."""
+        titles = self._list("titles")
+        if titles != self.known.titles or self.starts != self.known.starts:
+            answers = (line.partition(b" ") for line in titles)
+            tunes = [Tune(int(number), text_of(title), n + 1) for (number, _, title), n in zip(answers, self.starts)]
+            self.known = Known(titles, self.starts, tunes)
+        return list(self.known.tunes)
 
     def midi(self, number: int) -> Optional[bytes]:
         """The bytes of the MIDI file of a number, without a build."""
@@ -195,19 +212,30 @@ class LiveBook:
 
     def _list(self, command: str) -> list[bytes]:
         """The lines that answer a command, up to `end`."""
-        found = []
-        line = self._ask(command)
-        while line != b"end":
-            found.append(line)
-            line = self._answer()
-        return found
+        first = self._ask(command)
+        return [] if first == b"end" else [first, *map(self._whole, iter(self.answers.readline, b"end\n"))]
 
     def _answer(self) -> bytes:
         """The next line of the answers."""
-        line = self.answers.readline()
+        return self._whole(self.answers.readline())
+
+    def _whole(self, line: bytes) -> bytes:
+        """A line of the answers without its end; only a program that ended leaves one without."""
         if not line.endswith(b"\n"):
             raise ProgramEnded(f"the program ended with status {self.process.wait()}")
         return line[:-1]
+
+
+def places_in(lines: Lines) -> tuple[list[int], list[int]]:
+    """The lines that begin tunes, and those that are too long, counted from 0."""
+    left_out = [n for n, line in enumerate(lines) if len(line) > MOST_BYTES]
+    return [n for n, line in enumerate(lines) if line.startswith(b"X:") and len(line) <= MOST_BYTES], left_out
+
+
+def spliced(places: list[int], start: int, stop: int, put: list[int], count: int) -> list[int]:
+    """Places of a text after the lines from `start` to `stop` became `count` others, which have the places `put`."""
+    before, after = bisect_left(places, start), bisect_left(places, stop)
+    return places[:before] + [start + n for n in put] + [n + start + count - stop for n in places[after:]]
 
 
 def files_of(tunes: list[Tune], faults: list[Fault]) -> dict[int, Tune]:

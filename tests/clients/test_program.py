@@ -1,6 +1,7 @@
 """The program, started and asked; places, players and sentences."""
 
 import os
+import random
 import re
 import stat
 from pathlib import Path
@@ -56,6 +57,24 @@ class Program(trial.Folder):
         columns = [(fault.line, fault.column) for fault in book.faults() if fault.name == "BadByte"]
         wanted = [(3, 1), (3, 4), *((3, n) for n in (9, 10, 11, 13)), *((line, n) for line in (4, 5) for n in (1, 2, 3))]
         self.assertEqual(columns, wanted)
+
+    def test_places_after_many_changes(self):
+        """Tunes and lines that are left out are found where they are, after changes of any kind."""
+        chance = random.Random(trial.seed)
+        book = self.book()
+        lines = [b"X:1", b"T:A", b"X:22", b"K:C", b"", b"C", b"X:3" + b" " * 65_533, b"-" * 65_536, b"X:", b"xX:7"]
+        for _ in range(60):
+            start = chance.randrange(len(book.lines) + 1)
+            stop = min(len(book.lines), start + chance.choice([0, 0, 1, 2, 20]))
+            book.replace(start, stop, [chance.choice(lines) for _ in range(chance.choice([0, 1, 1, 3, 9]))])
+            titles = {n: line for n, line in enumerate(book.lines, 1) if line.startswith(b"X:") and len(line) < 65_536}
+            self.assertEqual([(tune.line, tune.number) for tune in book.tunes()], [(n, int(line[2:] or 0)) for n, line in titles.items()])
+            left_out = [n for n, line in enumerate(book.lines, 1) if len(line) > 65_535]
+            self.assertEqual([fault.line for fault in book.faults() if fault.name == "BadLine"], left_out)
+        book.replace(0, len(book.lines), [b"X:1", b"T:A"])
+        self.assertEqual(book.tunes(), [Tune(1, "A", 1)])
+        book.replace(1, 2, [b"T:B"])
+        self.assertEqual(book.tunes(), [Tune(1, "B", 1)])
 
     def test_answers(self):
         book = self.book()

@@ -95,16 +95,19 @@ def moved(found: list[list[Hint]], by: int) -> list[list[Hint]]:
 
 def common_ends(old: list[bytes], new: list[bytes]) -> tuple[int, int]:
     """Returns how many lines at the front of two texts are the same, and how many others at the back."""
-    front = common_front(old, new)
-    return front, common_front(old[: front - 1 if front else None : -1], new[: front - 1 if front else None : -1])
+    most = min(len(old), len(new))
+    front = longest(most, lambda start, stop: old[start:stop] == new[start:stop])
+    n, m = len(old), len(new)
+    return front, longest(most - front, lambda start, stop: old[n - stop : n - start] == new[m - stop : m - start])
 
 
-def common_front(old: list[bytes], new: list[bytes]) -> int:
-    """Returns how many lines are the same at the front of both; comparing slices is much faster than one line at a time."""
-    same, differs = 0, min(len(old), len(new)) + 1
+def longest(most: int, is_same: Callable[[int, int], bool]) -> int:
+    """Returns how many things from the first one on are the same, if a range can be compared at once, as slices of lists are:
+    that is much faster than one thing after another."""
+    same, differs = 0, most + 1
     while differs - same > 1:
         middle = (same + differs) // 2
-        if old[same:middle] == new[same:middle]:
+        if is_same(same, middle):
             same = middle
         else:
             differs = middle
