@@ -51,18 +51,20 @@ fn taken<R: Runtime + Abort>(rt: &R, publisher: &mut Publisher, session: &Sessio
     }
 }
 
+/// The call that ends a job.
+fn ending(ends_well: bool) -> &'static str {
+    if ends_well {
+        "Publisher::done"
+    } else {
+        "Publisher::failed"
+    }
+}
+
 /// Ends a job, which asks for no memory.
 fn end<R: Runtime>(rt: &R, publisher: &mut Publisher, held: Held, ends_well: bool)
     requires { IsUnderWay (maps_of publisher.old) held }
 {
-    silent(
-        rt,
-        if ends_well {
-            "Publisher::done"
-        } else {
-            "Publisher::failed"
-        },
-    );
+    silent(rt, ending(ends_well));
     let held = end_older(publisher, held, ends_well);
     done(rt);
     finish(publisher, held);
