@@ -5,17 +5,16 @@ import secrets
 import threading
 import time
 from collections import deque
-from collections.abc import Iterator, Sequence
+from collections.abc import Iterator
 from contextlib import contextmanager, suppress
-from itertools import groupby
 from typing import Any, NamedTuple, Optional
 
 from .book_file import BookFile
-from .edits import Edit, common_front
+from .edits import Edit
 from .hint_process import HintRow, Question
-from .places import LinePlaces
 from .printing import printable
 from .program import Fault, LiveBook, ProgramEnded, ProgramMissing, Tune, files_of, held
+from .rows import NOTHING_FOUND, Json, Rows, difference, moved, shown_rows
 from .saving import BookChanged, NotSaved, digest, digest_of, read_book, save_book
 from .texts import Text, bytes_of, edits_of, with_ends
 from .windows import Windows
@@ -23,12 +22,6 @@ from .windows import Windows
 MOST_CHANGES = 200  # for windows that did not see them yet
 SECONDS_OF_PATIENCE = 3  # with a program that does not answer, before windows are told
 SECONDS_TO_END = 3  # for a program that is told to
-
-NOTHING_FOUND = {"faults": {"at": 0, "out": 0, "put": []}, "tunes": {"at": 0, "out": 0, "put": []}, "written": [], "removed": []}
-
-Json = dict[str, Any]
-FaultRow = tuple[int, int, str]  # line from 0, column, name
-TuneRow = tuple[int, int, str, bool]  # line from 0, number, title, whether the number's file is this tune's
 
 
 class Refused(Exception):
@@ -38,13 +31,6 @@ class Refused(Exception):
         super().__init__(sentence)
         self.status = status
         self.answer: Json = {"error": sentence, **more}
-
-
-class Rows(NamedTuple):
-    """What the program finds in a text."""
-
-    faults: list[FaultRow]
-    tunes: list[TuneRow]
 
 
 class Disk(NamedTuple):
@@ -413,29 +399,6 @@ class SharedBook:
                 self.is_unsaved = self.text.lines != text.lines
                 self.moved.notify_all()
                 return self.state()
-
-
-def moved(rows: Sequence[Any], edit: Json) -> list[Any]:
-    """The rows of a text after an edit, without those of the lines that it replaces."""
-    start, stop = edit["start"], edit["stop"]
-    grown = len(edit["lines"]) - (stop - start)
-    return [row if row[0] < start or not grown else (row[0] + grown, *row[1:]) for row in rows if not start <= row[0] < stop]
-
-
-def difference(old: Sequence[Any], new: Sequence[Any]) -> Json:
-    """How a window makes new rows of old ones: so many go at a place, and others come in."""
-    front = common_front(old, new)
-    back = common_front(old[front:][::-1], new[front:][::-1])
-    return {"at": front, "out": len(old) - front - back, "put": new[front : len(new) - back]}
-
-
-def shown_rows(text: Text, faults: list[FaultRow]) -> list[list[Any]]:
-    """Faults as windows see them, in order: the line of each, where it begins and ends there in UTF-16, and its name."""
-    found = []
-    for number, those in groupby(faults, lambda fault: fault[0]):
-        places = LinePlaces(text.shown(text.lines[number]))
-        found += [[number, *places.span(column, name), name] for _, column, name in those]
-    return found
 
 
 def is_count(value: object) -> bool:

@@ -19,7 +19,7 @@ from contextlib import contextmanager
 from pathlib import Path
 
 import trial
-from abc2midi_live_clients import saving, shared_book
+from abc2midi_live_clients import rows, saving, shared_book, texts
 from abc2midi_live_clients.faults import sentences
 
 BOOK = b"X:1\nT:Kesh\nK:G\nGABc &\n\nX:2\nK:C\nCDE -\n"
@@ -687,10 +687,10 @@ class Faults(trial.Folder):
         book = shared_book.SharedBook(str(path), trial.program, str(self.files))
         self.addCleanup(book.book.process.stdout.close)
         self.addCleanup(book.close)
-        shown, show = [], shared_book.Text.shown
-        self.addCleanup(setattr, shared_book.Text, "shown", show)
-        shared_book.Text.shown = lambda text, line: shown.append(line) or show(text, line)
-        found = [row[:3] for row in shared_book.shown_rows(book.text, book.rows.faults)]
+        shown, show = [], texts.Text.shown
+        self.addCleanup(setattr, texts.Text, "shown", show)
+        texts.Text.shown = lambda text, line: shown.append(line) or show(text, line)
+        found = [row[:3] for row in rows.shown_rows(book.text, book.rows.faults)]
         self.assertEqual(len(shown), 3)
         self.assertEqual(found[:6], [[2, 0, 1], [2, 1, 3], [2, 3, 4], [2, 4, 5], [2, 5, 6], [2, 6, 7]])
         self.assertEqual(found[6:1006], [[3, n, n + 1] for n in range(1000)])

@@ -1,0 +1,205 @@
+"""Requests to the server of the page: who may ask, and what is answered."""
+
+from __future__ import annotations
+
+import hmac
+import json
+import re
+import select
+import socket
+from collections.abc import Callable
+from http.server import BaseHTTPRequestHandler
+from typing import TYPE_CHECKING, Any, Optional
+
+from .program import ProgramEnded, ProgramMissing
+from .rows import Json
+from .shared_book import Refused
+
+if TYPE_CHECKING:
+    from .page_server import Server
+
+MOST_BYTES = 1 << 25  # of an edit
+SECONDS_OF_SILENCE = 3  # after which a window hears that the server is there
+SAFE = {
+    "Cache-Control": "no-store",
+    "Content-Security-Policy": "default-src 'none'; script-src 'self'; style-src 'self'; img-src data:; "
+    "connect-src 'self'; base-uri 'none'; form-action 'none'; frame-ancestors 'none'",
+    "Cross-Origin-Resource-Policy": "same-origin",
+    "Referrer-Policy": "no-referrer",
+    "X-Content-Type-Options": "nosniff",
+}
+
+
+class Request(BaseHTTPRequestHandler):
+    """One request after another of a browser. A path is the token and a name that is known here, or the number of a
+    file: no part of it is ever looked up on disk."""
+
+    server: Server
+    protocol_version = "HTTP/1.1"
+    server_version, sys_version = "abc2midi_live", ""
+    timeout = 60
+    disable_nagle_algorithm = True  # an answer follows its headers at once
+
+    def do_GET(self) -> None:
+        self.guarded(self.get)
+
+    def do_POST(self) -> None:
+        self.guarded(self.post)
+
+    def guarded(self, answer: Callable[[Optional[str]], None]) -> None:
+        """Answers a request that may be made, and refuses any other. The body of a `GET` is not read, so the connection ends."""
+        try:
+            has_body = "Content-Length" in self.headers or "Transfer-Encoding" in self.headers
+            self.close_connection = self.close_connection or has_body or self.command != "GET"
+            self.check_sender()
+            if not self.is_proof():
+                answer(self.permitted())
+        except Refused as refused:
+            self.refuse(refused)
+        except (ProgramEnded, ProgramMissing) as error:
+            self.refuse(Refused(503, str(error)))
+        except (BrokenPipeError, ConnectionResetError):
+            self.close_connection = True
+
+    def refuse(self, refused: Refused) -> None:
+        """Says why a request is refused: in a sentence if a person opened an address."""
+        self.close_connection = True
+        if self.headers.get("Sec-Fetch-Dest") == "document":
+            self.send(f"{refused}\n".encode(), "text/plain; charset=utf-8", status=refused.status)
+        else:
+            self.send_json(refused.answer, refused.status)
+
+    def send_error(self, code: int, message: Optional[str] = None, explain: Optional[str] = None) -> None:
+        """Answers bytes that are no request as other refusals are answered."""
+        self.close_connection = True
+        self.request_version = self.protocol_version
+        self.send_json({"error": message or self.responses[code][0]}, code)
+
+    def check_sender(self) -> None:
+        """Refuses the request of another host or page."""
+        if len(self.headers.get_all("Host", [])) != 1 or self.headers["Host"] not in self.server.hosts:
+            raise Refused(403, "This is another host's request.")
+        for origin in self.headers.get_all("Origin", []):
+            if origin not in [f"http://{host}" for host in self.server.hosts]:
+                raise Refused(403, "This is another page's request.")
+
+    def is_proof(self) -> bool:
+        """Whether the request has no token, and is answered by a proof: by that of the server; or, for a page that brings its own
+        proof, by the token of this start."""
+        asked = re.fullmatch("/proof/([0-9a-f]{32})(?:/([0-9a-f]{64}))?", self.path)
+        if not asked or self.command != "GET":
+            return False
+        self.close_connection = True
+        server = self.server
+        if asked[2] is None:
+            self.send_json({"run": server.book.run, "proof": server.proof("server", asked[1])})
+        elif hmac.compare_digest(asked[2], server.proof("page", asked[1])):
+            self.send_json({"token": server.token})
+        else:
+            raise Refused(403, "This is no page of this book.")
+        return True
+
+    def permitted(self) -> Optional[str]:
+        """The part of the path after the token and its slash, None if the path ends with the token. Refuses another token."""
+        path = re.fullmatch("/([^/]*)(?:/(.*))?", self.path)
+        if not path or not hmac.compare_digest(path[1].encode(), self.server.token.encode()):
+            raise Refused(403, "This address is not the one that the server printed at its present start. Open that one.")
+        if not self.server.connections.welcome(self.connection):
+            raise Refused(503, "There are too many connections.")
+        return path[2]
+
+    def get(self, name: Optional[str]) -> None:
+        """Answers by a file of the page, the book, a MIDI file, or what happens to the book from now on."""
+        if name is None:  # the page names its files from below the token
+            self.send(b"", "text/plain", {"Location": f"/{self.server.token}/"}, 308)
+            return
+        midi = re.fullmatch(r"midi/([0-9]{1,9})", name)
+        news = re.fullmatch(r"(events|news)/([0-9]{1,15})/([\w.-]{1,64})", name, re.A)
+        if name in self.server.files:
+            self.send(*self.server.files[name])
+        elif name == "book":
+            self.send_json({**self.server.book.snapshot(), "sentences": self.server.sentences})
+        elif name == "state":
+            self.send_json(self.server.book.now())
+        elif name == "hints":
+            self.send_json(self.server.book.hints_now())
+        elif midi:
+            number = int(midi[1])
+            data = self.server.book.midi(number)
+            self.send(data, "audio/midi", {"Content-Disposition": f'attachment; filename="{number}.mid"'})
+        elif news and news[1] == "events":
+            self.send_events(int(news[2]), news[3])
+        elif news:
+            self.send_json(self.server.book.news_for(int(news[2]), news[3]))
+        else:
+            raise Refused(404, "There is nothing of that name.")
+
+    def post(self, name: Optional[str]) -> None:
+        """Follows an edit, saves the book, loads it from disk, or starts the program again."""
+        book = self.server.book
+        follow = {"edit": book.edit, "save": book.save, "load": book.load, "restart": book.restart}.get(name or "")
+        if follow is None:
+            raise Refused(404, "There is nothing of that name.")
+        self.send_json(follow(self.body()))
+
+    def body(self) -> Json:
+        """The object that a request brings."""
+        length = self.headers.get("Content-Length", "")
+        if not re.fullmatch("[0-9]{1,15}", length) or "Transfer-Encoding" in self.headers:
+            raise Refused(411, "a request says how long it is")
+        if int(length) > MOST_BYTES:
+            raise Refused(413, f"an edit has at most {MOST_BYTES} bytes")
+        data = self.rfile.read(int(length))
+        try:
+            asked = json.loads(data) if len(data) == int(length) else None
+        except (ValueError, RecursionError):
+            asked = None
+        if not isinstance(asked, dict):
+            raise Refused(400, "this is no whole request")
+        return asked
+
+    def send(self, data: bytes, kind: str, more: Optional[dict[str, str]] = None, status: int = 200) -> None:
+        """Sends an answer, with more headers where some are given."""
+        self.send_response(status)
+        headers = {"Content-Type": kind, "Content-Length": len(data), **SAFE, **(more or {})}
+        for header, value in headers.items():
+            self.send_header(header, str(value))
+        if self.close_connection:
+            self.send_header("Connection", "close")
+        self.end_headers()
+        self.wfile.write(data)
+
+    def send_json(self, answer: Json, status: int = 200) -> None:
+        """Sends an object."""
+        self.send(json.dumps(answer).encode(), "application/json", status=status)
+
+    def send_events(self, seen: int, name: str) -> None:
+        """Sends each change after a version, and the state of the book, for as long as the window is open: an object a line, and
+        an empty line when there is nothing to tell."""
+        book = self.server.book
+        book.begin_stream(name)
+        try:
+            self.close_connection = True
+            self.send_response(200)
+            for header, value in {"Content-Type": "application/x-ndjson", "Connection": "close", **SAFE}.items():
+                self.send_header(header, value)
+            self.end_headers()
+            told: Optional[Json] = None
+            while True:
+                changes, state = book.news(seen, told, SECONDS_OF_SILENCE)
+                if self.left():
+                    return
+                seen = state["version"]
+                news = [{"state": state}] * (state != told) + [{"change": change} for change in changes]
+                self.wfile.write(b"".join(json.dumps(new).encode() + b"\n" for new in news) or b"\n")
+                told = state
+        finally:
+            book.end_stream()
+
+    def left(self) -> bool:
+        """Whether the window was closed, which shows only in a connection that is looked at."""
+        readable, _, _ = select.select([self.connection], [], [], 0)
+        return bool(readable) and not self.connection.recv(1, socket.MSG_PEEK)
+
+    def log_message(self, *_: Any) -> None:
+        """Says nothing: an address has the token in it."""

@@ -1,0 +1,45 @@
+"""What the program finds in a text, as rows that windows keep and move with their lines."""
+
+from collections.abc import Sequence
+from itertools import groupby
+from typing import Any, NamedTuple
+
+from .edits import common_front
+from .places import LinePlaces
+from .texts import Text
+
+NOTHING_FOUND = {"faults": {"at": 0, "out": 0, "put": []}, "tunes": {"at": 0, "out": 0, "put": []}, "written": [], "removed": []}
+
+FaultRow = tuple[int, int, str]  # line from 0, column, name
+TuneRow = tuple[int, int, str, bool]  # line from 0, number, title, whether the number's file is this tune's
+Json = dict[str, Any]
+
+
+class Rows(NamedTuple):
+    """What the program finds in a text."""
+
+    faults: list[FaultRow]
+    tunes: list[TuneRow]
+
+
+def moved(rows: Sequence[Any], edit: Json) -> list[Any]:
+    """The rows of a text after an edit, without those of the lines that it replaces."""
+    start, stop = edit["start"], edit["stop"]
+    grown = len(edit["lines"]) - (stop - start)
+    return [row if row[0] < start or not grown else (row[0] + grown, *row[1:]) for row in rows if not start <= row[0] < stop]
+
+
+def difference(old: Sequence[Any], new: Sequence[Any]) -> Json:
+    """How a window makes new rows of old ones: so many go at a place, and others come in."""
+    front = common_front(old, new)
+    back = common_front(old[front:][::-1], new[front:][::-1])
+    return {"at": front, "out": len(old) - front - back, "put": new[front : len(new) - back]}
+
+
+def shown_rows(text: Text, faults: list[FaultRow]) -> list[list[Any]]:
+    """Faults as windows see them, in order: the line of each, where it begins and ends there in UTF-16, and its name."""
+    found = []
+    for number, those in groupby(faults, lambda fault: fault[0]):
+        places = LinePlaces(text.shown(text.lines[number]))
+        found += [[number, *places.span(column, name), name] for _, column, name in those]
+    return found
