@@ -3,7 +3,7 @@ use Rattle.std.proofs.Common.{◌≡◌, ℕ, ◌+◌, ◌<◌, Bool, true, fals
 use Rattle.std.proofs.lemmas.List.{get_or-take, take-append-drop}
 use Rattle.std.proofs.lemmas.Grind.{get_or_default_zero}
 use Rattle.std.proofs.Math.Seq.{drop-cons}
-use Rattle.memchr.specs.Find.{IsFirstByte, Nowhere, Passes, is_byte}
+use Rattle.bstr.specs.Find.{IsFirstByte, Nowhere, Passes, is_byte}
 use Rattle.abc2midi_live.specs.Cut.{IsCut}
 
 not_true : (b : Bool) → ¬ (b ≡ true) → b ≡ false

@@ -3,14 +3,14 @@
 ghost use Rattle.std.specs.Prelude.{option_map};
 ghost use Rattle.abc2midi_live.specs.Cut.{IsCut};
 
-use memchr::memchr;
+use bstr::ByteSlice;
 
 /// What stands before the first such byte, and what stands behind it where there is one.
 #[tactic(auto, using(crate::proofs::Cuts::cut_found, crate::proofs::Cuts::cut_none))]
 pub fn cut(text: &[u8], byte: u8) -> (&[u8], Option<&[u8]>)
     ensures { IsCut byte text.now result.0.now (option_map (λ rest. rest.now) result.1) }
 {
-    match memchr(byte, text) {
+    match text.find_byte(byte) {
         Some(at) => (&text[..at], Some(&text[at + 1..])),
         None => (text, None),
     }

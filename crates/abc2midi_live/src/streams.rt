@@ -12,11 +12,13 @@ ghost use Rattle.abc2midi_live.specs.Streams.{faults, Puts, TakesOut, KeepsOther
 use std::io::{Error, ErrorKind, Read, Write};
 
 /// A stream failed.
-#[derive(Clone, Copy, Debug)]
+#[derive(Clone, Copy, Debug, thiserror::Error)]
+#[error("a stream failed")]
 pub struct StreamFault;
 
 /// A store failed.
-#[derive(Clone, Copy, Debug)]
+#[derive(Clone, Copy, Debug, thiserror::Error)]
+#[error("a store failed")]
 pub struct StoreFault;
 
 /// What commands are read from.
