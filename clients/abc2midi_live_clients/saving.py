@@ -20,8 +20,7 @@ class NotRegular(OSError):
     """Something else than a regular file has the book's name."""
 
     def __init__(self, path: str):
-        super().__init__(NOT_REGULAR)
-        self.strerror, self.filename = NOT_REGULAR, path
+        super().__init__(errno.EINVAL, NOT_REGULAR, path)
 
 
 class NotSaved(Exception):

@@ -90,7 +90,7 @@ export class Link {
     const hearing = (this.hearing = new AbortController());
     try {
       for (;;) {
-        await this.server.prove();
+        if (this.server.canProve) await this.server.prove();
         const { state, changes, room } = await this.server.ask(`news/${this.state.version}/${this.window}`);
         if (this.hearing !== hearing) return;
         this.hear({ state });

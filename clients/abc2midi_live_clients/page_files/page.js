@@ -344,8 +344,8 @@ function showAway() {
   const footer = find("status"), away = link.away;
   footer.classList.toggle("away", Boolean(away));
   if (away) {
-    const kept = keep() ? "what you type is kept in this browser, and sent when it is there again" : "and this browser has no room to keep the text: do not close it";
-    say(`The server is away (${away}): ${kept}.`);
+    const kept = keep() ? "What you type is kept in this browser, and sent when it is there again" : "This browser has no room to keep the text: do not close it";
+    say(`The server is away: ${away}. ${kept}.`);
     find("midi").removeAttribute("href");
   } else if (footer.dataset.away) {
     say("The server is there again.");

@@ -15,6 +15,11 @@ export class Server {
     this.renewed = () => {}; // the server was started again: it has another token
   }
 
+  /** Whether this browser can check a proof. */
+  get canProve() {
+    return Boolean(this.key && globalThis.crypto?.subtle);
+  }
+
   /** The address of a name. */
   address(name) {
     return `/${this.token}/${name}`;
@@ -69,7 +74,7 @@ export class Server {
   /** Lets the server prove that it has the key of the book, and shows it that this page has it too; then it gives the token of
    * its present start. Whoever else has the port gets nothing. */
   async prove() {
-    if (!this.key || !globalThis.crypto?.subtle) throw new Error("open the address that it prints when it is started again");
+    if (!this.canProve) throw new Error("open the address that it prints when it is started again");
     const nonce = hex(crypto.getRandomValues(new Uint8Array(16)));
     const { run, proof } = await asked(`/proof/${nonce}`);
     if (!/^[0-9a-f]{16}$/.test(run) || !/^[0-9a-f]{64}$/.test(proof)) throw stranger();
@@ -95,7 +100,7 @@ async function asked(path) {
 }
 
 function stranger() {
-  return new Error("another program has its port; nothing is sent to it");
+  return new Error("another program has its port. Nothing is sent to that one; do not load this page anew");
 }
 
 async function fetched(path, signal, options) {
