@@ -36,7 +36,7 @@ class Files(Looks):
     def test_files_of_an_earlier_run(self):
         self.leave()
         self.path.write_bytes(TUNE + OTHER)
-        what = "5 files of an earlier run that no tune of the book has: 0.mid, 7.mid, 12.mid, .1.mid.new, .9.mid.new"
+        what = "5 files of an earlier run that no tune of the book has: 0.mid, 7.mid, 12.mid, .8.mid.new, .9.mid.new"
         self.assertEqual(self.look(), ["written 1.mid (Kesh), 2.mid", f"{what}; --clean removes them"])
         self.assertEqual(len(os.listdir(self.files)), len(FOREIGN) + 2 + 5 + 1)
         self.path.write_bytes(TUNE)
@@ -44,7 +44,7 @@ class Files(Looks):
 
     def leave(self):
         """Leaves files of an earlier run, others, and a folder that has the name of a file."""
-        for name in ["0.mid", "2.mid", "7.mid", "12.mid", ".1.mid.new", ".9.mid.new", *FOREIGN]:
+        for name in ["0.mid", "2.mid", "7.mid", "12.mid", ".8.mid.new", ".9.mid.new", *FOREIGN]:
             (self.files / name).write_text("earlier")
         (self.files / "3.mid").mkdir()
 
@@ -57,7 +57,7 @@ class Clean(Files):
     def test_files_of_an_earlier_run(self):
         self.leave()
         self.path.write_bytes(TUNE + OTHER)
-        what = "5 files of an earlier run that no tune of the book has: 0.mid, 7.mid, 12.mid, .1.mid.new, .9.mid.new"
+        what = "5 files of an earlier run that no tune of the book has: 0.mid, 7.mid, 12.mid, .8.mid.new, .9.mid.new"
         self.assertEqual(self.look(), ["written 1.mid (Kesh), 2.mid", f"removed {what}"])
         self.assertEqual(sorted(os.listdir(self.files)), sorted(["1.mid", "2.mid", "3.mid", *FOREIGN]))
         (self.files / "7.mid").write_text("later")
