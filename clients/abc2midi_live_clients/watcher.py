@@ -5,7 +5,9 @@ import io
 import os
 import shlex
 import shutil
+import signal
 import sys
+import threading
 import time
 from typing import Any
 
@@ -54,8 +56,12 @@ def arguments() -> argparse.Namespace:
     return words
 
 
+interrupted = threading.Event()
+
+
 def interrupt(*_: Any) -> None:
-    """Ends the client as Ctrl-C does."""
+    """Ends the watcher. Python drops the exception if the signal comes while it lets go of a value, so the event stays."""
+    interrupted.set()
     raise KeyboardInterrupt
 
 
@@ -81,11 +87,12 @@ def watched(words: argparse.Namespace, folder: MidiFolder, report: Report) -> in
     """Watches the book until Ctrl-C, or builds it once; the exit status."""
     book = begun(words, folder, report)
     try:
-        while True:
+        while not interrupted.is_set():
             book.look()
             if words.once and book.status is not None:
                 return book.status
             time.sleep(SECONDS_BETWEEN_LOOKS)
+        raise KeyboardInterrupt
     finally:
         book.close()
 
@@ -94,6 +101,8 @@ def main() -> int:
     """Runs the watcher; the exit status."""
     words = arguments()
     when_told_to_end(interrupt)
+    if signal.getsignal(signal.SIGINT) is not signal.SIG_IGN:
+        signal.signal(signal.SIGINT, interrupt)
     if isinstance(sys.stdout, io.TextIOWrapper):
         sys.stdout.reconfigure(errors="replace")
     report: Report = TextReport(words.book, sentences(), words.all, tell)
