@@ -16,7 +16,7 @@ from .texts import Text
 NICENESS = 19
 START = "from abc2midi_live_clients.hint_process import serve; serve()"
 ENDED = (EOFError, OSError, ValueError, pickle.UnpicklingError)
-HintRow = tuple[int, int, int, str, str]  # line from 0, where it begins and ends there in UTF-16, name, sentence
+HintRow = tuple[int, int, int, str, str]  # line from 0, begin and end there in UTF-16, name, sentence
 
 
 class Question(NamedTuple):

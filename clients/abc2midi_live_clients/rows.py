@@ -30,14 +30,14 @@ def moved(rows: Sequence[Any], edit: Json) -> list[Any]:
 
 
 def difference(old: Sequence[Any], new: Sequence[Any]) -> Json:
-    """How a window makes new rows of old ones: so many go at a place, and others come in."""
+    """How a window makes new rows of old ones: at a place some rows go and others come."""
     front = common_front(old, new)
     back = common_front(old[front:][::-1], new[front:][::-1])
     return {"at": front, "out": len(old) - front - back, "put": new[front : len(new) - back]}
 
 
 def shown_rows(text: Text, faults: list[FaultRow]) -> list[list[Any]]:
-    """Faults as windows see them, in order: the line of each, where it begins and ends there in UTF-16, and its name."""
+    """Faults as windows see them, in order: the line of each, its begin and end there in UTF-16, and its name."""
     found = []
     for number, those in groupby(faults, lambda fault: fault[0]):
         places = LinePlaces(text.shown(text.lines[number]))

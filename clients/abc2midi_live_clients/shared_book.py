@@ -20,8 +20,8 @@ from .texts import Text, bytes_of, edits_of, with_ends
 from .windows import Windows
 
 MOST_CHANGES = 200  # for windows that did not see them yet
-SECONDS_OF_PATIENCE = 3  # with a program that does not answer, before windows are told
-SECONDS_TO_END = 3  # for a program that is told to
+SECONDS_OF_PATIENCE = 3  # with a program that does not answer, before the windows say so
+SECONDS_TO_END = 3  # for a program that is asked to end
 
 
 class Refused(Exception):

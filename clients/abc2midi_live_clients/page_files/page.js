@@ -374,7 +374,7 @@ function askAboutTheFile() {
   });
 }
 
-/** A selection, after lines were put in the place of others. */
+/** A selection, after lines replaced others. */
 function moved(selection, { start, stop, lines }) {
   const more = lines.length - (stop - start);
   const move = (place) => (place.line >= stop ? { ...place, line: place.line + more } : place);

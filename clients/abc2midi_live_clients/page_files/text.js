@@ -2,7 +2,7 @@
 
 const ONE_GO = 800; // milliseconds: keys in one line within this are undone together
 
-/** Lines put in the place of others. */
+/** Lines that replace others. */
 export function replaced(lines, start, stop, put) {
   return lines.slice(0, start).concat(put, lines.slice(stop));
 }
