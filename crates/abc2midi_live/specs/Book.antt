@@ -1,8 +1,7 @@
 -- What the program shows of a text: its files, its titles and its faults, by the compiler of ABC. Our own.
 use Rattle.std.specs.Prelude.{List}
-use Rattle.abc_cells.specs.Step.{stepped}
 use Rattle.abc_lines.specs.Text.{Text}
-use Rattle.abc_tune.specs.Abc.{rules_of_abc}
+use Rattle.abc_tune.specs.Abc.{rules_of_abc, steps_of_abc}
 use Rattle.abc_tunebook.specs.Book.{Book, book_of}
 use Rattle.abc_tunebook.specs.Files.{Files}
 use Rattle.abc_tunebook.specs.declared.fault.Fault.{Fault}
@@ -10,7 +9,7 @@ use Rattle.abc_tunebook.specs.declared.title.Title.{Title}
 
 -- the book of a text
 abbrev pub abc_book : Text → Book
-abc_book text = book_of (λ entry cell. (stepped entry cell).0) (λ entry cell. (stepped entry cell).1) rules_of_abc text
+abc_book text = book_of steps_of_abc rules_of_abc text
 
 -- the reference numbers that have a file, rising, each with the file's bytes
 unfoldable pub files_of : Text → Files

@@ -1,7 +1,7 @@
 -- Bringing the directory up to date with the text. Our own.
 use Rattle.std.specs.Prelude.{◌≡◌, ℕ, ◌≤◌, zero, suc, ◌+◌, ◌-◌, ◌^◌, Bool, true, false, List, [], ◌∷◌, ◌++◌, filter, length, Option, Some, None, ◌⊎◌}
 use Rattle.abc_lines.specs.Text.{Text}
-use Rattle.abc_publish.specs.Publisher.{Directory, Publishing, is_pending, stored_as, with_entry}
+use Rattle.abc_publish.specs.Publisher.{Directory, Publishing, Slots, is_pending, maps_of, stored_as, with_entry}
 use Rattle.abc_publish.specs.declared.slot.Stored.{Stored}
 use Rattle.abc_publish.specs.declared.slot.Stored.TheVariants.{Unknown}
 use Rattle.abc_tunebook.specs.Files.{Files, file_at}
@@ -69,6 +69,13 @@ pub record Stage : Type 0 where
 
 abbrev pub stage : Directory → Option ℕ → Stage
 stage directory from = record { directory = directory; from = from }
+
+abbrev pub stage_of : Slots → Option ℕ → Stage
+stage_of publisher from = stage (maps_of publisher).directory from
+
+-- A text is an old one, and then this.
+abbrev pub Extends : List ℕ → List ℕ → List ℕ → Type 0
+Extends old new told = new ≡ old ++ told
 
 -- what is told of the numbers that are pending at a stage, for what the store answers
 abbrev pub storing_at : Extent → Text → Stage → List StoreAnswer → Option Answered

@@ -4,7 +4,9 @@ pub mod Building
 pub mod Command
 pub mod Cut
 pub mod Dialogue
+pub mod DialogueState
 pub mod Gathering
+pub mod Listener
 pub mod Machine
 pub mod Outcome
 pub mod Piped
@@ -14,3 +16,6 @@ pub mod Streams
 pub mod Told
 pub mod Transcript
 pub mod Waiting
+-- The definitions of the crates below that public clauses cite: a caller needs only this crate.
+pub use Rattle.abc_fold.specs.Work
+pub use Rattle.abc_lines.specs.Edits

@@ -27,6 +27,9 @@ pub record Outlets : Type 0 where
 abbrev pub outlets : Option (List ℕ) → StoreSeen → Outlets
 outlets output store = record { output = output; store = store }
 
+abbrev pub outlets_of : {W S : Type 0} → (W → Option (List ℕ)) → (S → StoreSeen) → W → S → Outlets
+outlets_of contents seen writer store = outlets (contents writer) (seen store)
+
 -- What a fault leaves where a tune book is taken: want of memory comes before anything is written of its answer.
 abbrev pub Unopened : Option (List ℕ) → Option (List ℕ) → RunFault → Type 0
 Unopened old new Read = ⊥
@@ -104,6 +107,9 @@ pub record Ends : Type 0 where
 
 abbrev pub ends : Option (List ℕ) → Option (List ℕ) → StoreSeen → Ends
 ends input output store = record { input = input; out = outlets output store }
+
+abbrev pub ends_of : {R W S : Type 0} → (R → Option (List ℕ)) → (W → Option (List ℕ)) → (S → StoreSeen) → R → W → S → Ends
+ends_of remaining contents seen reader writer store = ends (remaining reader) (contents writer) (seen store)
 
 -- Which commands were carried out where an answer could not be written, the one in hand among them: the store was asked
 -- for what these ask for, and for nothing else. Nothing is said of what was written.

@@ -3,7 +3,7 @@
 ghost use Rattle.std.specs.Prelude.{◌≡◌, string_bytes, ◌<◌, ◌^◌, ◌++◌, ◌∷◌, [], None, Some, IfOk, IfSome, OnErr, is_ok, option_copied};
 ghost use Rattle.abc_publish.specs.Publisher.{ended, maps_of, with_entry};
 ghost use Rattle.abc_publish.specs.declared.slot.Stored.TheVariants.{Unknown};
-ghost use Rattle.abc2midi_live.specs.Building.{answer_line, answer_of, entry_behind, stage, BuildsBy, BuildStops, IsIdle, StopsAtOnce, StoresBy, StoresOne, StoresOneAtMost};
+ghost use Rattle.abc2midi_live.specs.Building.{answer_line, answer_of, entry_behind, stage_of, BuildsBy, BuildStops, Extends, IsIdle, StopsAtOnce, StoresBy, StoresOne, StoresOneAtMost};
 ghost use Rattle.abc2midi_live.specs.Storing.{file_name, Follows};
 
 use crate::answer::{put_failed, put_stored};
@@ -96,10 +96,9 @@ fn store_next<S: Store>(
     text: &mut Vec<u8>,
 ) -> Result<Option<u32>, AllocError>
     requires { IsIdle (maps_of publisher.old) }
-    ensures stored { let before = stage (maps_of publisher.old).directory (Some from) in let after = (maps_of publisher.new).directory in
-        IfOk result (λ next. StoresBy session.now.text before (stage after next) (λ told. text.new.items ≡ text.old.items ++ told) (S.seen store.old) (S.seen store.new)) }
-    ensures unchanged { let at = stage (maps_of publisher.old).directory (Some from) in
-        OnErr result (StopsAtOnce session.now.text at (S.seen store.old) (S.seen store.new)) }
+    ensures stored { IfOk result (λ next. StoresBy session.now.text (stage_of publisher.old (Some from)) (stage_of publisher.new next)
+        (Extends text.old.items text.new.items) (S.seen store.old) (S.seen store.new)) }
+    ensures unchanged { OnErr result (StopsAtOnce session.now.text (stage_of publisher.old (Some from)) (S.seen store.old) (S.seen store.new)) }
     ensures onward { IfOk result (λ next. IfSome next (λ n. (from < n) × (n < 2 ^ 32))) }
     ensures idle { IsIdle (maps_of publisher.new) }
 {
@@ -123,8 +122,8 @@ pub fn build<S: Store>(
     store: &mut S,
 ) -> Result<Vec<u8>, AllocError>
     requires { IsIdle (maps_of publisher.old) }
-    ensures answer { let before = (maps_of publisher.old).directory in let after = (maps_of publisher.new).directory in
-        IfOk result (λ text. BuildsBy session.now.text before after text.items (S.seen store.old) (S.seen store.new)) }
+    ensures answer { IfOk result (λ text. BuildsBy session.now.text (maps_of publisher.old).directory (maps_of publisher.new).directory
+        text.items (S.seen store.old) (S.seen store.new)) }
     ensures unchanged { OnErr result (BuildStops session.now.text (maps_of publisher.old).directory (S.seen store.old) (S.seen store.new)) }
     ensures idle { IsIdle (maps_of publisher.new) }
 {

@@ -8,9 +8,8 @@ ghost use Rattle.abc_lines.specs.Edits.{edited, insertion};
 ghost use Rattle.abc_live.specs.Edit.{splice_of};
 ghost use Rattle.abc_publish.specs.Publisher.{maps_of};
 ghost use Rattle.abc2midi_live.specs.Building.{IsIdle};
-ghost use Rattle.abc2midi_live.specs.Told.{holding};
 ghost use Rattle.abc2midi_live.specs.Transcript.{book_lines, edit_answer, no_directory, request_of};
-ghost use Rattle.abc2midi_live.specs.Dialogue.{CommandStops, RequestStops, RespondsBy, SaysBy, begun_with, is_taken, proceeding};
+ghost use Rattle.abc2midi_live.specs.Dialogue.{CommandStops, RequestStops, RespondsBy, begun_with, is_taken};
 
 use crate::answer::{fault_list, hex_line, refusal, report_line, title_list};
 use crate::book_lines::book_lines;
@@ -42,7 +41,7 @@ pub struct Dialogue {
 }
 
 impl Dialogue {
-    ghost use Rattle.abc2midi_live.specs.Gathering.{begun_of};
+    ghost use Rattle.abc2midi_live.specs.DialogueState.{ProceedsBy, holding_of};
 
     /// No command has come yet.
     pub fn new(alloc: Global) -> Result<Dialogue, AllocError>
@@ -92,11 +91,10 @@ impl Dialogue {
         work: &mut Work,
     ) -> Result<Reply, AllocError>
         requires { length lines.items ≡ line_count command }
-        ensures reply { let before = holding self.old.session.text (maps_of self.old.publisher).directory in
-            let after = holding self.new.session.text (maps_of self.new.publisher).directory in
-            IfOk result (λ reply. RespondsBy before after (request_of command (text_of lines)) reply (S.seen store.old) (S.seen store.new)) }
-        ensures unchanged { let before = holding self.old.session.text (maps_of self.old.publisher).directory in
-            OnErr result (RequestStops before (request_of command (text_of lines)) (S.seen store.old) (S.seen store.new)) }
+        ensures reply { let request = request_of command (text_of lines) in
+            IfOk result (λ reply. RespondsBy (holding_of self.old) (holding_of self.new) request reply (S.seen store.old) (S.seen store.new)) }
+        ensures unchanged { let request = request_of command (text_of lines) in
+            OnErr result (RequestStops (holding_of self.old) request (S.seen store.old) (S.seen store.new)) }
         ensures gathering { self.new.gathering ≡ self.old.gathering }
         ensures uncounted { OnOk result (is_taken self.old.session.text (request_of command (text_of lines)) ≡ false → work.new ≡ work.old) }
     {
@@ -147,11 +145,10 @@ impl Dialogue {
     ) -> Result<Reply, AllocError>
         requires idle { self.old.gathering ≡ None }
         requires few { length lines.items ≤ line_count command }
-        ensures unchanged { let before = holding self.old.session.text (maps_of self.old.publisher).directory in
-            OnErr result (CommandStops before (begun_with command (text_of lines)) (S.seen store.old) (S.seen store.new)) }
-        ensures reply { let before = holding self.old.session.text (maps_of self.old.publisher).directory in
-            let after = holding self.new.session.text (maps_of self.new.publisher).directory in
-            IfOk result (λ reply. SaysBy (proceeding before (begun_with command (text_of lines)) after (begun_of self.new.gathering)) before.directory reply (S.seen store.old) (S.seen store.new)) }
+        ensures unchanged { let begun = begun_with command (text_of lines) in
+            OnErr result (CommandStops (holding_of self.old) begun (S.seen store.old) (S.seen store.new)) }
+        ensures reply { let begun = begun_with command (text_of lines) in
+            IfOk result (λ reply. ProceedsBy self.old self.new begun reply (S.seen store.old) (S.seen store.new)) }
         ensures uncounted { OnOk result (is_taken self.old.session.text (request_of command (text_of lines)) ≡ false → work.new ≡ work.old) }
     {
         if lines.len() < command.line_count() {
@@ -164,18 +161,18 @@ impl Dialogue {
 
 impl Machine for Dialogue {
     ghost use Rattle.abc2midi_live.specs.Dialogue.{awaited, request_with};
+    ghost use Rattle.abc2midi_live.specs.DialogueState.{holding_of};
     ghost use Rattle.abc2midi_live.specs.Gathering.{begun_of};
+    ghost use Rattle.abc2midi_live.specs.Machine.{standing};
     ghost use Rattle.abc2midi_live.specs.Waiting.{dialogue_unasked, dialogue_waits};
 
-    ghost future = { λ d. awaited (holding d.session.text (maps_of d.publisher).directory) (begun_of d.gathering) };
-
-    ghost directory = { λ d. (maps_of d.publisher).directory };
+    ghost state = { λ d. standing (awaited (holding_of d) (begun_of d.gathering)) (maps_of d.publisher).directory };
 
     ghost costs = { λ d line. is_taken d.session.text (request_with (begun_of d.gathering) line) };
 
-    ghost waits = { λ d. dialogue_waits (holding d.session.text (maps_of d.publisher).directory) d.gathering };
+    ghost waits = { λ d. dialogue_waits (holding_of d) d.gathering };
 
-    ghost unasked = { λ d lines. dialogue_unasked (holding d.session.text (maps_of d.publisher).directory) (begun_of d.gathering) lines };
+    ghost unasked = { λ d lines. dialogue_unasked (holding_of d) (begun_of d.gathering) lines };
 
     fn take_line<S: Store>(
         &mut self,

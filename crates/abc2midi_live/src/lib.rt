@@ -15,6 +15,8 @@ mod reading;
 mod streams;
 mod transcript;
 
+pub use abc_fold::Work;
+pub use abc_lines::EditError;
 pub use book_fault::fault_of_book;
 pub use command::Command;
 pub use fault::RunFault;

@@ -3,8 +3,8 @@
 ghost use Rattle.std.specs.Prelude.{◌≡◌, ◌≤◌, [], ◌∷◌, ◌++◌, take, length, true, false, OnOk, MatchResult};
 ghost use Rattle.std.specs.Io.KnownBytes.{Appends};
 ghost use Rattle.abc_text.specs.Byte.{line_feed};
-ghost use Rattle.abc2midi_live.specs.Machine.{hearing, standing, IsClean};
-ghost use Rattle.abc2midi_live.specs.Outcome.{write_faults, outlets, FeedsOrBreaks, ServesOrFails, TellsOrFails};
+ghost use Rattle.abc2midi_live.specs.Machine.{IsClean};
+ghost use Rattle.abc2midi_live.specs.Outcome.{write_faults, outlets_of, FeedsOrBreaks, ServesOrFails, TellsOrFails};
 ghost use Rattle.abc2midi_live.specs.Transcript.{most_kept};
 ghost use Rattle.abc_fold.specs.Work.{raised};
 
@@ -29,9 +29,8 @@ fn serve<M: Machine, W: Sink, S: Store>(
     store: &mut S,
     work: &mut Work,
 ) -> Result<bool, RunFault>
-    ensures answer { let before = standing (M.future machine.old) (M.directory machine.old) in
-        let after = standing (M.future machine.new) (M.directory machine.new) in
-        ServesOrFails before after (line.items ∷ []) (outlets (W.contents writer.old) (S.seen store.old)) (outlets (W.contents writer.new) (S.seen store.new)) result }
+    ensures answer { let out = outlets_of W.contents S.seen in
+        ServesOrFails (M.state machine.old) (M.state machine.new) (line.items ∷ []) (out writer.old store.old) (out writer.new store.new) result }
     ensures fails { W.failures writer.new ≡ raised (W.failures writer.old) (write_faults result) }
     ensures uncounted { OnOk result (M.costs machine.old line.items ≡ false → work.new ≡ work.old) }
 {
@@ -74,6 +73,8 @@ pub struct Listener<M> {
 
 #[tactic(auto, using(crate::proofs::Counts::raised_none))]
 impl<M: Machine> Listener<M> {
+    ghost use Rattle.abc2midi_live.specs.Listener.{hears};
+
     /// Nothing has come yet.
     pub fn new(alloc: Global, machine: M) -> Listener<M>
         ensures machine { result.machine ≡ machine }
@@ -122,9 +123,8 @@ impl<M: Machine> Listener<M> {
         work: &mut Work,
     ) -> Result<bool, RunFault>
         requires { IsClean piece.now }
-        ensures answer { let before = hearing (M.future self.old.machine) self.old.begun.items (M.directory self.old.machine) in
-            let after = hearing (M.future self.new.machine) self.new.begun.items (M.directory self.new.machine) in
-            ServesOrFails before after (piece.now ++ line_feed ∷ []) (outlets (W.contents writer.old) (S.seen store.old)) (outlets (W.contents writer.new) (S.seen store.new)) result }
+        ensures answer { let out = outlets_of W.contents S.seen in ServesOrFails (hears M.state self.old) (hears M.state self.new)
+            (piece.now ++ line_feed ∷ []) (out writer.old store.old) (out writer.new store.new) result }
         ensures fails { W.failures writer.new ≡ raised (W.failures writer.old) (write_faults result) }
     {
         self.keep(piece)?;
@@ -141,9 +141,8 @@ impl<M: Machine> Listener<M> {
         store: &mut S,
         work: &mut Work,
     ) -> Result<bool, RunFault>
-        ensures answer { let before = hearing (M.future self.old.machine) self.old.begun.items (M.directory self.old.machine) in
-            let after = hearing (M.future self.new.machine) self.new.begun.items (M.directory self.new.machine) in
-            FeedsOrBreaks before after piece.now (outlets (W.contents writer.old) (S.seen store.old)) (outlets (W.contents writer.new) (S.seen store.new)) result }
+        ensures answer { let out = outlets_of W.contents S.seen in FeedsOrBreaks (hears M.state self.old) (hears M.state self.new)
+            piece.now (out writer.old store.old) (out writer.new store.new) result }
         ensures fails { W.failures writer.new ≡ raised (W.failures writer.old) (write_faults result) }
     {
         let mut rest = piece;
@@ -170,8 +169,8 @@ impl<M: Machine> Listener<M> {
         store: &mut S,
         work: &mut Work,
     ) -> Result<(), RunFault>
-        ensures answer { let before = hearing (M.future self.old.machine) self.old.begun.items (M.directory self.old.machine) in
-            TellsOrFails before (outlets (W.contents writer.old) (S.seen store.old)) (outlets (W.contents writer.new) (S.seen store.new)) result }
+        ensures answer { let out = outlets_of W.contents S.seen in
+            TellsOrFails (hears M.state self.old) (out writer.old store.old) (out writer.new store.new) result }
         ensures fails { W.failures writer.new ≡ raised (W.failures writer.old) (write_faults result) }
     {
         if self.begun.is_empty() {

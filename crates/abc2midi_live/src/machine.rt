@@ -1,8 +1,7 @@
 //! What takes the lines of an input one after another, and answers some of them.
 
 ghost use Rattle.std.specs.Prelude.{◌≡◌, Bool, false, Some, List, ℕ, [], ◌∷◌, IfOk, OnErr, OnOk};
-ghost use Rattle.abc_publish.specs.Publisher.{Directory};
-ghost use Rattle.abc2midi_live.specs.Machine.{standing, AsksNothing, CarriesOut, Future, TakesLine};
+ghost use Rattle.abc2midi_live.specs.Machine.{AsksNothing, CarriesOut, Standing, TakesLine};
 ghost use Rattle.abc2midi_live.specs.Told.{told, SoFar, Stopped, Whole};
 
 use crate::streams::Store;
@@ -22,11 +21,8 @@ pub enum Reply {
 
 /// A machine that takes lines, and puts and removes files in a store.
 pub trait Machine {
-    // What it tells to the lines that come, by how many of all they are, for what the store answers.
-    ghost future: { Self → Future (List ℕ) };
-
-    // What the store is known to hold.
-    ghost directory: { Self → Directory };
+    // What it answers to the lines that come, and what the store is known to hold.
+    ghost state: { Self → Standing (List ℕ) };
 
     // Whether a line may cost work that is counted.
     ghost costs: { Self → List ℕ → Bool };
@@ -38,18 +34,18 @@ pub trait Machine {
         store: &mut S,
         work: &mut Work,
     ) -> Result<Reply, AllocError>
-        ensures reply { let before = standing (future self.old) (directory self.old) in let after = standing (future self.new) (directory self.new) in
-            IfOk result (TakesLine before after line.items (S.seen store.old) (S.seen store.new)) }
-        ensures unchanged { OnErr result (CarriesOut (directory self.old) (future self.old Stopped (line.items ∷ [])) (S.seen store.old) (S.seen store.new)) }
+        ensures reply { IfOk result (TakesLine (state self.old) (state self.new) line.items (S.seen store.old) (S.seen store.new)) }
+        ensures unchanged { let before = state self.old in
+            OnErr result (CarriesOut before.directory (before.future Stopped (line.items ∷ [])) (S.seen store.old) (S.seen store.new)) }
         ensures uncounted { OnOk result (costs self.old line.items ≡ false → work.new ≡ work.old) };
 
     /// What it tells where no more lines come.
     fn last_words(&self) -> &'static [u8]
-        ensures { future self.now Whole [] [] ≡ Some (told result.now (directory self.now)) };
+        ensures { (state self.now).future Whole [] [] ≡ Some (told result.now (state self.now).directory) };
 
     // Nothing is told before a line comes.
-    ghost waits: { (m : Self) → future m SoFar [] [] ≡ Some (told [] (directory m)) };
+    ghost waits: { (m : Self) → (state m).future SoFar [] [] ≡ Some (told [] (state m).directory) };
 
     // Nothing is asked for before the store answers.
-    ghost unasked: { (m : Self) (lines : List (List ℕ)) → AsksNothing (directory m) (future m Stopped lines) };
+    ghost unasked: { (m : Self) (lines : List (List ℕ)) → AsksNothing (state m).directory ((state m).future Stopped lines) };
 }

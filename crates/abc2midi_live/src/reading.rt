@@ -1,8 +1,8 @@
 //! A machine that listens to a reader, from its first byte to the end of the input.
 
 ghost use Rattle.std.specs.Prelude.{◌≡◌, ◌<◌, ◌≤◌, ◌-◌, ◌^◌, ℕ, length};
-ghost use Rattle.abc2midi_live.specs.Outcome.{read_faults, write_faults, ends, read_counts, AnswersAll, Reads, TurnsOrFails};
-ghost use Rattle.abc2midi_live.specs.Machine.{hearing, standing};
+ghost use Rattle.abc2midi_live.specs.Outcome.{read_faults, write_faults, ends_of, read_counts, AnswersAll, Reads, TurnsOrFails};
+ghost use Rattle.abc2midi_live.specs.Listener.{hears};
 ghost use Rattle.abc_fold.specs.Work.{raised};
 
 use crate::fault::RunFault;
@@ -34,9 +34,8 @@ fn turn<M: Machine, R: Source, W: Sink, S: Store>(
     work: &mut Work,
 ) -> Result<bool, RunFault>
     requires { 0 < length buffer.old }
-    ensures answers { let before = hearing (M.future listener.old.machine) listener.old.begun.items (M.directory listener.old.machine) in
-        let after = hearing (M.future listener.new.machine) listener.new.begun.items (M.directory listener.new.machine) in
-        TurnsOrFails before after (ends (R.remaining reader.old) (W.contents writer.old) (S.seen store.old)) (ends (R.remaining reader.new) (W.contents writer.new) (S.seen store.new)) result }
+    ensures answers { let e = ends_of R.remaining W.contents S.seen in TurnsOrFails (hears M.state listener.old) (hears M.state listener.new)
+        (e reader.old writer.old store.old) (e reader.new writer.new store.new) result }
     ensures calls { R.calls reader.new ≡ raised (R.calls reader.old) 1 }
     ensures reads { R.failures reader.new ≡ raised (R.failures reader.old) (read_faults result) }
     ensures writes { W.failures writer.new ≡ raised (W.failures writer.old) (write_faults result) }
@@ -62,9 +61,8 @@ pub fn listen<M: Machine + Drop, R: Source, W: Sink, S: Store>(
     store: &mut S,
     work: &mut Work,
 ) -> Result<M, RunFault>
-    ensures answers { let before = ends (R.remaining reader.old) (W.contents writer.old) (S.seen store.old) in
-        let after = ends (R.remaining reader.new) (W.contents writer.new) (S.seen store.new) in
-        AnswersAll (standing (M.future machine) (M.directory machine)) before after result }
+    ensures answers { let e = ends_of R.remaining W.contents S.seen in
+        AnswersAll (M.state machine) (e reader.old writer.old store.old) (e reader.new writer.new store.new) result }
     ensures calls { (made : ℕ) × (made ≤ MOST_READS) × (R.calls reader.new ≡ raised (R.calls reader.old) made) }
     ensures reads { Reads (R.remaining reader.old) (read_counts (R.failures reader.old) (R.calls reader.old))
         (read_counts (R.failures reader.new) (R.calls reader.new)) result }

@@ -1,13 +1,10 @@
 //! A run of commands: read, carried out, answered.
 
-ghost use Rattle.std.specs.Prelude.{◌≡◌, ◌≤◌, ℕ, List, IfOk, MatchResult, option_copied};
-ghost use Rattle.std.specs.Io.KnownBytes.{Appends};
-ghost use Rattle.abc2midi_live.specs.Outcome.{write_faults, ends, read_counts, Reads, Transcribes, Unopened};
+ghost use Rattle.std.specs.Prelude.{◌≡◌, ◌≤◌, ℕ, IfOk, option_copied};
+ghost use Rattle.abc2midi_live.specs.Outcome.{write_faults, ends_of, read_counts, Reads, Transcribes};
 ghost use Rattle.abc_fold.specs.Work.{raised};
 ghost use Rattle.abc_publish.specs.Publisher.{maps_of};
-ghost use Rattle.abc2midi_live.specs.Dialogue.{Opens};
-ghost use Rattle.abc2midi_live.specs.Gathering.{begun_of};
-ghost use Rattle.abc2midi_live.specs.Told.{holding};
+ghost use Rattle.abc2midi_live.specs.DialogueState.{OpensOrFails};
 ghost use Rattle.abc2midi_live.specs.Transcript.{no_directory};
 
 use crate::dialogue::Dialogue;
@@ -26,9 +23,7 @@ fn opened<W: Sink>(
     writer: &mut W,
     work: &mut Work,
 ) -> Result<Dialogue, RunFault>
-    ensures answer { let before = W.contents writer.old in let after = W.contents writer.new in MatchResult result
-        (λ d. (text : List ℕ) × Appends before after text × Opens (option_copied book.entry) text (holding d.session.text (maps_of d.publisher).directory) (begun_of d.gathering))
-        (Unopened before after) }
+    ensures answer { OpensOrFails (option_copied book.entry) (W.contents writer.old) (W.contents writer.new) result }
     ensures directory { IfOk result (λ d. (maps_of d.publisher).directory ≡ no_directory) }
     ensures fails { W.failures writer.new ≡ raised (W.failures writer.old) (write_faults result) }
 {
@@ -54,9 +49,8 @@ fn ended<R: Source, W: Sink, S: Store>(
     store: &mut S,
     work: &mut Work,
 ) -> Result<Dialogue, RunFault>
-    ensures transcript { let before = ends (R.remaining reader.old) (W.contents writer.old) (S.seen store.old) in
-        let after = ends (R.remaining reader.new) (W.contents writer.new) (S.seen store.new) in
-        Transcribes (option_copied book.entry) before after result }
+    ensures transcript { let e = ends_of R.remaining W.contents S.seen in
+        Transcribes (option_copied book.entry) (e reader.old writer.old store.old) (e reader.new writer.new store.new) result }
     ensures calls { (made : ℕ) × (made ≤ MOST_READS) × (R.calls reader.new ≡ raised (R.calls reader.old) made) }
     ensures reads { Reads (R.remaining reader.old) (read_counts (R.failures reader.old) (R.calls reader.old))
         (read_counts (R.failures reader.new) (R.calls reader.new)) result }
@@ -83,9 +77,8 @@ pub fn run<R: Source, W: Sink, S: Store>(
 
     // What is written is the transcript of the book, of all that there is to read, and of the store's answers; the
     // store then holds what the transcript says. Or what a fault leaves of these.
-    ensures transcript { let before = ends (R.remaining reader.old) (W.contents writer.old) (S.seen store.old) in
-        let after = ends (R.remaining reader.new) (W.contents writer.new) (S.seen store.new) in
-        Transcribes (option_copied book.entry) before after result }
+    ensures transcript { let e = ends_of R.remaining W.contents S.seen in
+        Transcribes (option_copied book.entry) (e reader.old writer.old store.old) (e reader.new writer.new store.new) result }
 
     // What the counts of the reader and the writer say.
     ensures calls { (made : ℕ) × (made ≤ MOST_READS) × (R.calls reader.new ≡ raised (R.calls reader.old) made) }
@@ -110,9 +103,8 @@ pub fn run_before_exit<R: Source, W: Sink, S: Store>(
 ) -> Result<(), RunFault>
 
     // The clauses of `run`.
-    ensures transcript { let before = ends (R.remaining reader.old) (W.contents writer.old) (S.seen store.old) in
-        let after = ends (R.remaining reader.new) (W.contents writer.new) (S.seen store.new) in
-        Transcribes (option_copied book.entry) before after result }
+    ensures transcript { let e = ends_of R.remaining W.contents S.seen in
+        Transcribes (option_copied book.entry) (e reader.old writer.old store.old) (e reader.new writer.new store.new) result }
     ensures calls { (made : ℕ) × (made ≤ MOST_READS) × (R.calls reader.new ≡ raised (R.calls reader.old) made) }
     ensures reads { Reads (R.remaining reader.old) (read_counts (R.failures reader.old) (R.calls reader.old))
         (read_counts (R.failures reader.new) (R.calls reader.new)) result }

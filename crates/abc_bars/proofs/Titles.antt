@@ -47,7 +47,7 @@ use Rattle.abc_header.specs.Header.{and_program, declared, declared_given, direc
 use Rattle.abc_header.specs.HeaderLine.{HeaderLine, FieldLine, DirectiveLine}
 use Rattle.abc_header.specs.Opening.{opening_meter, opening_tempo, opening_tempo_by}
 use Rattle.abc_header.specs.Reference.{reference_of}
-use Rattle.abc_cells.specs.SameEntry.{bars}
+use Rattle.abc_cells.specs.SameEntry.{bar_steps}
 use Rattle.abc_cells.specs.Step.{behind_kind, behind_line, body_stepped, directive_in, field_in, file_header_stepped, header_stepped, line_in, line_of, stepped}
 use Rattle.abc_bars.specs.Titles.{title_said, titles_by, titles_from, titles_of_header, titles_said, SaysTitlesOfHeader}
 use Rattle.abc_cells.specs.declared.body.Body.{Body}
@@ -339,11 +339,11 @@ nothing_said (entries.Opening defaults) = refl
 nothing_said (entries.Header header) = refl
 nothing_said (entries.Body body) = refl
 
-cells_say : (entry : Entry) (cells : List Cell) → titles_said (flat_map (λ given. given.items) (items_from bars entry cells)) ≡ said_from entry cells
+cells_say : (entry : Entry) (cells : List Cell) → titles_said (flat_map (λ given. given.items) (items_from bar_steps entry cells)) ≡ said_from entry cells
 cells_say entry [] = nothing_said entry
 cells_say entry (cell ∷ cells) =
     let step = stepped entry cell in
-    filter_map-append title_said step.1.items (flat_map (λ given. given.items) (items_from bars step.0 cells))
+    filter_map-append title_said step.1.items (flat_map (λ given. given.items) (items_from bar_steps step.0 cells))
     ∙ ap (λ titles. titles_said step.1.items ++ titles) (cells_say step.0 cells)
     ∙ says entry cell cells
 

@@ -1,10 +1,8 @@
 //! The law of the fold along the cells of a file header and of a tune.
 
 ghost use Rattle.std.specs.Prelude.{◌≡◌, ◌↔◌, IsTrue, List, Option};
-ghost use Rattle.std.specs.Option.{option_map};
 ghost use Rattle.abc_header.specs.Defaults.{no_defaults};
-ghost use Rattle.abc_cells.specs.Entry.{opening_after};
-ghost use Rattle.abc_bars.specs.LookBack.Along.{CellTokens, IsLookBack, file_header_begins, given_along, place_after, state_after, tune_begins, values_set};
+ghost use Rattle.abc_bars.specs.LookBack.Along.{CellTokens, IsLookBack, file_header_begins, given_along, place_after, tune_begins, tune_state, values_set};
 ghost use Rattle.abc_bars.specs.LookBack.Place.{Place, view};
 ghost use Rattle.abc_bars.specs.LookBack.TunePlaces.{IsOfTune};
 ghost use Rattle.abc_bars.specs.declared.bar_fold.BarFold.{BarFold};
@@ -12,7 +10,7 @@ ghost use Rattle.abc_cells.specs.declared.entry.Entry.{Entry};
 ghost use Rattle.abc_cells.specs.declared.entry.Entry.TheVariants as entries;
 
 use crate::bar_fold::BarFold;
-use abc_fold::{Fold, Resumable};
+use abc_fold::Fold;
 
 /// The fold is the look back: along any cells, those of a file header from `Entry::header` on and those of a
 /// tune from `Entry::tune` on, each cell is entered in the view of its place and gives what looking back gives
@@ -20,13 +18,10 @@ use abc_fold::{Fold, Resumable};
 /// from the view of any place on.
 #[tactic(auto, using(crate::proofs::LookBack::Along::file_header_looked_back, crate::proofs::LookBack::Along::tune_looked_back, crate::proofs::LookBack::Along::from_view))]
 pub fn views_along()
-    ensures file_header { (fold : BarFold) →
-        IsLookBack (⟦<BarFold as Fold>⟧.next fold) (⟦<BarFold as Fold>⟧.gives fold) (entries.FileHeader no_defaults) file_header_begins }
-    ensures tune { (fold : BarFold) (header : Option (List CellTokens)) →
-        IsLookBack (⟦<BarFold as Fold>⟧.next fold) (⟦<BarFold as Fold>⟧.gives fold)
-        (opening_after (option_map (state_after (⟦<BarFold as Fold>⟧.next fold) (entries.FileHeader no_defaults)) header)) (tune_begins header) }
-    ensures place { (fold : BarFold) (place : Place) →
-        IsLookBack (⟦<BarFold as Fold>⟧.next fold) (⟦<BarFold as Fold>⟧.gives fold) (view place) place }
+    ensures file_header { (fold : BarFold) → IsLookBack (⟦<BarFold as Fold>⟧.steps fold) (entries.FileHeader no_defaults) file_header_begins }
+    ensures tune { (fold : BarFold) (header : Option (List CellTokens)) → let steps = ⟦<BarFold as Fold>⟧.steps fold in
+        IsLookBack steps (tune_state steps header) (tune_begins header) }
+    ensures place { (fold : BarFold) (place : Place) → IsLookBack (⟦<BarFold as Fold>⟧.steps fold) (view place) place }
 {}
 
 /// What cells give, and what holds behind them, depends on the view at the place that they follow and on nothing
@@ -44,7 +39,7 @@ pub fn views_decide()
 /// part by part and voice by voice, in the order in which the voices were mentioned.
 #[tactic(auto, using(crate::proofs::EntryLaws::alike_where_equal))]
 pub fn alike_views()
-    ensures { (fold : BarFold) (here there : Entry) → IsTrue (⟦<BarFold as Resumable>⟧.alike fold here there) ↔ (here ≡ there) }
+    ensures { (fold : BarFold) (here there : Entry) → IsTrue ((⟦<BarFold as Fold>⟧.steps fold).alike here there) ↔ (here ≡ there) }
 {}
 
 /// What a place of a tune keeps is what stands before it in the file header and in its own: the values of the

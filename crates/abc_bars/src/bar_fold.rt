@@ -3,25 +3,25 @@
 ghost use Rattle.std.specs.Prelude.{◌≡◌, IfOk};
 ghost use Rattle.std.specs.Option.{option_copied};
 ghost use Rattle.abc_cells.specs.Cell.{cell_given};
-ghost use Rattle.abc_cells.specs.SameEntry.{bars_resumable, same_entry};
+ghost use Rattle.abc_cells.specs.SameEntry.{bar_steps, bars_resumable};
 ghost use Rattle.abc_header.specs.Header.{header_given};
 ghost use Rattle.abc_header.specs.HeaderLine.{DirectiveLine, FieldLine};
 ghost use Rattle.abc_cells.specs.Step.{field_line, field_in, directive_line, directive_in, line_in, body_stepped, line_stepped, header_stepped, file_header_made, file_header_stepped, stepped};
 
 use abc_cells::{BodyCopy, Entry, Given, body_from, cell_given};
 use abc_fields::{EMPTY_KEY, key_set_by};
-use abc_fold::{Fold, Resumable, Shared, Work};
+use abc_fold::{Fold, Work};
 use abc_header::{
     Defaults, FieldKind, FileHeaderGiven, Header, HeaderGiven, file_header_directed,
     file_header_given, header_directed, header_given, kind_of,
 };
-use abc_items::Items;
+use abc_items::{Items, ItemsBuilder};
 use abc_scan::{Cell, Directive, Field, Token, TokenKind};
 use abc_text::Sequence;
 use std::alloc::{AllocError, Global};
 
 /// What holds behind a cell, and what it gives.
-type Stepped = Result<(Entry, Items), AllocError>;
+type Stepped = Result<(Entry, ItemsBuilder), AllocError>;
 
 /// The field that a token is, if it is a field line.
 fn field_line(kind: &TokenKind) -> Option<&Field>
@@ -96,7 +96,7 @@ fn field_stepped(alloc: Global, header: Header, field: &Field) -> Stepped
         | FieldKind::Voice
         | FieldKind::Other => Entry::in_header(alloc, header)?,
     };
-    Ok((entry, Items::of(items, faults)))
+    Ok((entry, ItemsBuilder::of(items, faults)))
 }
 
 /// A directive of a header, which does not end it.
@@ -109,7 +109,7 @@ fn directive_stepped(alloc: Global, header: Header, directive: Directive) -> Ste
         faults,
     } = header_directed(alloc, header, directive)?;
     let entry = Entry::in_header(alloc, header)?;
-    Ok((entry, Items::of(items, faults)))
+    Ok((entry, ItemsBuilder::of(items, faults)))
 }
 
 /// A cell of a header: a line of music ends it, and is a cell of the body.
@@ -152,7 +152,7 @@ fn file_header_stepped(alloc: Global, defaults: Defaults, cell: &[Token]) -> Ste
     let items = Sequence::new(alloc);
     Ok((
         Entry::FileHeader(given.defaults),
-        Items::of(items, given.faults),
+        ItemsBuilder::of(items, given.faults),
     ))
 }
 
@@ -172,58 +172,52 @@ fn stepped(alloc: Global, entry: &Entry, cell: &[Token]) -> Stepped
 }
 
 /// The fold over the cells of a file header or of a tune, from `Entry::header` or `Entry::tune` on: what each
-/// cell gives and what holds behind it depend on what holds where it is entered, and on nothing else. A copy of a
-/// cell shares its tokens.
+/// cell gives and what holds behind it depend on what holds where it is entered, and on nothing else.
 #[derive(Clone, Copy, Debug, Drop)]
 pub struct BarFold;
 
 impl Fold for BarFold {
     type State = Entry;
 
-    type Cell = Shared<Cell>;
+    type Cell = Cell;
 
     type Items = Items;
 
     type Work = Work;
 
-    ghost next = { λ _ entry cell. (stepped entry cell).0 };
+    ghost steps = { λ _. bar_steps };
 
-    ghost gives = { λ _ entry cell. (stepped entry cell).1 };
+    ghost resumable = { λ _. bars_resumable };
 
     fn step(
         &self,
         alloc: Global,
         state: &Entry,
-        cell: &Shared<Cell>,
+        cell: &Cell,
         work: &mut Work,
     ) -> Result<(Entry, Items), AllocError> {
         work.count_folded();
-        stepped(alloc, state, cell.get().as_slice())
+        let (next, given) = stepped(alloc, state, cell.tokens())?;
+        Ok((next, Items::new(alloc, given)?))
     }
-}
 
-impl Resumable for BarFold {
-    ghost alike = { λ _. same_entry };
-
-    ghost resumable = { λ _. bars_resumable };
-
-    fn same(&self, a: &Entry, b: &Entry) -> bool {
+    fn same(a: &Entry, b: &Entry) -> bool {
         a.same(b)
     }
 
-    fn stays(&self, state: &Entry, cell: &Shared<Cell>, behind: &Entry) -> bool {
-        state.stays(cell.get().as_slice(), behind)
+    fn stays(&self, state: &Entry, cell: &Cell, behind: &Entry) -> bool {
+        state.stays(cell.tokens(), behind)
     }
 
-    fn copy_state(&self, _alloc: Global, state: &Entry) -> Result<Entry, AllocError> {
+    fn copy_state(_alloc: Global, state: &Entry) -> Result<Entry, AllocError> {
         state.copied()
     }
 
-    fn copy_cell(&self, _alloc: Global, cell: &Shared<Cell>) -> Result<Shared<Cell>, AllocError> {
+    fn copy_cell(_alloc: Global, cell: &Cell) -> Result<Cell, AllocError> {
         cell.share()
     }
 
-    fn copy_items(&self, alloc: Global, items: &Items) -> Result<Items, AllocError> {
-        items.copied(alloc)
+    fn copy_items(_alloc: Global, items: &Items) -> Result<Items, AllocError> {
+        items.share()
     }
 }

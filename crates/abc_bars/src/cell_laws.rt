@@ -1,9 +1,10 @@
 //! Laws of what the cells of a tune give.
 
 ghost use Rattle.std.specs.Prelude.{◌≡◌, List};
-ghost use Rattle.abc_cells.specs.Cell.{tie_ahead, with_token};
+ghost use Rattle.abc_cells.specs.Cell.{with_token};
 ghost use Rattle.abc_cells.specs.Step.{stepped};
 ghost use Rattle.abc_bars.specs.LookBack.AfterBody.{body_after};
+ghost use Rattle.abc_bars.specs.LookBack.Cells.{element_of};
 ghost use Rattle.abc_bars.specs.LookBack.Place.{Place, given_at, place_behind, view};
 ghost use Rattle.abc_cells.specs.declared.body.Body.{Body};
 ghost use Rattle.abc_cells.specs.declared.cell.Given.{Given};
@@ -24,6 +25,5 @@ pub fn cell_views()
 #[tactic(auto, using(crate::proofs::LookBack::Tokens::token_leaves))]
 pub fn left_by_tokens()
     ensures { (given : Given) (body : Body) (token : Spanned TokenKind) (ahead : List (Spanned TokenKind)) →
-        (with_token (record given { body = body }) token ahead).body
-        ≡ body_after body (record { kind = token.kind; tied = tie_ahead ahead }) }
+        (with_token (record given { body = body }) token ahead).body ≡ body_after body (element_of token ahead) }
 {}

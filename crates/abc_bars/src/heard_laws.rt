@@ -5,7 +5,7 @@ ghost use Rattle.abc_header.specs.HeaderLine.{HeaderLine};
 ghost use Rattle.abc_bars.specs.LookBack.AfterBody.{body_after};
 ghost use Rattle.abc_bars.specs.LookBack.Element.{Element};
 ghost use Rattle.abc_bars.specs.LookBack.Held.{held_at};
-ghost use Rattle.abc_bars.specs.LookBack.Place.{opening_at};
+ghost use Rattle.abc_bars.specs.LookBack.Place.{AtEachPlace, opening_at};
 ghost use Rattle.abc_header.specs.declared.defaults.Defaults.{Defaults};
 ghost use Rattle.abc_fields.specs.declared.key.Key.{Key};
 
@@ -15,7 +15,5 @@ ghost use Rattle.abc_fields.specs.declared.key.Key.{Key};
 pub fn held_views()
     ensures begins { (opening : Defaults) (fields : List HeaderLine) (key : Key) →
         held_at (opening_at opening fields key) [] ≡ opening_at opening fields key }
-    ensures behind { (opening : Defaults) (fields : List HeaderLine) (key : Key) (before : List Element) (element : Element) →
-        held_at (opening_at opening fields key) (element ∷ before)
-        ≡ body_after (held_at (opening_at opening fields key) before) element }
+    ensures behind { AtEachPlace (λ body start before. (element : Element) → held_at start (element ∷ before) ≡ body_after body element) }
 {}

@@ -1,23 +1,22 @@
 //! Laws of ties: which are loose, and from which notes they lead on.
 
-ghost use Rattle.std.specs.Prelude.{◌≡◌, All, List, [], filter, false, map};
+ghost use Rattle.std.specs.Prelude.{◌≡◌, All, List, [], filter, false};
 ghost use Rattle.abc_fields.specs.declared.key.Key.{Key};
-ghost use Rattle.abc_scan.specs.declared.spanned.Spanned.{Spanned};
-ghost use Rattle.abc_scan.specs.declared.token.TokenKind.{TokenKind};
 ghost use Rattle.abc_settings.specs.declared.settings.Settings.{Settings};
 ghost use Rattle.abc_music.specs.Broken.{is_time_token};
 ghost use Rattle.abc_music.specs.LooseTies.{is_loose_tie};
 ghost use Rattle.abc_header.specs.HeaderLine.{HeaderLine};
+ghost use Rattle.abc_bars.specs.LookBack.Along.{CellTokens};
 ghost use Rattle.abc_bars.specs.LookBack.Element.{Element};
 ghost use Rattle.abc_bars.specs.LookBack.Place.{given_in_body};
-ghost use Rattle.abc_bars.specs.LookBack.Ties.{IsTimeBefore, loose_ties, tied_notes};
-ghost use Rattle.abc_bars.specs.LookBack.Voice.{alteration_at, as_tied, settings_at, tied_at};
+ghost use Rattle.abc_bars.specs.LookBack.Ties.{IsTimeBefore, loose_ties, tied_after};
+ghost use Rattle.abc_bars.specs.LookBack.Voice.{settings_at};
 ghost use Rattle.abc_header.specs.declared.defaults.Defaults.{Defaults};
 
 /// The faults `LooseTie` of a cell of music, wherever it stands, are at those of its ties that have no note or chord
 /// directly before them, and at those inside a chord that have no note directly before them.
 pub fn loose_ties_of_cells()
-    ensures { (opening : Defaults) (fields : List HeaderLine) (key : Key) (before : List Element) (cell : List (Spanned TokenKind)) →
+    ensures { (opening : Defaults) (fields : List HeaderLine) (key : Key) (before : List Element) (cell : CellTokens) →
         filter is_loose_tie (given_in_body opening fields key before cell).faults ≡ loose_ties cell }
 {}
 
@@ -26,8 +25,7 @@ pub fn loose_ties_of_cells()
 #[tactic(auto, using(crate::proofs::LookBack::Ties::ties_lead, crate::proofs::LookBack::Ties::no_ties_lead))]
 pub fn ties_of_voices()
     ensures last { (opening : Settings) (before earlier : List Element) (token : Element) → IsTimeBefore before token earlier →
-        (settings_at opening before).tied
-        ≡ map (λ tied. as_tied tied.1 (alteration_at opening (tied_at opening earlier) earlier tied.0 tied.1)) (tied_notes token.kind token.tied) }
+        (settings_at opening before).tied ≡ tied_after opening earlier token }
     ensures none { (opening : Settings) (before : List Element) → All (λ other. is_time_token other.kind ≡ false) before →
         (settings_at opening before).tied ≡ [] }
 {}

@@ -49,7 +49,7 @@ use Rattle.abc_header.specs.HeaderLine.{HeaderLine, FieldLine, DirectiveLine}
 use Rattle.abc_header.specs.Opening.{opening_meter, opening_tempo, opening_tempo_by}
 use Rattle.abc_header.specs.Reference.{reference_of}
 use Rattle.abc_header.specs.declared.header.OwnGiven.{OwnGiven}
-use Rattle.abc_cells.specs.SameEntry.{bars}
+use Rattle.abc_cells.specs.SameEntry.{bar_steps}
 use Rattle.abc_cells.specs.Step.{behind_kind, behind_line, body_stepped, file_header_stepped, header_stepped, line_in, stepped}
 use Rattle.abc_header.specs.Voices.{place_of, with_voice_at}
 use Rattle.abc_header.specs.Voices.{voice_at as header_voice_at}
@@ -634,7 +634,7 @@ step_told (entries.Opening defaults) cell = header_told (opening_header defaults
 step_told (entries.Header header) cell = header_told header cell (line_in cell)
 step_told (entries.Body body) cell = body_told body cell
 
-cells_told : (entry : Entry) (cells : List (List (Spanned TokenKind))) → (after : Mentioned) × Tells (known_in entry) after (flat_map (λ given. given.items) (items_from bars entry cells))
+cells_told : (entry : Entry) (cells : List (List (Spanned TokenKind))) → (after : Mentioned) × Tells (known_in entry) after (flat_map (λ given. given.items) (items_from bar_steps entry cells))
 cells_told entry [] = (known_in entry, nothing_told (known_in entry) (known_in entry) refl)
 cells_told entry (cell ∷ cells) =
     let rest = cells_told (stepped entry cell).0 cells in

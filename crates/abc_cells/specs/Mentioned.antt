@@ -1,7 +1,7 @@
 -- The voices that the items of a tune mention. ABC 2.1 section 7.
 use Rattle.std.specs.Prelude.{◌≡◌, ◌≤◌, ℕ, Bool, true, false, if◌then◌else◌, bytes_eq, flat_map, List, [], ◌∷◌, ◌++◌, length}
 use Rattle.std.specs.List.{list_any}
-use Rattle.abc_cells.specs.SameEntry.{bars}
+use Rattle.abc_cells.specs.SameEntry.{bar_steps}
 use Rattle.abc_header.specs.declared.defaults.Defaults.{Defaults}
 use Rattle.abc_cells.specs.declared.entry.Entry.TheVariants as entries
 use Rattle.abc_fold.specs.Steps.{items_from}
@@ -56,7 +56,7 @@ AreNamed (item ∷ tune) = IsNamed item × AreNamed tune
 
 -- What the cells of a tune give to the score, where a file header set these values.
 abbrev pub items_of_cells : Defaults → List (List (Spanned TokenKind)) → List Item
-items_of_cells opening cells = flat_map (λ given. given.items) (items_from bars (entries.Opening opening) cells)
+items_of_cells opening cells = flat_map (λ given. given.items) (items_from bar_steps (entries.Opening opening) cells)
 
 -- Each V: among them says a name.
 abbrev pub NamesVoices : Type 0

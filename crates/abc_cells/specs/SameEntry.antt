@@ -2,7 +2,7 @@
 use Rattle.std.specs.Prelude.{◌≡◌, ◌⊎◌, ℕ, zero, suc, ℤ, Bool, true, List, Option, Some, None, unwrap_or, refl}
 use Rattle.std.proofs.Common.{inl, inr}
 use Rattle.abc_fields.specs.declared.signature.Signature.{Signature}
-use Rattle.abc_fold.specs.Steps.{Steps, IsResumable, resumable_where_equal, steps_of}
+use Rattle.abc_fold.specs.Steps.{Steps, IsResumable, resumable_where_equal}
 use Rattle.abc_items.specs.Item.{Items}
 use Rattle.abc_settings.specs.declared.accidentals.Accidentals.{Accidentals}
 use Rattle.abc_settings.specs.declared.accidentals.Accidentals.TheVariants as accidentals
@@ -188,9 +188,9 @@ unfolding same_entry
 same_entry_tells a b = entry_equality.exact a b
 
 -- The fold over bars: what holds behind a cell and what it gives, and which places are alike.
-abbrev pub bars : Steps Entry (List (Spanned TokenKind)) Items
-bars = steps_of (λ entry cell. (stepped entry cell).0) (λ entry cell. (stepped entry cell).1) same_entry
+abbrev pub bar_steps : Steps Entry (List (Spanned TokenKind)) Items
+bar_steps = record { next = λ entry cell. (stepped entry cell).0; gives = λ entry cell. (stepped entry cell).1; alike = same_entry }
 
 -- Places that are alike may stand for each other: what holds there is equal.
-pub bars_resumable : IsResumable bars
-bars_resumable = resumable_where_equal bars (λ a b. (same_entry_tells a b).0) (λ a. (same_entry_tells a a).1 refl)
+pub bars_resumable : IsResumable bar_steps
+bars_resumable = resumable_where_equal bar_steps (λ a b. (same_entry_tells a b).0) (λ a. (same_entry_tells a a).1 refl)

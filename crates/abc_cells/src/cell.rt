@@ -12,7 +12,7 @@ use crate::body_copy::BodyCopy;
 use crate::body_fields::FieldItem;
 use crate::room::room_for;
 use abc_fields::FaultCode;
-use abc_items::{Item, Items, LocalFault, column_of, program_of};
+use abc_items::{Item, ItemsBuilder, LocalFault, column_of, program_of};
 use abc_music::{
     Behind, BrokenFactors, NotePlace, TokenRole, bar_rest_of, behind_after, chord_played, has_note,
     is_bad_mark, note_played, rest_played, token_role,
@@ -65,7 +65,7 @@ fn chord_factors(behind: Behind, chord: &Chord, ahead: &[Token]) -> BrokenFactor
 #[derive(Drop)]
 pub struct Given {
     pub body: BodyCopy,
-    pub items: Items,
+    pub items: ItemsBuilder,
     /// What stands nearest before, of what matters to broken rhythm.
     pub(crate) behind: Behind,
     /// Whether a note or chord stands directly before.
@@ -77,7 +77,7 @@ impl Given {
     fn nothing(alloc: Global, body: BodyCopy, room: usize) -> Result<Given, AllocError>
         ensures { IfOk result (λ given. given ≡ nothing_given body) }
     {
-        let items = Items::with_room(alloc, room)?;
+        let items = ItemsBuilder::with_room(alloc, room)?;
         Ok(Given {
             body,
             items,

@@ -3,7 +3,7 @@ use Rattle.std.proofs.Common.{◌∙◌, ◌∷◌, ◌≡◌, ◌≤◌, Bool, 
 use Rattle.abc_book.specs.declared.block.Block.{Block}
 use Rattle.abc_book.proofs.OnePass.{one_pass}
 use Rattle.abc_fold.specs.Chain.{Chained, no_cells}
-use Rattle.abc_fold.specs.Steps.{Steps, steps_of}
+use Rattle.abc_fold.specs.Steps.{Steps}
 use Rattle.abc_fold.specs.Work.{Counters, IsRaisedUpTo, raised}
 use Rattle.abc_fold.proofs.Raised.{raised-least}
 use Rattle.abc_lines.specs.Text.{Text}
@@ -63,8 +63,8 @@ empty_stands {State = State} {Cell = Cell} {Items = Items} steps rules text rows
     rw (t, r, h, b, c) all
 
 -- What is kept of a text stands, seen as it is now.
-pub stands_now : {C State Cell Items Defaults : Type 0} (next : C → State → Cell → State) (gives : C → State → Cell → Items) (alike : C → State → State → Bool) (rules : C → Rules State Cell Items Defaults) {was now : Keeping C State Cell Items} → was ≡ now
-    → Stands (steps_of (next was.compiler) (gives was.compiler) (alike was.compiler)) (rules was.compiler) was.lines.text (parts_of was)
-    → Stands (steps_of (next now.compiler) (gives now.compiler) (alike now.compiler)) (rules now.compiler) now.lines.text (parts_of now)
-stands_now {C = C} {State = State} {Cell = Cell} {Items = Items} next gives alike rules same stands =
-    subst (λ (k : Keeping C State Cell Items). Stands (steps_of (next k.compiler) (gives k.compiler) (alike k.compiler)) (rules k.compiler) k.lines.text (parts_of k)) same stands
+pub stands_now : {C State Cell Items Defaults : Type 0} (steps : C → Steps State Cell Items) (rules : C → Rules State Cell Items Defaults) {was now : Keeping C State Cell Items} → was ≡ now
+    → Stands (steps was.compiler) (rules was.compiler) was.lines.text (parts_of was)
+    → Stands (steps now.compiler) (rules now.compiler) now.lines.text (parts_of now)
+stands_now {C = C} {State = State} {Cell = Cell} {Items = Items} steps rules same stands =
+    subst (λ (k : Keeping C State Cell Items). Stands (steps k.compiler) (rules k.compiler) k.lines.text (parts_of k)) same stands

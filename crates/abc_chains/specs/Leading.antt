@@ -4,7 +4,7 @@ use Rattle.abc_book.specs.Block.{blocks_of}
 use Rattle.abc_book.specs.declared.block.Block.{Block}
 use Rattle.abc_fold.specs.Chain.{Chained}
 use Rattle.abc_fold.specs.Steps.{Steps, IsAlike}
-use Rattle.abc_tunebook.specs.Book.{header_in}
+use Rattle.abc_tunebook.specs.Book.{header_in, tunes_in}
 use Rattle.abc_tunebook.specs.Rules.{Rules}
 use Rattle.abc_chains.specs.Holding.{class_in}
 use Rattle.abc_chains.specs.Keeping.{IsHeader, behind_chain, header_place}
@@ -27,9 +27,16 @@ lead_rows on lead at removed new = edited_rows at removed new (led_rows on lead)
 abbrev pub lead_stretch : Lead → ℕ → Stretch
 lead_stretch lead came = record { front = 0; behind = lead.behind; from = 0; to = lead.to; came = came }
 
+-- The file header among rows, if there is one, and the tunes.
+abbrev pub header_among : {Cell : Type 0} → List (CarriedRow Cell) → Option Block
+header_among rows = header_in (blocks_of (map class_in rows))
+
+abbrev pub tunes_among : {Cell : Type 0} → List (CarriedRow Cell) → List Block
+tunes_among rows = tunes_in (blocks_of (map class_in rows))
+
 -- The file header of a text that begins with these rows, its chain, and the state in which tunes begin behind it.
 pub record IsOpened {State Cell Items Defaults : Type 0} (steps : Steps State Cell Items) (rules : Rules State Cell Items Defaults) (rows : List (CarriedRow Cell)) (header : Option Block) (first : Chained State Cell Items) (opening : State) : Type 0 where
-  pub header_is : header ≡ header_in (blocks_of (map class_in rows))
+  pub header_is : header ≡ header_among rows
   pub chain : IsHeader steps rules.header rows first header
   pub begins : opening ≡ rules.tune (behind_chain header first)
 

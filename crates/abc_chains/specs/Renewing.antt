@@ -10,9 +10,10 @@ use Rattle.abc_tunebook.specs.Book.{blocks_in, header_in, tunes_in}
 use Rattle.abc_tunebook.specs.Rules.{Rules}
 use Rattle.abc_chains.specs.Holding.{LiesWithin}
 use Rattle.abc_chains.specs.Keeping.{AreChains}
-use Rattle.abc_chains.specs.Rows.{CarriedRow, Row, bare}
+use Rattle.abc_chains.specs.Rows.{CarriedRow, Row, bare, new_row}
 use Rattle.abc_chains.specs.Standing.{Keeping, LiesAmid, LiesBefore, LiesBehind, MayEndBy, MayLieBefore, gone, moved_on, taken_after}
 use Rattle.abc_rework.specs.Folded.{HasItemsOf, TakesUntouched}
+use Rattle.abc_chains.specs.declared.made.Renewed.{Renewed}
 use Rattle.abc_chains.specs.declared.stretch.Stretch.{Stretch}
 use Rattle.abc_chains.specs.declared.stretch.Lead.{Lead}
 use Rattle.abc_chains.specs.declared.stretch.Span.{Span}
@@ -25,6 +26,10 @@ start_of (block ∷ blocks) last = block.from
 -- A splice of lines.
 abbrev pub splice_at : ℕ → ℕ → Text → Splice
 splice_at at removed lines = record { at = at; removed = removed; lines = lines }
+
+-- A law of the splice that puts lines in the place of others, if these rows were read from the lines.
+abbrev pub ForSplice : {State Cell Items Defaults : Type 0} → Rules State Cell Items Defaults → ℕ → ℕ → List (Row Cell) → (Splice → Type 0) → Type 0
+ForSplice rules at removed rows Holds = (lines : Text) → rows ≡ map (new_row rules) lines → Holds (splice_at at removed lines)
 
 -- A stretch that begins with the last tune before an edit, and goes on to the first one behind it.
 pub record IsSpan (tunes : List Block) (count at removed : ℕ) (span : Span) : Type 0 where
@@ -85,6 +90,9 @@ pub record NewParts (State Cell Items : Type 0) : Type 0 where
 
 abbrev pub new_parts : {State Cell Items : Type 0} → Stretch → Option Block → Option (Chained State Cell Items) → List Block → List (Chained State Cell Items) → List (Option ℕ) → NewParts State Cell Items
 new_parts stretch header first tunes made taken = record { stretch = stretch; header = header; first = first; tunes = tunes; made = made; taken = taken }
+
+abbrev pub parts_made : {C Defaults State Cell Items Work : Type 0} → Renewed C Defaults State Cell Items Work → NewParts State Cell Items
+parts_made r = new_parts r.stretch r.header r.first r.folded.tunes.items r.folded.made.items r.folded.taken.items
 
 -- What is made anew is that of the new text.
 pub record IsRenewed {C State Cell Items Defaults : Type 0} (steps : Steps State Cell Items) (rules : Rules State Cell Items Defaults) (on : Keeping C State Cell Items) (s : Splice) (new : NewParts State Cell Items) : Type 0 where

@@ -9,6 +9,7 @@ use Rattle.abc_lines.specs.GapList.{Gapped}
 use Rattle.abc_lines.specs.Lines.{Lines, Prepared}
 use Rattle.abc_lines.specs.ListSplice.{Patched}
 use Rattle.abc_lines.specs.Text.{Splice, Text}
+use Rattle.abc_rework.specs.Fresh.{fresh_after}
 use Rattle.abc_tunebook.specs.Book.{blocks_in, header_in, tunes_in}
 use Rattle.abc_tunebook.specs.Rules.{Rules}
 use Rattle.abc_chains.specs.Keeping.{AreChains}
@@ -81,12 +82,31 @@ pub record Puts (State Cell Items : Type 0) : Type 0 where
 abbrev pub puts : {State Cell Items : Type 0} → Prepared → Patched (Row Cell) → Option Block → List Block → Patched (Chained State Cell Items) → Puts State Cell Items
 puts lines rows header tunes chains = record { lines = lines; rows = rows; header = header; tunes = tunes; chains = chains }
 
+-- What an edit that puts these makes of a kept text, by its stretch and what the tunes of the stretch have.
+abbrev pub edited_by : {C State Cell Items : Type 0} → Keeping C State Cell Items → Puts State Cell Items → Stretch → List (Chained State Cell Items) → List Block → List (Option ℕ) → Edited C State Cell Items
+edited_by on new stretch made places taken = record {
+  on = on;
+  text = new.lines.after;
+  rows = new.rows.after.items;
+  header = new.header;
+  tunes = new.tunes;
+  chains = new.chains.after.items;
+  stretch = stretch;
+  made = made;
+  places = places;
+  taken = taken;
+}
+
 -- It belongs to a kept text, and puts there what is kept of the new text.
 pub record IsPatch {C State Cell Items Defaults : Type 0} (steps : Steps State Cell Items) (rules : Rules State Cell Items Defaults) (on : Keeping C State Cell Items) (new : Puts State Cell Items) : Type 0 where
   pub lines_on : new.lines.on ≡ on.lines
   pub rows_on : new.rows.on ≡ on.rows
   pub chains_on : new.chains.on ≡ on.chains
   pub stands : Stands steps rules new.lines.after (parts new.rows.after.items new.header new.tunes new.chains.after.items)
+
+-- The same by the definitions of the text's own compiler.
+abbrev pub Patches : {C State Cell Items Defaults : Type 0} → (C → Steps State Cell Items) → (C → Rules State Cell Items Defaults) → Keeping C State Cell Items → Puts State Cell Items → Type 0
+Patches steps rules on new = IsPatch (steps on.compiler) (rules on.compiler) on new
 
 -- The chains of the tunes: the file header's stands before them.
 abbrev pub old_tunes : {C State Cell Items : Type 0} → Edited C State Cell Items → List (Chained State Cell Items)
@@ -165,6 +185,10 @@ taken_after stretch tunes taken = kept_numbers 0 stretch.front ++ (taken ++ kept
 
 abbrev pub all_taken : {C State Cell Items : Type 0} → Edited C State Cell Items → List (Option ℕ)
 all_taken patch = taken_after patch.stretch (length patch.on.tunes) patch.taken
+
+-- How many cells of a kept text a splice makes fresh.
+abbrev pub fresh_in : {C State Cell Items Defaults : Type 0} → Steps State Cell Items → Rules State Cell Items Defaults → Keeping C State Cell Items → Splice → ℕ
+fresh_in steps rules on s = fresh_after steps rules on.lines.text s
 
 -- The lines scanned have risen by so many at most, and the steps folded by so many; no tune has been built.
 pub record IsWorkUpTo (lines steps : ℕ) (before after : Counters) : Type 0 where

@@ -7,7 +7,7 @@ use Rattle.abc_rework.specs.Origins.{Origin}
 use Rattle.abc_chains.specs.Rows.{CarriedRow}
 use Rattle.std.specs.List.{AllZip}
 use Rattle.abc_book.specs.declared.block.Block.{Block}
-use Rattle.abc_chains.specs.Holding.{rows_in}
+use Rattle.abc_chains.specs.Holding.{IsChain, rows_in}
 
 abbrev pub is_origin : ℕ → ℕ → Option Origin → Bool
 is_origin source place None = false
@@ -48,3 +48,7 @@ pub record GoesAlong {State Cell Items : Type 0} (steps : Steps State Cell Items
 -- Each of these tunes that goes along an old one is known to have the items of one.
 abbrev pub KnowsAlong : {State Cell Items : Type 0} → Steps State Cell Items → List (Chained State Cell Items) → State → List (CarriedRow Cell) → List Block → List (Option ℕ) → Type 0
 KnowsAlong steps old opening rows tunes taken = AllZip (λ tune one. GoesAlong steps old opening (rows_in rows tune) → IsSome one) tunes taken
+
+-- The same of tunes with these chains, if the chains begin in this state.
+abbrev pub KnowsIfBegun : {State Cell Items : Type 0} → Steps State Cell Items → List (Chained State Cell Items) → State → List (CarriedRow Cell) → List (Chained State Cell Items) → List Block → List (Option ℕ) → Type 0
+KnowsIfBegun steps old begun rows made tunes taken = AllZip (IsChain steps begun rows) made tunes → KnowsAlong steps old begun rows tunes taken

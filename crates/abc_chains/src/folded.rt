@@ -5,7 +5,6 @@ ghost use Rattle.std.specs.List.{AllZip, sum_by};
 ghost use Rattle.abc_chains.specs.Holding.{IsCarried, IsChain, IsFolded, LiesWithin, steps_taken};
 ghost use Rattle.abc_chains.specs.Keeping.{IsHeader, behind_chain, header_steps};
 ghost use Rattle.abc_fold.specs.Chain.{no_cells};
-ghost use Rattle.abc_fold.specs.Steps.{steps_of};
 ghost use Rattle.abc_fold.specs.Work.{IsRaisedUpTo};
 
 use crate::carried::CarriedRow;
@@ -13,12 +12,12 @@ use crate::pieces::pieces_of;
 use crate::whole::whole_chain;
 use abc_book::Block;
 use abc_compiler::Compiler;
-use abc_fold::{Chain, Counts, Fold, Resumable, Shared};
+use abc_fold::{Chain, Counts, Fold, Shared};
 use abc_lines::GapList;
 use std::alloc::{AllocError, Global};
 
 /// A new chain of a block, begun in this state.
-fn chain_of<F: Resumable>(
+fn chain_of<F: Fold>(
     fold: &F,
     opening: &F::State,
     old: &GapList<Shared<Chain<F>>>,
@@ -27,10 +26,10 @@ fn chain_of<F: Resumable>(
     work: &mut F::Work,
 ) -> Result<Chain<F>, AllocError>
     requires carried { All (IsCarried old.now.items) rows.now }
-    requires folded { All (IsFolded (steps_of (F.next fold.now) (F.gives fold.now) (F.alike fold.now))) old.now.items }
+    requires folded { All (IsFolded (F.steps fold.now)) old.now.items }
     requires within { LiesWithin (length rows.now) block.now }
-    ensures chain { IfOk result (λ chain. IsChain (steps_of (F.next fold.now) (F.gives fold.now) (F.alike fold.now)) opening.now rows.now chain block.now) }
-    ensures counted { IsRaisedUpTo (steps_taken (steps_of (F.next fold.now) (F.gives fold.now) (F.alike fold.now)) opening.now old.now.items rows.now block.now) (F.Work.counts work.old) (F.Work.counts work.new) }
+    ensures chain { IfOk result (λ chain. IsChain (F.steps fold.now) opening.now rows.now chain block.now) }
+    ensures counted { IsRaisedUpTo (steps_taken (F.steps fold.now) opening.now old.now.items rows.now block.now) (F.Work.counts work.old) (F.Work.counts work.new) }
 {
     let alloc = old.allocator();
     let pieces = pieces_of(alloc, fold, old, rows, block)?;
@@ -41,7 +40,7 @@ fn chain_of<F: Resumable>(
 }
 
 /// The chain of a block, begun in this state: an old one, where one holds just the cells of its lines and begins alike.
-fn chain_over<F: Resumable>(
+fn chain_over<F: Fold>(
     fold: &F,
     opening: &F::State,
     old: &GapList<Shared<Chain<F>>>,
@@ -50,10 +49,10 @@ fn chain_over<F: Resumable>(
     work: &mut F::Work,
 ) -> Result<Shared<Chain<F>>, AllocError>
     requires carried { All (IsCarried old.now.items) rows.now }
-    requires folded { All (IsFolded (steps_of (F.next fold.now) (F.gives fold.now) (F.alike fold.now))) old.now.items }
+    requires folded { All (IsFolded (F.steps fold.now)) old.now.items }
     requires within { LiesWithin (length rows.now) block.now }
-    ensures chain { IfOk result (λ chain. IsChain (steps_of (F.next fold.now) (F.gives fold.now) (F.alike fold.now)) opening.now rows.now chain block.now) }
-    ensures counted { IsRaisedUpTo (steps_taken (steps_of (F.next fold.now) (F.gives fold.now) (F.alike fold.now)) opening.now old.now.items rows.now block.now) (F.Work.counts work.old) (F.Work.counts work.new) }
+    ensures chain { IfOk result (λ chain. IsChain (F.steps fold.now) opening.now rows.now chain block.now) }
+    ensures counted { IsRaisedUpTo (steps_taken (F.steps fold.now) opening.now old.now.items rows.now block.now) (F.Work.counts work.old) (F.Work.counts work.new) }
 {
     match whole_chain(fold, old, opening, &rows[block.from..block.to]) {
         Some(chain) => chain.share(),
@@ -65,7 +64,7 @@ fn chain_over<F: Resumable>(
 }
 
 /// The chains of tunes, each begun in this state.
-pub(crate) fn tune_chains<F: Resumable>(
+pub(crate) fn tune_chains<F: Fold>(
     fold: &F,
     opening: &F::State,
     old: &GapList<Shared<Chain<F>>>,
@@ -74,10 +73,10 @@ pub(crate) fn tune_chains<F: Resumable>(
     work: &mut F::Work,
 ) -> Result<Vec<Shared<Chain<F>>>, AllocError>
     requires carried { All (IsCarried old.now.items) rows.now }
-    requires folded { All (IsFolded (steps_of (F.next fold.now) (F.gives fold.now) (F.alike fold.now))) old.now.items }
+    requires folded { All (IsFolded (F.steps fold.now)) old.now.items }
     requires within { All (LiesWithin (length rows.now)) blocks.now }
-    ensures chains { IfOk result (λ chains. AllZip (IsChain (steps_of (F.next fold.now) (F.gives fold.now) (F.alike fold.now)) opening.now rows.now) chains.items blocks.now) }
-    ensures counted { IsRaisedUpTo (sum_by (steps_taken (steps_of (F.next fold.now) (F.gives fold.now) (F.alike fold.now)) opening.now old.now.items rows.now) blocks.now) (F.Work.counts work.old) (F.Work.counts work.new) }
+    ensures chains { IfOk result (λ chains. AllZip (IsChain (F.steps fold.now) opening.now rows.now) chains.items blocks.now) }
+    ensures counted { IsRaisedUpTo (sum_by (steps_taken (F.steps fold.now) opening.now old.now.items rows.now) blocks.now) (F.Work.counts work.old) (F.Work.counts work.new) }
 {
     let mut chains = Vec::new(old.allocator());
     for block in blocks {
@@ -88,7 +87,7 @@ pub(crate) fn tune_chains<F: Resumable>(
 }
 
 /// A chain without cells and states.
-fn no_chain<F: Resumable>(alloc: Global) -> Result<Shared<Chain<F>>, AllocError>
+fn no_chain<F: Fold>(alloc: Global) -> Result<Shared<Chain<F>>, AllocError>
     ensures { IfOk result (λ chain. chain ≡ no_cells) }
 {
     let chain = Chain::new(alloc)?;
@@ -105,10 +104,10 @@ pub(crate) fn header_chain<C: Compiler>(
     work: &mut C::Work,
 ) -> Result<Shared<Chain<C>>, AllocError>
     requires carried { All (IsCarried old.now.items) rows.now }
-    requires folded { All (IsFolded (steps_of (C.next compiler.now) (C.gives compiler.now) (C.alike compiler.now))) old.now.items }
+    requires folded { All (IsFolded (C.steps compiler.now)) old.now.items }
     requires within { IfSome header (LiesWithin (length rows.now)) }
-    ensures chain { IfOk result (λ chain. IsHeader (steps_of (C.next compiler.now) (C.gives compiler.now) (C.alike compiler.now)) (C.rules compiler.now).header rows.now chain header) }
-    ensures counted { IsRaisedUpTo (header_steps (steps_of (C.next compiler.now) (C.gives compiler.now) (C.alike compiler.now)) (C.rules compiler.now).header old.now.items rows.now header) (C.Work.counts work.old) (C.Work.counts work.new) }
+    ensures chain { IfOk result (λ chain. IsHeader (C.steps compiler.now) (C.rules compiler.now).header rows.now chain header) }
+    ensures counted { IsRaisedUpTo (header_steps (C.steps compiler.now) (C.rules compiler.now).header old.now.items rows.now header) (C.Work.counts work.old) (C.Work.counts work.new) }
 {
     match header {
         None => no_chain(alloc),

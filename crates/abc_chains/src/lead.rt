@@ -1,20 +1,15 @@
 //! What an edit makes anew where no tune begins before it.
 
-ghost use Rattle.std.specs.Prelude.{◌≡◌, ◌+◌, ◌≤◌, true, All, IfOk, Some, drop, length, map};
+ghost use Rattle.std.specs.Prelude.{◌≡◌, ◌+◌, ◌≤◌, true, All, IfOk, Some, drop, length};
 ghost use Rattle.std.specs.List.{AllZip, sum_by};
-ghost use Rattle.abc_book.specs.Block.{blocks_of};
-ghost use Rattle.abc_chains.specs.Holding.{IsCarried, IsChain, class_in, steps_taken};
+ghost use Rattle.abc_chains.specs.Holding.{IsCarried, IsChain, steps_taken};
 ghost use Rattle.abc_chains.specs.Keeping.{header_steps};
-ghost use Rattle.abc_chains.specs.Leading.{IsOpened, MayGoOn, lead_rows, lead_stretch};
-ghost use Rattle.abc_chains.specs.Renewing.{IsLead, IsRenewed, new_parts, splice_at};
-ghost use Rattle.abc_chains.specs.Rows.{new_row};
-ghost use Rattle.abc_chains.specs.Taking.{KnowsAlong};
+ghost use Rattle.abc_chains.specs.Leading.{IsOpened, MayGoOn, header_among, lead_rows, lead_stretch, tunes_among};
+ghost use Rattle.abc_chains.specs.Renewing.{ForSplice, IsLead, IsRenewed, parts_made};
+ghost use Rattle.abc_chains.specs.Standing.{fresh_in};
+ghost use Rattle.abc_chains.specs.Taking.{KnowsIfBegun};
 ghost use Rattle.abc_rework.specs.Folded.{HasItemsOf};
-ghost use Rattle.abc_fold.specs.Steps.{steps_of};
 ghost use Rattle.abc_fold.specs.Work.{IsRaisedUpTo};
-ghost use Rattle.abc_lines.specs.Text.{Text};
-ghost use Rattle.abc_rework.specs.Fresh.{fresh_after};
-ghost use Rattle.abc_tunebook.specs.Book.{header_in, tunes_in};
 
 use crate::blocks::{blocks_of, header_in, places_of};
 use crate::carried::{CarriedRow, item_at};
@@ -27,7 +22,7 @@ use crate::stretch::{Lead, Stretch, lead_of};
 use crate::text::KeptText;
 use abc_book::Block;
 use abc_compiler::Compiler;
-use abc_fold::{Chain, Counts, Fold, Resumable, Shared};
+use abc_fold::{Chain, Counts, Fold, Shared};
 use std::alloc::AllocError;
 
 /// A file header, if there is one, its chain, and the state in which the tunes behind it begin.
@@ -65,9 +60,9 @@ impl<C: Compiler> KeptText<C> {
     ) -> Result<Opened<C>, AllocError>
         requires { All (IsCarried self.now.chains.items) rows.now }
         ensures opened { let c = self.now.compiler in
-            IfOk result (λ o. IsOpened (steps_of (C.next c) (C.gives c) (C.alike c)) (C.rules c) rows.now o.header o.first o.opening) }
+            IfOk result (λ o. IsOpened (C.steps c) (C.rules c) rows.now o.header o.first o.opening) }
         ensures counted { let c = self.now.compiler in
-            IsRaisedUpTo (header_steps (steps_of (C.next c) (C.gives c) (C.alike c)) (C.rules c).header self.now.chains.items rows.now (header_in (blocks_of (map class_in rows.now)))) (C.Work.counts work.old) (C.Work.counts work.new) }
+            IsRaisedUpTo (header_steps (C.steps c) (C.rules c).header self.now.chains.items rows.now (header_among rows.now)) (C.Work.counts work.old) (C.Work.counts work.new) }
     {
         let alloc = self.lines.allocator();
         let blocks = blocks_of(alloc, rows)?;
@@ -84,7 +79,7 @@ impl<C: Compiler> KeptText<C> {
     /// Whether the tunes behind the first so many, if there are any, may go on where tunes begin in another state.
     fn may_go_on(&self, behind: usize, opening: &C::State) -> bool
         ensures { let c = self.now.compiler in
-            result ≡ true → MayGoOn (steps_of (C.next c) (C.gives c) (C.alike c)) (C.rules c) self.now behind opening.now }
+            result ≡ true → MayGoOn (C.steps c) (C.rules c) self.now behind opening.now }
     {
         if self.tunes.len() <= behind {
             return true;
@@ -92,7 +87,7 @@ impl<C: Compiler> KeptText<C> {
         let alloc = self.lines.allocator();
         let first = item_at(&self.chains, 0).get();
         let was = opening_behind(alloc, &self.compiler, self.header, first);
-        self.compiler.same(&was, opening)
+        C::same(&was, opening)
     }
 
     /// What an edit of the first lines makes anew, by the file header behind it and the rows that the lines have then.
@@ -107,15 +102,14 @@ impl<C: Compiler> KeptText<C> {
         ensures stretch { IfOk result (λ r. r.stretch ≡ lead_stretch lead (length rows.now)) }
         ensures header { IfOk result (λ r. r.header ≡ opened.header) }
         ensures first { IfOk result (λ r. r.first ≡ Some opened.first) }
-        ensures tunes { IfOk result (λ r. r.folded.tunes.items ≡ tunes_in (blocks_of (map class_in rows.now))) }
+        ensures tunes { IfOk result (λ r. r.folded.tunes.items ≡ tunes_among rows.now) }
         ensures chains { let c = self.now.compiler in
-            IfOk result (λ r. AllZip (IsChain (steps_of (C.next c) (C.gives c) (C.alike c)) opened.opening rows.now) r.folded.made.items r.folded.tunes.items) }
+            IfOk result (λ r. AllZip (IsChain (C.steps c) opened.opening rows.now) r.folded.made.items r.folded.tunes.items) }
         ensures items { IfOk result (λ r. AllZip (HasItemsOf (drop 1 self.now.chains.items)) r.folded.made.items r.folded.taken.items) }
         ensures along { let c = self.now.compiler in (begun : C.State) →
-            IfOk result (λ r. AllZip (IsChain (steps_of (C.next c) (C.gives c) (C.alike c)) begun rows.now) r.folded.made.items r.folded.tunes.items
-            → KnowsAlong (steps_of (C.next c) (C.gives c) (C.alike c)) self.now.chains.items begun rows.now r.folded.tunes.items r.folded.taken.items) }
+            IfOk result (λ r. KnowsIfBegun (C.steps c) self.now.chains.items begun rows.now r.folded.made.items r.folded.tunes.items r.folded.taken.items) }
         ensures counted { let c = self.now.compiler in
-            IsRaisedUpTo (sum_by (steps_taken (steps_of (C.next c) (C.gives c) (C.alike c)) opened.opening self.now.chains.items rows.now) (tunes_in (blocks_of (map class_in rows.now)))) (C.Work.counts work.old) (C.Work.counts work.new) }
+            IsRaisedUpTo (sum_by (steps_taken (C.steps c) opened.opening self.now.chains.items rows.now) (tunes_among rows.now)) (C.Work.counts work.old) (C.Work.counts work.new) }
     {
         let alloc = self.lines.allocator();
         let Opened {
@@ -149,10 +143,10 @@ impl<C: Compiler> KeptText<C> {
         work: &mut C::Work,
     ) -> Result<Renewed<C>, AllocError>
         requires { at + removed ≤ length self.now.lines.text }
-        ensures renewed { let c = self.now.compiler in (lines : Text) → new.now ≡ map (new_row (C.rules c)) lines →
-            IfOk result (λ r. IsRenewed (steps_of (C.next c) (C.gives c) (C.alike c)) (C.rules c) self.now (splice_at at removed lines) (new_parts r.stretch r.header r.first r.folded.tunes.items r.folded.made.items r.folded.taken.items)) }
-        ensures counted { let c = self.now.compiler in (lines : Text) → new.now ≡ map (new_row (C.rules c)) lines →
-            IsRaisedUpTo (fresh_after (steps_of (C.next c) (C.gives c) (C.alike c)) (C.rules c) self.now.lines.text (splice_at at removed lines)) (C.Work.counts work.old) (C.Work.counts work.new) }
+        ensures renewed { let c = self.now.compiler in ForSplice (C.rules c) at removed new.now (λ s.
+            IfOk result (λ r. IsRenewed (C.steps c) (C.rules c) self.now s (parts_made r))) }
+        ensures counted { let c = self.now.compiler in ForSplice (C.rules c) at removed new.now (λ s.
+            IsRaisedUpTo (fresh_in (C.steps c) (C.rules c) self.now s) (C.Work.counts work.old) (C.Work.counts work.new)) }
     {
         let count = self.lines.len();
         let lead = lead_of(&self.tunes, count, at + removed);

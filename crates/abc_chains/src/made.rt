@@ -1,12 +1,10 @@
 //! What an edit makes anew of a kept text.
 
 ghost use Rattle.std.specs.Prelude.{◌≡◌, ◌+◌, ◌-◌, ◌≤◌, ◌++◌, IfOk, OnOk, drop, length, map, take};
-ghost use Rattle.abc_chains.specs.Renewing.{IsRenewed, IsSpan, edited_rows, new_parts, splice_at};
-ghost use Rattle.abc_chains.specs.Rows.{bare, new_row};
-ghost use Rattle.abc_fold.specs.Steps.{steps_of};
+ghost use Rattle.abc_chains.specs.Renewing.{ForSplice, IsRenewed, IsSpan, edited_rows, parts_made};
+ghost use Rattle.abc_chains.specs.Rows.{bare};
+ghost use Rattle.abc_chains.specs.Standing.{fresh_in};
 ghost use Rattle.abc_fold.specs.Work.{IsRaisedUpTo};
-ghost use Rattle.abc_lines.specs.Text.{Text};
-ghost use Rattle.abc_rework.specs.Fresh.{fresh_after};
 
 use crate::blocks::blocks_of;
 use crate::carried::{CarriedRow, item_at};
@@ -18,7 +16,7 @@ use crate::stretch::{Span, Stretch, span_of};
 use crate::text::KeptText;
 use abc_book::Block;
 use abc_compiler::Compiler;
-use abc_fold::{Chain, Counts, Fold, Resumable, Shared};
+use abc_fold::{Chain, Counts, Fold, Shared};
 use std::alloc::{AllocError, Global};
 
 /// What is made anew of a text: the tunes of a stretch, and the file header's chain where that may change.
@@ -89,10 +87,10 @@ impl<C: Compiler> KeptText<C> {
     ) -> Result<Renewed<C>, AllocError>
         requires span { IsSpan self.now.tunes (length self.now.lines.text) at removed span }
         requires inside { at + removed ≤ length self.now.lines.text }
-        ensures renewed { let c = self.now.compiler in (lines : Text) → new.now ≡ map (new_row (C.rules c)) lines →
-            IfOk result (λ r. IsRenewed (steps_of (C.next c) (C.gives c) (C.alike c)) (C.rules c) self.now (splice_at at removed lines) (new_parts r.stretch r.header r.first r.folded.tunes.items r.folded.made.items r.folded.taken.items)) }
-        ensures counted { let c = self.now.compiler in (lines : Text) → new.now ≡ map (new_row (C.rules c)) lines →
-            IsRaisedUpTo (fresh_after (steps_of (C.next c) (C.gives c) (C.alike c)) (C.rules c) self.now.lines.text (splice_at at removed lines)) (C.Work.counts work.old) (C.Work.counts work.new) }
+        ensures renewed { let c = self.now.compiler in ForSplice (C.rules c) at removed new.now (λ s.
+            IfOk result (λ r. IsRenewed (C.steps c) (C.rules c) self.now s (parts_made r))) }
+        ensures counted { let c = self.now.compiler in ForSplice (C.rules c) at removed new.now (λ s.
+            IsRaisedUpTo (fresh_in (C.steps c) (C.rules c) self.now s) (C.Work.counts work.old) (C.Work.counts work.new)) }
     {
         let alloc = self.lines.allocator();
         let places = &self.tunes[span.front..span.behind];
@@ -133,10 +131,10 @@ impl<C: Compiler> KeptText<C> {
         work: &mut C::Work,
     ) -> Result<Renewed<C>, AllocError>
         requires { at + removed ≤ length self.now.lines.text }
-        ensures renewed { let c = self.now.compiler in (lines : Text) → new.now ≡ map (new_row (C.rules c)) lines →
-            IfOk result (λ r. IsRenewed (steps_of (C.next c) (C.gives c) (C.alike c)) (C.rules c) self.now (splice_at at removed lines) (new_parts r.stretch r.header r.first r.folded.tunes.items r.folded.made.items r.folded.taken.items)) }
-        ensures counted { let c = self.now.compiler in (lines : Text) → new.now ≡ map (new_row (C.rules c)) lines →
-            IsRaisedUpTo (fresh_after (steps_of (C.next c) (C.gives c) (C.alike c)) (C.rules c) self.now.lines.text (splice_at at removed lines)) (C.Work.counts work.old) (C.Work.counts work.new) }
+        ensures renewed { let c = self.now.compiler in ForSplice (C.rules c) at removed new.now (λ s.
+            IfOk result (λ r. IsRenewed (C.steps c) (C.rules c) self.now s (parts_made r))) }
+        ensures counted { let c = self.now.compiler in ForSplice (C.rules c) at removed new.now (λ s.
+            IsRaisedUpTo (fresh_in (C.steps c) (C.rules c) self.now s) (C.Work.counts work.old) (C.Work.counts work.new)) }
     {
         match span_of(&self.tunes, self.lines.len(), at, removed) {
             None => self.early(at, removed, new, work),

@@ -16,7 +16,7 @@ use crate::text::KeptText;
 use crate::tunes::NewPlaces;
 use abc_book::Block;
 use abc_compiler::Compiler;
-use abc_fold::{Chain, Resumable, Shared};
+use abc_fold::{Chain, Fold, Shared};
 use abc_lines::SplicePatch;
 use std::alloc::{AllocError, Global};
 
@@ -48,7 +48,7 @@ fn placed_tunes(alloc: Global, tunes: &[Block], stretch: Stretch) -> Result<Vec<
 }
 
 /// Appends shares of chains.
-fn append_shares<F: Resumable>(
+fn append_shares<F: Fold>(
     chains: &mut Vec<Shared<Chain<F>>>,
     more: &[Shared<Chain<F>>],
 ) -> Result<(), AllocError>

@@ -3,16 +3,14 @@
 
 ghost use Rattle.std.specs.Prelude.{◌≡◌, ◌≢◌, ◌+◌, ◌≤◌, [], ◌∷◌, IfOk, IfErr, Ok, None, drop, length, map, option_copied, slice_get};
 ghost use Rattle.std.specs.List.{AllZip};
-ghost use Rattle.abc_chains.specs.Standing.{AreRows, IsStretch, IsWorkUpTo, Stands, all_taken, parts_after, parts_of};
+ghost use Rattle.abc_chains.specs.Standing.{AreRows, IsStretch, IsWorkUpTo, Stands, all_taken, fresh_in, parts_after, parts_of};
 ghost use Rattle.abc_book.specs.Laws.{moved};
 ghost use Rattle.abc_chains.specs.Putting.{MayBePut, tunes_put};
-ghost use Rattle.abc_chains.specs.Renewing.{IsRenewed, chains_after, new_parts, tunes_after};
+ghost use Rattle.abc_chains.specs.Renewing.{IsRenewed, chains_after, parts_made, tunes_after};
 ghost use Rattle.abc_rework.specs.Folded.{HasItemsOf, TakesUntouched};
 ghost use Rattle.abc_fold.specs.Chain.{no_cells};
-ghost use Rattle.abc_fold.specs.Steps.{steps_of};
 ghost use Rattle.abc_lines.specs.Edits.{Refuses, replaced};
 ghost use Rattle.abc_lines.specs.Text.{IsText, splice_from, spliced};
-ghost use Rattle.abc_rework.specs.Fresh.{fresh_after};
 
 use crate::made::Renewed;
 use crate::place::Placed;
@@ -22,7 +20,7 @@ use crate::stretch::Stretch;
 use crate::tunes::NewPlaces;
 use abc_book::Block;
 use abc_compiler::Compiler;
-use abc_fold::{Chain, Counts, Fold, Resumable, Shared};
+use abc_fold::{Chain, Counts, Fold, Shared};
 use abc_lines::{EditError, GapList, LineBuffer, LinePatch, SplicePatch};
 use abc_text::Seen;
 use std::alloc::{AllocError, Global};
@@ -42,13 +40,13 @@ pub struct KeptText<C: Compiler> {
 
 impl<C: Compiler> Model for KeptText<C> {
     ghost use Rattle.abc_chains.specs.Standing.{Keeping, Stands, parts};
-    ghost use Rattle.abc_fold.specs.Steps.{steps_of};
+    ghost use Rattle.abc_fold.specs.Steps.{};
 
     ghost Value = { Keeping C C.State C.Cell C.Items };
 
     ghost view = { λ t. record { compiler = t.compiler; lines = t.lines; rows = t.rows; header = t.header; tunes = t.tunes.items; chains = t.chains } };
 
-    ghost invariant = { λ t. Stands (steps_of (C.next t.compiler) (C.gives t.compiler) (C.alike t.compiler)) (C.rules t.compiler) t.lines.text (parts t.rows.items t.header t.tunes.items t.chains.items) };
+    ghost invariant = { λ t. Stands (C.steps t.compiler) (C.rules t.compiler) t.lines.text (parts t.rows.items t.header t.tunes.items t.chains.items) };
 }
 
 /// An edit of a text that has been prepared. It must be spent, by `commit` of its text or by `drop_patch`. Contracts see
@@ -68,14 +66,14 @@ pub struct KeptPatch<C: Compiler> {
 
 impl<C: Compiler> Model for KeptPatch<C> {
     ghost use Rattle.abc_chains.specs.Putting.{MayBePut, tunes_put};
-    ghost use Rattle.abc_chains.specs.Standing.{Edited, IsPatch, puts};
-    ghost use Rattle.abc_fold.specs.Steps.{steps_of};
+    ghost use Rattle.abc_chains.specs.Standing.{Edited, Patches, edited_by, puts};
+    ghost use Rattle.abc_fold.specs.Steps.{};
 
     ghost Value = { Edited C C.State C.Cell C.Items };
 
-    ghost view = { λ p. record { on = p.on.value; text = p.lines.after; rows = p.rows.after.items; header = p.header; tunes = tunes_put p.tunes p.stretch p.on.value.tunes p.places.items; chains = p.chains.after.items; stretch = p.stretch; made = p.made.items; places = p.places.items; taken = p.taken.items } };
+    ghost view = { λ p. edited_by p.on.value (puts p.lines p.rows p.header (tunes_put p.tunes p.stretch p.on.value.tunes p.places.items) p.chains) p.stretch p.made.items p.places.items p.taken.items };
 
-    ghost invariant = { λ p. IsPatch (steps_of (C.next p.on.value.compiler) (C.gives p.on.value.compiler) (C.alike p.on.value.compiler)) (C.rules p.on.value.compiler) p.on.value (puts p.lines p.rows p.header (tunes_put p.tunes p.stretch p.on.value.tunes p.places.items) p.chains) × MayBePut p.tunes p.stretch p.on.value.tunes p.places.items };
+    ghost invariant = { λ p. let t = p.on.value in Patches C.steps C.rules t (puts p.lines p.rows p.header (tunes_put p.tunes p.stretch t.tunes p.places.items) p.chains) × MayBePut p.tunes p.stretch t.tunes p.places.items };
 }
 
 /// What an edit makes anew, and what it puts in place.
@@ -118,7 +116,7 @@ impl<C: Compiler> KeptText<C> {
     /// The lines. All that is kept is that of the text.
     pub fn lines(&self) -> &LineBuffer
         ensures lines { result.now ≡ self.now.lines }
-        ensures stands { Stands (steps_of (C.next self.now.compiler) (C.gives self.now.compiler) (C.alike self.now.compiler)) (C.rules self.now.compiler) self.now.lines.text (parts_of self.now) }
+        ensures stands { Stands (C.steps self.now.compiler) (C.rules self.now.compiler) self.now.lines.text (parts_of self.now) }
     {
         &self.lines
     }
@@ -135,7 +133,7 @@ impl<C: Compiler> KeptText<C> {
         requires inside { at + removed ≤ length self.now.lines.text }
         requires limits { IsText (spliced self.now.lines.text (splice_from at removed lines.now)) }
         ensures renewed { let c = self.now.compiler in
-            IfOk result (λ made. IsRenewed (steps_of (C.next c) (C.gives c) (C.alike c)) (C.rules c) self.now (splice_from at removed lines.now) (new_parts made.renewed.stretch made.renewed.header made.renewed.first made.renewed.folded.tunes.items made.renewed.folded.made.items made.renewed.folded.taken.items)) }
+            IfOk result (λ made. IsRenewed (C.steps c) (C.rules c) self.now (splice_from at removed lines.now) (parts_made made.renewed)) }
         ensures rows_on { IfOk result (λ made. made.placed.rows.on ≡ self.now.rows) }
         ensures rows { let c = self.now.compiler in
             IfOk result (λ made. AreRows (C.rules c) (spliced self.now.lines.text (splice_from at removed lines.now)) made.placed.rows.after.items) }
@@ -145,7 +143,7 @@ impl<C: Compiler> KeptText<C> {
         ensures put { IfOk result (λ made. MayBePut made.placed.tunes made.renewed.stretch self.now.tunes made.placed.places.items) }
         ensures places { IfOk result (λ made. made.placed.places.items ≡ map (moved made.renewed.stretch.from) made.renewed.folded.tunes.items) }
         ensures counted { let c = self.now.compiler in
-            IsWorkUpTo (length lines.now) (fresh_after (steps_of (C.next c) (C.gives c) (C.alike c)) (C.rules c) self.now.lines.text (splice_from at removed lines.now)) (C.Work.counts work.old) (C.Work.counts work.new) }
+            IsWorkUpTo (length lines.now) (fresh_in (C.steps c) (C.rules c) self.now (splice_from at removed lines.now)) (C.Work.counts work.old) (C.Work.counts work.new) }
     {
         let alloc = self.lines.allocator();
         let new = read(alloc, &self.compiler, lines, work)?;
@@ -167,16 +165,16 @@ impl<C: Compiler> KeptText<C> {
         ensures on { IfOk result (λ patch. patch.on ≡ self.now) }
         ensures text { IfOk result (λ patch. replaced self.now.lines.text (splice_from at removed lines.now) ≡ Ok patch.text) }
         ensures stands { let c = self.now.compiler in
-            IfOk result (λ patch. Stands (steps_of (C.next c) (C.gives c) (C.alike c)) (C.rules c) patch.text (parts_after patch)) }
+            IfOk result (λ patch. Stands (C.steps c) (C.rules c) patch.text (parts_after patch)) }
         ensures stretch { IfOk result (λ patch. IsStretch (splice_from at removed lines.now) patch) }
         ensures items { IfOk result (λ patch. AllZip (HasItemsOf (drop 1 self.now.chains.items)) patch.made patch.taken) }
         ensures limits { IfOk result (λ patch. IsText patch.text) }
         ensures untouched { let c = self.now.compiler in
-            IfOk result (λ patch. TakesUntouched (steps_of (C.next c) (C.gives c) (C.alike c)) (C.rules c) self.now.lines.text (splice_from at removed lines.now) (all_taken patch)) }
+            IfOk result (λ patch. TakesUntouched (C.steps c) (C.rules c) self.now.lines.text (splice_from at removed lines.now) (all_taken patch)) }
         ensures refused { IfErr result (λ e. Refuses e (replaced self.now.lines.text (splice_from at removed lines.now))) }
         ensures uncounted { IfErr result (λ e. e ≢ EditError.OutOfMemory → work.new ≡ work.old) }
         ensures counted { let c = self.now.compiler in
-            IsWorkUpTo (length lines.now) (fresh_after (steps_of (C.next c) (C.gives c) (C.alike c)) (C.rules c) self.now.lines.text (splice_from at removed lines.now)) (C.Work.counts work.old) (C.Work.counts work.new) }
+            IsWorkUpTo (length lines.now) (fresh_in (C.steps c) (C.rules c) self.now (splice_from at removed lines.now)) (C.Work.counts work.old) (C.Work.counts work.new) }
     {
         let patch = self.lines.splice_prepare(at, removed, lines)?;
         match self.made(at, removed, lines, work) {

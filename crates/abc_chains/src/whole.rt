@@ -6,11 +6,10 @@ ghost use Rattle.abc_chains.specs.Holding.{IsCarried, IsChain, IsFolded, LiesWit
 ghost use Rattle.abc_chains.specs.Taking.{GoesAlong, KnowsAlong, are_alike_both, continues, first_source, is_along};
 ghost use Rattle.abc_rework.specs.Folded.{HasItemsOf};
 ghost use Rattle.abc_fold.specs.Chain.{Folds};
-ghost use Rattle.abc_fold.specs.Steps.{steps_of};
 
 use crate::carried::CarriedRow;
 use abc_book::Block;
-use abc_fold::{Chain, Fold, Resumable, Shared};
+use abc_fold::{Chain, Fold, Shared};
 use abc_lines::GapList;
 use std::alloc::{AllocError, Global};
 
@@ -59,36 +58,36 @@ fn first_source<K: Drop>(rows: &[CarriedRow<K>]) -> Option<usize>
 }
 
 /// Whether nothing can tell the state in which a chain begins from another one.
-fn begins_in<F: Resumable>(fold: &F, chain: &Chain<F>, opening: &F::State) -> bool
-    ensures { result ≡ are_alike_both (F.alike fold.now) (slice_get chain.now.entries 0) (Some opening.now) }
+fn begins_in<F: Fold>(chain: &Chain<F>, opening: &F::State) -> bool
+    ensures { (fold : F) → result ≡ are_alike_both (F.steps fold).alike (slice_get chain.now.entries 0) (Some opening.now) }
 {
     match chain.entry(0) {
         None => false,
-        Some(state) => fold.same(state, opening),
+        Some(state) => F::same(state, opening),
     }
 }
 
 /// Whether nothing can tell apart the states in which two chains begin.
-fn begin_alike<F: Resumable>(fold: &F, chain: &Chain<F>, other: &Chain<F>) -> bool
-    ensures { result ≡ are_alike_both (F.alike fold.now) (slice_get chain.now.entries 0) (slice_get other.now.entries 0) }
+fn begin_alike<F: Fold>(chain: &Chain<F>, other: &Chain<F>) -> bool
+    ensures { (fold : F) → result ≡ are_alike_both (F.steps fold).alike (slice_get chain.now.entries 0) (slice_get other.now.entries 0) }
 {
     match other.entry(0) {
         None => false,
-        Some(begun) => begins_in(fold, chain, begun),
+        Some(begun) => begins_in(chain, begun),
     }
 }
 
 /// The old chain that holds just the cells of lines, if there is one and nothing can tell the state in which it begins
 /// from this one.
-pub(crate) fn whole_chain<'a, F: Resumable>(
+pub(crate) fn whole_chain<'a, F: Fold>(
     fold: &F,
     old: &'a GapList<Shared<Chain<F>>>,
     opening: &F::State,
     rows: &[CarriedRow<F::Cell>],
 ) -> Option<&'a Shared<Chain<F>>>
     requires carried { All (IsCarried old.now.items) rows.now }
-    requires folded { All (IsFolded (steps_of (F.next fold.now) (F.gives fold.now) (F.alike fold.now))) old.now.items }
-    ensures folds { IfSome result (λ chain. Folds (steps_of (F.next fold.now) (F.gives fold.now) (F.alike fold.now)) opening.now chain.now) }
+    requires folded { All (IsFolded (F.steps fold.now)) old.now.items }
+    ensures folds { IfSome result (λ chain. Folds (F.steps fold.now) opening.now chain.now) }
     ensures cells { IfSome result (λ chain. chain.now.cells ≡ flat_map cells_in rows.now) }
 {
     let source = first_source(rows)?;
@@ -97,25 +96,25 @@ pub(crate) fn whole_chain<'a, F: Resumable>(
     if !is_along(rows, source, was.len()) {
         return None;
     }
-    if !begins_in(fold, was, opening) {
+    if !begins_in(was, opening) {
         return None;
     }
     Some(known)
 }
 
 /// The old tune that a tune is, counted from 0, if the cells of its lines are all those of that one, and it begins alike.
-fn tune_taken<F: Resumable>(
+fn tune_taken<F: Fold>(
     fold: &F,
     old: &GapList<Shared<Chain<F>>>,
     chain: &Chain<F>,
     rows: &[CarriedRow<F::Cell>],
 ) -> Option<usize>
     requires carried { All (IsCarried old.now.items) rows.now }
-    requires folded { All (IsFolded (steps_of (F.next fold.now) (F.gives fold.now) (F.alike fold.now))) old.now.items }
-    ensures items { (opening : F.State) → Folds (steps_of (F.next fold.now) (F.gives fold.now) (F.alike fold.now)) opening chain.now
+    requires folded { All (IsFolded (F.steps fold.now)) old.now.items }
+    ensures items { (opening : F.State) → Folds (F.steps fold.now) opening chain.now
         → chain.now.cells ≡ flat_map cells_in rows.now → HasItemsOf (drop 1 old.now.items) chain.now result }
-    ensures along { (opening : F.State) → Folds (steps_of (F.next fold.now) (F.gives fold.now) (F.alike fold.now)) opening chain.now
-        → GoesAlong (steps_of (F.next fold.now) (F.gives fold.now) (F.alike fold.now)) old.now.items opening rows.now → IsSome result }
+    ensures along { (opening : F.State) → Folds (F.steps fold.now) opening chain.now
+        → GoesAlong (F.steps fold.now) old.now.items opening rows.now → IsSome result }
 {
     let source = first_source(rows)?;
     if source == 0 {
@@ -126,14 +125,14 @@ fn tune_taken<F: Resumable>(
     if !is_along(rows, source, was.len()) {
         return None;
     }
-    if !begin_alike(fold, was, chain) {
+    if !begin_alike(was, chain) {
         return None;
     }
     Some(source - 1)
 }
 
 /// The old tunes that tunes are, of which these are the chains, and where they lie among lines.
-pub(crate) fn tunes_taken<F: Resumable>(
+pub(crate) fn tunes_taken<F: Fold>(
     alloc: Global,
     fold: &F,
     old: &GapList<Shared<Chain<F>>>,
@@ -142,13 +141,13 @@ pub(crate) fn tunes_taken<F: Resumable>(
     tunes: &[Block],
 ) -> Result<Vec<Option<usize>>, AllocError>
     requires carried { All (IsCarried old.now.items) rows.now }
-    requires folded { All (IsFolded (steps_of (F.next fold.now) (F.gives fold.now) (F.alike fold.now))) old.now.items }
+    requires folded { All (IsFolded (F.steps fold.now)) old.now.items }
     requires within { All (LiesWithin (length rows.now)) tunes.now }
     requires count { length chains.now ≡ length tunes.now }
-    ensures items { (opening : F.State) → AllZip (IsChain (steps_of (F.next fold.now) (F.gives fold.now) (F.alike fold.now)) opening rows.now) chains.now tunes.now
+    ensures items { (begun : F.State) → AllZip (IsChain (F.steps fold.now) begun rows.now) chains.now tunes.now
         → IfOk result (λ taken. AllZip (HasItemsOf (drop 1 old.now.items)) chains.now taken.items) }
-    ensures along { (opening : F.State) → AllZip (IsChain (steps_of (F.next fold.now) (F.gives fold.now) (F.alike fold.now)) opening rows.now) chains.now tunes.now
-        → IfOk result (λ taken. KnowsAlong (steps_of (F.next fold.now) (F.gives fold.now) (F.alike fold.now)) old.now.items opening rows.now tunes.now taken.items) }
+    ensures along { (begun : F.State) → AllZip (IsChain (F.steps fold.now) begun rows.now) chains.now tunes.now
+        → IfOk result (λ taken. KnowsAlong (F.steps fold.now) old.now.items begun rows.now tunes.now taken.items) }
 {
     let mut taken = Vec::new(alloc);
     for (place, chain) in chains.iter().enumerate() {

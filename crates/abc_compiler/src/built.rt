@@ -1,14 +1,32 @@
 //! What a tune is built to.
 
-use abc_fields::FaultCode;
-use abc_text::Sequence;
+ghost use Rattle.std.specs.Prelude.{◌≡◌, IfOk};
 
-/// The file of a tune, and its faults as a whole.
-#[derive(Debug, Drop)]
+use abc_fields::FaultCode;
+use abc_fold::Shared;
+use abc_text::Sequence;
+use std::alloc::AllocError;
+
+/// The file of a tune, and its faults as a whole. A copy shares them.
+#[derive(Drop)]
 pub struct Built {
     /// The bytes of the MIDI file, if the tune has one; in ABC it has none exactly where it is too long.
-    pub bytes: Option<Sequence<u8>>,
+    pub bytes: Option<Shared<Sequence<u8>>>,
     /// The codes of its faults, in any order; in ABC in the order of their numbers, each once. They stand at the
     /// beginning of the tune's first line.
-    pub faults: Sequence<FaultCode>,
+    pub faults: Shared<Sequence<FaultCode>>,
+}
+
+impl Built {
+    /// A copy, which shares the bytes and the faults.
+    pub fn share(&self) -> Result<Built, AllocError>
+        ensures { IfOk result (λ copy. copy ≡ self.now) }
+    {
+        let bytes = match &self.bytes {
+            Some(bytes) => Some(bytes.share()?),
+            None => None,
+        };
+        let faults = self.faults.share()?;
+        Ok(Built { bytes, faults })
+    }
 }

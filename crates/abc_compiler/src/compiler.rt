@@ -2,19 +2,18 @@
 
 ghost use Rattle.std.specs.Prelude.{◌≡◌, IfOk, IsTrue, option_copied};
 ghost use Rattle.abc_compiler.specs.Lawful.{AreLawful};
-ghost use Rattle.abc_fold.specs.Steps.{steps_of};
 ghost use Rattle.abc_fold.specs.Work.{raised};
 ghost use Rattle.abc_tunebook.specs.Rules.{Rules};
 
 use crate::built::Built;
 use abc_fields::FaultCode;
-use abc_fold::Resumable;
+use abc_fold::Fold;
 use abc_scan::LineClass;
 use std::alloc::{AllocError, Global};
 
 /// A compiler of tunes: what the lines of a text are, the cells of a line, the fold over them, and the
 /// file of a tune. Each call gives what one of the compiler's own definitions gives.
-pub trait Compiler: Resumable + Drop {
+pub trait Compiler: Fold + Drop {
     /// What a file header sets for all tunes.
     type Defaults: Drop + Eq;
 
@@ -74,7 +73,7 @@ pub trait Compiler: Resumable + Drop {
         ensures counted { Self.Work.counts work.new ≡ record (Self.Work.counts work.old) { built = raised (Self.Work.counts work.old).built 1 } };
 
     // The definitions are such as a session can rely on.
-    ghost lawful: { (compiler : Self) → AreLawful (steps_of (Self.next compiler) (Self.gives compiler) (Self.alike compiler)) (rules compiler) };
+    ghost lawful: { (compiler : Self) → AreLawful (Self.steps compiler) (rules compiler) };
 
     // What file headers set is equal as code compares it only where contracts see the same of it.
     ghost told_apart: { (a b : Self.Defaults) → IsTrue (Self.Defaults.eq a b) → a ≡ b };

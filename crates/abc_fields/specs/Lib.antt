@@ -15,3 +15,7 @@ pub mod Tempo
 pub mod Tonic
 pub mod Unit
 pub mod Voice
+-- The definitions of the crates below that public clauses cite: a caller needs only this crate.
+pub use Rattle.abc_text.specs.Letter
+pub use Rattle.abc_text.specs.Word
+pub use Rattle.abc_time.specs.Ratio

@@ -19,6 +19,8 @@ mod tonic;
 mod unit;
 mod voice;
 
+pub use abc_text::Letter;
+pub use abc_time::Ratio;
 pub use fault::FaultCode;
 pub use key::{EMPTY_KEY, Key, key_set_by, read_key};
 pub use meter::{Meter, read_meter};

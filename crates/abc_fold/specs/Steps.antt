@@ -9,10 +9,6 @@ pub record Steps (State Cell Items : Type 0) : Type 0 where
   pub gives : State → Cell → Items
   pub alike : State → State → Bool
 
--- The definition with these parts. Our own.
-abbrev pub steps_of : {State Cell Items : Type 0} → (State → Cell → State) → (State → Cell → Items) → (State → State → Bool) → Steps State Cell Items
-steps_of next gives alike = record { next = next; gives = gives; alike = alike }
-
 -- Nothing that follows can tell two states apart. Our own.
 abbrev pub IsAlike : {State Cell Items : Type 0} → Steps State Cell Items → State → State → Type 0
 IsAlike steps a b = steps.alike a b ≡ true

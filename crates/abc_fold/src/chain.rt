@@ -4,24 +4,25 @@ ghost use Rattle.std.specs.Prelude.{◌≡◌, ◌<◌, All, IfOk, IsOk, Some, l
 ghost use Rattle.abc_fold.specs.Chain.{Chained, Folds, IsKeptAt, no_cells};
 ghost use Rattle.abc_fold.specs.Following.{AreMarked};
 ghost use Rattle.abc_fold.specs.Piece.{IsKept, cells_of, steps_needed};
-ghost use Rattle.abc_fold.specs.Steps.{Steps, IsResumable, steps_of};
+ghost use Rattle.abc_fold.specs.Steps.{Steps, IsResumable};
 ghost use Rattle.abc_fold.specs.Work.{IsRaisedUpTo};
 
 use crate::piece::{cell_in, is_taken, passed};
-use crate::{Counts, Piece, Pieces, Resumable, Shared};
+use crate::{Counts, Fold, Piece, Pieces};
+use abc_lines::GapList;
 use abc_text::Seen;
 use std::alloc::{AllocError, Global};
 use std::marker::Model;
 
 /// Cells, what each gives, and the state in which each is entered and the last is left. Contracts see the three lists.
 #[derive(Drop)]
-pub struct Chain<F: Resumable> {
-    states: Vec<Shared<F::State>>,
-    cells: Vec<F::Cell>,
-    items: Vec<F::Items>,
+pub struct Chain<F: Fold> {
+    states: GapList<F::State>,
+    cells: GapList<F::Cell>,
+    items: GapList<F::Items>,
 }
 
-impl<F: Resumable> Model for Chain<F> {
+impl<F: Fold> Model for Chain<F> {
     ghost use Rattle.abc_fold.specs.Chain.{Chained, HasShape};
 
     ghost Value = { Chained F.State F.Cell F.Items };
@@ -33,12 +34,12 @@ impl<F: Resumable> Model for Chain<F> {
 
 /// A chain that has been prepared, and is to take the place of another. It must be spent, by `commit` of that one or by
 /// `drop_patch`. Contracts see both.
-pub struct ChainPatch<F: Resumable> {
+pub struct ChainPatch<F: Fold> {
     on: Seen<Chain<F>>,
     next: Chain<F>,
 }
 
-impl<F: Resumable> Model for ChainPatch<F> {
+impl<F: Fold> Model for ChainPatch<F> {
     ghost use Rattle.abc_fold.specs.Chain.{Chained, Patched};
 
     ghost Value = { Patched F.State F.Cell F.Items };
@@ -46,22 +47,22 @@ impl<F: Resumable> Model for ChainPatch<F> {
     ghost view = { λ p. record { on = p.on.value; after = p.next } };
 }
 
-impl<F: Resumable> Chain<F> {
+impl<F: Fold> Chain<F> {
     /// A chain with no cells, and no state.
     pub fn new(alloc: Global) -> Result<Chain<F>, AllocError>
         ensures no_cells { IfOk result (λ chain. chain ≡ no_cells) }
         ensures succeeds { IsOk result }
     {
         Ok(Chain {
-            states: Vec::new(alloc),
-            cells: Vec::new(alloc),
-            items: Vec::new(alloc),
+            states: GapList::with_room(alloc, 0)?,
+            cells: GapList::with_room(alloc, 0)?,
+            items: GapList::with_room(alloc, 0)?,
         })
     }
 
     /// The allocator that the chain is from.
     fn allocator(&self) -> Global {
-        *self.states.allocator()
+        self.states.allocator()
     }
 
     /// How many cells there are.
@@ -75,10 +76,7 @@ impl<F: Resumable> Chain<F> {
     pub fn entry(&self, i: usize) -> Option<&F::State>
         ensures { option_copied result ≡ slice_get self.now.entries i }
     {
-        match self.states.get(i) {
-            Some(state) => Some(state.get()),
-            None => None,
-        }
+        self.states.get(i)
     }
 
     /// What the cell with `i` others before it gives.
@@ -89,26 +87,28 @@ impl<F: Resumable> Chain<F> {
     }
 
     /// The cell with `i` others before it, with all that is kept of it. A chain of the same fold may take it up.
-    pub fn kept(&self, fold: &F, i: usize) -> Result<Piece<F>, AllocError>
+    pub fn kept(&self, i: usize) -> Result<Piece<F>, AllocError>
         requires { i < length self.now.cells }
         ensures place { IfOk result (λ piece. IsKeptAt self.now i piece) }
         ensures resumable { (steps : Steps F.State F.Cell F.Items) (opening : F.State) → IsResumable steps → Folds steps opening self.now →
             IfOk result (λ piece. IsKept steps piece) }
     {
-        self.copied(fold, i)
+        self.copied(i)
     }
 
     /// What is kept at a place, copied by the fold.
-    fn copied(&self, fold: &F, i: usize) -> Result<Piece<F>, AllocError>
+    fn copied(&self, i: usize) -> Result<Piece<F>, AllocError>
         requires { i < length self.now.cells }
         ensures { IfOk result (λ piece. IsKeptAt self.now i piece) }
     {
         let alloc = self.allocator();
+        // For the prover: a number counts all cells.
+        let _ = self.len();
         Ok(Piece::Kept {
-            cell: fold.copy_cell(alloc, &self.cells[i])?,
-            entered: self.states[i].share()?,
-            left: self.states[i + 1].share()?,
-            items: fold.copy_items(alloc, &self.items[i])?,
+            cell: F::copy_cell(alloc, self.cells.get(i).unwrap())?,
+            entered: F::copy_state(alloc, self.states.get(i).unwrap())?,
+            left: F::copy_state(alloc, self.states.get(i + 1).unwrap())?,
+            items: F::copy_items(alloc, self.items.get(i).unwrap())?,
         })
     }
 
@@ -120,13 +120,11 @@ impl<F: Resumable> Chain<F> {
         pieces: &[Piece<F>],
         work: &mut F::Work,
     ) -> Result<ChainPatch<F>, AllocError>
-        requires { All (IsKept (steps_of (F.next fold.now) (F.gives fold.now) (F.alike fold.now))) pieces.now }
+        requires { All (IsKept (F.steps fold.now)) pieces.now }
         ensures on { IfOk result (λ patch. patch.on ≡ self.now) }
         ensures cells { IfOk result (λ patch. patch.after.cells ≡ cells_of pieces.now) }
-        ensures folds { let steps = steps_of (F.next fold.now) (F.gives fold.now) (F.alike fold.now) in
-            IfOk result (λ patch. Folds steps opening.now patch.after) }
-        ensures counted { let steps = steps_of (F.next fold.now) (F.gives fold.now) (F.alike fold.now) in
-            IsRaisedUpTo (steps_needed steps opening.now pieces.now) (F.Work.counts work.old) (F.Work.counts work.new) }
+        ensures folds { IfOk result (λ patch. Folds (F.steps fold.now) opening.now patch.after) }
+        ensures counted { IsRaisedUpTo (steps_needed (F.steps fold.now) opening.now pieces.now) (F.Work.counts work.old) (F.Work.counts work.new) }
     {
         let next = folded(self.allocator(), fold, opening, pieces, &[], work)?;
         Ok(ChainPatch {
@@ -144,13 +142,11 @@ impl<F: Resumable> Chain<F> {
         pieces: &Pieces<F>,
         work: &mut F::Work,
     ) -> Result<ChainPatch<F>, AllocError>
-        requires { All (IsKept (steps_of (F.next fold.now) (F.gives fold.now) (F.alike fold.now))) pieces.now }
+        requires { All (IsKept (F.steps fold.now)) pieces.now }
         ensures on { IfOk result (λ patch. patch.on ≡ self.now) }
         ensures cells { IfOk result (λ patch. patch.after.cells ≡ cells_of pieces.now) }
-        ensures folds { let steps = steps_of (F.next fold.now) (F.gives fold.now) (F.alike fold.now) in
-            IfOk result (λ patch. Folds steps opening.now patch.after) }
-        ensures counted { let steps = steps_of (F.next fold.now) (F.gives fold.now) (F.alike fold.now) in
-            IsRaisedUpTo (steps_needed steps opening.now pieces.now) (F.Work.counts work.old) (F.Work.counts work.new) }
+        ensures folds { IfOk result (λ patch. Folds (F.steps fold.now) opening.now patch.after) }
+        ensures counted { IsRaisedUpTo (steps_needed (F.steps fold.now) opening.now pieces.now) (F.Work.counts work.old) (F.Work.counts work.new) }
     {
         let (listed, marks) = (pieces.as_slice(), pieces.marks());
         let next = folded(self.allocator(), fold, opening, listed, marks, work)?;
@@ -166,11 +162,18 @@ impl<F: Resumable> Chain<F> {
         ensures { self.new ≡ patch.after }
     {
         let ChainPatch { on: _, next } = patch;
-        *self = next;
+        let Chain {
+            states,
+            cells,
+            items,
+        } = next;
+        self.states.take_over(states);
+        self.cells.take_over(cells);
+        self.items.take_over(items);
     }
 }
 
-impl<F: Resumable> ChainPatch<F> {
+impl<F: Fold> ChainPatch<F> {
     /// How many cells the chain would have.
     pub fn len(&self) -> usize
         ensures { result ≡ length self.now.after.cells }
@@ -199,7 +202,7 @@ impl<F: Resumable> ChainPatch<F> {
 }
 
 /// The chain of a fold over pieces, some of which are marked as following the one before them.
-fn folded<F: Resumable>(
+fn folded<F: Fold>(
     alloc: Global,
     fold: &F,
     opening: &F::State,
@@ -207,31 +210,33 @@ fn folded<F: Resumable>(
     marks: &[bool],
     work: &mut F::Work,
 ) -> Result<Chain<F>, AllocError>
-    requires kept { All (IsKept (steps_of (F.next fold.now) (F.gives fold.now) (F.alike fold.now))) pieces.now }
+    requires kept { All (IsKept (F.steps fold.now)) pieces.now }
     requires marked { AreMarked pieces.now marks.now }
     ensures cells { IfOk result (λ chain. chain.cells ≡ cells_of pieces.now) }
-    ensures folds { let steps = steps_of (F.next fold.now) (F.gives fold.now) (F.alike fold.now) in
-        IfOk result (λ chain. Folds steps opening.now chain) }
-    ensures counted { let steps = steps_of (F.next fold.now) (F.gives fold.now) (F.alike fold.now) in
-        IsRaisedUpTo (steps_needed steps opening.now pieces.now) (F.Work.counts work.old) (F.Work.counts work.new) }
+    ensures folds { IfOk result (λ chain. Folds (F.steps fold.now) opening.now chain) }
+    ensures counted { IsRaisedUpTo (steps_needed (F.steps fold.now) opening.now pieces.now) (F.Work.counts work.old) (F.Work.counts work.new) }
 {
-    let mut state = Shared::new(alloc, fold.copy_state(alloc, opening)?)?;
+    let mut state = F::copy_state(alloc, opening)?;
     let count = pieces.len();
-    let mut states = Vec::with_capacity(alloc, count + 1)?;
-    let mut cells = Vec::with_capacity(alloc, count)?;
-    let mut items = Vec::with_capacity(alloc, count)?;
+    let Some(places) = count.checked_add(1) else {
+        return Err(AllocError);
+    };
+    let mut states = GapList::with_room(alloc, places)?;
+    let mut cells = GapList::with_room(alloc, count)?;
+    let mut items = GapList::with_room(alloc, count)?;
     let mut taken = false;
     for i in 0..count {
         let piece = &pieces[i];
-        cells.push(cell_in(alloc, fold, piece)?)?;
+        let cell = cell_in(alloc, piece)?;
         let known = is_known(taken, marks, i);
         taken = is_taken(fold, &state, piece, known);
         let (left, given) = passed(alloc, fold, &state, piece, taken, work)?;
-        items.push(given)?;
-        states.push(state)?;
+        states.push(state);
+        cells.push(cell);
+        items.push(given);
         state = left;
     }
-    states.push(state)?;
+    states.push(state);
     Ok(Chain {
         states,
         cells,

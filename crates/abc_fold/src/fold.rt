@@ -1,13 +1,15 @@
-//! Folds over cells, a step at a time.
+//! Folds over cells, a step at a time, which can be resumed from a state that was kept.
 
-ghost use Rattle.std.specs.Prelude.{◌≡◌, IfOk};
+ghost use Rattle.std.specs.Prelude.{◌≡◌, Bool, IfOk, true};
+ghost use Rattle.abc_fold.specs.Steps.{IsAlike, IsResumable, Steps};
 ghost use Rattle.abc_fold.specs.Work.{after_steps};
 
 use crate::Counts;
 use std::alloc::{AllocError, Global};
 
 /// A fold over cells: what a cell gives depends on the state in which it is entered and on the cell,
-/// and on nothing else that came before.
+/// and on nothing else that came before. It can be resumed from a state that was kept: it knows which states are
+/// equivalent, and copies what a chain keeps.
 pub trait Fold {
     /// What is carried from one cell to the next.
     type State: Drop;
@@ -21,11 +23,8 @@ pub trait Fold {
     /// The counters that a step raises.
     type Work: Counts;
 
-    // The fold's own definition: the state after a cell, and the items that the cell gives, where
-    // it is entered in a state.
-    ghost next: { Self → Self.State → Self.Cell → Self.State };
-
-    ghost gives: { Self → Self.State → Self.Cell → Self.Items };
+    // The fold's own definition: the state after a cell, the items that the cell gives, and which states are equivalent.
+    ghost steps: { Self → Steps Self.State Self.Cell Self.Items };
 
     /// The state after `cell`, and its items, where it is entered in `state`. A step that finds no
     /// memory is counted too.
@@ -36,7 +35,36 @@ pub trait Fold {
         cell: &Self::Cell,
         work: &mut Self::Work,
     ) -> Result<(Self::State, Self::Items), AllocError>
-        ensures state_after { IfOk result (λ made. made.0 ≡ next self.now state.now cell.now) }
-        ensures items { IfOk result (λ made. made.1 ≡ gives self.now state.now cell.now) }
+        ensures state_after { IfOk result (λ made. made.0 ≡ (steps self.now).next state.now cell.now) }
+        ensures items { IfOk result (λ made. made.1 ≡ (steps self.now).gives state.now cell.now) }
         ensures counted { Self.Work.counts work.new ≡ after_steps (Self.Work.counts work.old) 1 };
+
+    /// Whether two states are equivalent. It allocates nothing.
+    fn same(a: &Self::State, b: &Self::State) -> bool
+        ensures { (fold : Self) → result ≡ (steps fold).alike a.now b.now };
+
+    /// Whether it is cheap to see that the state after a cell is equivalent to the one before it. If the answer is no,
+    /// they may be equivalent all the same. It allocates nothing.
+    fn stays(&self, state: &Self::State, cell: &Self::Cell, behind: &Self::State) -> bool
+        requires { behind.now ≡ (Self.steps self.now).next state.now cell.now }
+        ensures { result ≡ true → IsAlike (Self.steps self.now) state.now behind.now }
+    {
+        let _ = cell;
+        Self::same(state, behind)
+    }
+
+    /// A copy of a state.
+    fn copy_state(alloc: Global, state: &Self::State) -> Result<Self::State, AllocError>
+        ensures { IfOk result (λ copy. copy ≡ state.now) };
+
+    /// A copy of a cell.
+    fn copy_cell(alloc: Global, cell: &Self::Cell) -> Result<Self::Cell, AllocError>
+        ensures { IfOk result (λ copy. copy ≡ cell.now) };
+
+    /// A copy of what a cell gave.
+    fn copy_items(alloc: Global, items: &Self::Items) -> Result<Self::Items, AllocError>
+        ensures { IfOk result (λ copy. copy ≡ items.now) };
+
+    // Equivalent states may stand for each other.
+    ghost resumable: { (fold : Self) → IsResumable (steps fold) };
 }

@@ -8,7 +8,6 @@ mod counts;
 mod fold;
 mod piece;
 mod pieces;
-mod resumable;
 mod shared;
 mod work;
 
@@ -17,6 +16,5 @@ pub use counts::Counts;
 pub use fold::Fold;
 pub use piece::Piece;
 pub use pieces::Pieces;
-pub use resumable::Resumable;
 pub use shared::Shared;
 pub use work::Work;

@@ -3,19 +3,19 @@
 ghost use Rattle.std.specs.Prelude.{◌≡◌, [], ◌∷◌, ◌++◌, OnErr, OnOk, true};
 ghost use Rattle.abc_fold.specs.Following.{AreMarked, FollowsLast};
 
-use crate::{Piece, Resumable};
+use crate::{Fold, Piece};
 use std::alloc::{AllocError, Global};
 use std::marker::Model;
 
 /// Pieces one behind the other, each with a mark whether it is known that it was entered in the very state in which the
 /// one before it was left. Contracts see the pieces.
 #[derive(Drop)]
-pub struct Pieces<F: Resumable> {
+pub struct Pieces<F: Fold> {
     pieces: Vec<Piece<F>>,
     marks: Vec<bool>,
 }
 
-impl<F: Resumable> Model for Pieces<F> {
+impl<F: Fold> Model for Pieces<F> {
     ghost use Rattle.std.specs.Prelude.{List};
     ghost use Rattle.abc_fold.specs.declared.piece.Piece.{Piece};
     ghost use Rattle.abc_fold.specs.Following.{HasMarks};
@@ -27,7 +27,7 @@ impl<F: Resumable> Model for Pieces<F> {
     ghost invariant = { λ p. HasMarks p.pieces.items p.marks.items };
 }
 
-impl<F: Resumable> Pieces<F> {
+impl<F: Fold> Pieces<F> {
     /// No pieces.
     pub fn new(alloc: Global) -> Pieces<F>
         ensures { result ≡ [] }

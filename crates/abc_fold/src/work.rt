@@ -9,8 +9,9 @@ use std::rt::Runtime;
 /// How many lines were scanned, steps folded and tunes built. Only `mint` makes one, from the
 /// runtime, and none can be copied: code that is lent one and has no runtime can count nowhere
 /// else. A counter that has come to the greatest `u64` stays there. Contracts see the three
-/// numbers, as `Counters`.
+/// numbers, as `Counters`. In C it is three `uint64_t` in this order.
 #[derive(Drop)]
+#[repr(C)]
 pub struct Work {
     scanned: u64,
     folded: u64,
@@ -21,6 +22,8 @@ impl Model for Work {
     ghost Value = { Counters };
 
     ghost view = { λ w. record { scanned = w.scanned; folded = w.folded; built = w.built } };
+
+    ghost inverse = { λ c. record { scanned = c.scanned; folded = c.folded; built = c.built } };
 }
 
 impl Work {

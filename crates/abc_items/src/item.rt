@@ -1,17 +1,11 @@
 //! What cells give to the score.
 
-ghost use Rattle.std.specs.Prelude.{◌≡◌, All, [], ◌∷◌, IfOk, OnErr, OnOk};
-ghost use Rattle.abc_items.specs.Item.{IsItem, nothing, and_item, and_faults};
-
 use crate::item_text::ItemText;
 use crate::tones::Tones;
 use crate::velocity::USUAL_VELOCITY;
 use abc_fields::{FaultCode, Meter};
 use abc_scan::BarLine;
-use abc_text::Sequence;
 use abc_time::Grains;
-use std::alloc::{AllocError, Global};
-use std::marker::Model;
 
 /// The highest key of MIDI (SMF 1.0).
 pub const HIGHEST_KEY: u8 = 127;
@@ -108,102 +102,3 @@ const _: () = prove!(size_of::<Item>() == 32);
 
 /// A fault of a cell: its column, counted from 1, and its code.
 pub type LocalFault = (u32, FaultCode);
-
-/// What a cell gives: its items, and its faults, each in the order in which it was put here.
-#[derive(Drop)]
-pub struct Items {
-    items: Vec<Item>,
-    faults: Vec<LocalFault>,
-}
-
-impl Model for Items {
-    ghost use Rattle.std.specs.Prelude.{All};
-    ghost use Rattle.abc_items.specs.Item.{Items as Seen, IsItem};
-
-    ghost Value = { Seen };
-
-    ghost view = { λ given. record { items = given.items.items; faults = given.faults.items } };
-
-    ghost invariant = { λ given. All IsItem given.items.items };
-}
-
-impl Items {
-    /// No item and no fault yet, with room for so many items.
-    pub fn with_room(alloc: Global, items: usize) -> Result<Items, AllocError>
-        ensures { IfOk result (λ made. made ≡ nothing) }
-    {
-        Ok(Items {
-            items: Vec::with_capacity(alloc, items)?,
-            faults: Vec::new(alloc),
-        })
-    }
-
-    /// These items and these faults.
-    pub fn of(items: Sequence<Item>, faults: Sequence<LocalFault>) -> Items
-        requires { All IsItem items }
-        ensures items { result.items ≡ items }
-        ensures faults { result.faults ≡ faults }
-    {
-        Items {
-            items: items.into_vec(),
-            faults: faults.into_vec(),
-        }
-    }
-
-    /// The items in the order in which they were put here.
-    pub fn items(&self) -> &[Item]
-        ensures value { result.now ≡ self.now.items }
-        ensures range { All IsItem result.now }
-    {
-        self.items.as_slice()
-    }
-
-    /// The faults in the order in which they were put here, each column counted from 1.
-    pub fn faults(&self) -> &[LocalFault]
-        ensures { result.now ≡ self.now.faults }
-    {
-        self.faults.as_slice()
-    }
-
-    /// Puts one more item behind the others.
-    #[inline(always)]
-    pub fn push_item(&mut self, item: Item) -> Result<(), AllocError>
-        requires { IsItem item }
-        ensures ok { OnOk result (self.new ≡ and_item self.old item) }
-        ensures refused { OnErr result (self.new ≡ self.old) }
-    {
-        self.items.push(item)?;
-        Ok(())
-    }
-
-    /// Puts one more fault behind the others.
-    pub fn push_fault(&mut self, fault: LocalFault) -> Result<(), AllocError>
-        ensures ok { OnOk result (self.new ≡ and_faults self.old (fault ∷ [])) }
-        ensures refused { OnErr result (self.new ≡ self.old) }
-    {
-        self.faults.push(fault)?;
-        Ok(())
-    }
-
-    /// Puts faults behind the others.
-    pub fn push_faults(&mut self, more: &[LocalFault]) -> Result<(), AllocError>
-        ensures ok { OnOk result (self.new ≡ and_faults self.old more.now) }
-        ensures refused { OnErr result (self.new ≡ self.old) }
-    {
-        self.faults.extend_from_slice(more)?;
-        Ok(())
-    }
-
-    /// Puts one more item and its faults behind the others. There is room for the item before a fault is put, so that
-    /// none is put without it.
-    pub fn push_with_faults(&mut self, item: Item, faults: &[LocalFault]) -> Result<(), AllocError>
-        requires { IsItem item }
-        ensures ok { OnOk result (self.new ≡ and_item (and_faults self.old faults.now) item) }
-        ensures refused { OnErr result (self.new ≡ self.old) }
-    {
-        self.items.reserve(1)?;
-        self.faults.extend_from_slice(faults)?;
-        self.items.push(item)?;
-        Ok(())
-    }
-}

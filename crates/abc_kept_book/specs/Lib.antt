@@ -1,4 +1,5 @@
 pub mod Change
+pub mod Differences
 pub mod Faults
 pub mod Kept
 pub mod Laws

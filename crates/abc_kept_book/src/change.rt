@@ -28,8 +28,8 @@ pub(crate) struct TuneChange<'a> {
 fn bytes_of(output: &Output) -> Option<&[u8]>
     ensures { option_copied result ≡ output.now.built.bytes }
 {
-    match &output.built.get().bytes {
-        Some(bytes) => Some(bytes.as_slice()),
+    match &output.built.bytes {
+        Some(bytes) => Some(bytes.get().as_slice()),
         None => None,
     }
 }

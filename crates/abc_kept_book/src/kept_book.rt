@@ -58,17 +58,15 @@ pub struct BookPatch {
 }
 
 impl Model for BookPatch {
-    ghost use Rattle.std.specs.Prelude.{◌≡◌, unwrap_or};
+    ghost use Rattle.std.specs.Prelude.{◌≡◌};
+    ghost use Rattle.abc_kept_book.specs.Differences.{AreDifferences};
     ghost use Rattle.abc_kept_book.specs.Kept.{Changed, changed};
-    ghost use Rattle.abc_kept_book.specs.Outputs.{titles_of};
-    ghost use Rattle.abc_kept_book.specs.Owners.{owners_of};
-    ghost use Rattle.abc_kept_book.specs.Titles.{Fit, titles_after};
 
     ghost Value = { Changed };
 
     ghost view = { λ p. changed p.on.value p.outputs.after.items p.faults.items p.differences.report };
 
-    ghost invariant = { λ p. (p.outputs.on ≡ p.on.value.outputs) × (unwrap_or p.differences.owners (owners_of p.on.value.outputs.items) ≡ owners_of p.outputs.after.items) × Fit (titles_of p.on.value.outputs.items) p.differences.titles × (titles_after (titles_of p.on.value.outputs.items) p.differences.titles ≡ titles_of p.outputs.after.items) };
+    ghost invariant = { λ p. (p.outputs.on ≡ p.on.value.outputs) × AreDifferences p.on.value.outputs.items p.outputs.after.items p.differences.owners p.differences.titles };
 }
 
 /// What a change makes of a book beside its outputs and faults: other owners, where there are any, titles, and how the

@@ -26,7 +26,7 @@ impl Claim {
     {
         Claim {
             number: output.number,
-            has_file: output.built.get().bytes.is_some(),
+            has_file: output.built.bytes.is_some(),
         }
     }
 }

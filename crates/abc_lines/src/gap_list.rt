@@ -1,6 +1,6 @@
 //! A list with a gap: what changes it where it was last changed moves nothing.
 
-ghost use Rattle.std.specs.Prelude.{◌≡◌, ◌+◌, ◌-◌, ◌<◌, ◌≤◌, ◌^◌, [], length, IfOk, IsOk, option_copied, slice_get, Some};
+ghost use Rattle.std.specs.Prelude.{◌≡◌, ◌+◌, ◌-◌, ◌<◌, ◌≤◌, ◌^◌, ◌++◌, ◌∷◌, [], length, IfOk, IsOk, option_copied, slice_get, Some};
 ghost use Rattle.std.specs.List.{insert, remove};
 ghost use Rattle.std.specs.Option.{option_copied_mut};
 ghost use Rattle.std.specs.Borrow.{sem};
@@ -114,6 +114,16 @@ impl<T> GapList<T> {
         self.block.take_next()
     }
 
+    /// Puts an item at the end. The gap is after it then.
+    pub fn push(&mut self, item: T)
+        requires { 0 < self.old.room }
+        ensures items { self.new.items ≡ self.old.items ++ item ∷ [] }
+        ensures room { self.new.room ≡ self.old.room - 1 }
+    {
+        let end = self.len();
+        self.insert(end, item);
+    }
+
     /// Moves the gap to a place.
     fn move_gap(&mut self, to: usize)
         requires { to ≤ length self.old.items }
@@ -152,6 +162,20 @@ impl<T> GapList<T> {
         let wider = moved_into(&mut self.block, block);
         replace(&mut self.block, wider).end();
         self.block.move_gap(gap);
+    }
+
+    /// Takes the items of another list instead of its own: in its own memory if they fit, else in that of the other.
+    pub fn take_over(&mut self, other: GapList<T>)
+    where
+        T: Drop,
+        ensures { self.new.items ≡ other.items }
+    {
+        let mut own = replace(self, other);
+        let count = own.len();
+        own.remove_run(0, count);
+        if self.len() <= own.room() {
+            self.move_over(own);
+        }
     }
 
     /// Puts items in the place of the gap, which stands behind them then.

@@ -6,6 +6,7 @@ use Rattle.std.specs.List.Sorted.{IsStrictlySortedBy}
 use Rattle.std.specs.Map.{keys_of}
 use Rattle.std.proofs.lemmas.Bool.Decides.{nat_tests}
 use Rattle.std.proofs.lemmas.Map.Views.{Contains-keys_from_lookup, IsSome-lookup_from_Contains}
+use Rattle.abc_fold.specs.Steps.{Steps}
 use Rattle.abc_lines.specs.Text.{Text}
 use Rattle.abc_tunebook.specs.Book.{blocks_in, book_of, given_by}
 use Rattle.abc_tunebook.specs.Fault.{fault_cmp}
@@ -25,15 +26,15 @@ told_apart n k same = grind (arith, nat_tests)
 pub numbers_have_files : (files : Files) (n : ℕ) → Contains (keys_of files) n ↔ IsSome (file_at files n)
 numbers_have_files files n = (IsSome-lookup_from_Contains same_number n files, Contains-keys_from_lookup told_apart n files)
 
-module _ {State Cell Items Defaults : Type 0} (next : State → Cell → State) (gives : State → Cell → Items) (rules : Rules State Cell Items Defaults) (text : Text) where
+module _ {State Cell Items Defaults : Type 0} (steps : Steps State Cell Items) (rules : Rules State Cell Items Defaults) (text : Text) where
   -- it is that of the first tune of the number that has one
-  pub file_of_first : (n : ℕ) → file_at (book_of next gives rules text).files n ≡ first_file (given_by next gives rules text (blocks_in rules text)).tunes n
+  pub file_of_first : (n : ℕ) → file_at (book_of steps rules text).files n ≡ first_file (given_by steps.next steps.gives rules text (blocks_in rules text)).tunes n
   unfolding book_of
-  file_of_first n = first_owner (given_by next gives rules text (blocks_in rules text)).tunes n
+  file_of_first n = first_owner (given_by steps.next steps.gives rules text (blocks_in rules text)).tunes n
 
   -- each fault stands before those behind it
-  pub faults_in_order : IsStrictlySortedBy fault_cmp (book_of next gives rules text).faults
+  pub faults_in_order : IsStrictlySortedBy fault_cmp (book_of steps rules text).faults
   unfolding book_of
   faults_in_order =
-      let given = given_by next gives rules text (blocks_in rules text) in
+      let given = given_by steps.next steps.gives rules text (blocks_in rules text) in
       faults_rise (given.faults ++ flat_map (λ (tune : Tune). tune.faults) given.tunes)

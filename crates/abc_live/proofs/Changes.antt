@@ -66,14 +66,14 @@ module _ {State Cell Items Defaults : Type 0} (steps : Steps State Cell Items) (
     faults_found header tunes = header_faults steps.next steps.gives rules text header ++ tune_faults (opening_of steps.next rules text (blocks_in rules text)) text tunes
 
     book_faults : (header : Option Block) (tunes : List Block) → header ≡ header_in (blocks_in rules text) → tunes ≡ tunes_in (blocks_in rules text)
-        → (book_of steps.next steps.gives rules text).faults ≡ sorted_once fault_cmp (faults_found header tunes)
+        → (book_of steps rules text).faults ≡ sorted_once fault_cmp (faults_found header tunes)
     unfolding book_of
     book_faults header tunes header_is tunes_are =
         ap (λ h. sorted_once fault_cmp (faults_found h (tunes_in (blocks_in rules text)))) (sym header_is) ∙ ap (λ ts. sorted_once fault_cmp (faults_found header ts)) (sym tunes_are)
 
     -- the tunes give the files and the titles of the text
-    pub book_is : (chains : List (Chained State Cell Items)) (outputs : List Output) (found : List Fault) → AreChains steps rules text chains → outputs ≡ map (output_in rules) (drop 1 chains) → found ≡ (book_of steps.next steps.gives rules text).faults
-        → IsBook outputs found (book_of steps.next steps.gives rules text)
+    pub book_is : (chains : List (Chained State Cell Items)) (outputs : List Output) (found : List Fault) → AreChains steps rules text chains → outputs ≡ map (output_in rules) (drop 1 chains) → found ≡ (book_of steps rules text).faults
+        → IsBook outputs found (book_of steps rules text)
     unfolding book_of
     book_is chains outputs found are outputs_are found_is =
         let tunes = map (tune_of steps.next steps.gives rules (opening_of steps.next rules text (blocks_in rules text)) text) (tunes_in (blocks_in rules text)) in
@@ -86,7 +86,7 @@ module _ {State Cell Items Defaults : Type 0} (steps : Steps State Cell Items) (
 
     -- the faults of a text stand in its lines
     pub faults_within : (header : Option Block) (tunes : List Block) → header ≡ header_in (blocks_in rules text) → tunes ≡ tunes_in (blocks_in rules text) → IfSome header (LiesIn (length text)) → All (LiesIn (length text)) tunes
-        → All (λ (fault : Fault). fault.line ≤ length text) (book_of steps.next steps.gives rules text).faults
+        → All (λ (fault : Fault). fault.line ≤ length text) (book_of steps rules text).faults
     faults_within header tunes header_is tunes_are header_lies tunes_lie =
         let P = λ (fault : Fault). fault.line ≤ length text in
         let found = faults_found header tunes in
@@ -264,7 +264,7 @@ module _ {State Cell Items Defaults : Type 0} (steps : Steps State Cell Items) (
           ∙ ap (λ l. head ++ l) (faults_append start patch.on.lines.text amid_tunes behind_tunes)
           ∙ sym (append_assoc head (old_faults amid_tunes) (old_faults behind_tunes))
 
-      holds_meets : IsResumable steps → faults_after patch.stretch.from (gone patch.stretch) patch.stretch.came (book_of steps.next steps.gives rules patch.on.lines.text).faults new_faults ≡ (book_of steps.next steps.gives rules patch.text).faults
+      holds_meets : IsResumable steps → faults_after patch.stretch.from (gone patch.stretch) patch.stretch.came (book_of steps rules patch.on.lines.text).faults new_faults ≡ (book_of steps rules patch.text).faults
       holds_meets laws =
           ap (λ faults. faults_after patch.stretch.from (gone patch.stretch) patch.stretch.came faults new_faults)
           (book_faults patch.on.lines.text patch.on.header patch.on.tunes is.stood.header_is is.stood.tunes_are ∙ ap (sorted_once fault_cmp) holds_was)
@@ -340,7 +340,7 @@ module _ {State Cell Items Defaults : Type 0} (steps : Steps State Cell Items) (
           ∙ ap (λ l. head ++ (old_faults front_tunes ++ (l ++ map (fault_shifted (gone patch.stretch) patch.stretch.came) (old_faults behind_tunes)))) (sym kept_new)
           ∙ sym (append_assoc head (old_faults front_tunes) (new_faults ++ map (fault_shifted (gone patch.stretch) patch.stretch.came) (old_faults behind_tunes)))
 
-      kept_meets : faults_after patch.stretch.from (gone patch.stretch) patch.stretch.came (book_of steps.next steps.gives rules patch.on.lines.text).faults new_faults ≡ (book_of steps.next steps.gives rules patch.text).faults
+      kept_meets : faults_after patch.stretch.from (gone patch.stretch) patch.stretch.came (book_of steps rules patch.on.lines.text).faults new_faults ≡ (book_of steps rules patch.text).faults
       kept_meets =
           ap (λ faults. faults_after patch.stretch.from (gone patch.stretch) patch.stretch.came faults new_faults)
           (book_faults patch.on.lines.text patch.on.header patch.on.tunes is.stood.header_is is.stood.tunes_are ∙ ap (sorted_once fault_cmp) old_is)
@@ -349,10 +349,10 @@ module _ {State Cell Items Defaults : Type 0} (steps : Steps State Cell Items) (
           ∙ ap (sorted_once fault_cmp) (sym new_is)
           ∙ sym (book_faults patch.text patch.header patch.tunes is.stands.header_is is.stands.tunes_are)
 
-    meets : IsResumable steps → HoldsHeader patch ⊎ KeepsHeader patch → faults_after patch.stretch.from (gone patch.stretch) patch.stretch.came (book_of steps.next steps.gives rules patch.on.lines.text).faults new_faults ≡ (book_of steps.next steps.gives rules patch.text).faults
+    meets : IsResumable steps → HoldsHeader patch ⊎ KeepsHeader patch → faults_after patch.stretch.from (gone patch.stretch) patch.stretch.came (book_of steps rules patch.on.lines.text).faults new_faults ≡ (book_of steps rules patch.text).faults
     meets laws (inl holds) = holds_meets holds laws
     meets laws (inr keeps) = kept_meets keeps
 
     -- the faults of the new text
-    pub faults_are : IsResumable steps → faults_after patch.stretch.from (gone patch.stretch) patch.stretch.came (book_of steps.next steps.gives rules patch.on.lines.text).faults new_faults ≡ (book_of steps.next steps.gives rules patch.text).faults
+    pub faults_are : IsResumable steps → faults_after patch.stretch.from (gone patch.stretch) patch.stretch.came (book_of steps rules patch.on.lines.text).faults new_faults ≡ (book_of steps rules patch.text).faults
     faults_are laws = meets laws is.narrow.header_is

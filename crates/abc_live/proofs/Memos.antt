@@ -16,10 +16,10 @@ pub nothing_remembered : {State Cell Items Defaults : Type 0} (steps : Steps Sta
 nothing_remembered steps rules entry member = absurd (omega (arith, member.1))
 
 -- Of no lines there is nothing in the book.
-pub no_book : {State Cell Items Defaults : Type 0} (next : State → Cell → State) (gives : State → Cell → Items) (rules : Rules State Cell Items Defaults) (text : Text) (outputs : List Output) (found : List Fault) → text ≡ [] → outputs ≡ [] → found ≡ []
-    → IsBook outputs found (book_of next gives rules text)
-no_book next gives rules text outputs found empty none nothing =
-    let book = ap (book_of next gives rules) empty ∙ no_lines_no_book next gives rules in
+pub no_book : {State Cell Items Defaults : Type 0} (steps : Steps State Cell Items) (rules : Rules State Cell Items Defaults) (text : Text) (outputs : List Output) (found : List Fault) → text ≡ [] → outputs ≡ [] → found ≡ []
+    → IsBook outputs found (book_of steps rules text)
+no_book steps rules text outputs found empty none nothing =
+    let book = ap (book_of steps rules) empty ∙ no_lines_no_book steps rules in
     record {
       files = ap files_of none ∙ sym (ap (λ (b : Book). b.files) book);
       titles = ap titles_of none ∙ sym (ap (λ (b : Book). b.titles) book);

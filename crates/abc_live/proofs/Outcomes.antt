@@ -80,10 +80,10 @@ module _ {C State Cell Items Defaults : Type 0} (steps : Steps State Cell Items)
       let behind = ap (λ (x : Stretch). x.behind) there in
       omega (arith, many, count, behind)
 
-  pub few_faults : (found : List Fault) → IsText text.lines.text → found ≡ (book_of steps.next steps.gives rules text.lines.text).faults
+  pub few_faults : (found : List Fault) → IsText text.lines.text → found ≡ (book_of steps rules text.lines.text).faults
       → All (λ (fault : Fault). stretch.from + (stretch.to - stretch.from) < fault.line → fault.line - (stretch.to - stretch.from) + stretch.came ≤ 2097152) found
   few_faults found limits are =
-      let own : found ≡ (book_of steps.next steps.gives rules patch.on.lines.text).faults = are ∙ ap (λ (k : Keeping C State Cell Items). (book_of steps.next steps.gives rules k.lines.text).faults) (sym on) in
+      let own : found ≡ (book_of steps rules patch.on.lines.text).faults = are ∙ ap (λ (k : Keeping C State Cell Items). (book_of steps rules k.lines.text).faults) (sym on) in
       let within = faults_within steps rules patch.on.lines.text patch.on.header patch.on.tunes is.stood.header_is is.stood.tunes_are (header_lies rules.class patch.on.lines.text patch.on.header is.stood.header_is) (old_lie steps rules s patch is) in
       let all : All (λ (fault : Fault). fault.line ≤ length patch.on.lines.text) found = subst (All (λ (fault : Fault). fault.line ≤ length patch.on.lines.text)) (sym own) within in
       let long = ap (λ (k : Keeping C State Cell Items). length k.lines.text) on in
@@ -110,11 +110,11 @@ module _ {C State Cell Items Defaults : Type 0} (steps : Steps State Cell Items)
         (subst (HeaderCells patch.stretch.from (counts_among rules.cells patch.text patch.stretch.from patch.stretch.came) first) (sym same) (first_cells steps rules s patch is first own_first)))
 
     pub faults_now : IsResumable steps → (counts : List ℕ) (header : Option Block) (old new : List Fault) → counts ≡ map count_in (take patch.stretch.came (drop patch.stretch.from patch.rows)) → header ≡ patch.header
-        → old ≡ (book_of steps.next steps.gives rules text.lines.text).faults
+        → old ≡ (book_of steps rules text.lines.text).faults
         → new ≡ header_faults_there rules stretch.from counts first header ++ faults_by rules stretch.from counts patch.made patch.places
-        → faults_after stretch.from (stretch.to - stretch.from) stretch.came old new ≡ (book_of steps.next steps.gives rules patch.text).faults
+        → faults_after stretch.from (stretch.to - stretch.from) stretch.came old new ≡ (book_of steps rules patch.text).faults
     faults_now laws counts header old new are same old_is new_is =
-        let old_own = old_is ∙ ap (λ (k : Keeping C State Cell Items). (book_of steps.next steps.gives rules k.lines.text).faults) (sym on) in
+        let old_own = old_is ∙ ap (λ (k : Keeping C State Cell Items). (book_of steps rules k.lines.text).faults) (sym on) in
         let new_own =
         new_is
         ∙ ap (λ (x : Stretch). header_faults_there rules x.from counts first header ++ faults_by rules x.from counts patch.made patch.places) there
@@ -122,9 +122,9 @@ module _ {C State Cell Items Defaults : Type 0} (steps : Steps State Cell Items)
         ∙ ap (λ h. header_faults_there rules patch.stretch.from (counts_among rules.cells patch.text patch.stretch.from patch.stretch.came) first h ++ faults_by rules patch.stretch.from (counts_among rules.cells patch.text patch.stretch.from patch.stretch.came) patch.made patch.places) same in
         ap (λ (x : Stretch). faults_after x.from (x.to - x.from) x.came old new) there
         ∙ ap (λ o. faults_after patch.stretch.from (gone patch.stretch) patch.stretch.came o new) old_own
-        ∙ ap (faults_after patch.stretch.from (gone patch.stretch) patch.stretch.came (book_of steps.next steps.gives rules patch.on.lines.text).faults) new_own
+        ∙ ap (faults_after patch.stretch.from (gone patch.stretch) patch.stretch.came (book_of steps rules patch.on.lines.text).faults) new_own
         ∙ faults_are steps rules s patch is first own_first laws
 
-  pub book_now : (outputs : List Output) (found : List Fault) → outputs ≡ map (output_in rules) (drop 1 patch.chains) → found ≡ (book_of steps.next steps.gives rules patch.text).faults
-      → IsBook outputs found (book_of steps.next steps.gives rules patch.text)
+  pub book_now : (outputs : List Output) (found : List Fault) → outputs ≡ map (output_in rules) (drop 1 patch.chains) → found ≡ (book_of steps rules patch.text).faults
+      → IsBook outputs found (book_of steps rules patch.text)
   book_now outputs found outputs_are found_is = book_is steps rules patch.text patch.chains outputs found is.stands.chains_are outputs_are found_is

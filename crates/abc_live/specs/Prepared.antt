@@ -1,18 +1,20 @@
 -- An edit that has been prepared, and what its stretch has. Our own.
-use Rattle.std.specs.Prelude.{◌≡◌, ℕ, ◌<◌, List, [], if◌then◌else◌, length, nat_lt, Option, Some, None}
+use Rattle.std.specs.Prelude.{◌≡◌, ℕ, ◌<◌, ◌++◌, List, [], drop, if◌then◌else◌, length, map, nat_lt, Option, Some, None}
 use Rattle.std.specs.List.{AllZip}
 use Rattle.abc_book.specs.declared.block.Block.{Block}
 use Rattle.abc_chains.specs.Rows.{Row}
-use Rattle.abc_chains.specs.Standing.{Edited, IsStretch, Stands, old_tunes, parts_after, parts_of}
+use Rattle.abc_chains.specs.Standing.{Edited, IsStretch, Keeping, Stands, old_tunes, parts_after, parts_of}
 use Rattle.abc_rework.specs.Folded.{HasItemsOf}
 use Rattle.abc_fold.specs.Chain.{Chained}
 use Rattle.abc_fold.specs.Steps.{Steps}
+use Rattle.abc_kept_book.specs.Kept.{Kept}
 use Rattle.abc_kept_book.specs.Outputs.{files_of, titles_of}
 use Rattle.abc_lines.specs.Text.{IsText, Splice, splice_from, spliced}
 use Rattle.abc_live.specs.declared.change.Change.{Change}
-use Rattle.abc_outputs.specs.Tunes.{HasCells, cell_faults_by}
+use Rattle.abc_outputs.specs.Output.{output_in}
+use Rattle.abc_outputs.specs.Tunes.{HasCells, cell_faults_by, faults_by}
 use Rattle.abc_outputs.specs.declared.output.Output.{Output}
-use Rattle.abc_tunebook.specs.Book.{Book}
+use Rattle.abc_tunebook.specs.Book.{Book, book_of}
 use Rattle.abc_tunebook.specs.Rules.{Rules}
 use Rattle.abc_tunebook.specs.declared.fault.Fault.{Fault}
 
@@ -39,6 +41,13 @@ pub record IsBook (outputs : List Output) (found : List Fault) (book : Book) : T
   pub titles : titles_of outputs ≡ book.titles
   pub faults : found ≡ book.faults
 
+-- A kept book has what the tunes of a kept text give, and its files, titles and faults are those of the text.
+abbrev pub HasOutputs : {C State Cell Items Defaults : Type 0} → Rules State Cell Items Defaults → Keeping C State Cell Items → Kept → Type 0
+HasOutputs rules on book = book.outputs.items ≡ map (output_in rules) (drop 1 on.chains.items)
+
+abbrev pub IsBookOf : {C State Cell Items Defaults : Type 0} → Steps State Cell Items → Rules State Cell Items Defaults → Keeping C State Cell Items → Kept → Type 0
+IsBookOf steps rules on book = IsBook book.outputs.items book.faults (book_of steps rules on.lines.text)
+
 -- A file header that does not lie before some lines lies among them, and its chain has their cells.
 abbrev pub HeaderCells : {State Cell Items : Type 0} → ℕ → List ℕ → Chained State Cell Items → Option Block → Type 0
 HeaderCells before counts chain None = Unit {0}
@@ -48,3 +57,7 @@ HeaderCells before counts chain (Some block) = before < block.to → HasCells be
 abbrev pub header_faults_there : {State Cell Items Defaults : Type 0} → Rules State Cell Items Defaults → ℕ → List ℕ → Chained State Cell Items → Option Block → List Fault
 header_faults_there rules before counts chain None = []
 header_faults_there rules before counts chain (Some block) = if nat_lt before block.to then cell_faults_by rules before counts chain block else []
+
+-- The faults of the lines of a stretch: those of the file header, if it lies there, and those of the tunes.
+abbrev pub stretch_faults : {State Cell Items Defaults : Type 0} → Rules State Cell Items Defaults → ℕ → List ℕ → Chained State Cell Items → Option Block → List (Chained State Cell Items) → List Block → List Fault
+stretch_faults rules before counts first header chains places = header_faults_there rules before counts first header ++ faults_by rules before counts chains places

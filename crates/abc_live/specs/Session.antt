@@ -1,6 +1,7 @@
 -- What contracts see of a session: its compiler and its text, which say all else, and what is kept of the text. Our own.
 use Rattle.abc_chains.specs.Standing.{Keeping}
 use Rattle.std.specs.Prelude.{List}
+use Rattle.abc_fold.specs.Steps.{Steps}
 use Rattle.abc_kept_book.specs.Kept.{Kept}
 use Rattle.abc_lines.specs.Text.{Text}
 use Rattle.abc_tunebook.specs.Book.{Book, blocks_in, book_of, given_by}
@@ -19,12 +20,12 @@ abbrev pub live : {C State Cell Items : Type 0} → Keeping C State Cell Items �
 live kept book = record { compiler = kept.compiler; text = kept.lines.text; kept = kept; book = book }
 
 -- The book of a session's text, by the definitions of its compiler.
-abbrev pub book_in : {C State Cell Items Defaults : Type 0} → (C → State → Cell → State) → (C → State → Cell → Items) → (C → Rules State Cell Items Defaults) → Live C State Cell Items → Book
-book_in next gives rules s = book_of (next s.compiler) (gives s.compiler) (rules s.compiler) s.text
+abbrev pub book_in : {C State Cell Items Defaults : Type 0} → (C → Steps State Cell Items) → (C → Rules State Cell Items Defaults) → Live C State Cell Items → Book
+book_in steps rules s = book_of (steps s.compiler) (rules s.compiler) s.text
 
 -- The tunes of a session's text, in the order in which they stand.
-abbrev pub tunes_given : {C State Cell Items Defaults : Type 0} → (C → State → Cell → State) → (C → State → Cell → Items) → (C → Rules State Cell Items Defaults) → Live C State Cell Items → List Tune
-tunes_given next gives rules s = (given_by (next s.compiler) (gives s.compiler) (rules s.compiler) s.text (blocks_in (rules s.compiler) s.text)).tunes
+abbrev pub tunes_given : {C State Cell Items Defaults : Type 0} → (C → Steps State Cell Items) → (C → Rules State Cell Items Defaults) → Live C State Cell Items → List Tune
+tunes_given steps rules s = (given_by (steps s.compiler).next (steps s.compiler).gives (rules s.compiler) s.text (blocks_in (rules s.compiler) s.text)).tunes
 
 -- A session, the text that is to take the place of its own, and how its files will differ.
 pub record EditPatched (C State Cell Items : Type 0) : Type 0 where

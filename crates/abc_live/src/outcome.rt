@@ -1,15 +1,14 @@
 //! What a prepared text gives to the book: what the tunes of its stretch give, and their faults.
 
-ghost use Rattle.std.specs.Prelude.{◌≡◌, ◌+◌, ◌≤◌, ◌++◌, IfOk, Some, drop, length, map, slice_get};
+ghost use Rattle.std.specs.Prelude.{◌≡◌, ◌+◌, ◌≤◌, IfOk, Some, drop, length, map, slice_get};
 ghost use Rattle.std.specs.List.{AllZip};
-ghost use Rattle.abc_fold.specs.Steps.{steps_of};
 ghost use Rattle.abc_kept_book.specs.Outputs.{files_of};
 ghost use Rattle.abc_lines.specs.declared.limits.TheConstants.{MOST_LINES};
-ghost use Rattle.abc_live.specs.Prepared.{HeaderCells, IsBook, IsPrepared, header_faults_there, splice_in};
+ghost use Rattle.abc_live.specs.Prepared.{HeaderCells, IsBook, IsPrepared, stretch_faults, splice_in};
 ghost use Rattle.abc_memo.specs.Memo.{Remembers};
 ghost use Rattle.abc_outputs.specs.Built.{IsBuiltUpTo, made_of};
 ghost use Rattle.abc_outputs.specs.Output.{output_in};
-ghost use Rattle.abc_outputs.specs.Tunes.{HasCells, faults_by};
+ghost use Rattle.abc_outputs.specs.Tunes.{HasCells};
 ghost use Rattle.abc_tunebook.specs.Book.{book_of};
 ghost use Rattle.abc_tunebook.specs.Report.{Reports};
 
@@ -47,8 +46,8 @@ fn faults_of<C: Compiler>(
     requires header { HeaderCells stretch.now.before stretch.now.counts.now first.now header }
     requires cells { AllZip (HasCells stretch.now.before stretch.now.counts.now) stretch.now.chains.now stretch.now.places.now }
     requires outputs { outputs.now ≡ map (output_in (C.rules compiler.now)) stretch.now.chains.now }
-    ensures { let rules = C.rules compiler.now in
-        IfOk result (λ faults. faults.items ≡ header_faults_there rules stretch.now.before stretch.now.counts.now first.now header ++ faults_by rules stretch.now.before stretch.now.counts.now stretch.now.chains.now stretch.now.places.now) }
+    ensures { let s = stretch.now in
+        IfOk result (λ faults. faults.items ≡ stretch_faults (C.rules compiler.now) s.before s.counts.now first.now header s.chains.now s.places.now) }
 {
     let mut faults = Vec::new(alloc);
     if let Some(block) = header {
@@ -72,19 +71,19 @@ pub(crate) fn book_after<C: Compiler>(
 ) -> Result<BookPatch, AllocError>
     requires on { kept.now.on ≡ text.now }
     requires prepared { let c = text.now.compiler in
-        IsPrepared (steps_of (C.next c) (C.gives c) (C.alike c)) (C.rules c) (splice_in change.now) kept.now }
+        IsPrepared (C.steps c) (C.rules c) (splice_in change.now) kept.now }
     requires outputs { book.now.outputs.items ≡ map (output_in (C.rules text.now.compiler)) (drop 1 text.now.chains.items) }
     requires faults { let c = text.now.compiler in
-        book.now.faults ≡ (book_of (C.next c) (C.gives c) (C.rules c) text.now.lines.text).faults }
+        book.now.faults ≡ (book_of (C.steps c) (C.rules c) text.now.lines.text).faults }
     requires remembers { let c = text.now.compiler in
-        Remembers (steps_of (C.next c) (C.gives c) (C.alike c)) (C.rules c) memo.old }
+        Remembers (C.steps c) (C.rules c) memo.old }
     ensures on { IfOk result (λ patch. patch.on ≡ book.now) }
     ensures outputs { IfOk result (λ patch. patch.outputs ≡ map (output_in (C.rules text.now.compiler)) (drop 1 kept.now.chains)) }
     ensures book { let c = text.now.compiler in
-        IfOk result (λ patch. IsBook patch.outputs patch.faults (book_of (C.next c) (C.gives c) (C.rules c) kept.now.text)) }
+        IfOk result (λ patch. IsBook patch.outputs patch.faults (book_of (C.steps c) (C.rules c) kept.now.text)) }
     ensures report { IfOk result (λ patch. Reports (files_of book.now.outputs.items) (files_of patch.outputs) patch.report) }
     ensures remembers { let c = text.now.compiler in
-        Remembers (steps_of (C.next c) (C.gives c) (C.alike c)) (C.rules c) memo.new }
+        Remembers (C.steps c) (C.rules c) memo.new }
     ensures counted { IsBuiltUpTo (made_of kept.now.taken) (C.Work.counts work.old) (C.Work.counts work.new) }
 {
     // The text has no more lines than it may have.

@@ -3,7 +3,6 @@
 ghost use Rattle.std.specs.Prelude.{◌≡◌, ◌≢◌, ◌↔◌, ℕ, ◌≤◌, [], Contains, IfErr, IfOk, IsSome, MatchResult, Ok, Some, length, option_copied};
 ghost use Rattle.std.specs.List.Sorted.{IsStrictlyIncreasing, IsStrictlySortedBy};
 ghost use Rattle.std.specs.Map.{keys_of};
-ghost use Rattle.abc_fold.specs.Steps.{steps_of};
 ghost use Rattle.abc_lines.specs.Edits.{Refuses, edited, replaced};
 ghost use Rattle.abc_lines.specs.declared.limits.TheConstants.{MOST_LINES};
 ghost use Rattle.abc_live.specs.Counting.{MayCost, cost_of};
@@ -38,19 +37,16 @@ pub struct LiveSession<C: Compiler> {
 }
 
 impl<C: Compiler> Model for LiveSession<C> {
-    ghost use Rattle.std.specs.Prelude.{◌≡◌, drop, map};
-    ghost use Rattle.abc_fold.specs.Steps.{steps_of};
-    ghost use Rattle.abc_live.specs.Prepared.{IsBook};
+    ghost use Rattle.abc_fold.specs.Steps.{};
+    ghost use Rattle.abc_live.specs.Prepared.{HasOutputs, IsBookOf};
     ghost use Rattle.abc_live.specs.Session.{Live, live};
     ghost use Rattle.abc_memo.specs.Memo.{Remembers};
-    ghost use Rattle.abc_outputs.specs.Output.{output_in};
-    ghost use Rattle.abc_tunebook.specs.Book.{book_of};
 
     ghost Value = { Live C C.State C.Cell C.Items };
 
     ghost view = { λ s. live s.text s.book };
 
-    ghost invariant = { λ s. (s.book.outputs.items ≡ map (output_in (C.rules s.text.compiler)) (drop 1 s.text.chains.items)) × IsBook s.book.outputs.items s.book.faults (book_of (C.next s.text.compiler) (C.gives s.text.compiler) (C.rules s.text.compiler) s.text.lines.text) × Remembers (steps_of (C.next s.text.compiler) (C.gives s.text.compiler) (C.alike s.text.compiler)) (C.rules s.text.compiler) s.memo };
+    ghost invariant = { λ s. let c = s.text.compiler in HasOutputs (C.rules c) s.text s.book × IsBookOf (C.steps c) (C.rules c) s.text s.book × Remembers (C.steps c) (C.rules c) s.memo };
 }
 
 /// An edit that has been prepared: what the session would be, and how its files would differ. It must be spent, by
@@ -71,7 +67,7 @@ impl<C: Compiler> Model for EditPatch<C> {
 
     ghost view = { λ p. record { on = live p.kept.on p.book.on; text = p.kept.text; report = p.book.report } };
 
-    ghost invariant = { λ p. (p.book.outputs ≡ map (output_in (C.rules p.kept.on.compiler)) (drop 1 p.kept.chains)) × IsBook p.book.outputs p.book.faults (book_of (C.next p.kept.on.compiler) (C.gives p.kept.on.compiler) (C.rules p.kept.on.compiler) p.kept.text) };
+    ghost invariant = { λ p. let c = p.kept.on.compiler in (p.book.outputs ≡ map (output_in (C.rules c)) (drop 1 p.kept.chains)) × IsBook p.book.outputs p.book.faults (book_of (C.steps c) (C.rules c) p.kept.text) };
 }
 
 impl<C: Compiler> LiveSession<C> {
@@ -93,10 +89,10 @@ impl<C: Compiler> LiveSession<C> {
         ensures on { IfOk result (λ patch. patch.on ≡ self.old) }
         ensures text { IfOk result (λ patch. edited self.old.text (splice_of edit.now) ≡ Ok patch.text) }
         ensures report { let c = self.old.compiler in
-            IfOk result (λ patch. Reports (book_in C.next C.gives C.rules self.old).files (book_of (C.next c) (C.gives c) (C.rules c) patch.text).files patch.report) }
+            IfOk result (λ patch. Reports (book_in C.steps C.rules self.old).files (book_of (C.steps c) (C.rules c) patch.text).files patch.report) }
         ensures refused { IfErr result (λ e. Refuses e (edited self.old.text (splice_of edit.now))) }
         ensures uncounted { IfErr result (λ e. e ≢ EditError.OutOfMemory → work.new ≡ work.old) }
-        ensures counted { MayCost (cost_of (steps_of (C.next self.old.compiler) (C.gives self.old.compiler) (C.alike self.old.compiler)) (C.rules self.old.compiler) self.old.text (splice_of edit.now)) (C.Work.counts work.old) (C.Work.counts work.new) }
+        ensures counted { MayCost (cost_of (C.steps self.old.compiler) (C.rules self.old.compiler) self.old.text (splice_of edit.now)) (C.Work.counts work.old) (C.Work.counts work.new) }
     {
         match change_of(edit) {
             Some(change) => self.prepare_change(&change, work),
@@ -114,10 +110,10 @@ impl<C: Compiler> LiveSession<C> {
         ensures on { IfOk result (λ patch. patch.on ≡ self.old) }
         ensures text { IfOk result (λ patch. replaced self.old.text (splice_in change.now) ≡ Ok patch.text) }
         ensures report { let c = self.old.compiler in
-            IfOk result (λ patch. Reports (book_in C.next C.gives C.rules self.old).files (book_of (C.next c) (C.gives c) (C.rules c) patch.text).files patch.report) }
+            IfOk result (λ patch. Reports (book_in C.steps C.rules self.old).files (book_of (C.steps c) (C.rules c) patch.text).files patch.report) }
         ensures refused { IfErr result (λ e. Refuses e (replaced self.old.text (splice_in change.now))) }
         ensures uncounted { IfErr result (λ e. e ≢ EditError.OutOfMemory → work.new ≡ work.old) }
-        ensures counted { MayCost (cost_of (steps_of (C.next self.old.compiler) (C.gives self.old.compiler) (C.alike self.old.compiler)) (C.rules self.old.compiler) self.old.text (Some (splice_in change.now))) (C.Work.counts work.old) (C.Work.counts work.new) }
+        ensures counted { MayCost (cost_of (C.steps self.old.compiler) (C.rules self.old.compiler) self.old.text (Some (splice_in change.now))) (C.Work.counts work.old) (C.Work.counts work.new) }
     {
         // What is kept is that of the text.
         let _ = self.text.lines();
@@ -154,8 +150,8 @@ impl<C: Compiler> LiveSession<C> {
         ensures compiler { self.new.compiler ≡ self.old.compiler }
         ensures refused { IfErr result (λ e. Refuses e (edited self.old.text (splice_of edit.now))) }
         ensures uncounted { IfErr result (λ e. e ≢ EditError.OutOfMemory → work.new ≡ work.old) }
-        ensures report { IfOk result (Reports (book_in C.next C.gives C.rules self.old).files (book_in C.next C.gives C.rules self.new).files) }
-        ensures counted { MayCost (cost_of (steps_of (C.next self.old.compiler) (C.gives self.old.compiler) (C.alike self.old.compiler)) (C.rules self.old.compiler) self.old.text (splice_of edit.now)) (C.Work.counts work.old) (C.Work.counts work.new) }
+        ensures report { IfOk result (Reports (book_in C.steps C.rules self.old).files (book_in C.steps C.rules self.new).files) }
+        ensures counted { MayCost (cost_of (C.steps self.old.compiler) (C.rules self.old.compiler) self.old.text (splice_of edit.now)) (C.Work.counts work.old) (C.Work.counts work.new) }
     {
         let patch = self.prepare(edit, work)?;
         Ok(self.commit(patch))
@@ -164,8 +160,8 @@ impl<C: Compiler> LiveSession<C> {
     /// The bytes of a number's file: those of the first tune of the number that has one.
     #[tactic(auto, using(crate::proofs::Books::file_of_first))]
     pub fn output(&self, n: u32) -> Option<&[u8]>
-        ensures file { option_copied result ≡ file_at (book_in C.next C.gives C.rules self.now).files n }
-        ensures first { option_copied result ≡ first_file (tunes_given C.next C.gives C.rules self.now) n }
+        ensures file { option_copied result ≡ file_at (book_in C.steps C.rules self.now).files n }
+        ensures first { option_copied result ≡ first_file (tunes_given C.steps C.rules self.now) n }
     {
         self.book.file(n)
     }
@@ -173,8 +169,8 @@ impl<C: Compiler> LiveSession<C> {
     /// The reference numbers that have a file, rising.
     #[tactic(auto, using(crate::proofs::Books::numbers_have_files))]
     pub fn numbers(&self) -> &[u32]
-        ensures value { result.now ≡ keys_of (book_in C.next C.gives C.rules self.now).files }
-        ensures exact { (n : ℕ) → Contains result.now n ↔ IsSome (file_at (book_in C.next C.gives C.rules self.now).files n) }
+        ensures value { result.now ≡ keys_of (book_in C.steps C.rules self.now).files }
+        ensures exact { (n : ℕ) → Contains result.now n ↔ IsSome (file_at (book_in C.steps C.rules self.now).files n) }
         ensures rise { IsStrictlyIncreasing result.now }
     {
         self.book.numbers()
@@ -182,7 +178,7 @@ impl<C: Compiler> LiveSession<C> {
 
     /// The numbers and titles, tune by tune.
     pub fn titles(&self) -> &[Title]
-        ensures { result.now ≡ (book_in C.next C.gives C.rules self.now).titles }
+        ensures { result.now ≡ (book_in C.steps C.rules self.now).titles }
     {
         self.book.titles()
     }
@@ -190,7 +186,7 @@ impl<C: Compiler> LiveSession<C> {
     /// The faults of the text, in order, each once.
     #[tactic(auto, using(crate::proofs::Books::faults_in_order))]
     pub fn faults(&self) -> &[Fault]
-        ensures value { result.now ≡ (book_in C.next C.gives C.rules self.now).faults }
+        ensures value { result.now ≡ (book_in C.steps C.rules self.now).faults }
         ensures rise { IsStrictlySortedBy fault_cmp result.now }
     {
         self.book.faults()

@@ -1,8 +1,9 @@
 -- Which items are those of a key, and what a memo remembers. Our own.
-use Rattle.std.specs.Prelude.{◌≡◌, ◌⊎◌, Bool, true, List, Contains, Some}
+use Rattle.std.specs.Prelude.{◌≡◌, ◌⊎◌, Bool, true, if◌then◌else◌, List, Contains, Option, Some, is_some}
 use Rattle.std.specs.List.{list_all, flat_map}
 use Rattle.abc_compiler.specs.declared.built.Built.{Built}
 use Rattle.abc_fold.specs.Steps.{Steps, items_from}
+use Rattle.abc_fold.specs.Work.{Counters, raised}
 use Rattle.abc_lines.specs.Text.{Text, is_line}
 use Rattle.lru.specs.LruCache.{lru_cache, promoted, put_entries}
 use Rattle.abc_memo.specs.Bytes.{bytes_of_lines}
@@ -29,6 +30,10 @@ pub record IsBuiltOf {State Cell Items Defaults : Type 0} (steps : Steps State C
 -- All that is remembered is what the compiler's definitions say of its key.
 abbrev pub Remembers : {State Cell Items Defaults : Type 0} → Steps State Cell Items → Rules State Cell Items Defaults → List (TuneKey Defaults × Built) → Type 0
 Remembers {Defaults = Defaults} steps rules entries = (entry : TuneKey Defaults × Built) → Contains entries entry → IsBuiltOf steps rules entry.0 entry.1
+
+-- The counters after the asking for a key: one tune more is built, unless what was built of the key is known.
+abbrev pub counts_after : Option Built → Counters → Counters
+counts_after known before = if is_some known then before else record before { built = raised before.built 1 }
 
 -- What is remembered behind the asking for a key: it goes first where it was there, and nothing else changes; or, where
 -- it was not, it comes first with what was built, and of 64 others the last goes.

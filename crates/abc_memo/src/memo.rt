@@ -6,7 +6,6 @@ ghost use Rattle.lru.specs.LruCache.{lru_cache, promoted, put_entries};
 
 use crate::key::TuneKey;
 use abc_compiler::{Built, Compiler};
-use abc_fold::Shared;
 use lru::LruCache;
 use std::alloc::{AllocError, Global};
 use std::marker::Model;
@@ -16,7 +15,7 @@ use std::num::NonZeroUsize;
 /// the one asked for last first.
 #[derive(Drop)]
 pub struct TuneMemo<C: Compiler> {
-    entries: LruCache<TuneKey<C::Defaults>, Shared<Built>>,
+    entries: LruCache<TuneKey<C::Defaults>, Built>,
 }
 
 impl<C: Compiler> Model for TuneMemo<C> {
@@ -41,11 +40,16 @@ impl<C: Compiler> TuneMemo<C> {
         Ok(TuneMemo { entries })
     }
 
+    /// The allocator that the entries are from.
+    pub(crate) fn allocator(&self) -> Global {
+        *self.entries.allocator()
+    }
+
     /// What is remembered under a key, which is from now on the one asked for last.
     pub(crate) fn recalled(
         &mut self,
         key: &TuneKey<C::Defaults>,
-    ) -> Result<Option<Shared<Built>>, AllocError>
+    ) -> Result<Option<Built>, AllocError>
         ensures value { IfOk result (λ known. known ≡ lookup (⟦<TuneKey<C::Defaults> as PartialEq>⟧.eq key.now) self.old) }
         ensures refused { OnErr result (is_some (lookup (⟦<TuneKey<C::Defaults> as PartialEq>⟧.eq key.now) self.old) ≡ true) }
         ensures entries { self.new ≡ promoted (⟦<TuneKey<C::Defaults> as PartialEq>⟧.eq key.now) self.old }
@@ -57,7 +61,7 @@ impl<C: Compiler> TuneMemo<C> {
     }
 
     /// Puts an entry first.
-    fn put(&mut self, key: TuneKey<C::Defaults>, built: &Shared<Built>) -> Result<(), AllocError>
+    fn put(&mut self, key: TuneKey<C::Defaults>, built: &Built) -> Result<(), AllocError>
         ensures ok { OnOk result (self.new ≡ put_entries (⟦<TuneKey<C::Defaults> as PartialEq>⟧.eq) (lru_cache self.old 64) key built.now) }
         ensures refused { OnErr result (self.new ≡ self.old) }
     {
@@ -68,7 +72,7 @@ impl<C: Compiler> TuneMemo<C> {
 
     /// Remembers what was built, and returns no error: if an allocation fails, the next call for the key builds again.
     /// Only this module reads the entries, so no other function can refuse a build for want of an entry.
-    pub(crate) fn remember(&mut self, key: TuneKey<C::Defaults>, built: &Shared<Built>)
+    pub(crate) fn remember(&mut self, key: TuneKey<C::Defaults>, built: &Built)
         ensures { (self.new ≡ self.old) ⊎ (self.new ≡ put_entries (⟦<TuneKey<C::Defaults> as PartialEq>⟧.eq) (lru_cache self.old 64) key built.now) }
     {
         let _ = self.put(key, built);

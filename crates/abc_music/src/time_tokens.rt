@@ -16,7 +16,7 @@ use crate::sound::{
     Around, Inside, Sounding, accidentals_behind, length_in, sounding_of, tied_behind,
 };
 use abc_fields::FaultCode;
-use abc_items::{Item, Items, LocalFault, Tone, Tones, column_of};
+use abc_items::{Item, ItemsBuilder, LocalFault, Tone, Tones, column_of};
 use abc_scan::{Chord, Note, WrittenLength};
 use abc_settings::{Accidentals, Settings, TiedNote, counted_down};
 use abc_text::ShortSequence;
@@ -47,7 +47,7 @@ fn first_length(tones: &[Tone]) -> Grains
 fn sound(
     alloc: Global,
     settings: &mut Settings,
-    items: &mut Items,
+    items: &mut ItemsBuilder,
     inside: Inside,
 ) -> Result<(), AllocError>
     requires { AreTones inside.tones }
@@ -74,7 +74,12 @@ fn sound(
 
 /// Puts a note alone, and its faults: that its length is refused, and that MIDI has no key for it.
 #[inline(always)]
-fn push_note(items: &mut Items, tone: Tone, refused: bool, column: u32) -> Result<(), AllocError>
+fn push_note(
+    items: &mut ItemsBuilder,
+    tone: Tone,
+    refused: bool,
+    column: u32,
+) -> Result<(), AllocError>
     requires { IsTone tone }
     ensures ok { OnOk result (items.new ≡ and_item (and_faults items.old
         (fault_if refused column BadLength ++ fault_if (is_none tone.key) column KeyRange)) (item_kinds.Tone (tone ∷ []) tone.length)) }
@@ -118,7 +123,7 @@ fn settle(
 pub fn note_played(
     alloc: Global,
     settings: &mut Settings,
-    items: &mut Items,
+    items: &mut ItemsBuilder,
     note: Note,
     broken: &BrokenFactors,
     place: NotePlace,
@@ -156,7 +161,7 @@ fn silent_faults(inside: Inside, from: usize) -> Result<Vec<LocalFault>, AllocEr
 }
 
 /// Gives the faults of a chord without a note, which takes no time.
-fn take_no_time(items: &mut Items, inside: Inside, from: usize) -> Result<(), AllocError>
+fn take_no_time(items: &mut ItemsBuilder, inside: Inside, from: usize) -> Result<(), AllocError>
     ensures ok { OnOk result (items.new ≡ and_faults items.old ((column_of from, EmptyChord) ∷ inside.faults)) }
     ensures refused { OnErr result (items.new ≡ items.old) }
 {
@@ -169,7 +174,7 @@ fn take_no_time(items: &mut Items, inside: Inside, from: usize) -> Result<(), Al
 pub fn chord_played(
     alloc: Global,
     settings: &mut Settings,
-    items: &mut Items,
+    items: &mut ItemsBuilder,
     chord: &Chord,
     broken: &BrokenFactors,
     place: NotePlace,
@@ -195,7 +200,7 @@ pub fn chord_played(
 
 /// Puts a rest, and its fault where its length is refused.
 fn push_rest(
-    items: &mut Items,
+    items: &mut ItemsBuilder,
     length: Grains,
     refused: bool,
     column: u32,
@@ -216,7 +221,7 @@ fn push_rest(
 pub fn rest_played(
     alloc: Global,
     settings: &mut Settings,
-    items: &mut Items,
+    items: &mut ItemsBuilder,
     written: WrittenLength,
     broken: &BrokenFactors,
     from: usize,

@@ -5,7 +5,7 @@ ghost use Rattle.abc_outputs.specs.Output.{has_faults, output_of};
 ghost use Rattle.abc_tunebook.specs.Tune.{first_of};
 
 use abc_compiler::{Built, Compiler};
-use abc_fold::{Chain, Shared};
+use abc_fold::Chain;
 use abc_text::Sequence;
 use std::alloc::{AllocError, Global};
 
@@ -17,7 +17,7 @@ pub struct Output {
     /// The title's bytes, empty where the tune has none.
     pub title: Sequence<u8>,
     /// Its MIDI file and its faults as a whole, which the memo may hold too.
-    pub built: Shared<Built>,
+    pub built: Built,
     /// Whether one of its cells has faults.
     pub faulty: bool,
 }
@@ -28,7 +28,7 @@ impl Output {
         compiler: &C,
         alloc: Global,
         items: &[C::Items],
-        built: Shared<Built>,
+        built: Built,
     ) -> Result<Output, AllocError>
         requires bytes { built.bytes ≡ (C.rules compiler.now).bytes items.now }
         requires faults { built.faults ≡ (C.rules compiler.now).build_faults items.now }
@@ -46,7 +46,6 @@ impl Output {
 
 /// Copies of the items of a chain.
 pub(crate) fn copied_items<C: Compiler>(
-    compiler: &C,
     alloc: Global,
     chain: &Chain<C>,
 ) -> Result<Vec<C::Items>, AllocError>
@@ -54,7 +53,7 @@ pub(crate) fn copied_items<C: Compiler>(
 {
     let mut copies = Vec::with_capacity(alloc, chain.len())?;
     while let Some(items) = chain.items(copies.len()) {
-        copies.push(compiler.copy_items(alloc, items)?)?;
+        copies.push(C::copy_items(alloc, items)?)?;
     }
     Ok(copies)
 }

@@ -2,7 +2,6 @@
 
 ghost use Rattle.std.specs.Prelude.{◌≡◌, ◌<◌, IfOk, Some, length, map, option_copied, slice_get, true};
 ghost use Rattle.std.specs.List.{AllZip, list_all};
-ghost use Rattle.abc_fold.specs.Steps.{steps_of};
 ghost use Rattle.abc_lines.specs.Text.{is_line, seen_lines};
 ghost use Rattle.abc_memo.specs.Memo.{Remembers};
 ghost use Rattle.abc_outputs.specs.Built.{IsBuiltUpTo, made_of};
@@ -44,18 +43,18 @@ fn output_at<C: Compiler>(
     work: &mut C::Work,
 ) -> Result<Shared<Output>, AllocError>
     requires limits { list_all is_line (seen_lines stretch.now.lines.now) ≡ true }
-    requires tunes { let c = compiler.now in
-        AllZip (IsTuneAt (steps_of (C.next c) (C.gives c) (C.alike c)) (C.rules c) (line_run (option_copied stretch.now.left) stretch.now.before (seen_lines stretch.now.lines.now))) stretch.now.chains.now stretch.now.places.now }
+    requires tunes { let c = compiler.now in let s = stretch.now in
+        AllZip (IsTuneAt (C.steps c) (C.rules c) (line_run (option_copied s.left) s.before (seen_lines s.lines.now))) s.chains.now s.places.now }
     requires place { place < length stretch.now.chains.now }
-    requires remembers { Remembers (steps_of (C.next compiler.now) (C.gives compiler.now) (C.alike compiler.now)) (C.rules compiler.now) memo.old }
+    requires remembers { Remembers (C.steps compiler.now) (C.rules compiler.now) memo.old }
     ensures value { IfOk result (λ output. slice_get (map (output_in (C.rules compiler.now)) stretch.now.chains.now) place ≡ Some output) }
-    ensures remembers { Remembers (steps_of (C.next compiler.now) (C.gives compiler.now) (C.alike compiler.now)) (C.rules compiler.now) memo.new }
+    ensures remembers { Remembers (C.steps compiler.now) (C.rules compiler.now) memo.new }
     ensures counted { IsBuiltUpTo 1 (C.Work.counts work.old) (C.Work.counts work.new) }
 {
     let key = key_of(compiler, alloc, stretch, stretch.places[place])?;
     let chain = chain_at(stretch.chains, place);
-    let items = copied_items(compiler, alloc, chain)?;
-    let built = memo.built(alloc, compiler, key, &items, work)?;
+    let items = copied_items(alloc, chain)?;
+    let built = memo.built(compiler, key, &items, work)?;
     Shared::new(alloc, Output::of(compiler, alloc, &items, built)?)
 }
 
@@ -70,12 +69,12 @@ pub fn outputs_of<C: Compiler>(
     work: &mut C::Work,
 ) -> Result<Vec<Shared<Output>>, AllocError>
     requires limits { list_all is_line (seen_lines stretch.now.lines.now) ≡ true }
-    requires tunes { let c = compiler.now in
-        AllZip (IsTuneAt (steps_of (C.next c) (C.gives c) (C.alike c)) (C.rules c) (line_run (option_copied stretch.now.left) stretch.now.before (seen_lines stretch.now.lines.now))) stretch.now.chains.now stretch.now.places.now }
+    requires tunes { let c = compiler.now in let s = stretch.now in
+        AllZip (IsTuneAt (C.steps c) (C.rules c) (line_run (option_copied s.left) s.before (seen_lines s.lines.now))) s.chains.now s.places.now }
     requires taken { AllZip (TakesOver (C.rules compiler.now) old.now.outputs.now.items) stretch.now.chains.now old.now.taken.now }
-    requires remembers { Remembers (steps_of (C.next compiler.now) (C.gives compiler.now) (C.alike compiler.now)) (C.rules compiler.now) memo.old }
+    requires remembers { Remembers (C.steps compiler.now) (C.rules compiler.now) memo.old }
     ensures values { IfOk result (λ made. made.items ≡ map (output_in (C.rules compiler.now)) stretch.now.chains.now) }
-    ensures remembers { Remembers (steps_of (C.next compiler.now) (C.gives compiler.now) (C.alike compiler.now)) (C.rules compiler.now) memo.new }
+    ensures remembers { Remembers (C.steps compiler.now) (C.rules compiler.now) memo.new }
     ensures counted { IsBuiltUpTo (made_of old.now.taken.now) (C.Work.counts work.old) (C.Work.counts work.new) }
 {
     let mut made = Vec::with_capacity(alloc, stretch.chains.len())?;

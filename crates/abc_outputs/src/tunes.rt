@@ -71,7 +71,7 @@ fn put_of_place<C: Compiler>(
     ensures front { StayInFront faults.old.items faults.new.items }
 {
     let line = place.from as u32 + 1;
-    put_of_tune(faults, line, output.built.get().faults.as_slice())?;
+    put_of_tune(faults, line, output.built.faults.get().as_slice())?;
     if output.faulty {
         put_cell_faults(compiler, faults, stretch, chain, place)?;
     }

@@ -47,7 +47,7 @@ impl Publisher {
     /// A job for the least pending number that has none under way. None where there is no such number. After an error
     /// nothing is changed. What `done` and `failed` need is allocated here.
     pub fn take<C: Compiler>(&mut self, session: &LiveSession<C>) -> Result<Option<Job>, AllocError>
-        ensures job { IfOk result (IsNextJob (maps_of self.old) (book_in C.next C.gives C.rules session.now).files 0) }
+        ensures job { IfOk result (IsNextJob (maps_of self.old) (book_in C.steps C.rules session.now).files 0) }
         ensures after { IfOk result (HasBegun self.old self.new) }
         ensures refused { OnErr result (self.new ≡ self.old) }
     {
@@ -61,7 +61,7 @@ impl Publisher {
         session: &LiveSession<C>,
         from: u32,
     ) -> Result<Option<Job>, AllocError>
-        ensures job { IfOk result (IsNextJob (maps_of self.old) (book_in C.next C.gives C.rules session.now).files from) }
+        ensures job { IfOk result (IsNextJob (maps_of self.old) (book_in C.steps C.rules session.now).files from) }
         ensures after { IfOk result (HasBegun self.old self.new) }
         ensures refused { OnErr result (self.new ≡ self.old) }
     {
@@ -101,7 +101,7 @@ impl Publisher {
 
     /// Whether the directory differs from the session at a number, or is unknown there.
     pub fn is_pending<C: Compiler>(&self, number: u32, session: &LiveSession<C>) -> bool
-        ensures { result ≡ is_pending (maps_of self.now).directory (book_in C.next C.gives C.rules session.now).files number }
+        ensures { result ≡ is_pending (maps_of self.now).directory (book_in C.steps C.rules session.now).files number }
     {
         let file = session.output(number);
         match self.slots.get(&number) {
@@ -112,7 +112,7 @@ impl Publisher {
 
     /// Whether no number is pending and no job is under way.
     pub fn settled<C: Compiler>(&self, session: &LiveSession<C>) -> bool
-        ensures { IsTrue result ↔ IsSettled (maps_of self.now) (book_in C.next C.gives C.rules session.now).files }
+        ensures { IsTrue result ↔ IsSettled (maps_of self.now) (book_in C.steps C.rules session.now).files }
     {
         self.is_idle() && self.next_wanted(session, 0).is_none()
     }
@@ -126,7 +126,7 @@ impl Publisher {
 
     /// Whether a number is pending and has no job under way.
     fn is_wanted<C: Compiler>(&self, number: u32, session: &LiveSession<C>) -> bool
-        ensures { result ≡ is_wanted (maps_of self.now) (book_in C.next C.gives C.rules session.now).files number }
+        ensures { result ≡ is_wanted (maps_of self.now) (book_in C.steps C.rules session.now).files number }
     {
         let under_way = match self.slots.get(&number) {
             Some(slot) => slot.is_under_way(),
@@ -137,7 +137,7 @@ impl Publisher {
 
     /// The least number from another one on that is pending and has no job under way.
     fn next_wanted<C: Compiler>(&self, session: &LiveSession<C>, from: u32) -> Option<u32>
-        ensures { let files = (book_in C.next C.gives C.rules session.now).files in MatchOption result (HasNone (maps_of self.now) files from) (IsNext (maps_of self.now) files from) }
+        ensures { let files = (book_in C.steps C.rules session.now).files in MatchOption result (HasNone (maps_of self.now) files from) (IsNext (maps_of self.now) files from) }
     {
         let mut at = from;
         while let Some(number) = self.next_number(session, at) {
@@ -152,7 +152,7 @@ impl Publisher {
     /// The least number from another one on that has a slot or a file.
     fn next_number<C: Compiler>(&self, session: &LiveSession<C>, at: u32) -> Option<u32>
         ensures from { IfSome result (λ number. at ≤ number) }
-        ensures none { let files = (book_in C.next C.gives C.rules session.now).files in (n : ℕ) → at ≤ n → MatchOption result ⊤ (λ number. n < number) → is_wanted (maps_of self.now) files n ≡ false }
+        ensures none { let files = (book_in C.steps C.rules session.now).files in (n : ℕ) → at ≤ n → MatchOption result ⊤ (λ number. n < number) → is_wanted (maps_of self.now) files n ≡ false }
     {
         match (self.next_slot(at), next_in(session.numbers(), at)) {
             (Some(slot), Some(file)) => Some(slot.min(file)),

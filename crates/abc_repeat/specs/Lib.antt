@@ -7,3 +7,5 @@ pub mod PlayLaws
 pub mod Runs
 pub mod Section
 pub mod Strain
+-- The definitions of the crates below that public clauses cite: a caller needs only this crate.
+pub use Rattle.abc_fields.specs.Parts

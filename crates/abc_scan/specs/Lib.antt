@@ -24,3 +24,9 @@ pub mod Chord
 pub mod Token
 pub mod Line
 pub mod Cell
+-- The definitions of the crates below that public clauses cite: a caller needs only this crate.
+pub use Rattle.abc_fold.specs.Work
+pub use Rattle.abc_text.specs.Accidental
+pub use Rattle.abc_text.specs.Blank
+pub use Rattle.abc_text.specs.Letter
+pub use Rattle.abc_text.specs.LineEnd

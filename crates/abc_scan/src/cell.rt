@@ -4,12 +4,52 @@ ghost use Rattle.std.specs.Prelude.{◌≡◌, ◌≤◌, IfOk, length};
 ghost use Rattle.abc_scan.specs.Cell.{AreCells, cells_of, first_size};
 
 use crate::token::{Token, is_bar};
+use abc_fold::Shared;
 use abc_text::Sequence;
 use std::alloc::{AllocError, Global};
+use std::marker::Model;
 
-/// A field line, or the tokens of a music line up to and with a bar line or the line's end. It
-/// carries all that is known of its tokens: nobody has to look at the line again.
-pub type Cell = Sequence<Token>;
+/// A field line, or the tokens of a music line up to and with a bar line or the line's end. It carries all that is known of
+/// its tokens: nobody has to read the line again. A copy shares them. Contracts see the tokens.
+#[derive(Drop)]
+pub struct Cell {
+    tokens: Shared<Sequence<Token>>,
+}
+
+impl Model for Cell {
+    ghost use Rattle.std.specs.Prelude.{List};
+    ghost use Rattle.abc_scan.specs.declared.spanned.Spanned.{Spanned};
+    ghost use Rattle.abc_scan.specs.declared.token.TokenKind.{TokenKind};
+
+    ghost Value = { List (Spanned TokenKind) };
+
+    ghost view = { λ cell. cell.tokens };
+}
+
+impl Cell {
+    /// The cell of these tokens.
+    pub fn new(alloc: Global, tokens: Vec<Token>) -> Result<Cell, AllocError>
+        ensures { IfOk result (λ cell. cell ≡ tokens.items) }
+    {
+        let tokens = Shared::new(alloc, Sequence::from(tokens))?;
+        Ok(Cell { tokens })
+    }
+
+    /// The tokens in order.
+    pub fn tokens(&self) -> &[Token]
+        ensures { result.now ≡ self.now }
+    {
+        self.tokens.get().as_slice()
+    }
+
+    /// A copy, which shares the tokens.
+    pub fn share(&self) -> Result<Cell, AllocError>
+        ensures { IfOk result (λ copy. copy ≡ self.now) }
+    {
+        let tokens = self.tokens.share()?;
+        Ok(Cell { tokens })
+    }
+}
 
 /// How many of these tokens stand in the first cell.
 fn first_size(tokens: &[Token]) -> usize
@@ -35,11 +75,11 @@ fn copy_of(token: &Token) -> Result<Token, AllocError>
 fn cell_of(alloc: Global, tokens: &[Token]) -> Result<Cell, AllocError>
     ensures { IfOk result (λ cell. cell ≡ tokens.now) }
 {
-    let mut cell = Sequence::from(Vec::with_capacity(alloc, tokens.len())?);
+    let mut copies = Vec::with_capacity(alloc, tokens.len())?;
     for token in tokens {
-        cell.push(copy_of(token)?)?;
+        copies.push(copy_of(token)?)?;
     }
-    Ok(cell)
+    Cell::new(alloc, copies)
 }
 
 /// The cells of a line, by its tokens: a line without tokens has none.

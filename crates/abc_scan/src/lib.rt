@@ -30,7 +30,8 @@ mod text;
 mod token;
 mod tuplet;
 
-pub use abc_text::{Accidental, Letter};
+pub use abc_fold::{Shared, Work};
+pub use abc_text::{Accidental, Letter, Sequence};
 pub use bar::BarLine;
 pub use broken::{BrokenRhythm, Direction};
 pub use cell::{Cell, cells};

@@ -14,8 +14,8 @@ use crate::line::{short, tokens_in};
 use crate::spanned::Spanned;
 use crate::text::without_comment;
 use crate::token::{Token, TokenKind, is_bar, next_token, short_token_at};
-use abc_fold::{Shared, Work};
-use abc_text::{Sequence, without_return};
+use abc_fold::Work;
+use abc_text::without_return;
 use std::alloc::{AllocError, Global};
 
 /// For how many tokens of a cell, and for how many cells of a line, room is taken at first.
@@ -24,23 +24,19 @@ const USUAL_TOKENS: usize = 32;
 const USUAL_CELLS: usize = 8;
 
 /// Ends the open cell: its tokens leave their list, which keeps its room.
-fn end_cell(
-    alloc: Global,
-    cells: &mut Vec<Shared<Cell>>,
-    begun: &mut Vec<Token>,
-) -> Result<(), AllocError>
+fn end_cell(alloc: Global, cells: &mut Vec<Cell>, begun: &mut Vec<Token>) -> Result<(), AllocError>
     ensures cells { OnOk result (cells.new.items ≡ cells.old.items ++ begun.old.items ∷ []) }
     ensures begun { OnOk result (begun.new.items ≡ []) }
 {
     let tokens = begun.split_off(0)?;
-    cells.push(Shared::new(alloc, Sequence::from(tokens))?)?;
+    cells.push(Cell::new(alloc, tokens)?)?;
     Ok(())
 }
 
 /// Puts one more token into the open cell, which a bar line ends.
 fn put_token(
     alloc: Global,
-    cells: &mut Vec<Shared<Cell>>,
+    cells: &mut Vec<Cell>,
     begun: &mut Vec<Token>,
     token: Token,
 ) -> Result<(), AllocError>
@@ -59,9 +55,9 @@ fn put_token(
 /// The cells so far and the open one, if it has tokens.
 fn all_cells(
     alloc: Global,
-    mut cells: Vec<Shared<Cell>>,
+    mut cells: Vec<Cell>,
     mut begun: Vec<Token>,
-) -> Result<Vec<Shared<Cell>>, AllocError>
+) -> Result<Vec<Cell>, AllocError>
     requires { HasNoBar begun.items }
     ensures { IfOk result (λ all. all.items ≡ cells.items ++ cells_of begun.items) }
 {
@@ -85,7 +81,7 @@ fn token_at(at: usize, kind: TokenKind, size: usize) -> Token
 }
 
 /// A text cut from left to right into the tokens of cells.
-fn cut_cells(alloc: Global, text: &[u8]) -> Result<Vec<Shared<Cell>>, AllocError>
+fn cut_cells(alloc: Global, text: &[u8]) -> Result<Vec<Cell>, AllocError>
     requires { length text.now < 2 ^ 31 }
     ensures { IfOk result (λ cells. cells.items ≡ cells_of (cutting_of text.now)) }
 {
@@ -113,7 +109,7 @@ fn cut_cells(alloc: Global, text: &[u8]) -> Result<Vec<Shared<Cell>>, AllocError
 }
 
 /// The cell of the tokens of a field or of a directive, of which there is one or none.
-fn cell_of_one(alloc: Global, tokens: Vec<Token>) -> Result<Vec<Shared<Cell>>, AllocError>
+fn cell_of_one(alloc: Global, tokens: Vec<Token>) -> Result<Vec<Cell>, AllocError>
     requires { length tokens.items < 2 }
     ensures cells { IfOk result (λ cells. cells.items ≡ cells_of tokens.items) }
     ensures silent { tokens.items ≡ [] → IsOk result }
@@ -122,13 +118,13 @@ fn cell_of_one(alloc: Global, tokens: Vec<Token>) -> Result<Vec<Shared<Cell>>, A
         return Ok(Vec::new(alloc));
     }
     let mut cells = Vec::with_capacity(alloc, 1)?;
-    cells.push(Shared::new(alloc, Sequence::from(tokens))?)?;
+    cells.push(Cell::new(alloc, tokens)?)?;
     Ok(cells)
 }
 
 /// The cells of a text of this class, which has no carriage return at its end.
 #[tactic(auto, using(crate::proofs::CellLaws::none_in))]
-fn cells_in(alloc: Global, class: LineClass, text: &[u8]) -> Result<Vec<Shared<Cell>>, AllocError>
+fn cells_in(alloc: Global, class: LineClass, text: &[u8]) -> Result<Vec<Cell>, AllocError>
     ensures cells { IfOk result (λ cells. cells.items ≡ cells_of (tokens_in class text.now)) }
     ensures silent { has_tokens class ≡ false → IsOk result }
 {
@@ -140,14 +136,10 @@ fn cells_in(alloc: Global, class: LineClass, text: &[u8]) -> Result<Vec<Shared<C
     }
 }
 
-/// The cells of a line, by its tokens, each of which its owners can share. Counts one line scanned, also where there is no
-/// memory for the cells; a blank line and a comment need none.
+/// The cells of a line, by its tokens. Counts one line scanned, also if an allocation fails; a blank line and a comment
+/// need none.
 #[tactic(auto, unfolding(crate::specs::Line::tokens_of))]
-pub fn cells_of_line(
-    alloc: Global,
-    line: &[u8],
-    work: &mut Work,
-) -> Result<Vec<Shared<Cell>>, AllocError>
+pub fn cells_of_line(alloc: Global, line: &[u8], work: &mut Work) -> Result<Vec<Cell>, AllocError>
     ensures cells { IfOk result (λ cells. cells.items ≡ cells_of (tokens_of line.now)) }
     ensures silent { has_tokens (class_of line.now) ≡ false → IsOk result }
     ensures counted { work.new ≡ record work.old { scanned = raised work.old.scanned 1 } }

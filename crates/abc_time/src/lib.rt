@@ -11,6 +11,7 @@ mod product;
 mod ratio;
 mod tempo;
 
+pub use abc_text::LARGEST_NUMBER;
 pub use grains::{
     Grains, LAST_TICK, LATEST_END, LONGEST_LENGTH, TICK, WHOLE_NOTE, grain_numbers, tick_of,
 };

@@ -16,7 +16,7 @@ use Rattle.abc_bars.specs.LookBack.Element.{Element}
 use Rattle.abc_bars.specs.LookBack.Flags.{is_of_header}
 use Rattle.abc_bars.specs.LookBack.Header.{header_at}
 use Rattle.abc_bars.specs.LookBack.Place.{InBody, InHeader, behind_field, behind_header, behind_header_line, given_in_body, given_in_header}
-use Rattle.abc_cells.specs.SameEntry.{bars}
+use Rattle.abc_cells.specs.SameEntry.{bar_steps}
 use Rattle.abc_cells.specs.Step.{directive_in, field_in, header_stepped, line_in, line_of, stepped}
 use Rattle.abc_cells.specs.declared.entry.Entry.{Entry}
 use Rattle.abc_cells.specs.declared.entry.Entry.TheVariants as entries
@@ -69,7 +69,7 @@ to entry cell = (stepped entry cell).0
 abbrev giving : Entry → CellTokens → Items
 giving entry cell = (stepped entry cell).1
 
-along : (entry : Entry) (cells : List CellTokens) → items_from bars entry cells ≡ items_along to giving entry cells
+along : (entry : Entry) (cells : List CellTokens) → items_from bar_steps entry cells ≡ items_along to giving entry cells
 along entry [] = refl
 along entry (cell ∷ cells) = ap (λ (rest : List Items). giving entry cell ∷ rest) (along (to entry cell) cells)
 
@@ -431,6 +431,6 @@ pub number_by_text : NumberByText
 unfolding stepped
 number_by_text opening field first cells is reference =
     subst (IsReference field.value)
-    (sym (ap (λ (number : Option ℕ). unwrap_or number (first_of rules_of_abc.number 0 (items_from bars (to (entries.Opening opening) first) cells)))
+    (sym (ap (λ (number : Option ℕ). unwrap_or number (first_of rules_of_abc.number 0 (items_from bar_steps (to (entries.Opening opening) first) cells)))
     (field_number opening field first (field_in first) (directive_in first) is reference)))
     (is_reference field.value)

@@ -9,6 +9,8 @@ use Rattle.abc_items.specs.declared.item.Item.{Item}
 use Rattle.abc_items.specs.declared.item.Item.TheVariants as items
 use Rattle.abc_header.specs.Defaults.{no_defaults}
 use Rattle.abc_cells.specs.Entry.{defaults_of, opening_after}
+use Rattle.abc_cells.specs.SameEntry.{bar_steps}
+use Rattle.abc_fold.specs.Steps.{Steps}
 use Rattle.abc_items.specs.Item.{Items}
 use Rattle.abc_scan.specs.declared.spanned.Spanned.{Spanned}
 use Rattle.abc_scan.specs.declared.token.TokenKind.{TokenKind}
@@ -32,8 +34,11 @@ first_value value_of (item ∷ rest) = option_or (value_of item) (first_value va
 abbrev pub cells_in : List ℕ → List (List (Spanned TokenKind))
 cells_in line = cells_of (tokens_of line)
 
--- The definitions of the compiler of ABC, but for the steps of its fold: those are the look back along the cells, by the
--- law `tunes_looked_back`.
+-- The steps of the compiler's fold: those of the fold over bars, which are the look back along the cells.
+abbrev pub steps_of_abc : Steps Entry (List (Spanned TokenKind)) Items
+steps_of_abc = bar_steps
+
+-- The definitions of the compiler of ABC, but for the steps of its fold.
 abbrev pub rules_of_abc : Rules Entry (List (Spanned TokenKind)) Items Defaults
 rules_of_abc = record {
   class = class_of;

@@ -3,7 +3,7 @@ use Rattle.std.specs.Prelude.{◌≡◌, ◌≢◌, ◌≤◌, ℕ, ◌*◌, Boo
 use Rattle.std.specs.List.{list_any}
 use Rattle.abc_bars.specs.LookBack.Along.{CellTokens}
 use Rattle.abc_bars.specs.LookBack.Defaults.{defaults_at}
-use Rattle.abc_cells.specs.SameEntry.{bars}
+use Rattle.abc_cells.specs.SameEntry.{bar_steps}
 use Rattle.abc_cells.specs.Step.{field_in, line_in}
 use Rattle.abc_cells.specs.declared.entry.Entry.TheVariants as entries
 use Rattle.abc_fields.specs.declared.fault.FaultCode.{FaultCode}
@@ -29,7 +29,7 @@ use Rattle.abc_tunebook.specs.Tune.{first_of}
 
 -- What the cells of a tune give, if the file header sets these values.
 abbrev pub items_of_tune : Defaults → List CellTokens → List Items
-items_of_tune opening cells = items_from bars (entries.Opening opening) cells
+items_of_tune opening cells = items_from bar_steps (entries.Opening opening) cells
 
 -- Whether a line is a K:.
 abbrev pub is_key : FieldKind → Bool

@@ -4,7 +4,7 @@ use Rattle.std.proofs.Common.{inl, inr, sym, ap, ◌∙◌}
 use Rattle.std.proofs.lemmas.Bool.{eqb-true, false≢true}
 use Rattle.abc_cells.specs.Entry.{defaults_of, opening_after}
 use Rattle.abc_header.specs.SameDefaults.{same_defaults, same_defaults_tells}
-use Rattle.abc_cells.specs.SameEntry.{bars, same_entry_tells}
+use Rattle.abc_cells.specs.SameEntry.{bar_steps, same_entry_tells}
 use Rattle.abc_header.specs.declared.defaults.Defaults.{Defaults}
 use Rattle.abc_cells.specs.declared.entry.Entry.TheVariants as entries
 use Rattle.abc_compiler.specs.Lawful.{AreLawful}
@@ -110,7 +110,7 @@ without_cells line = (
 )
 
 -- What a session relies on of the compiler of ABC.
-pub abc_lawful : AreLawful bars rules_of_abc
+pub abc_lawful : AreLawful bar_steps rules_of_abc
 abc_lawful = record {
   equal_defaults = λ a b alike. ap defaults_of ((same_entry_tells a b).0 alike);
   alike_openings = λ a b same. (same_entry_tells (opening_after (Some a)) (opening_after (Some b))).1 (ap entries.Opening same);

@@ -1,10 +1,9 @@
 //! The compiler of ABC.
 
 ghost use Rattle.std.specs.Prelude.{◌≡◌, option_copied};
-ghost use Rattle.abc_cells.specs.Step.{stepped};
-ghost use Rattle.abc_cells.specs.SameEntry.{same_entry, bars_resumable};
+ghost use Rattle.abc_cells.specs.SameEntry.{bars_resumable};
 ghost use Rattle.abc_bars.specs.Titles.{title_said};
-ghost use Rattle.abc_tune.specs.Abc.{rules_of_abc, number_of, first_value};
+ghost use Rattle.abc_tune.specs.Abc.{rules_of_abc, number_of, first_value, steps_of_abc};
 ghost use Rattle.abc_tune.specs.Lawful.{abc_lawful, abc_told_apart};
 
 use crate::built::build;
@@ -12,7 +11,7 @@ use abc_bars::BarFold;
 use abc_cells::Entry;
 use abc_compiler::{Built, Compiler};
 use abc_fields::FaultCode;
-use abc_fold::{Fold, Resumable, Shared, Work};
+use abc_fold::{Fold, Work};
 use abc_header::Defaults;
 use abc_items::{Item, Items};
 use abc_scan::{Cell, LineClass, cells_of_line, class_of};
@@ -25,55 +24,44 @@ pub struct Abc;
 impl Fold for Abc {
     type State = Entry;
 
-    type Cell = Shared<Cell>;
+    type Cell = Cell;
 
-    type Items = Shared<Items>;
+    type Items = Items;
 
     type Work = Work;
 
-    ghost next = { λ _ entry cell. (stepped entry cell).0 };
+    ghost steps = { λ _. steps_of_abc };
 
-    ghost gives = { λ _ entry cell. (stepped entry cell).1 };
+    ghost resumable = { λ _. bars_resumable };
 
     fn step(
         &self,
         alloc: Global,
         state: &Entry,
-        cell: &Shared<Cell>,
+        cell: &Cell,
         work: &mut Work,
-    ) -> Result<(Entry, Shared<Items>), AllocError> {
-        let (next, items) = BarFold.step(alloc, state, cell, work)?;
-        Ok((next, Shared::new(alloc, items)?))
-    }
-}
-
-impl Resumable for Abc {
-    ghost alike = { λ _. same_entry };
-
-    ghost resumable = { λ _. bars_resumable };
-
-    fn same(&self, a: &Entry, b: &Entry) -> bool {
-        BarFold.same(a, b)
+    ) -> Result<(Entry, Items), AllocError> {
+        BarFold.step(alloc, state, cell, work)
     }
 
-    fn stays(&self, state: &Entry, cell: &Shared<Cell>, behind: &Entry) -> bool {
+    fn same(a: &Entry, b: &Entry) -> bool {
+        BarFold::same(a, b)
+    }
+
+    fn stays(&self, state: &Entry, cell: &Cell, behind: &Entry) -> bool {
         BarFold.stays(state, cell, behind)
     }
 
-    fn copy_state(&self, alloc: Global, state: &Entry) -> Result<Entry, AllocError> {
-        BarFold.copy_state(alloc, state)
+    fn copy_state(alloc: Global, state: &Entry) -> Result<Entry, AllocError> {
+        BarFold::copy_state(alloc, state)
     }
 
-    fn copy_cell(&self, alloc: Global, cell: &Shared<Cell>) -> Result<Shared<Cell>, AllocError> {
-        BarFold.copy_cell(alloc, cell)
+    fn copy_cell(alloc: Global, cell: &Cell) -> Result<Cell, AllocError> {
+        BarFold::copy_cell(alloc, cell)
     }
 
-    fn copy_items(
-        &self,
-        _alloc: Global,
-        items: &Shared<Items>,
-    ) -> Result<Shared<Items>, AllocError> {
-        items.share()
+    fn copy_items(alloc: Global, items: &Items) -> Result<Items, AllocError> {
+        BarFold::copy_items(alloc, items)
     }
 }
 
@@ -114,12 +102,7 @@ impl Compiler for Abc {
         class_of(line)
     }
 
-    fn cells(
-        &self,
-        alloc: Global,
-        line: &[u8],
-        work: &mut Work,
-    ) -> Result<Vec<Shared<Cell>>, AllocError> {
+    fn cells(&self, alloc: Global, line: &[u8], work: &mut Work) -> Result<Vec<Cell>, AllocError> {
         cells_of_line(alloc, line, work)
     }
 
@@ -135,24 +118,19 @@ impl Compiler for Abc {
         after.defaults()
     }
 
-    fn number(&self, items: &Shared<Items>) -> Option<u32> {
-        number_among(items.get().items())
+    fn number(&self, items: &Items) -> Option<u32> {
+        number_among(items.items())
     }
 
-    fn title<'a>(&self, items: &'a Shared<Items>) -> Option<&'a [u8]> {
-        title_among(items.get().items())
+    fn title<'a>(&self, items: &'a Items) -> Option<&'a [u8]> {
+        title_among(items.items())
     }
 
-    fn faults<'a>(&self, items: &'a Shared<Items>) -> &'a [(u32, FaultCode)] {
-        items.get().faults()
+    fn faults<'a>(&self, items: &'a Items) -> &'a [(u32, FaultCode)] {
+        items.faults()
     }
 
-    fn build(
-        &self,
-        alloc: Global,
-        items: &[Shared<Items>],
-        work: &mut Work,
-    ) -> Result<Built, AllocError> {
+    fn build(&self, alloc: Global, items: &[Items], work: &mut Work) -> Result<Built, AllocError> {
         build(alloc, items, work)
     }
 }

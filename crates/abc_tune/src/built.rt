@@ -19,11 +19,7 @@ use smf_bytes::file_of;
 use std::alloc::{AllocError, Global};
 
 /// A tune with a file.
-fn with_file(
-    alloc: Global,
-    cells: &[Shared<Items>],
-    arranged: &Arranged,
-) -> Result<Built, AllocError>
+fn with_file(alloc: Global, cells: &[Items], arranged: &Arranged) -> Result<Built, AllocError>
     requires { IsWithinLimits arranged.now.score }
     ensures bytes { IfOk result (λ built. built.bytes ≡ Some (file_bytes arranged.now.score)) }
     ensures faults { IfOk result (λ built. built.faults ≡ faults_with (items_in cells.now) arranged.now.unknown arranged.now.uneven false) }
@@ -33,15 +29,16 @@ fn with_file(
     let mut file = file_of(alloc, &arranged.score)?;
     // It is kept as long as the tune stands as it is.
     file.shrink_to_fit();
+    let bytes = Shared::new(alloc, Sequence::from(file))?;
     let faults = faults_with(alloc, cells, arranged.unknown, arranged.uneven, false)?;
     Ok(Built {
-        bytes: Some(Sequence::from(file)),
-        faults,
+        bytes: Some(bytes),
+        faults: Shared::new(alloc, faults)?,
     })
 }
 
 /// A tune that is too long for a file.
-fn without_file(alloc: Global, cells: &[Shared<Items>], unknown: bool) -> Result<Built, AllocError>
+fn without_file(alloc: Global, cells: &[Items], unknown: bool) -> Result<Built, AllocError>
     ensures bytes { IfOk result (λ built. built.bytes ≡ None) }
     ensures faults { IfOk result (λ built. built.faults ≡ faults_with (items_in cells.now) unknown false true) }
     ensures long { IfOk result (λ built. list_any is_too_long_fault built.faults ≡ true) }
@@ -50,14 +47,14 @@ fn without_file(alloc: Global, cells: &[Shared<Items>], unknown: bool) -> Result
     let faults = faults_with(alloc, cells, unknown, false, true)?;
     Ok(Built {
         bytes: None,
-        faults,
+        faults: Shared::new(alloc, faults)?,
     })
 }
 
 /// The file of a tune and its faults as a whole, of what its cells give in order: there is a file exactly
 /// where the tune is not too long. A call that finds no memory is counted too.
 #[tactic(auto, unfolding(crate::specs::Built::bytes_of, crate::specs::Built::build_faults_of))]
-pub fn build(alloc: Global, items: &[Shared<Items>], work: &mut Work) -> Result<Built, AllocError>
+pub fn build(alloc: Global, items: &[Items], work: &mut Work) -> Result<Built, AllocError>
     ensures bytes { IfOk result (λ built. built.bytes ≡ bytes_of items.now) }
     ensures faults { IfOk result (λ built. built.faults ≡ build_faults_of items.now) }
     ensures long { IfOk result (λ built. is_none built.bytes ≡ list_any is_too_long_fault built.faults) }

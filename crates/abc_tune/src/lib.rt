@@ -9,8 +9,16 @@ mod line_laws;
 mod whole_faults;
 
 pub use abc::Abc;
+pub use abc_bars::BarFold;
+pub use abc_cells::Entry;
 pub use abc_compiler::{Built, Compiler};
+pub use abc_fields::FaultCode;
+pub use abc_fold::{Fold, Shared, Work};
+pub use abc_header::Defaults;
+pub use abc_items::Items;
 pub use abc_memo::{TuneKey, TuneMemo, put_line};
+pub use abc_scan::{Cell, LineClass};
+pub use abc_text::Sequence;
 pub use built::build;
 pub use fold_laws::{one_title, tunes_looked_back};
 pub use header_laws::tunes_by_headers;

@@ -7,7 +7,6 @@ ghost use Rattle.abc_voices.specs.Arrange.{items_in};
 ghost use Rattle.abc_voices.specs.Opening.{past_all};
 
 use abc_fields::FaultCode;
-use abc_fold::Shared;
 use abc_items::{Item, Items};
 use abc_text::Sequence;
 use std::alloc::{AllocError, Global};
@@ -30,15 +29,15 @@ fn has_opening_key(items: &[Item]) -> bool
 }
 
 /// Whether a cell of a tune ends its header by a K:.
-fn has_key(cells: &[Shared<Items>]) -> bool
+fn has_key(cells: &[Items]) -> bool
     ensures { result ≡ list_any (λ cell. list_any is_opening_key cell.items) cells.now }
 {
-    cells.iter().any(|cell| has_opening_key(cell.get().items()))
+    cells.iter().any(|cell| has_opening_key(cell.items()))
 }
 
 /// Whether the header of a tune has no K:.
 #[tactic(auto, using(crate::proofs::WholeFaults::lacks_key_in_cells))]
-fn lacks_key(cells: &[Shared<Items>]) -> bool
+fn lacks_key(cells: &[Items]) -> bool
     ensures { result ≡ lacks_key (items_in cells.now) }
 {
     !has_key(cells)
@@ -63,12 +62,12 @@ fn out_behind(before: bool, items: &[Item]) -> bool
 }
 
 /// Whether the tempo with which a tune opens is out of range.
-fn opens_out_of_range(cells: &[Shared<Items>]) -> bool
+fn opens_out_of_range(cells: &[Items]) -> bool
     ensures { result ≡ opens_out_of_range (items_in cells.now) }
 {
     let mut out_of_range = false;
     for cell in cells {
-        out_of_range = out_behind(out_of_range, cell.get().items());
+        out_of_range = out_behind(out_of_range, cell.items());
     }
     out_of_range
 }
@@ -87,7 +86,7 @@ fn put_if(faults: &mut Sequence<FaultCode>, there: bool, fault: FaultCode) -> Re
 #[tactic(auto, using(std::proofs::Common::append_assoc, crate::proofs::WholeFaults::faults_rise, crate::proofs::WholeFaults::long_among))]
 pub(crate) fn faults_with(
     alloc: Global,
-    cells: &[Shared<Items>],
+    cells: &[Items],
     unknown: bool,
     uneven: bool,
     long: bool,

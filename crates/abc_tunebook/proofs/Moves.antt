@@ -59,4 +59,4 @@ tunes_move next gives rules lines n opening text =
 
 pub no_lines_no_book : {State Cell Items Defaults : Type 0} → NoLinesNoBook State Cell Items Defaults
 unfolding book_of blocks_of
-no_lines_no_book next gives rules = refl
+no_lines_no_book steps rules = refl

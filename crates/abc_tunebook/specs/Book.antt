@@ -5,6 +5,7 @@ use Rattle.abc_book.specs.Block.{blocks_of}
 use Rattle.abc_book.specs.declared.block.Block.{Block}
 use Rattle.abc_book.specs.declared.block.BlockKind.{BlockKind}
 use Rattle.abc_book.specs.declared.block.BlockKind.TheVariants as kinds
+use Rattle.abc_fold.specs.Steps.{Steps}
 use Rattle.abc_lines.specs.Text.{Text}
 use Rattle.abc_tunebook.specs.declared.fault.Fault.{Fault}
 use Rattle.abc_tunebook.specs.declared.title.Title.{Title}
@@ -91,5 +92,5 @@ book_from given = record {
 }
 
 -- The book of a text.
-unfoldable pub book_of : {State Cell Items Defaults : Type 0} → (State → Cell → State) → (State → Cell → Items) → Rules State Cell Items Defaults → Text → Book
-book_of next gives rules text = book_from (given_by next gives rules text (blocks_in rules text))
+unfoldable pub book_of : {State Cell Items Defaults : Type 0} → Steps State Cell Items → Rules State Cell Items Defaults → Text → Book
+book_of steps rules text = book_from (given_by steps.next steps.gives rules text (blocks_in rules text))

@@ -2,6 +2,7 @@
 use Rattle.std.specs.Prelude.{◌≡◌, ◌↔◌, ◌≤◌, ℕ, ◌+◌, List, [], ◌∷◌, map, length, All, Contains}
 use Rattle.std.specs.List.Sorted.{IsStrictlySortedBy}
 use Rattle.abc_fields.specs.declared.fault.FaultCode.{FaultCode}
+use Rattle.abc_fold.specs.Steps.{Steps}
 use Rattle.abc_lines.specs.Text.{Text}
 use Rattle.abc_tunebook.specs.Book.{book_of, empty_book}
 use Rattle.abc_tunebook.specs.Fault.{fault_cmp}
@@ -80,5 +81,5 @@ FaultsInLines State Cell Items Defaults =
 -- A text without lines has an empty book.
 abbrev pub NoLinesNoBook : Type 0 → Type 0 → Type 0 → Type 0 → Type 0
 NoLinesNoBook State Cell Items Defaults =
-    (next : State → Cell → State) (gives : State → Cell → Items) (rules : Rules State Cell Items Defaults)
-    → book_of next gives rules [] ≡ empty_book
+    (steps : Steps State Cell Items) (rules : Rules State Cell Items Defaults)
+    → book_of steps rules [] ≡ empty_book

@@ -5,6 +5,7 @@ pub mod Conductor
 pub mod Endings
 pub mod Ends
 pub mod Fields
+pub mod Limits
 pub mod OnTicks
 pub mod Opening
 pub mod Orders

@@ -28,7 +28,6 @@ use crate::stages::{in_order, stages};
 use crate::track::{everyone, nameless_plays};
 use crate::tune_score::score_along;
 use crate::turns::{Turn, is_uneven, length_along};
-use abc_fold::Shared;
 use abc_items::{Item, Items, MOST_VOICES};
 use abc_repeat::{OrderFault, Played, play_order};
 use abc_score::{LONGEST_TITLE, Score};
@@ -47,24 +46,24 @@ fn put_items<'a>(tune: &mut Vec<&'a Item>, items: &'a [Item]) -> Result<(), Allo
 }
 
 /// How many items cells give, and 2^64 - 1 for more.
-fn count_of(items: &[Shared<Items>]) -> usize
+fn count_of(items: &[Items]) -> usize
     ensures { result ≡ min (length (items_in items.now)) (2 ^ 64 - 1) }
 {
     let mut count: usize = 0;
     for one in items {
-        count = count.saturating_add(one.get().items().len());
+        count = count.saturating_add(one.items().len());
     }
     count
 }
 
 /// The items of a tune, of what its cells give.
-fn tune_of<'a>(alloc: Global, items: &'a [Shared<Items>]) -> Result<Vec<&'a Item>, AllocError>
+fn tune_of<'a>(alloc: Global, items: &'a [Items]) -> Result<Vec<&'a Item>, AllocError>
     ensures value { IfOk result (λ tune. items_of tune.items ≡ items_in items.entry.now) }
     ensures range { IfOk result (λ tune. All IsItem (items_of tune.items)) }
 {
     let mut tune = Vec::with_capacity(alloc, count_of(items))?;
     for one in items {
-        put_items(&mut tune, one.get().items())?;
+        put_items(&mut tune, one.items())?;
     }
     Ok(tune)
 }
@@ -248,7 +247,7 @@ fn arranged(alloc: Global, tune: &[&Item], given: &[&Item]) -> Result<Arranged, 
 }
 
 /// A tune laid out in time, of what its cells give, or why it is not: it is too long, or there is no memory.
-pub fn arrange(alloc: Global, items: &[Shared<Items>]) -> Result<Arranged, BuildFault>
+pub fn arrange(alloc: Global, items: &[Items]) -> Result<Arranged, BuildFault>
     ensures value { IfOk result (λ laid. laid ≡ arranged_of (items_in items.now)) }
     ensures short { IfOk result (λ _. is_too_long (items_in items.now) ≡ false) }
     ensures limits { IfOk result (λ laid. IsWithinLimits laid.score) }

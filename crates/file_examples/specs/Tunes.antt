@@ -137,3 +137,14 @@ key_change at = record { at = record { 0 = at }; what = kinds.Key (pos 0) false 
 -- A program at a grain.
 abbrev pub program_change : ℕ → ℕ → ProgramChange
 program_change at number = record { at = record { 0 = at }; number = number }
+
+-- Parts that are played in the order `BAB`, of which `A` stands twice.
+abbrev pub ordered_parts : List Item
+ordered_parts = items.Order (66 ∷ 65 ∷ 66 ∷ []) ∷ part_a ∷ note 60 ∷ part_b ∷ note 62 ∷ part_a ∷ note 64 ∷ []
+
+-- `|:A|1B:|[Q:]|2F||`, where a tempo is between two endings, and `|:A|1B::[Q:]|2F||`, where it is in a strain of its own.
+abbrev pub tempo_between_endings : List Item
+tempo_between_endings = opening ∷ note 69 ∷ single ∷ first ∷ note 71 ∷ closing ∷ tempo 1000000 ∷ single ∷ second ∷ note 66 ∷ double ∷ []
+
+abbrev pub tempo_in_a_strain : List Item
+tempo_in_a_strain = opening ∷ note 69 ∷ single ∷ first ∷ note 71 ∷ between ∷ tempo 1000000 ∷ single ∷ second ∷ note 66 ∷ double ∷ []

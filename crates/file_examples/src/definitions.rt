@@ -14,8 +14,8 @@ ghost use Rattle.abc_text.specs.Power.{is_power_up_to};
 ghost use Rattle.smf_bytes.specs.Number.{number_text, reading};
 ghost use Rattle.smf_bytes.specs.Order.{in_order};
 ghost use Rattle.smf_bytes.specs.Track.{channel_of, conductor_events, track, track_body, voice_events};
-ghost use Rattle.file_examples.specs.Scores.{two_tempos, one_eighth, seven_notes, changes_in_no_order, notes_in_no_order, the_longest};
-ghost use Rattle.file_examples.specs.Values.{at_tick, change_at, sounding};
+ghost use Rattle.file_examples.specs.Scores.{two_tempos, one_eighth, one_eighth_file, seven_notes, seven_notes_track, opening_changes, events_in_no_order, changes_in_no_order, changes_track, notes_in_no_order, fifteen_silent_voices, the_longest};
+ghost use Rattle.file_examples.specs.Values.{sounding};
 
 /// Variable-length quantities, the first and the last of each count of bytes, and 240. SMF 1.0.
 pub fn number_texts()
@@ -81,15 +81,14 @@ pub fn changes_that_a_file_can_hold()
 
 /// At one tick offs come before ons, and each by key; the end comes last. Our own.
 pub fn the_order_at_a_tick()
-    ensures { in_order (end_event 240 ∷ note_on 0 62 80 240 ∷ note_off 0 64 240 ∷ note_on 0 60 80 240 ∷ note_off 0 60 240 ∷ note_on 0 64 80 0 ∷ [])
+    ensures { in_order events_in_no_order
         ≡ note_on 0 64 80 0 ∷ note_off 0 60 240 ∷ note_off 0 64 240 ∷ note_on 0 60 80 240 ∷ note_on 0 62 80 240 ∷ end_event 240 ∷ [] }
 {}
 
 /// At tick 0 the title comes before the tempo, and the tempo before the meter and the key, in whatever order they are
 /// given. Our own.
 pub fn the_order_of_an_opening()
-    ensures { encode_upper (track_body 0 (conductor_events (codes "A")
-        (change_at 0 (Key (pos 0) false) ∷ change_at 0 (Meter 3 4) ∷ change_at 0 (Tempo 500000) ∷ [])))
+    ensures { encode_upper (track_body 0 (conductor_events (codes "A") opening_changes))
         ≡ codes "00FF03014100FF510307A12000FF58040302180800FF5902000000FF2F00" }
 {}
 
@@ -129,22 +128,19 @@ pub fn a_conductor_track()
 
 /// The whole file of a tune with the title `A`, in C, of the one note C, an eighth. SMF 1.0.
 pub fn the_first_file()
-    ensures { encode_upper (file_bytes one_eighth)
-        ≡ codes "4D546864000000060001000201E04D54726B0000001700FF03014100FF510307A12000FF590200008170FF2F004D54726B0000000D00903C508170803C4000FF2F00" }
+    ensures { encode_upper (file_bytes one_eighth) ≡ one_eighth_file }
 {}
 
 /// Seven notes in the time of four: each moment is rounded down by itself, so that they last 137 ticks, and the last one
 /// 138. The bytes are those of a second compiler.
 pub fn moments_rounded_down()
-    ensures { encode_upper (track 960 (voice_events 0 [] seven_notes))
-        ≡ codes "4D54726B0000004300903C508109803C4000903E508109803E4000904050810980404000904150810980414000904350810980434000904550810980454000904750810A80474000FF2F00" }
+    ensures { encode_upper (track 960 (voice_events 0 [] seven_notes)) ≡ seven_notes_track }
 {}
 
 /// Changes in no order, several at one tick: the greater tempo of two comes later. The bytes are those of a second
 /// compiler.
 pub fn changes_at_one_tick()
-    ensures { encode_upper (track 960 (conductor_events [] changes_in_no_order))
-        ≡ codes "4D54726B0000003700FF510307A12000FF58040603180800FF5902F9018360FF510300000100FF5103FFFFFF00FF5804FF06180800FF590207008360FF2F00" }
+    ensures { encode_upper (track 960 (conductor_events [] changes_in_no_order)) ≡ changes_track }
 {}
 
 /// Notes in no order, several at one tick, and two that begin and end within one tick. The bytes are those of a second
@@ -163,6 +159,6 @@ pub fn the_latest_end()
 /// The header of fifteen voices, the most, counts sixteen tracks; a voice without notes has a track of its end alone.
 /// SMF 1.0.
 pub fn fifteen_voices()
-    ensures { encode_upper (file_bytes (record { title = []; end = at_tick 0; conductor = []; voices = replicate 15 []; programs = replicate 15 [] }))
+    ensures { encode_upper (file_bytes fifteen_silent_voices)
         ≡ codes "4D546864000000060001001001E0" ++ concat (replicate 16 (codes "4D54726B0000000400FF2F00")) }
 {}

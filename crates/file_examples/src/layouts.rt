@@ -14,7 +14,7 @@ ghost use Rattle.abc_sections.specs.Play.{marks_of, played};
 ghost use Rattle.abc_sections.specs.Section.{part, sections};
 ghost use Rattle.abc_voices.specs.Ties.{heard, tokens_from};
 ghost use Rattle.abc_voices.specs.Track.{tracks};
-ghost use Rattle.file_examples.specs.Tunes.{tone, chord, note, tied, rest, bar_rest, single, opening, closing, between, double, first, second, part_a, part_b, voice_1, voice_2, declared_1, opening_tempo, tempo, opening_meter, refused_meter, opening_key, properties, sounding, tempo_change, key_change, note_with, tied_with, held, opening_program, program, refused_opening, refused, sounding_with, program_change};
+ghost use Rattle.file_examples.specs.Tunes.{tone, chord, note, tied, rest, bar_rest, single, opening, closing, between, double, first, second, part_a, part_b, voice_1, voice_2, declared_1, opening_tempo, tempo, opening_meter, refused_meter, opening_key, properties, sounding, tempo_change, key_change, note_with, tied_with, held, opening_program, program, refused_opening, refused, sounding_with, program_change, ordered_parts, tempo_between_endings, tempo_in_a_strain};
 
 /// A section begins at each part, and goes on in the voice that is the current one there. ABC 2.1 sections 3.1.9 and 7.
 pub fn sections_of_a_tune()
@@ -22,7 +22,7 @@ pub fn sections_of_a_tune()
     ensures voices { sections (note 60 ∷ part_a ∷ voice_2 ∷ note 62 ∷ part_b ∷ note 64 ∷ [])
         ≡ ([], note 60 ∷ []) ∷ ([], voice_2 ∷ note 62 ∷ []) ∷ (50 ∷ [], note 64 ∷ []) ∷ [] }
     ensures declared { sections (declared_1 ∷ note 60 ∷ []) ≡ (49 ∷ [], declared_1 ∷ note 60 ∷ []) ∷ [] }
-    ensures ordered { played_sections (items.Order (66 ∷ 65 ∷ 66 ∷ []) ∷ part_a ∷ note 60 ∷ part_b ∷ note 62 ∷ part_a ∷ note 64 ∷ [])
+    ensures ordered { played_sections ordered_parts
         ≡ ([], items.Order (66 ∷ 65 ∷ 66 ∷ []) ∷ []) ∷ ([], note 62 ∷ []) ∷ ([], note 60 ∷ []) ∷ ([], note 62 ∷ []) ∷ [] }
 {}
 
@@ -44,18 +44,16 @@ pub fn plays()
 
 /// A field between the endings is played with the one behind it: `|:A|1B:|[Q:]|2F||`. Our own.
 pub fn fields_before_an_ending()
-    ensures played { played (opening ∷ note 69 ∷ single ∷ first ∷ note 71 ∷ closing ∷ tempo 1000000 ∷ single ∷ second ∷ note 66 ∷ double ∷ [])
+    ensures played { played tempo_between_endings
         ≡ note 69 ∷ note 71 ∷ note 69 ∷ tempo 1000000 ∷ note 66 ∷ [] }
-    ensures waiting { between_endings_in (strains_of (marks_of (without_fields
-        (opening ∷ note 69 ∷ single ∷ first ∷ note 71 ∷ closing ∷ tempo 1000000 ∷ single ∷ second ∷ note 66 ∷ double ∷ []))))
+    ensures waiting { between_endings_in (strains_of (marks_of (without_fields tempo_between_endings)))
         ≡ false ∷ false ∷ false ∷ false ∷ false ∷ true ∷ true ∷ false ∷ false ∷ false ∷ [] }
 {}
 
 /// No field is moved behind a bar that opens a strain of its own, `|:A|1B::[Q:]|2F||`, nor behind the common part's own
 /// bar, `A:|[Q:]|1B||`. Our own.
 pub fn fields_that_stay()
-    ensures opened { with_fields_in_endings (opening ∷ note 69 ∷ single ∷ first ∷ note 71 ∷ between ∷ tempo 1000000 ∷ single ∷ second ∷ note 66 ∷ double ∷ [])
-        ≡ opening ∷ note 69 ∷ single ∷ first ∷ note 71 ∷ between ∷ tempo 1000000 ∷ single ∷ second ∷ note 66 ∷ double ∷ [] }
+    ensures opened { with_fields_in_endings tempo_in_a_strain ≡ tempo_in_a_strain }
     ensures common { with_fields_in_endings (note 69 ∷ closing ∷ tempo 1000000 ∷ single ∷ first ∷ note 71 ∷ double ∷ [])
         ≡ note 69 ∷ closing ∷ tempo 1000000 ∷ single ∷ first ∷ note 71 ∷ double ∷ [] }
 {}
@@ -119,7 +117,7 @@ pub fn tempos_at_a_tick()
     ensures last { changes_of (voice_1 ∷ tempo 400000 ∷ note 60 ∷ voice_2 ∷ tempo 300000 ∷ note 60 ∷ [])
         ≡ tempo_change 0 300000 ∷ key_change 0 ∷ [] }
     ensures behind { set_in tempo_of ([] ∷ []) ([] ∷ []) 0
-        (([], opening ∷ note 69 ∷ single ∷ first ∷ note 71 ∷ closing ∷ tempo 1000000 ∷ single ∷ second ∷ note 66 ∷ double ∷ []) ∷ [])
+        (([], tempo_between_endings) ∷ [])
         ≡ (record { 0 = 3 }, 1000000) ∷ [] }
 {}
 

@@ -8,8 +8,8 @@ ghost use Rattle.smf_bytes.specs.Event.{end_event, note_off, note_on, program_ch
 ghost use Rattle.smf_bytes.specs.File.{file_bytes};
 ghost use Rattle.smf_bytes.specs.Order.{in_order};
 ghost use Rattle.smf_bytes.specs.Track.{channel_of, track, track_body, voice_events};
-ghost use Rattle.file_examples.specs.Scores.{two_voices};
-ghost use Rattle.file_examples.specs.Values.{program_at, sounding, sounding_with};
+ghost use Rattle.file_examples.specs.Scores.{two_loud_notes, two_voices, two_voices_file};
+ghost use Rattle.file_examples.specs.Values.{program_at, sounding};
 
 /// The track of a voice with the program 41, and of a note C of 240 ticks. SMF 1.0.
 pub fn a_program()
@@ -19,8 +19,7 @@ pub fn a_program()
 
 /// A note without a dynamic before it, and two behind a forte. SMF 1.0; the velocities are our own.
 pub fn velocities()
-    ensures { encode_upper (track_body 720 (voice_events 0 []
-        (sounding 60 0 240 ∷ sounding_with 105 62 240 480 ∷ sounding_with 105 64 480 720 ∷ [])))
+    ensures { encode_upper (track_body 720 (voice_events 0 [] two_loud_notes))
         ≡ codes "00903C508170803C4000903E698170803E4000904069817080404000FF2F00" }
 {}
 
@@ -60,6 +59,5 @@ pub fn channels_of_programs()
 
 /// The file of two voices, of which the second alone has a program, on its own channel. SMF 1.0.
 pub fn the_second_voice_alone_has_a_program()
-    ensures { encode_upper (file_bytes two_voices)
-        ≡ codes "4D546864000000060001000301E04D54726B000000058170FF2F004D54726B0000000D00903C508170803C4000FF2F004D54726B0000001000C1010091402D817081404000FF2F00" }
+    ensures { encode_upper (file_bytes two_voices) ≡ two_voices_file }
 {}

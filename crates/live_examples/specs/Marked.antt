@@ -3,7 +3,7 @@ use Rattle.std.specs.Prelude.{ℕ, ◌+◌, ◌-◌, ◌^◌, Bool, ◌==◌, Li
 use Rattle.std.proofs.Common.{sym, ap, ◌∙◌}
 use Rattle.std.proofs.lemmas.Bool.{eqb-true, eq-eqb}
 use Rattle.abc_compiler.specs.Lawful.{AreLawful}
-use Rattle.abc_fold.specs.Steps.{Steps, IsResumable, steps_of}
+use Rattle.abc_fold.specs.Steps.{Steps, IsResumable}
 use Rattle.abc_scan.specs.Class.{class_of}
 use Rattle.abc_tunebook.specs.Rules.{Rules}
 use Rattle.live_examples.specs.declared.marked.Marked.{Marked}
@@ -24,7 +24,7 @@ abbrev pub same_byte : Marked → Marked → Bool
 same_byte a b = a.byte == b.byte
 
 abbrev pub marked_steps : Steps Marked (List ℕ) Played
-marked_steps = steps_of marked_next marked_gives same_byte
+marked_steps = record { next = marked_next; gives = marked_gives; alike = same_byte }
 
 -- The state in which a file header begins.
 abbrev pub no_mark : Marked

@@ -5,6 +5,7 @@ use Rattle.std.specs.Prelude.{ℕ, ◌-◌, ◌==◌, Bool, false, if◌then◌e
 use Rattle.std.specs.List.{flat_map}
 use Rattle.abc_fields.specs.declared.fault.FaultCode.{FaultCode}
 use Rattle.abc_fields.specs.declared.fault.FaultCode.TheVariants.{BadByte, TuneTooLong}
+use Rattle.abc_fold.specs.Steps.{Steps}
 use Rattle.abc_lines.specs.Text.{Text}
 use Rattle.abc_scan.specs.Class.{class_of}
 use Rattle.abc_scan.specs.declared.class.LineClass.{LineClass}
@@ -97,6 +98,10 @@ toy_rules = record {
   build_faults = tune_faults_of;
 }
 
+-- The toy's fold, whose states are alike where they are equal.
+abbrev pub toy_steps : Steps ℕ (List ℕ) Played
+toy_steps = record { next = next_byte; gives = played; alike = λ a b. a == b }
+
 -- The book of a text in the toy language.
 abbrev pub toy_book : Text → Book
-toy_book text = book_of next_byte played toy_rules text
+toy_book text = book_of toy_steps toy_rules text

@@ -3,16 +3,11 @@ use Rattle.std.specs.Prelude.{◌≡◌, ◌↔◌, ◌⊎◌, ℕ, ◌==◌, Is
 use Rattle.std.proofs.Common.{inl, inr}
 use Rattle.std.proofs.lemmas.Bool.{eqb-true, eq-eqb}
 use Rattle.abc_compiler.specs.Lawful.{AreLawful}
-use Rattle.abc_fold.specs.Steps.{Steps, IsResumable, steps_of, resumable_where_equal}
+use Rattle.abc_fold.specs.Steps.{IsResumable, resumable_where_equal}
 use Rattle.abc_scan.specs.Class.{class_of}
 use Rattle.abc_scan.specs.declared.class.LineClass.{LineClass}
 use Rattle.abc_scan.specs.declared.class.LineClass.TheVariants.{Blank, Comment, Field, Directive, Music}
-use Rattle.live_examples.specs.declared.toy.Played.{Played}
-use Rattle.live_examples.specs.Toy.{cells_of, cells_of_class, next_byte, no_byte, played, toy_rules}
-
--- The toy's fold, whose states are alike where they are equal.
-abbrev pub toy_steps : Steps ℕ (List ℕ) Played
-toy_steps = steps_of next_byte played (λ a b. a == b)
+use Rattle.live_examples.specs.Toy.{cells_of, cells_of_class, next_byte, no_byte, toy_rules, toy_steps}
 
 pub toy_resumable : IsResumable toy_steps
 toy_resumable = resumable_where_equal toy_steps (λ a b alike. eqb-true a b alike) (λ a. eq-eqb a a refl)

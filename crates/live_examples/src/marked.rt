@@ -1,12 +1,12 @@
 //! A compiler of the toy language that counts in its states, where nothing reads it: they are never equal and often the
 //! same.
 
-ghost use Rattle.live_examples.specs.Marked.{marked_next, marked_gives, marked_rules, same_byte, marked_resumable, marked_lawful};
+ghost use Rattle.live_examples.specs.Marked.{marked_steps, marked_rules, marked_resumable, marked_lawful};
 ghost use Rattle.live_examples.specs.ToyLaws.{toy_told_apart};
 
 use crate::toy::{Played, Toy};
 use abc_fields::FaultCode;
-use abc_fold::{Fold, Resumable, Work};
+use abc_fold::{Fold, Work};
 use abc_scan::LineClass;
 use abc_text::Sequence;
 use abc_tune::{Built, Compiler};
@@ -32,9 +32,9 @@ impl Fold for MarkedToy {
 
     type Work = Work;
 
-    ghost next = { λ _. marked_next };
+    ghost steps = { λ _. marked_steps };
 
-    ghost gives = { λ _. marked_gives };
+    ghost resumable = { λ _. marked_resumable };
 
     fn step(
         &self,
@@ -47,30 +47,24 @@ impl Fold for MarkedToy {
         let mark = state.mark.saturating_add(1);
         Ok((Marked { byte, mark }, played))
     }
-}
 
-impl Resumable for MarkedToy {
-    ghost alike = { λ _. same_byte };
-
-    ghost resumable = { λ _. marked_resumable };
-
-    fn same(&self, a: &Marked, b: &Marked) -> bool {
+    fn same(a: &Marked, b: &Marked) -> bool {
         a.byte == b.byte
     }
 
-    fn copy_state(&self, _alloc: Global, state: &Marked) -> Result<Marked, AllocError> {
+    fn copy_state(_alloc: Global, state: &Marked) -> Result<Marked, AllocError> {
         Ok(Marked {
             byte: state.byte,
             mark: state.mark,
         })
     }
 
-    fn copy_cell(&self, alloc: Global, line: &Sequence<u8>) -> Result<Sequence<u8>, AllocError> {
-        Toy.copy_cell(alloc, line)
+    fn copy_cell(alloc: Global, line: &Sequence<u8>) -> Result<Sequence<u8>, AllocError> {
+        Toy::copy_cell(alloc, line)
     }
 
-    fn copy_items(&self, alloc: Global, one: &Played) -> Result<Played, AllocError> {
-        Toy.copy_items(alloc, one)
+    fn copy_items(alloc: Global, one: &Played) -> Result<Played, AllocError> {
+        Toy::copy_items(alloc, one)
     }
 }
 

@@ -3,11 +3,10 @@
 ghost use Rattle.std.specs.Prelude.{◌≡◌, true, IfOk};
 ghost use Rattle.abc_fold.specs.Steps.{items_from};
 ghost use Rattle.abc_lines.specs.Text.{is_line};
-ghost use Rattle.live_examples.specs.Toy.{cells_of, toy_rules};
-ghost use Rattle.live_examples.specs.ToyLaws.{toy_steps};
+ghost use Rattle.live_examples.specs.Toy.{cells_of, toy_rules, toy_steps};
 
 use crate::toy::{Played, Toy};
-use abc_fold::{Fold, Shared, Work};
+use abc_fold::{Fold, Work};
 use abc_scan::{LineClass, class_of};
 use abc_text::Sequence;
 use abc_tune::{Built, TuneKey, TuneMemo, put_line};
@@ -25,8 +24,7 @@ impl Model for ToyMemo {
     ghost use Rattle.abc_compiler.specs.declared.built.Built.{Built};
     ghost use Rattle.abc_memo.specs.declared.key.TuneKey.{TuneKey};
     ghost use Rattle.abc_memo.specs.Memo.{Remembers};
-    ghost use Rattle.live_examples.specs.Toy.{toy_rules};
-    ghost use Rattle.live_examples.specs.ToyLaws.{toy_steps};
+    ghost use Rattle.live_examples.specs.Toy.{toy_rules, toy_steps};
 
     ghost Value = { List (TuneKey ℕ × Built) };
 
@@ -70,7 +68,7 @@ impl ToyMemo {
         byte: u8,
         line: &[u8],
         work: &mut Work,
-    ) -> Result<Shared<Built>, AllocError>
+    ) -> Result<Built, AllocError>
         requires { is_line line.now ≡ true }
         ensures { IfOk result (λ built. built.bytes ≡ toy_rules.bytes (items_from toy_steps byte (cells_of line.now))) }
     {
@@ -81,6 +79,6 @@ impl ToyMemo {
             defaults: byte,
             bytes: Sequence::from(bytes),
         };
-        self.memo.built(alloc, &Toy, key, items.as_slice(), work)
+        self.memo.built(&Toy, key, items.as_slice(), work)
     }
 }

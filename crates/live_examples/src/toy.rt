@@ -4,11 +4,11 @@ ghost use Rattle.std.specs.Prelude.{◌≡◌, ◌++◌, ◌==◌, IfOk, OnOk, o
 ghost use Rattle.std.specs.List.{flat_map};
 ghost use Rattle.abc_scan.specs.Class.{class_of};
 ghost use Rattle.abc_tunebook.specs.Files.{file_at};
-ghost use Rattle.live_examples.specs.Toy.{begins_with, bytes_of_class, cells_of, first_of_value, is_long, next_byte, played, toy_book, toy_rules, value_of};
+ghost use Rattle.live_examples.specs.Toy.{begins_with, bytes_of_class, cells_of, first_of_value, is_long, next_byte, played, toy_book, toy_rules, toy_steps, value_of};
 ghost use Rattle.live_examples.specs.ToyLaws.{toy_lawful, toy_resumable, toy_told_apart};
 
 use abc_fields::FaultCode;
-use abc_fold::{Fold, Resumable, Work};
+use abc_fold::{Fold, Shared, Work};
 use abc_live::LiveSession;
 use abc_scan::{LineClass, class_of};
 use abc_text::Sequence;
@@ -77,9 +77,9 @@ impl Fold for Toy {
 
     type Work = Work;
 
-    ghost next = { λ _ byte line. next_byte byte line };
+    ghost steps = { λ _. toy_steps };
 
-    ghost gives = { λ _ byte line. played byte line };
+    ghost resumable = { λ _. toy_resumable };
 
     fn step(
         &self,
@@ -99,26 +99,20 @@ impl Fold for Toy {
             },
         ))
     }
-}
 
-impl Resumable for Toy {
-    ghost alike = { λ _ a b. a == b };
-
-    ghost resumable = { λ _. toy_resumable };
-
-    fn same(&self, a: &u8, b: &u8) -> bool {
+    fn same(a: &u8, b: &u8) -> bool {
         *a == *b
     }
 
-    fn copy_state(&self, _alloc: Global, byte: &u8) -> Result<u8, AllocError> {
+    fn copy_state(_alloc: Global, byte: &u8) -> Result<u8, AllocError> {
         Ok(*byte)
     }
 
-    fn copy_cell(&self, alloc: Global, line: &Sequence<u8>) -> Result<Sequence<u8>, AllocError> {
+    fn copy_cell(alloc: Global, line: &Sequence<u8>) -> Result<Sequence<u8>, AllocError> {
         Sequence::from_slice(alloc, line.as_slice())
     }
 
-    fn copy_items(&self, alloc: Global, one: &Played) -> Result<Played, AllocError> {
+    fn copy_items(alloc: Global, one: &Played) -> Result<Played, AllocError> {
         let line = Sequence::from_slice(alloc, one.line.as_slice())?;
         Ok(Played {
             byte: one.byte,
@@ -252,12 +246,12 @@ impl Compiler for Toy {
             let faults = Sequence::from_slice(alloc, &[FaultCode::TuneTooLong])?;
             return Ok(Built {
                 bytes: None,
-                faults,
+                faults: Shared::new(alloc, faults)?,
             });
         }
         Ok(Built {
-            bytes: Some(whole_file(alloc, all)?),
-            faults: Sequence::new(alloc),
+            bytes: Some(Shared::new(alloc, whole_file(alloc, all)?)?),
+            faults: Shared::new(alloc, Sequence::new(alloc))?,
         })
     }
 }

@@ -2,8 +2,7 @@
 use Rattle.std.specs.Prelude.{◌≡◌, ℕ, List, [], ◌∷◌}
 use Rattle.abc_fold.specs.Chain.{Chained, Folds}
 use Rattle.live_examples.specs.declared.toy.Played.{Played}
-use Rattle.live_examples.specs.Toy.{no_byte}
-use Rattle.live_examples.specs.ToyLaws.{toy_steps}
+use Rattle.live_examples.specs.Toy.{no_byte, toy_steps}
 
 -- The lines `T:A` and `!c`.
 abbrev pub titled : List (List ℕ)

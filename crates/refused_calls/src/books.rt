@@ -74,13 +74,13 @@ pub fn dropped_text<R: Runtime>(rt: &R, alloc: Global) -> Result<bool, AllocErro
 /// What a tune of the number 1 gives, with a file of one byte.
 fn output(alloc: Global) -> Result<Shared<Output>, AllocError> {
     let built = Built {
-        bytes: Some(Sequence::from_slice(alloc, b"M")?),
-        faults: Sequence::new(alloc),
+        bytes: Some(Shared::new(alloc, Sequence::from_slice(alloc, b"M")?)?),
+        faults: Shared::new(alloc, Sequence::new(alloc))?,
     };
     let output = Output {
         number: 1,
         title: Sequence::new(alloc),
-        built: Shared::new(alloc, built)?,
+        built,
         faulty: true,
     };
     Shared::new(alloc, output)

@@ -4,7 +4,7 @@ ghost use Rattle.std.specs.Prelude.{◌≡◌, ◌<◌, [], ◌∷◌, All, IfOk
 ghost use Rattle.abc_fold.specs.Chain.{Folds};
 ghost use Rattle.abc_fold.specs.Piece.{IsKept};
 ghost use Rattle.abc_fold.specs.declared.piece.Piece.TheVariants.{New};
-ghost use Rattle.live_examples.specs.ToyLaws.{toy_steps};
+ghost use Rattle.live_examples.specs.Toy.{toy_steps};
 
 use abc_fold::{Chain, Piece, Pieces, Work};
 use abc_text::Sequence;
@@ -67,7 +67,7 @@ pub fn following_piece<R: Runtime>(rt: &R, alloc: Global) -> Result<bool, AllocE
     call(rt, "Pieces::push_following");
     lent!(
         rt,
-        pieces.push_following(chain.kept(&Toy, 0)?),
+        pieces.push_following(chain.kept(0)?),
         pieces.as_slice().is_empty(),
         pieces.as_slice().len() == 1
     )
@@ -82,7 +82,7 @@ fn is_second_line(piece: &Piece<Toy>) -> bool {
             entered,
             left,
             ..
-        } => { cell.as_slice() == b"c".as_slice() && *entered.get() == b'5' && *left.get() == b'5' }
+        } => { cell.as_slice() == b"c".as_slice() && *entered == b'5' && *left == b'5' }
     }
 }
 
@@ -90,7 +90,7 @@ fn is_second_line(piece: &Piece<Toy>) -> bool {
 pub fn kept_piece<R: Runtime>(rt: &R, alloc: Global) -> Result<bool, AllocError> {
     let chain = chain(alloc, &mut Work::mint(rt))?;
     call(rt, "Chain::kept");
-    let piece = chain.kept(&Toy, 1)?;
+    let piece = chain.kept(1)?;
     done(rt);
     Ok(is_second_line(&piece))
 }
@@ -101,7 +101,7 @@ fn first_kept(chain: &Chain<Toy>) -> Result<Piece<Toy>, AllocError>
     requires folds { Folds toy_steps 48 chain.now }
     ensures { IfOk result (λ piece. IsKept toy_steps piece) }
 {
-    chain.kept(&Toy, 0)
+    chain.kept(0)
 }
 
 /// The first line of a chain as it was kept, and another line behind it.

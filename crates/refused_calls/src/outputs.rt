@@ -4,8 +4,7 @@
 ghost use Rattle.std.specs.Prelude.{◌≡◌, IfOk, map};
 ghost use Rattle.abc_memo.specs.Memo.{Remembers};
 ghost use Rattle.abc_outputs.specs.Output.{output_in};
-ghost use Rattle.live_examples.specs.Toy.{toy_rules};
-ghost use Rattle.live_examples.specs.ToyLaws.{toy_steps};
+ghost use Rattle.live_examples.specs.Toy.{toy_rules, toy_steps};
 ghost use Rattle.refused_calls.specs.Titled.{AreOfTitled};
 
 use crate::chains::chain_of;

@@ -1,7 +1,7 @@
 //! A tune, from its lines to its file, and tunes that are remembered.
 
 use abc_cells::Entry;
-use abc_fold::{Fold, Shared, Work};
+use abc_fold::{Fold, Work};
 use abc_items::Items;
 use abc_scan::{Cell, LineClass};
 use abc_tune::{Abc, Built, Compiler, build, put_line};
@@ -26,9 +26,9 @@ pub fn abc_cells<R: Runtime>(rt: &R, alloc: Global) -> Result<bool, AllocError> 
 fn step(
     alloc: Global,
     entry: &Entry,
-    cell: &Shared<Cell>,
+    cell: &Cell,
     work: &mut Work,
-) -> Result<(Entry, Shared<Items>), AllocError> {
+) -> Result<(Entry, Items), AllocError> {
     Abc.step(alloc, entry, cell, work)
 }
 
@@ -44,7 +44,7 @@ pub fn numbered_cell<R: Runtime>(rt: &R, alloc: Global) -> Result<bool, AllocErr
 }
 
 /// What the cells of a tune of one note give.
-fn items(alloc: Global, work: &mut Work) -> Result<Vec<Shared<Items>>, AllocError> {
+fn items(alloc: Global, work: &mut Work) -> Result<Vec<Items>, AllocError> {
     let mut entry = Entry::tune(alloc, None);
     let mut given = Vec::new(alloc);
     let lines: [&[u8]; 4] = [b"X:1", b"T:A", b"K:C", b"C"];
@@ -86,7 +86,7 @@ pub fn file<R: Runtime>(rt: &R, alloc: Global) -> Result<bool, AllocError> {
 /// Whether what was built has the file of that tune.
 fn has_file(built: &Built) -> bool {
     match &built.bytes {
-        Some(bytes) => bytes.as_slice() == FILE_OF_C,
+        Some(bytes) => bytes.get().as_slice() == FILE_OF_C,
         None => false,
     }
 }
@@ -134,7 +134,7 @@ pub fn empty_memo(rt: &impl Runtime, alloc: Global) -> Result<bool, AllocError> 
 /// Whether what was built has the file of the line `c` behind the byte 0.
 fn is_toy_file(built: &Built) -> bool {
     match &built.bytes {
-        Some(bytes) => bytes.as_slice() == b"0c".as_slice(),
+        Some(bytes) => bytes.get().as_slice() == b"0c".as_slice(),
         None => false,
     }
 }
@@ -148,8 +148,8 @@ pub fn remembered_tune<R: Runtime>(rt: &R, alloc: Global) -> Result<bool, AllocE
         again(rt);
         let built = memo.ask(alloc, b'0', b"c", &mut work)?;
         done(rt);
-        return Ok(is_toy_file(built.get()));
+        return Ok(is_toy_file(&built));
     };
     done(rt);
-    Ok(is_toy_file(built.get()))
+    Ok(is_toy_file(&built))
 }

@@ -29,8 +29,7 @@ pub enum Call {
     Item,
     Fault,
     Faults,
-    CopiedItems,
-    CopiedByFold,
+    SharedItems,
     Tones,
     Title,
     NamedVoice,
@@ -56,7 +55,7 @@ pub enum Call {
 }
 
 /// All of them.
-pub const CALLS: [Call; 46] = [
+pub const CALLS: [Call; 45] = [
     Call::Sequence,
     Call::LongerSequence,
     Call::CopiedSequence,
@@ -79,8 +78,7 @@ pub const CALLS: [Call; 46] = [
     Call::Item,
     Call::Fault,
     Call::Faults,
-    Call::CopiedItems,
-    Call::CopiedByFold,
+    Call::SharedItems,
     Call::Tones,
     Call::Title,
     Call::NamedVoice,
@@ -130,8 +128,7 @@ impl Tried for Call {
             Call::Item => items::item(rt, alloc),
             Call::Fault => items::fault(rt, alloc),
             Call::Faults => items::faults(rt, alloc),
-            Call::CopiedItems => items::copied_items(rt, alloc),
-            Call::CopiedByFold => items::copied_by_fold(rt, alloc),
+            Call::SharedItems => items::shared_items(rt, alloc),
             Call::Tones => items::tones(rt, alloc),
             Call::Title => items::title(rt, alloc),
             Call::NamedVoice => items::named_voice(rt, alloc),

@@ -2,11 +2,9 @@
 
 use crate::lent;
 use crate::told::{call, done};
-use abc_bars::BarFold;
 use abc_fields::FaultCode;
-use abc_fold::Resumable;
 use abc_header::VoiceName;
-use abc_items::{Item, ItemText, Items, LentTones, LocalFault, Tone, Tones};
+use abc_items::{Item, ItemText, Items, ItemsBuilder, LentTones, LocalFault, Tone, Tones};
 use abc_text::ShortSequence;
 use std::alloc::{AllocError, Global};
 use std::rt::Runtime;
@@ -17,22 +15,22 @@ const PART: Item = Item::Section(b'A');
 const FAULT: LocalFault = (1, FaultCode::BadByte);
 
 /// How many items and faults there are.
-pub fn counts(items: &Items) -> (usize, usize) {
+pub fn counts(items: &ItemsBuilder) -> (usize, usize) {
     (items.items().len(), items.faults().len())
 }
 
 /// Room for an item.
 pub fn roomy_items(rt: &impl Runtime, alloc: Global) -> Result<bool, AllocError> {
-    call(rt, "Items::with_room");
-    let items = Items::with_room(alloc, 1)?;
+    call(rt, "ItemsBuilder::with_room");
+    let items = ItemsBuilder::with_room(alloc, 1)?;
     done(rt);
     Ok(counts(&items) == (0, 0))
 }
 
 /// An item behind none.
 pub fn item(rt: &impl Runtime, alloc: Global) -> Result<bool, AllocError> {
-    let mut items = Items::with_room(alloc, 0)?;
-    call(rt, "Items::push_item");
+    let mut items = ItemsBuilder::with_room(alloc, 0)?;
+    call(rt, "ItemsBuilder::push_item");
     lent!(
         rt,
         items.push_item(PART),
@@ -43,8 +41,8 @@ pub fn item(rt: &impl Runtime, alloc: Global) -> Result<bool, AllocError> {
 
 /// A fault behind none.
 pub fn fault(rt: &impl Runtime, alloc: Global) -> Result<bool, AllocError> {
-    let mut items = Items::with_room(alloc, 0)?;
-    call(rt, "Items::push_fault");
+    let mut items = ItemsBuilder::with_room(alloc, 0)?;
+    call(rt, "ItemsBuilder::push_fault");
     lent!(
         rt,
         items.push_fault(FAULT),
@@ -55,8 +53,8 @@ pub fn fault(rt: &impl Runtime, alloc: Global) -> Result<bool, AllocError> {
 
 /// Two faults behind none.
 pub fn faults(rt: &impl Runtime, alloc: Global) -> Result<bool, AllocError> {
-    let mut items = Items::with_room(alloc, 0)?;
-    call(rt, "Items::push_faults");
+    let mut items = ItemsBuilder::with_room(alloc, 0)?;
+    call(rt, "ItemsBuilder::push_faults");
     lent!(
         rt,
         items.push_faults(&[FAULT, FAULT]),
@@ -66,29 +64,20 @@ pub fn faults(rt: &impl Runtime, alloc: Global) -> Result<bool, AllocError> {
 }
 
 /// An item and a fault.
-fn both(alloc: Global) -> Result<Items, AllocError> {
-    let mut items = Items::with_room(alloc, 1)?;
+fn both(alloc: Global) -> Result<ItemsBuilder, AllocError> {
+    let mut items = ItemsBuilder::with_room(alloc, 1)?;
     items.push_item(PART)?;
     items.push_fault(FAULT)?;
     Ok(items)
 }
 
-/// Both again.
-pub fn copied_items(rt: &impl Runtime, alloc: Global) -> Result<bool, AllocError> {
-    let items = both(alloc)?;
-    call(rt, "Items::copied");
-    let copy = items.copied(alloc)?;
+/// Both, put together.
+pub fn shared_items(rt: &impl Runtime, alloc: Global) -> Result<bool, AllocError> {
+    let given = both(alloc)?;
+    call(rt, "Items::new");
+    let items = Items::new(alloc, given)?;
     done(rt);
-    Ok(counts(&copy) == (1, 1))
-}
-
-/// Both again, as the fold over bars copies what a cell gave.
-pub fn copied_by_fold(rt: &impl Runtime, alloc: Global) -> Result<bool, AllocError> {
-    let items = both(alloc)?;
-    call(rt, "BarFold::copy_items");
-    let copy = BarFold.copy_items(alloc, &items)?;
-    done(rt);
-    Ok(counts(&copy) == (1, 1))
+    Ok((items.items().len(), items.faults().len()) == (1, 1))
 }
 
 /// Two tones.

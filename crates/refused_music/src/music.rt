@@ -3,16 +3,16 @@
 use crate::told::{call, done};
 use abc_bars::BarFold;
 use abc_cells::Entry;
-use abc_fold::{Fold, Shared, Work};
+use abc_fold::{Fold, Work};
 use abc_items::Items;
 use abc_scan::{Cell, scan};
 use std::alloc::{AllocError, Global};
 use std::rt::Runtime;
 
 /// A line as one cell.
-pub fn cell(alloc: Global, line: &[u8], work: &mut Work) -> Result<Shared<Cell>, AllocError> {
+pub fn cell(alloc: Global, line: &[u8], work: &mut Work) -> Result<Cell, AllocError> {
     let tokens = scan(alloc, line, work)?;
-    Shared::new(alloc, Cell::from(tokens))
+    Cell::new(alloc, tokens)
 }
 
 /// What a line gives, and what holds behind it.
@@ -49,12 +49,7 @@ fn body(alloc: Global, work: &mut Work) -> Result<Entry, AllocError> {
 }
 
 /// What a cell gives there.
-fn given(
-    alloc: Global,
-    entry: &Entry,
-    cell: &Shared<Cell>,
-    work: &mut Work,
-) -> Result<Items, AllocError> {
+fn given(alloc: Global, entry: &Entry, cell: &Cell, work: &mut Work) -> Result<Items, AllocError> {
     let (_, items) = BarFold.step(alloc, entry, cell, work)?;
     Ok(items)
 }

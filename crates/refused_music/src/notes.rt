@@ -4,7 +4,7 @@ use crate::items::counts;
 use crate::lent;
 use crate::told::{call, done};
 use abc_fields::NATURAL;
-use abc_items::Items;
+use abc_items::ItemsBuilder;
 use abc_music::{Behind, BrokenFactors, NotePlace, chord_played, note_played, rest_played};
 use abc_scan::{
     Accidental, Chord, ChordPartKind, Letter, Note, Reach, Spanned, Tuplet, WrittenLength,
@@ -134,7 +134,7 @@ pub fn copied_settings(rt: &impl Runtime, alloc: Global) -> Result<bool, AllocEr
 /// The high note: its length and its key are faults.
 pub fn note(rt: &impl Runtime, alloc: Global) -> Result<bool, AllocError> {
     let mut settings = settings(alloc)?;
-    let mut items = Items::with_room(alloc, 0)?;
+    let mut items = ItemsBuilder::with_room(alloc, 0)?;
     let broken = BrokenFactors::of(Behind::Nothing, &[]);
     let note = sharp(HIGH);
     call(rt, "note_played");
@@ -165,7 +165,7 @@ pub fn chord_of(alloc: Global, kinds: &[ChordPartKind]) -> Result<Chord, AllocEr
 /// Two notes behind a loose tie: the tie, the length of each and the key of the second are faults.
 pub fn chord(rt: &impl Runtime, alloc: Global) -> Result<bool, AllocError> {
     let mut settings = settings(alloc)?;
-    let mut items = Items::with_room(alloc, 0)?;
+    let mut items = ItemsBuilder::with_room(alloc, 0)?;
     let broken = BrokenFactors::of(Behind::Nothing, &[]);
     let kinds = [
         ChordPartKind::Tie,
@@ -185,7 +185,7 @@ pub fn chord(rt: &impl Runtime, alloc: Global) -> Result<bool, AllocError> {
 /// A loose tie and no note: both are faults, and it takes no time.
 pub fn silent_chord(rt: &impl Runtime, alloc: Global) -> Result<bool, AllocError> {
     let mut settings = settings(alloc)?;
-    let mut items = Items::with_room(alloc, 0)?;
+    let mut items = ItemsBuilder::with_room(alloc, 0)?;
     let broken = BrokenFactors::of(Behind::Nothing, &[]);
     let chord = chord_of(alloc, &[ChordPartKind::Tie])?;
     call(rt, "chord_played, no notes");
@@ -200,7 +200,7 @@ pub fn silent_chord(rt: &impl Runtime, alloc: Global) -> Result<bool, AllocError
 /// A rest, whose length is a fault.
 pub fn rest(rt: &impl Runtime, alloc: Global) -> Result<bool, AllocError> {
     let mut settings = settings(alloc)?;
-    let mut items = Items::with_room(alloc, 0)?;
+    let mut items = ItemsBuilder::with_room(alloc, 0)?;
     let broken = BrokenFactors::of(Behind::Nothing, &[]);
     let written = WrittenLength::Refused;
     call(rt, "rest_played");

@@ -5,7 +5,7 @@ use crate::music::entry_behind;
 use crate::told::{call, done};
 use abc_bars::BarFold;
 use abc_cells::Entry;
-use abc_fold::{Resumable, Shared, Work};
+use abc_fold::{Fold, Shared, Work};
 use abc_header::{VoiceName, Voices};
 use std::alloc::{AllocError, Global};
 use std::rt::Runtime;
@@ -59,7 +59,7 @@ pub fn copied_header<R: Runtime>(rt: &R, alloc: Global) -> Result<bool, AllocErr
     let copy = header.get().clone()?;
     done(rt);
     let copy = Entry::Header(Shared::new(alloc, copy)?);
-    Ok(BarFold.same(&copy, &entry))
+    Ok(BarFold::same(&copy, &entry))
 }
 
 /// What holds in a body with two voices, of which one ties a chord, again.
@@ -74,5 +74,5 @@ pub fn copied_body<R: Runtime>(rt: &R, alloc: Global) -> Result<bool, AllocError
     let copy = body.get().clone()?;
     done(rt);
     let copy = Entry::Body(Shared::new(alloc, copy)?);
-    Ok(BarFold.same(&copy, &entry))
+    Ok(BarFold::same(&copy, &entry))
 }

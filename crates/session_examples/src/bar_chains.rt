@@ -1,7 +1,7 @@
 //! A chain over a tune of a hundred lines is made, and what it keeps is taken up and copied.
 
 ghost use Rattle.std.specs.Prelude.{◌<◌, All, length};
-ghost use Rattle.abc_cells.specs.SameEntry.{bars};
+ghost use Rattle.abc_cells.specs.SameEntry.{bar_steps};
 ghost use Rattle.abc_cells.specs.declared.entry.Entry.{Entry};
 ghost use Rattle.abc_fold.specs.Chain.{Folds};
 ghost use Rattle.abc_fold.specs.Piece.{IsKept};
@@ -9,7 +9,7 @@ ghost use Rattle.abc_fold.specs.Piece.{IsKept};
 use crate::kept_runs::append_kept;
 use abc_bars::BarFold;
 use abc_cells::Entry;
-use abc_fold::{Chain, Fold, Piece, Resumable, Shared, Work};
+use abc_fold::{Chain, Fold, Piece, Work};
 use abc_items::Items;
 use abc_scan::{Cell, scan};
 use std::alloc::Global;
@@ -21,15 +21,15 @@ const LINES: usize = 100;
 
 /// The only cell of a line, to be folded.
 fn line_piece(rt: &impl Abort, alloc: Global, line: &[u8], work: &mut Work) -> Piece<BarFold>
-    ensures { IsKept bars result }
+    ensures { IsKept bar_steps result }
 {
-    let cell = Cell::from(scan(alloc, line, work).expect(rt, "there is memory"));
-    Piece::New(Shared::new(alloc, cell).expect(rt, "there is memory"))
+    let tokens = scan(alloc, line, work).expect(rt, "there is memory");
+    Piece::New(Cell::new(alloc, tokens).expect(rt, "there is memory"))
 }
 
 /// The tune of `X:1`, `K:C` and a hundred lines `CDEF|`.
 fn tune(rt: &impl Abort, alloc: Global, work: &mut Work) -> Vec<Piece<BarFold>>
-    ensures { All (IsKept bars) result.items }
+    ensures { All (IsKept bar_steps) result.items }
 {
     let mut pieces = Vec::new(alloc);
     for line in 0..LINES + 2 {
@@ -46,7 +46,7 @@ fn tune(rt: &impl Abort, alloc: Global, work: &mut Work) -> Vec<Piece<BarFold>>
 
 /// The chain of the fold over the tune.
 fn chain_of_tune(rt: &impl Abort, alloc: Global, opening: &Entry, work: &mut Work) -> Chain<BarFold>
-    ensures { Folds bars opening.now result }
+    ensures { Folds bar_steps opening.now result }
 {
     let mut chain = Chain::new(alloc).expect(rt, "there is memory");
     let pieces = tune(rt, alloc, work);
@@ -67,14 +67,14 @@ fn with_line(
     work: &mut Work,
 ) -> Vec<Piece<BarFold>>
     requires { at < length chain.now.cells }
-    ensures { (opening : Entry) → Folds bars opening chain.now → All (IsKept bars) result.items }
+    ensures { (opening : Entry) → Folds bar_steps opening chain.now → All (IsKept bar_steps) result.items }
 {
     let mut pieces = Vec::new(alloc);
     let end = chain.len();
-    append_kept(&BarFold, chain, &mut pieces, 0, at).expect(rt, "there is memory");
+    append_kept(chain, &mut pieces, 0, at).expect(rt, "there is memory");
     let piece = line_piece(rt, alloc, line, work);
     pieces.push(piece).expect(rt, "there is memory");
-    append_kept(&BarFold, chain, &mut pieces, at + 1, end).expect(rt, "there is memory");
+    append_kept(chain, &mut pieces, at + 1, end).expect(rt, "there is memory");
     pieces
 }
 
@@ -83,12 +83,12 @@ fn step_of_copies(
     rt: &impl Abort,
     alloc: Global,
     state: &Entry,
-    cell: &Shared<Cell>,
+    cell: &Cell,
     work: &mut Work,
 ) -> (Entry, Items) {
-    let state = BarFold.copy_state(alloc, state);
+    let state = BarFold::copy_state(alloc, state);
     let state = state.expect(rt, "there is memory");
-    let cell = BarFold.copy_cell(alloc, cell);
+    let cell = BarFold::copy_cell(alloc, cell);
     let cell = cell.expect(rt, "there is memory");
     let made = BarFold.step(alloc, &state, &cell, work);
     made.expect(rt, "there is memory")
@@ -104,7 +104,7 @@ fn is_given_again(
 ) -> bool
     requires { i < length chain.now.cells }
 {
-    match chain.kept(&BarFold, i).expect(rt, "there is memory") {
+    match chain.kept(i).expect(rt, "there is memory") {
         Piece::New(_) => false,
         Piece::Kept {
             cell,
@@ -112,10 +112,10 @@ fn is_given_again(
             left,
             items,
         } => {
-            let (next, given) = step_of_copies(rt, alloc, entered.get(), &cell, work);
-            let items = BarFold.copy_items(alloc, &items);
+            let (next, given) = step_of_copies(rt, alloc, &entered, &cell, work);
+            let items = BarFold::copy_items(alloc, &items);
             let items = items.expect(rt, "there is memory");
-            BarFold.same(&next, left.get()) && given.items().len() == items.items().len()
+            BarFold::same(&next, &left) && given.items().len() == items.items().len()
         }
     }
 }

@@ -52,9 +52,9 @@ fn kept_cells_are_taken_up(rt: HostRuntime) {
     );
     let mut pieces = Vec::new(alloc);
     assert!(rt; chain.len() == 5);
-    append_kept(&Counting, &chain, &mut pieces, 0, 1).expect(&rt, "there is memory");
+    append_kept(&chain, &mut pieces, 0, 1).expect(&rt, "there is memory");
     pieces.push(Piece::New(9)).expect(&rt, "there is memory");
-    append_kept(&Counting, &chain, &mut pieces, 1, 5).expect(&rt, "there is memory");
+    append_kept(&chain, &mut pieces, 1, 5).expect(&rt, "there is memory");
     let patch = chain
         .prepare(&Counting, &opening, &pieces, &mut work)
         .expect(&rt, "there is memory");

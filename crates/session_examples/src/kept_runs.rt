@@ -5,12 +5,11 @@ ghost use Rattle.abc_fold.specs.Chain.{Folds};
 ghost use Rattle.abc_fold.specs.Piece.{IsKept};
 ghost use Rattle.abc_fold.specs.Steps.{Steps, IsResumable};
 
-use abc_fold::{Chain, Piece, Resumable};
+use abc_fold::{Chain, Fold, Piece};
 use std::alloc::AllocError;
 
 /// Appends the cells from one place to another, with all that is kept of them.
-pub(crate) fn append_kept<F: Resumable>(
-    fold: &F,
+pub(crate) fn append_kept<F: Fold>(
     chain: &Chain<F>,
     pieces: &mut Vec<Piece<F>>,
     from: usize,
@@ -21,7 +20,7 @@ pub(crate) fn append_kept<F: Resumable>(
         All (IsKept steps) pieces.old.items → All (IsKept steps) pieces.new.items }
 {
     for i in from..to {
-        let piece = chain.kept(fold, i)?;
+        let piece = chain.kept(i)?;
         pieces.push(piece)?;
     }
     Ok(())

@@ -27,8 +27,8 @@ fn answered(
     let line = line_of(number);
     let built = memo.ask(alloc, byte, &line, work).ok()?;
     let file = [byte, line[0], line[1], line[2]];
-    match &built.get().bytes {
-        Some(bytes) => Some(bytes.as_slice() == file.as_slice()),
+    match &built.bytes {
+        Some(bytes) => Some(bytes.get().as_slice() == file.as_slice()),
         None => Some(false),
     }
 }

@@ -5,3 +5,5 @@ pub mod Order
 pub mod Track
 pub mod Voice
 pub mod Written
+-- The definitions of the crates below that public clauses cite: a caller needs only this crate.
+pub use Rattle.abc_score.specs.Limits

@@ -4,7 +4,7 @@ use Rattle.abc_cells.specs.BodyOpening.{unshifted}
 use Rattle.abc_cells.specs.Step.{stepped}
 use Rattle.abc_cells.specs.declared.body.Current.TheVariants.{Unnamed, At}
 use Rattle.abc_cells.specs.declared.entry.Entry.{Entry}
-use Rattle.abc_cells.specs.declared.entry.Entry.TheVariants.{Opening, Body}
+use Rattle.abc_cells.specs.declared.entry.Entry.TheVariants.{Body, FileHeader, Opening}
 use Rattle.abc_fields.specs.Signature.{natural}
 use Rattle.abc_fields.specs.declared.fault.FaultCode.{FaultCode}
 use Rattle.abc_fields.specs.declared.meter.Meter.{Meter}
@@ -87,6 +87,10 @@ behind entry lines = (along_lines (entry, nothing) lines).0
 -- What holds behind the lines of a tune's header, in a text without a file header.
 abbrev pub behind_header : List (List ℕ) → Entry
 behind_header lines = behind (Opening no_defaults) lines
+
+-- What holds after the lines of a file header.
+abbrev pub behind_file_header : List (List ℕ) → Entry
+behind_file_header lines = behind (FileHeader no_defaults) lines
 
 -- What a line gives that is entered there.
 abbrev pub given_by : Entry → List ℕ → Items

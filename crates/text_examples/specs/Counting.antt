@@ -2,7 +2,7 @@
 use Rattle.std.specs.Prelude.{ℕ, ◌+◌, ◌-◌, ◌^◌, Bool, ◌==◌, if◌then◌else◌, min, refl}
 use Rattle.std.proofs.Common.{sym, ◌∙◌}
 use Rattle.std.proofs.lemmas.Bool.{eqb-true, eq-eqb}
-use Rattle.abc_fold.specs.Steps.{Steps, IsResumable, steps_of}
+use Rattle.abc_fold.specs.Steps.{Steps, IsResumable}
 use Rattle.text_examples.specs.declared.chains.Counted.{Counted}
 
 -- What is counted behind a cell: 0 begins anew, another number is added, up to 255. The mark counts the cells.
@@ -21,7 +21,7 @@ abbrev pub same_count : Counted → Counted → Bool
 same_count a b = a.count == b.count
 
 abbrev pub counting : Steps Counted ℕ ℕ
-counting = steps_of counted_next counted_gives same_count
+counting = record { next = counted_next; gives = counted_gives; alike = same_count }
 
 pub counting_resumable : IsResumable counting
 counting_resumable = record {

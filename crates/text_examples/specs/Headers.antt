@@ -1,5 +1,5 @@
 -- What is set in headers of the worked examples, and what holds where their bodies begin. Our own.
-use Rattle.std.specs.Prelude.{ℕ, pos, negsuc, [], ◌∷◌, codes, Option}
+use Rattle.std.specs.Prelude.{ℕ, pos, negsuc, List, [], ◌∷◌, codes, Option}
 use Rattle.abc_cells.specs.declared.body.Current.TheVariants.{At}
 use Rattle.abc_cells.specs.declared.entry.Entry.{Entry}
 use Rattle.abc_cells.specs.declared.entry.Entry.TheVariants.{Body}
@@ -40,3 +40,7 @@ begun shift = keyed_so natural shift
 abbrev pub two_voices : VoiceShift → VoiceShift → VoiceShift → Entry
 two_voices first second another =
     Body (record { voices = (codes "1", begun first) ∷ (codes "2", begun second) ∷ []; current = At 0; another = begun another })
+
+-- A header that says parts of the shifts of the voices `1` and `2`, and whose key says other parts.
+abbrev pub shifted_voices : List (List ℕ)
+shifted_voices = codes "X:1" ∷ codes "V:1 treble-8" ∷ codes "V:2 octave=1" ∷ codes "V:1 octave=2" ∷ codes "K:C treble+8 transpose=3" ∷ []

@@ -1,3 +1,4 @@
+pub mod Adding
 pub mod Bars
 pub mod Blocks
 pub mod Counting

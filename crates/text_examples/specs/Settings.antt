@@ -22,3 +22,7 @@ broken direction marks = record { direction = direction; marks = marks }
 -- Fifteen voices, `a` to `o`, of whose shifts nothing is said.
 abbrev pub fifteen_voices : List (List ℕ × Shift)
 fifteen_voices = map (λ letter. (letter ∷ [], no_shift)) (codes "abcdefghijklmno")
+
+-- The one voice `A`, of which this is said.
+abbrev pub voice_a : Shift → List (List ℕ × Shift)
+voice_a shift = (codes "A", shift) ∷ []

@@ -1,8 +1,8 @@
 //! A fold whose states are seldom equal, and often alike: what chains of it keep is taken up where as much is counted.
 
-ghost use Rattle.text_examples.specs.Counting.{counted_next, counted_gives, same_count, counting_resumable};
+ghost use Rattle.text_examples.specs.Counting.{counting, counting_resumable};
 
-use abc_fold::{Fold, Resumable, Work};
+use abc_fold::{Fold, Work};
 use std::alloc::{AllocError, Global};
 
 /// What is counted, and how many cells there were, which nothing that is given shows.
@@ -25,9 +25,9 @@ impl Fold for Counting {
 
     type Work = Work;
 
-    ghost next = { λ _. counted_next };
+    ghost steps = { λ _. counting };
 
-    ghost gives = { λ _. counted_gives };
+    ghost resumable = { λ _. counting_resumable };
 
     fn step(
         &self,
@@ -45,29 +45,23 @@ impl Fold for Counting {
         let mark = state.mark.saturating_add(1);
         Ok((Counted { count, mark }, state.count))
     }
-}
 
-impl Resumable for Counting {
-    ghost alike = { λ _. same_count };
-
-    ghost resumable = { λ _. counting_resumable };
-
-    fn same(&self, a: &Counted, b: &Counted) -> bool {
+    fn same(a: &Counted, b: &Counted) -> bool {
         a.count == b.count
     }
 
-    fn copy_state(&self, _alloc: Global, state: &Counted) -> Result<Counted, AllocError> {
+    fn copy_state(_alloc: Global, state: &Counted) -> Result<Counted, AllocError> {
         Ok(Counted {
             count: state.count,
             mark: state.mark,
         })
     }
 
-    fn copy_cell(&self, _alloc: Global, cell: &u8) -> Result<u8, AllocError> {
+    fn copy_cell(_alloc: Global, cell: &u8) -> Result<u8, AllocError> {
         Ok(*cell)
     }
 
-    fn copy_items(&self, _alloc: Global, items: &u8) -> Result<u8, AllocError> {
+    fn copy_items(_alloc: Global, items: &u8) -> Result<u8, AllocError> {
         Ok(*items)
     }
 }

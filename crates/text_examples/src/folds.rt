@@ -1,7 +1,8 @@
 //! A fold of our own, and steps of any fold through its bounds alone.
 
-ghost use Rattle.std.specs.Prelude.{◌≡◌, ℕ, ◌+◌, ◌-◌, ◌^◌, ◌≤◌, [], ◌∷◌, min, IfOk, OnOk};
+ghost use Rattle.std.specs.Prelude.{◌≡◌, ℕ, ◌≤◌, [], ◌∷◌, IfOk, OnOk};
 ghost use Rattle.abc_fold.specs.Work.{after_steps, raised};
+ghost use Rattle.text_examples.specs.Adding.{adding, adding_resumable};
 
 use abc_fold::{Counts, Fold, Work};
 use abc_text::Sequence;
@@ -32,9 +33,9 @@ impl Fold for Adding {
 
     type Work = Work;
 
-    ghost next = { λ _ total number. min (total + number) (2 ^ 64 - 1) };
+    ghost steps = { λ _. adding };
 
-    ghost gives = { λ _ total number. total ∷ number ∷ [] };
+    ghost resumable = { λ _. adding_resumable };
 
     fn step(
         &self,
@@ -47,6 +48,22 @@ impl Fold for Adding {
         let items = Sequence::from_slice(alloc, &[total.sum, *number])?;
         let sum = total.sum.saturating_add(*number);
         Ok((Total { sum }, items))
+    }
+
+    fn same(a: &Total, b: &Total) -> bool {
+        a.sum == b.sum
+    }
+
+    fn copy_state(_alloc: Global, total: &Total) -> Result<Total, AllocError> {
+        Ok(Total { sum: total.sum })
+    }
+
+    fn copy_cell(_alloc: Global, number: &u64) -> Result<u64, AllocError> {
+        Ok(*number)
+    }
+
+    fn copy_items(alloc: Global, items: &Sequence<u64>) -> Result<Sequence<u64>, AllocError> {
+        Sequence::from_slice(alloc, items.as_slice())
     }
 }
 
@@ -61,11 +78,11 @@ pub fn two_steps<F: Fold>(
     second: &F::Cell,
     work: &mut F::Work,
 ) -> Result<(F::State, F::Items, F::Items), AllocError>
-    ensures state_after { let between = F.next fold.now opening.now first.now in
-        IfOk result (λ made. made.0 ≡ F.next fold.now between second.now) }
-    ensures items_of_first { IfOk result (λ made. made.1 ≡ F.gives fold.now opening.now first.now) }
-    ensures items_of_second { let between = F.next fold.now opening.now first.now in
-        IfOk result (λ made. made.2 ≡ F.gives fold.now between second.now) }
+    ensures state_after { let between = (F.steps fold.now).next opening.now first.now in
+        IfOk result (λ made. made.0 ≡ (F.steps fold.now).next between second.now) }
+    ensures items_of_first { IfOk result (λ made. made.1 ≡ (F.steps fold.now).gives opening.now first.now) }
+    ensures items_of_second { let between = (F.steps fold.now).next opening.now first.now in
+        IfOk result (λ made. made.2 ≡ (F.steps fold.now).gives between second.now) }
 
     ensures counted { OnOk result (F.Work.counts work.new ≡ after_steps (F.Work.counts work.old) 2) }
     ensures at_most { (F.Work.counts work.new).folded ≤ raised (F.Work.counts work.old).folded 2 }

@@ -5,6 +5,7 @@ use Rattle.abc_cells.specs.declared.entry.Entry.TheVariants as entries
 use Rattle.abc_header.specs.Defaults.{no_defaults}
 use Rattle.abc_cells.specs.Entry.{opening_after}
 use Rattle.abc_header.specs.HeaderLine.{HeaderLine}
+use Rattle.abc_cells.specs.SameEntry.{bar_steps}
 use Rattle.abc_cells.specs.Step.{line_in, stepped}
 use Rattle.abc_bars.specs.LookBack.Along.{CellTokens, IsLookBack, file_header_begins, given_along, items_along, lines_behind, place_after, state_after, states_along, tune_begins, views_along, with_line}
 use Rattle.abc_bars.specs.LookBack.Place.{Place, InFileHeader, behind_file_header, place_behind, view}
@@ -41,7 +42,7 @@ behind-cells place (cell ∷ cells) =
     ap (λ (state : Entry). state_after to state cells) (to-view place cell) ∙ behind-cells (place_behind place cell) cells
 
 -- From the view of any place on, the steps are the look back.
-pub from_view : (place : Place) → IsLookBack to giving (view place) place
+pub from_view : (place : Place) → IsLookBack bar_steps (view place) place
 from_view place = record { entered = entered-along place; given = items-given place; behind = behind-cells place }
 
 -- The same cells give the same where the views are the same, and the same holds behind them.
@@ -72,10 +73,10 @@ opened (Some cells) =
     ap (λ (state : Entry). opening_after (Some state))
     (behind-cells file_header_begins cells ∙ ap view (lines-along [] cells))
 
-pub file_header_looked_back : IsLookBack to giving (entries.FileHeader no_defaults) file_header_begins
+pub file_header_looked_back : IsLookBack bar_steps (entries.FileHeader no_defaults) file_header_begins
 file_header_looked_back = from_view file_header_begins
 
 pub tune_looked_back : (header : Option (List CellTokens))
-    → IsLookBack to giving (opening_after (option_map (state_after to (entries.FileHeader no_defaults)) header)) (tune_begins header)
+    → IsLookBack bar_steps (opening_after (option_map (state_after to (entries.FileHeader no_defaults)) header)) (tune_begins header)
 tune_looked_back header =
-    subst (λ (state : Entry). IsLookBack to giving state (tune_begins header)) (sym (opened header)) (from_view (tune_begins header))
+    subst (λ (state : Entry). IsLookBack bar_steps state (tune_begins header)) (sym (opened header)) (from_view (tune_begins header))

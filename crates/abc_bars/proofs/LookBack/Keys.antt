@@ -38,13 +38,13 @@ use Rattle.abc_bars.specs.LookBack.CellPlace.{Standing, standing_at}
 use Rattle.abc_bars.specs.LookBack.Element.{Element}
 use Rattle.abc_bars.specs.LookBack.Keys.{AreWrittenAlike, ChordsHaveKeys, IsAlteredAt, IsLastAmong, IsNoneAmong, NotesHaveKeys, SoundsKeys, heard_of, key_at, keys_from}
 use Rattle.abc_bars.specs.LookBack.Since.{notes_of_tokens}
-use Rattle.abc_bars.specs.LookBack.Ties.{IsTimeBefore, tied_notes}
+use Rattle.abc_bars.specs.LookBack.Ties.{IsTimeBefore, altered_note, tied_notes}
 use Rattle.abc_bars.specs.LookBack.Voice.{accidentals_at, accidentals_of, alteration_at, counted_notes, newest_written, notes_among, notes_of_bar, settings_at, shift_at, signature_at, tied_at, written_by}
 use Rattle.abc_bars.proofs.LookBack.Accidentals.{newest_heard}
 use Rattle.abc_bars.proofs.LookBack.CellPlace.{between, body-at, chord-items, here-in-chord, here-is}
 use Rattle.abc_bars.proofs.LookBack.Since.{Heard, heard-since}
 use Rattle.abc_bars.proofs.LookBack.Tied.{AreBehind, alteration-at, behind-none, either, no-room, one-more, room-left}
-use Rattle.abc_bars.proofs.LookBack.Ties.{Passed, altered, left-by, passed-over, tied-last}
+use Rattle.abc_bars.proofs.LookBack.Ties.{Passed, left-by, passed-over, tied-last}
 
 -- The last accidental among notes is the one that is found.
 last-among : (reach : Reach) (note : Note) (nearer further : List Note) (other : Note) (by : ℤ)
@@ -70,8 +70,8 @@ apart-by : (opening : Settings) (note : Note) (element : Element) (before : List
     → (((token : Element) (further : List Element) → IsTimeBefore before token further → All (λ other. ¬ AreWrittenAlike note other.1) (tied_notes token.kind token.tied)) → All (Apart note) (tied_at opening before))
     → All (Apart note) (tied_at opening (element ∷ before))
 apart-by opening note element before true is h rest =
-    All-same (Apart note) (tied_at opening (element ∷ before)) (map (altered opening before) (tied_notes element.kind element.tied)) (left-by opening before element.kind element.tied is)
-    (All-map (Apart note) (altered opening before) (tied_notes element.kind element.tied)
+    All-same (Apart note) (tied_at opening (element ∷ before)) (map (altered_note opening before) (tied_notes element.kind element.tied)) (left-by opening before element.kind element.tied is)
+    (All-map (Apart note) (altered_note opening before) (tied_notes element.kind element.tied)
     (h element before (record { nearer = []; split = refl; time = is; none = All-nil Passed })))
 apart-by opening note element before false is h rest =
     All-same (Apart note) (tied_at opening (element ∷ before)) (tied_at opening before) (passed-over opening (tied_at opening before) before element.kind element.tied is)
@@ -140,9 +140,9 @@ module _ (opening : Settings) (before : List Element) (earlier : List Note) (not
         sym is-altered ∙ found.written by e (written-last by (subst (λ (notes : List Note). IsLastAmong reach note notes by) same-heard last));
     tied = λ token further front back last e none time is alike apart.
         sym is-altered
-        ∙ found.tied (map (altered opening further) front) (map (altered opening further) back) (altered opening further last) e (not-written (none-heard none))
-        (tied-is ∙ tied-last opening before further token time ∙ ap (map (altered opening further)) is ∙ map-append (altered opening further) front (last ∷ back))
-        alike (All-map (Apart note) (altered opening further) back apart);
+        ∙ found.tied (map (altered_note opening further) front) (map (altered_note opening further) back) (altered_note opening further last) e (not-written (none-heard none))
+        (tied-is ∙ tied-last opening before further token time ∙ ap (map (altered_note opening further)) is ∙ map-append (altered_note opening further) front (last ∷ back))
+        alike (All-map (Apart note) (altered_note opening further) back apart);
     signature = λ e none h.
         sym is-altered
         ∙ found.signature e (not-written (none-heard none)) (All-same (Apart note) (settings_at opening before).tied (tied_at opening before) tied-is (all-apart opening note before h))

@@ -41,7 +41,7 @@ use Rattle.abc_bars.specs.LookBack.Cells.{looked_back}
 use Rattle.abc_bars.specs.LookBack.Element.{Element}
 use Rattle.abc_bars.specs.LookBack.Held.{held_at}
 use Rattle.abc_bars.specs.LookBack.Place.{given_in_body, opening_at}
-use Rattle.abc_bars.specs.LookBack.Ties.{IsTimeBefore, is_behind_note, loose_from, loose_in, loose_ties, tied_in_chord, tied_notes}
+use Rattle.abc_bars.specs.LookBack.Ties.{IsTimeBefore, altered_note, is_behind_note, loose_from, loose_in, loose_ties, tied_in_chord, tied_notes}
 use Rattle.abc_bars.specs.LookBack.Voice.{alteration_at, as_tied, counted_notes, settings_at, tied_among, tied_at, tied_said}
 use Rattle.abc_bars.proofs.LookBack.FieldFaults.{Told, more as some-more, none-more as nothing-more, of-field as no-field}
 
@@ -172,24 +172,20 @@ passed-over opening tied before (kinds.Directive directive) follows e = refl
 passed-over opening tied before kinds.Unclosed follows e = refl
 passed-over opening tied before kinds.BadByte follows e = refl
 
--- A note from which a tie leads on, as it was altered at its place.
-abbrev pub altered : Settings → List Element → List Note × Note → TiedNote
-altered opening before tied = as_tied tied.1 (alteration_at opening (tied_at opening before) before tied.0 tied.1)
-
-one-of : (opening : Settings) (before : List Element) (b : Bool) (x : List Note × Note) (xs : List TiedNote) (ys : List (List Note × Note)) → xs ≡ map (altered opening before) ys
-    → cond b (altered opening before x ∷ xs) xs ≡ map (altered opening before) (cond b (x ∷ ys) ys)
-one-of opening before true x xs ys e = ap (λ l. altered opening before x ∷ l) e
+one-of : (opening : Settings) (before : List Element) (b : Bool) (x : List Note × Note) (xs : List TiedNote) (ys : List (List Note × Note)) → xs ≡ map (altered_note opening before) ys
+    → cond b (altered_note opening before x ∷ xs) xs ≡ map (altered_note opening before) (cond b (x ∷ ys) ys)
+one-of opening before true x xs ys e = ap (λ l. altered_note opening before x ∷ l) e
 one-of opening before false x xs ys e = e
 
 in-chord : (opening : Settings) (before : List Element) (follows : Bool) (earlier : List Note) (notes : List (Note × Bool))
-    → tied_among opening (tied_at opening before) before follows earlier notes ≡ map (altered opening before) (tied_in_chord follows earlier notes)
+    → tied_among opening (tied_at opening before) before follows earlier notes ≡ map (altered_note opening before) (tied_in_chord follows earlier notes)
 in-chord opening before follows earlier [] = refl
 in-chord opening before follows earlier (note ∷ later) =
     one-of opening before (follows || note.1) (earlier, note.0) _ _ (in-chord opening before follows (note.0 ∷ earlier) later)
 
 -- A time token leaves the notes from which a tie leads on.
 pub left-by : (opening : Settings) (before : List Element) (kind : TokenKind) (follows : Bool) → is_time_token kind ≡ true
-    → tied_said opening (tied_at opening before) before kind follows ≡ map (altered opening before) (tied_notes kind follows)
+    → tied_said opening (tied_at opening before) before kind follows ≡ map (altered_note opening before) (tied_notes kind follows)
 left-by opening before (kinds.Note note) true e = refl
 left-by opening before (kinds.Note note) false e = refl
 left-by opening before (kinds.Rest length) follows e = refl
@@ -220,7 +216,7 @@ tied-behind opening (other ∷ nearer) rest none =
     ∙ tied-behind opening nearer rest (All-tail Passed other nearer none)
 
 pub tied-last : (opening : Settings) (before earlier : List Element) (token : Element) → IsTimeBefore before token earlier
-    → tied_at opening before ≡ map (altered opening earlier) (tied_notes token.kind token.tied)
+    → tied_at opening before ≡ map (altered_note opening earlier) (tied_notes token.kind token.tied)
 tied-last opening before earlier token is =
     ap (tied_at opening) is.split ∙ tied-behind opening is.nearer (token ∷ earlier) is.none ∙ left-by opening earlier token.kind token.tied is.time
 
@@ -228,7 +224,7 @@ pub tied-none : (opening : Settings) (before : List Element) → All Passed befo
 tied-none opening before none = ap (tied_at opening) (sym (append-nil before)) ∙ tied-behind opening before [] none
 
 pub ties_lead : (opening : Settings) (before earlier : List Element) (token : Element) → IsTimeBefore before token earlier
-    → (settings_at opening before).tied ≡ map (altered opening earlier) (tied_notes token.kind token.tied)
+    → (settings_at opening before).tied ≡ map (altered_note opening earlier) (tied_notes token.kind token.tied)
 unfolding settings_at
 ties_lead opening before earlier token is = tied-last opening before earlier token is
 

@@ -4,12 +4,16 @@ use Rattle.std.specs.Prelude.{◌≡◌, List, [], ◌∷◌, map, Option, Some,
 use Rattle.abc_scan.specs.declared.spanned.Spanned.{Spanned}
 use Rattle.abc_scan.specs.declared.token.TokenKind.{TokenKind}
 use Rattle.abc_header.specs.declared.defaults.Defaults.{Defaults}
+use Rattle.std.specs.Option.{option_map}
+use Rattle.abc_cells.specs.Entry.{opening_after}
 use Rattle.abc_cells.specs.declared.entry.Entry.{Entry}
+use Rattle.abc_cells.specs.declared.entry.Entry.TheVariants as entries
 use Rattle.abc_header.specs.Defaults.{no_defaults}
 use Rattle.abc_header.specs.HeaderLine.{HeaderLine}
 use Rattle.abc_cells.specs.Step.{line_in}
 use Rattle.abc_bars.specs.LookBack.Defaults.{defaults_at}
 use Rattle.abc_bars.specs.LookBack.Place.{Place, InFileHeader, InHeader, given_at, place_behind, view}
+use Rattle.abc_fold.specs.Steps.{Steps}
 use Rattle.abc_items.specs.Item.{Items}
 
 -- The tokens of a cell.
@@ -68,6 +72,10 @@ abbrev pub states_along : {State Cell : Type 0} → (State → Cell → State) �
 states_along next state [] = []
 states_along next state (cell ∷ cells) = state ∷ states_along next (next state cell) cells
 
+-- The state in which a tune begins after the cells of a file header, if there is one, by the steps of a fold.
+abbrev pub tune_state : Steps Entry CellTokens Items → Option (List CellTokens) → Entry
+tune_state steps header = opening_after (option_map (state_after steps.next (entries.FileHeader no_defaults)) header)
+
 -- What each cell gives where it is entered.
 abbrev pub items_along : {State Cell Items : Type 0} → (State → Cell → State) → (State → Cell → Items) → State → List Cell → List Items
 items_along next gives state [] = []
@@ -76,7 +84,7 @@ items_along next gives state (cell ∷ cells) = gives state cell ∷ items_along
 -- From this state at this place on, the steps of a fold along any cells are the look back: each cell is
 -- entered in the view of its place, gives what looking back gives there, its faults among it, and behind them
 -- holds the view of the place behind them.
-pub record IsLookBack (next : Entry → CellTokens → Entry) (gives : Entry → CellTokens → Items) (state : Entry) (place : Place) : Type 0 where
-  pub entered : (cells : List CellTokens) → states_along next state cells ≡ views_along place cells
-  pub given : (cells : List CellTokens) → items_along next gives state cells ≡ given_along place cells
-  pub behind : (cells : List CellTokens) → state_after next state cells ≡ view (place_after place cells)
+pub record IsLookBack (steps : Steps Entry CellTokens Items) (state : Entry) (place : Place) : Type 0 where
+  pub entered : (cells : List CellTokens) → states_along steps.next state cells ≡ views_along place cells
+  pub given : (cells : List CellTokens) → items_along steps.next steps.gives state cells ≡ given_along place cells
+  pub behind : (cells : List CellTokens) → state_after steps.next state cells ≡ view (place_after place cells)

@@ -8,14 +8,18 @@ use Rattle.abc_cells.specs.Cell.{tie_ahead, with_token}
 use Rattle.abc_bars.specs.LookBack.Held.{held_at}
 use Rattle.abc_bars.specs.LookBack.Element.{Element}
 
+-- A token of a cell as an element, by what comes after it in the cell.
+abbrev pub element_of : Spanned TokenKind → List (Spanned TokenKind) → Element
+element_of token ahead = record { kind = token.kind; tied = tie_ahead ahead }
+
 -- What stands before a place behind tokens of a cell.
 abbrev pub behind_tokens : List (Spanned TokenKind) → List Element → List Element
 behind_tokens [] before = before
-behind_tokens (token ∷ ahead) before = behind_tokens ahead (record { kind = token.kind; tied = tie_ahead ahead } ∷ before)
+behind_tokens (token ∷ ahead) before = behind_tokens ahead (element_of token ahead ∷ before)
 
 -- What the tokens of a cell give, each where what looking back finds at its own place holds.
 abbrev pub looked_back : Body → List Element → Given → List (Spanned TokenKind) → Given
 looked_back opening before given [] = record given { body = held_at opening before }
 looked_back opening before given (token ∷ ahead) =
-    looked_back opening (record { kind = token.kind; tied = tie_ahead ahead } ∷ before)
+    looked_back opening (element_of token ahead ∷ before)
     (with_token (record given { body = held_at opening before }) token ahead) ahead

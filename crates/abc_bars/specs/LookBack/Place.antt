@@ -38,6 +38,13 @@ pub data Place : Type 0 where
 abbrev pub opening_at : Defaults → List HeaderLine → Key → Body
 opening_at opening before key = body_from (header_at opening before) key
 
+-- A law of each place of a tune's body, by what holds at the place, what holds where the body begins, and what stands
+-- between the two.
+abbrev pub AtEachPlace : (Body → Body → List Element → Type 0) → Type 0
+AtEachPlace Holds =
+    (opening : Defaults) (fields : List HeaderLine) (key : Key) (before : List Element)
+    → Holds (held_at (opening_at opening fields key) before) (opening_at opening fields key) before
+
 -- The view at a place.
 abbrev pub view : Place → Entry
 view (InFileHeader before) = file_header_view before

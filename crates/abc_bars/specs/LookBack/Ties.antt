@@ -12,7 +12,9 @@ use Rattle.abc_items.specs.Column.{column_of}
 use Rattle.abc_music.specs.LooseTies.{is_loose, with_before}
 use Rattle.abc_cells.specs.Cell.{may_be_tied}
 use Rattle.abc_bars.specs.LookBack.Element.{Element}
-use Rattle.abc_bars.specs.LookBack.Voice.{counted_notes}
+use Rattle.abc_bars.specs.LookBack.Voice.{alteration_at, as_tied, counted_notes, tied_at}
+use Rattle.abc_settings.specs.declared.settings.Settings.{Settings}
+use Rattle.abc_settings.specs.declared.tied.TiedNote.{TiedNote}
 
 -- Whether what stands directly before a token in its cell, if anything does, is a note or a chord.
 abbrev pub is_behind_note : Option TokenKind → Bool
@@ -89,3 +91,11 @@ tied_notes (kinds.Directive directive) follows = []
 tied_notes (kinds.Field field) follows = []
 tied_notes kinds.Unclosed follows = []
 tied_notes kinds.BadByte follows = []
+
+-- A note from which a tie leads on, as it was altered at its own place, of a voice that opened with these settings.
+abbrev pub altered_note : Settings → List Element → List Note × Note → TiedNote
+altered_note opening before tied = as_tied tied.1 (alteration_at opening (tied_at opening before) before tied.0 tied.1)
+
+-- The notes from which a tie leads on at a token, each as it was altered at its own place.
+abbrev pub tied_after : Settings → List Element → Element → List TiedNote
+tied_after opening earlier token = map (altered_note opening earlier) (tied_notes token.kind token.tied)

@@ -8,6 +8,7 @@ ghost use Rattle.abc_tunebook.specs.Fault.{fault_cmp};
 ghost use Rattle.abc_tunebook.specs.Sorted.{sorted_once};
 ghost use Rattle.abc_tunebook.specs.Tune.{fault_in};
 ghost use Rattle.live_examples.specs.Toy.{toy_book};
+ghost use Rattle.live_examples.specs.Values.{faulty_blocks, faults_in_no_order};
 
 /// Two tunes of a number: the first gives the number's file, with the byte that the file header sets.
 pub fn first_owner()
@@ -30,7 +31,7 @@ pub fn lines_of_faults()
 
 /// The faults of the file header and of a tune, that of the whole tune in its first line.
 pub fn faults_of_all_blocks()
-    ensures { (toy_book (codes "D:5" ∷ codes "!" ∷ [] ∷ codes "X:2" ∷ codes "!" ∷ codes "a" ∷ codes "b" ∷ codes "c" ∷ [])).faults ≡ fault_in 2 (1, BadByte) ∷ fault_in 4 (1, TuneTooLong) ∷ fault_in 5 (1, BadByte) ∷ [] }
+    ensures { (toy_book faulty_blocks).faults ≡ fault_in 2 (1, BadByte) ∷ fault_in 4 (1, TuneTooLong) ∷ fault_in 5 (1, BadByte) ∷ [] }
 {}
 
 /// Text outside tunes gives nothing.
@@ -40,5 +41,5 @@ pub fn free_text()
 
 /// Faults are ordered by line, then by column, then by the number of the code, and each stands once.
 pub fn order_of_faults()
-    ensures { sorted_once fault_cmp (fault_in 2 (1, BadByte) ∷ fault_in 1 (9, BadByte) ∷ fault_in 1 (2, BadByte) ∷ fault_in 1 (2, BadReference) ∷ fault_in 2 (1, BadByte) ∷ []) ≡ fault_in 1 (2, BadReference) ∷ fault_in 1 (2, BadByte) ∷ fault_in 1 (9, BadByte) ∷ fault_in 2 (1, BadByte) ∷ [] }
+    ensures { sorted_once fault_cmp faults_in_no_order ≡ fault_in 1 (2, BadReference) ∷ fault_in 1 (2, BadByte) ∷ fault_in 1 (9, BadByte) ∷ fault_in 2 (1, BadByte) ∷ [] }
 {}

@@ -9,8 +9,8 @@ ghost use Rattle.abc_fields.specs.declared.meter.Meter.TheVariants.{Free, Of};
 ghost use Rattle.abc_header.specs.Defaults.{no_defaults};
 ghost use Rattle.abc_items.specs.declared.item.Item.TheVariants as items;
 ghost use Rattle.abc_scan.specs.declared.directive.Reach.TheVariants.{Not, Octave, Pitch};
-ghost use Rattle.text_examples.specs.Bars.{behind, behind_header, faults_by, in_body, items_by, settings_in, shifted, with_nameless};
-ghost use Rattle.text_examples.specs.Headers.{begun, defaults, in_f, in_g, keyed_so, two_voices};
+ghost use Rattle.text_examples.specs.Bars.{behind, behind_file_header, behind_header, faults_by, in_body, items_by, settings_in, shifted, with_nameless};
+ghost use Rattle.text_examples.specs.Headers.{begun, defaults, in_f, in_g, keyed_so, shifted_voices, two_voices};
 ghost use Rattle.text_examples.specs.Values.{ratio};
 
 /// The meter and the unit with which a body begins. ABC 2.1 sections 3.1.6 and 3.1.7.
@@ -44,7 +44,7 @@ pub fn keys_of_headers()
 /// The voices that a header declares, of which the first is the current one: what a `V:` says of a voice's shift goes before
 /// what the key says. ABC 2.1 section 7.1; which goes first is our own.
 pub fn declared_voices()
-    ensures own_parts { behind_header (codes "X:1" ∷ codes "V:1 treble-8" ∷ codes "V:2 octave=1" ∷ codes "V:1 octave=2" ∷ codes "K:C treble+8 transpose=3" ∷ [])
+    ensures own_parts { behind_header shifted_voices
         ≡ two_voices (shifted (negsuc 11) (pos 2) (pos 3)) (shifted (pos 12) (pos 1) (pos 3)) (shifted (pos 12) (pos 0) (pos 3)) }
 {}
 
@@ -94,11 +94,11 @@ pub fn faults_of_headers()
 /// File headers: what they set, and their faults; they give no items. ABC 2.1 section 2.2.2; that other lines do nothing is our
 /// own.
 pub fn file_headers()
-    ensures values { behind (FileHeader no_defaults) (codes "M:2/4" ∷ codes "L:1/4" ∷ codes "%%MIDI program 5" ∷ codes "%%propagate-accidentals not" ∷ [])
+    ensures values { behind_file_header (codes "M:2/4" ∷ codes "L:1/4" ∷ codes "%%MIDI program 5" ∷ codes "%%propagate-accidentals not" ∷ [])
         ≡ FileHeader (defaults (Some (Of 2 4)) (Some (ratio 1 4)) None (Some 5) Not) }
     ensures refused { behind (FileHeader (defaults None (Some (ratio 1 4)) None (Some 5) Pitch)) (codes "L:1/3" ∷ codes "%%MIDI program 128" ∷ [])
         ≡ FileHeader (defaults None (Some (ratio 1 4)) None (Some 5) Pitch) }
-    ensures others { behind (FileHeader no_defaults) (codes "K:G" ∷ codes "V:1" ∷ codes "T:a" ∷ codes "C" ∷ []) ≡ FileHeader no_defaults }
+    ensures others { behind_file_header (codes "K:G" ∷ codes "V:1" ∷ codes "T:a" ∷ codes "C" ∷ []) ≡ FileHeader no_defaults }
     ensures no_items { items_by (FileHeader no_defaults) (codes "M:2/4") ≡ [] }
     ensures fault { faults_by (FileHeader no_defaults) (codes "M:x") ≡ (1, BadMeter) ∷ [] }
     ensures program_fault { faults_by (FileHeader no_defaults) (codes "%%MIDI program 128") ≡ (1, BadProgram) ∷ [] }

@@ -1,7 +1,7 @@
 //! Line classes, what is read of a line, and its tokens, by the definitions of `abc_scan`.
 #![tactic(auto, unfolding(abc_scan::specs::Line::tokens_of, abc_scan::specs::Directive::directive_of, abc_scan::specs::Dynamic::dynamic_of, abc_scan::specs::Delimited::delimited_at, abc_scan::specs::Number::number_at, abc_scan::specs::Chord::part_reading_at, abc_scan::specs::Chord::parts_of, abc_scan::specs::Chord::chord_at, abc_scan::specs::Frame::frame_at, abc_scan::specs::Token::reading_at, abc_scan::specs::Start::byte_start, abc_scan::specs::Start::bracket_start, abc_scan::specs::Bar::bar_at, abc_scan::specs::Ending::ending_at, abc_text::specs::Blank::trimmed, abc_text::specs::Blank::trim_start, abc_text::specs::Blank::trim_end, abc_scan::specs::Length::length_at, abc_scan::specs::Length::length_size, abc_scan::specs::Note::accidental_at, abc_text::specs::Letter::letter_of, abc_scan::specs::Note::note_at, abc_scan::specs::Note::rest_at))]
 
-ghost use Rattle.std.specs.Prelude.{◌≡◌, false, pos, negsuc, [], ◌∷◌, codes, replicate};
+ghost use Rattle.std.specs.Prelude.{◌≡◌, false, pos, negsuc, [], ◌∷◌, codes, drop, replicate, take};
 ghost use Rattle.abc_scan.specs.declared.class.LineClass.TheVariants.{Blank, Comment, Directive, Field, Music};
 ghost use Rattle.abc_scan.specs.declared.length.WrittenLength.TheVariants.{Factor, Refused};
 ghost use Rattle.abc_text.specs.declared.accidental.Accidental.TheVariants.{DoubleSharp};
@@ -129,9 +129,10 @@ pub fn octaves()
 
 /// The tokens of `C3/2 C/ C// C0 C1/17 C`: notes, and a blank between each two. ABC 2.1 section 4.3.
 pub fn tokens_of_lengths()
-    ensures { tokens_of (codes "C3/2 C/ C// C0 C1/17 C") ≡
-        c_token (pos 0) (Factor 3 2) 0 4 ∷ blank 4 5 ∷ c_token (pos 0) (Factor 1 2) 5 7 ∷ blank 7 8 ∷ c_token (pos 0) (Factor 1 4) 8 11 ∷ blank 11 12
-        ∷ c_token (pos 0) Refused 12 14 ∷ blank 14 15 ∷ c_token (pos 0) (Factor 1 17) 15 20 ∷ blank 20 21 ∷ c_token (pos 0) plain 21 22 ∷ [] }
+    ensures first_six { take 6 (tokens_of (codes "C3/2 C/ C// C0 C1/17 C")) ≡ c_token (pos 0) (Factor 3 2) 0 4 ∷ blank 4 5
+        ∷ c_token (pos 0) (Factor 1 2) 5 7 ∷ blank 7 8 ∷ c_token (pos 0) (Factor 1 4) 8 11 ∷ blank 11 12 ∷ [] }
+    ensures others { drop 6 (tokens_of (codes "C3/2 C/ C// C0 C1/17 C")) ≡ c_token (pos 0) Refused 12 14 ∷ blank 14 15
+        ∷ c_token (pos 0) (Factor 1 17) 15 20 ∷ blank 20 21 ∷ c_token (pos 0) plain 21 22 ∷ [] }
 {}
 
 /// The tokens of `C,,,,, C,,,,,, C`. ABC 2.1 section 4.1.

@@ -27,7 +27,7 @@ ghost use Rattle.abc_settings.specs.Tuplet.{counted_down, default_q, tuplet_by, 
 ghost use Rattle.abc_settings.specs.Unit.{unit_by};
 ghost use Rattle.abc_settings.specs.VoiceShift.{with_properties};
 ghost use Rattle.text_examples.specs.Bars.{bar_rest, shifted};
-ghost use Rattle.text_examples.specs.Settings.{broken, fifteen_voices, mark, open_tuplet};
+ghost use Rattle.text_examples.specs.Settings.{broken, fifteen_voices, mark, open_tuplet, voice_a};
 ghost use Rattle.text_examples.specs.Values.{ratio, shift};
 
 /// The time of how many notes p of them take. ABC 2.1 section 4.13; for p that are not from 2 to 9 our own.
@@ -188,9 +188,9 @@ pub fn shifts()
 
 /// A header declares fifteen voices and no more, each part of a voice's shift as it was said last. Our own.
 pub fn voices_of_headers()
-    ensures first { declared [] (codes "A") (shift (Some (pos 12)) None None) ≡ ((codes "A", shift (Some (pos 12)) None None) ∷ [], None) }
-    ensures again { declared ((codes "A", shift (Some (pos 12)) (Some (pos 1)) None) ∷ []) (codes "A") (shift None (Some (pos 0)) (Some (pos 2)))
-        ≡ ((codes "A", shift (Some (pos 12)) (Some (pos 0)) (Some (pos 2))) ∷ [], None) }
+    ensures first { declared [] (codes "A") (shift (Some (pos 12)) None None) ≡ (voice_a (shift (Some (pos 12)) None None), None) }
+    ensures again { declared (voice_a (shift (Some (pos 12)) (Some (pos 1)) None)) (codes "A") (shift None (Some (pos 0)) (Some (pos 2)))
+        ≡ (voice_a (shift (Some (pos 12)) (Some (pos 0)) (Some (pos 2))), None) }
     ensures one_of_fifteen { declared fifteen_voices (codes "o") no_shift ≡ (fifteen_voices, None) }
     ensures sixteenth { declared fifteen_voices (codes "p") no_shift ≡ (fifteen_voices, Some TooManyVoices) }
 {}

@@ -9,5 +9,5 @@ returns-in-Answer-clause-answer g c =
     let after = c.take_line.new.self in
     let old = g.S.Store.seen c.args.store.now in
     let new = g.S.Store.seen c.take_line.new.store in
-    let taken = subst (TakesLine (standing (g.M.Machine.future before) (g.M.Machine.directory before)) (standing (g.M.Machine.future after) (g.M.Machine.directory after)) c.args.line.items old new) c.in-Answer.is c.in_ok-take_line.ensures.reply in
-    carried_all (g.M.Machine.future before) (g.M.Machine.future after) (g.M.Machine.directory before) (g.M.Machine.directory after) (c.args.line.items ∷ []) taken.0 c.in-Answer.text.items old new taken.1 taken.2 (g.met.M.Machine.waits after)
+    let taken = subst (TakesLine (standing (g.M.Machine.state before).future (g.M.Machine.state before).directory) (standing (g.M.Machine.state after).future (g.M.Machine.state after).directory) c.args.line.items old new) c.in-Answer.is c.in_ok-take_line.ensures.reply in
+    carried_all (g.M.Machine.state before).future (g.M.Machine.state after).future (g.M.Machine.state before).directory (g.M.Machine.state after).directory (c.args.line.items ∷ []) taken.0 c.in-Answer.text.items old new taken.1 taken.2 (g.met.M.Machine.waits after)

@@ -10,9 +10,9 @@ use Rattle.abc2midi_live.proofs.reading.listen.Goals as goal
 
 pub reads-init : goal.reads-init
 reads-init g c = record {
-  heard = heard_none (ahead (g.M.Machine.future c.args.machine) []) (ahead (g.M.Machine.future c.new-listener.result.machine) c.new-listener.result.begun.items) (g.M.Machine.directory c.args.machine) (g.M.Machine.directory c.new-listener.result.machine) (g.R.Source.remaining c.args.reader.now) (outlets (g.W.Sink.contents c.args.writer.now) (g.S.Store.seen c.args.store.now))
-      (ap (λ m. ahead (g.M.Machine.future m) c.new-listener.result.begun.items) c.new-listener.ensures.machine ∙ ap (ahead (g.M.Machine.future c.args.machine)) c.new-listener.ensures.begun)
-      (ap g.M.Machine.directory c.new-listener.ensures.machine);
+  heard = heard_none (ahead (g.M.Machine.state c.args.machine).future []) (ahead (g.M.Machine.state c.new-listener.result.machine).future c.new-listener.result.begun.items) (g.M.Machine.state c.args.machine).directory (g.M.Machine.state c.new-listener.result.machine).directory (g.R.Source.remaining c.args.reader.now) (outlets (g.W.Sink.contents c.args.writer.now) (g.S.Store.seen c.args.store.now))
+      (ap (λ m. ahead (g.M.Machine.state m).future c.new-listener.result.begun.items) c.new-listener.ensures.machine ∙ ap (ahead (g.M.Machine.state c.args.machine).future) c.new-listener.ensures.begun)
+      (ap (λ m. (g.M.Machine.state m).directory) c.new-listener.ensures.machine);
   calls = sym (raised_none _);
   reads = refl;
   writes = refl;
@@ -22,8 +22,8 @@ pub returns-in_err-turn-clause-answers : goal.returns-in_err-turn-clause-answers
 unfolding ahead
 returns-in_err-turn-clause-answers g c =
     let now = c.reads.listener in
-    fault_exit c.from_residual.result _ (Leaves (g.M.Machine.directory c.args.machine) (ahead (g.M.Machine.future c.args.machine) []) (ends (g.R.Source.remaining c.args.reader.now) (g.W.Sink.contents c.args.writer.now) (g.S.Store.seen c.args.store.now)) (ends (g.R.Source.remaining c.turn.new.reader) (g.W.Sink.contents c.turn.new.writer) (g.S.Store.seen c.turn.new.store))) c.in_err-turn.field-0.0 c.from_residual.ensures
-    (heard_left (ahead (g.M.Machine.future c.args.machine) []) (ahead (g.M.Machine.future now.machine) now.begun.items) (g.M.Machine.directory c.args.machine) (g.M.Machine.directory now.machine) (g.R.Source.remaining c.args.reader.now) (g.R.Source.remaining c.reads.reader) (g.R.Source.remaining c.turn.new.reader)
+    fault_exit c.from_residual.result _ (Leaves (g.M.Machine.state c.args.machine).directory (ahead (g.M.Machine.state c.args.machine).future []) (ends (g.R.Source.remaining c.args.reader.now) (g.W.Sink.contents c.args.writer.now) (g.S.Store.seen c.args.store.now)) (ends (g.R.Source.remaining c.turn.new.reader) (g.W.Sink.contents c.turn.new.writer) (g.S.Store.seen c.turn.new.store))) c.in_err-turn.field-0.0 c.from_residual.ensures
+    (heard_left (ahead (g.M.Machine.state c.args.machine).future []) (ahead (g.M.Machine.state now.machine).future now.begun.items) (g.M.Machine.state c.args.machine).directory (g.M.Machine.state now.machine).directory (g.R.Source.remaining c.args.reader.now) (g.R.Source.remaining c.reads.reader) (g.R.Source.remaining c.turn.new.reader)
     (outlets (g.W.Sink.contents c.args.writer.now) (g.S.Store.seen c.args.store.now)) (outlets (g.W.Sink.contents c.reads.writer) (g.S.Store.seen c.reads.store))
     (outlets (g.W.Sink.contents c.turn.new.writer) (g.S.Store.seen c.turn.new.store)) c.in_err-turn.field-0.0 c.reads.invariant.heard c.in_err-turn.ensures.answers)
 
@@ -40,10 +40,10 @@ unfolding ahead
 returns-then-not-branch-clause-answers g c =
     let now = c.reads.listener in
     let after = c.turn.new.listener in
-    heard_end (ahead (g.M.Machine.future c.args.machine) []) (ahead (g.M.Machine.future now.machine) now.begun.items) (ahead (g.M.Machine.future after.machine) after.begun.items) (g.M.Machine.directory c.args.machine) (g.M.Machine.directory now.machine) (g.M.Machine.directory after.machine) (g.R.Source.remaining c.args.reader.now) (g.R.Source.remaining c.reads.reader) (g.R.Source.remaining c.turn.new.reader)
+    heard_end (ahead (g.M.Machine.state c.args.machine).future []) (ahead (g.M.Machine.state now.machine).future now.begun.items) (ahead (g.M.Machine.state after.machine).future after.begun.items) (g.M.Machine.state c.args.machine).directory (g.M.Machine.state now.machine).directory (g.M.Machine.state after.machine).directory (g.R.Source.remaining c.args.reader.now) (g.R.Source.remaining c.reads.reader) (g.R.Source.remaining c.turn.new.reader)
     (outlets (g.W.Sink.contents c.args.writer.now) (g.S.Store.seen c.args.store.now)) (outlets (g.W.Sink.contents c.reads.writer) (g.S.Store.seen c.reads.store))
     (outlets (g.W.Sink.contents c.turn.new.writer) (g.S.Store.seen c.turn.new.store)) c.reads.invariant.heard
-    (subst (Turn (g.M.Machine.directory now.machine) (telling (ahead (g.M.Machine.future now.machine) now.begun.items) (ahead (g.M.Machine.future after.machine) after.begun.items) (g.M.Machine.directory after.machine)) (ends (g.R.Source.remaining c.reads.reader) (g.W.Sink.contents c.reads.writer) (g.S.Store.seen c.reads.store))
+    (subst (Turn (g.M.Machine.state now.machine).directory (telling (ahead (g.M.Machine.state now.machine).future now.begun.items) (ahead (g.M.Machine.state after.machine).future after.begun.items) (g.M.Machine.state after.machine).directory) (ends (g.R.Source.remaining c.reads.reader) (g.W.Sink.contents c.reads.writer) (g.S.Store.seen c.reads.store))
     (ends (g.R.Source.remaining c.turn.new.reader) (g.W.Sink.contents c.turn.new.writer) (g.S.Store.seen c.turn.new.store))) c.if-not-branch.true c.in_ok-turn.ensures.answers)
 
 pub returns-then-not-branch-clause-calls : goal.returns-then-not-branch-clause-calls
@@ -54,10 +54,10 @@ reads-preserved g c =
     let now = c.reads.listener in
     let after = c.turn.new.listener in
     record {
-      heard = heard_turn c.reads.counter (ahead (g.M.Machine.future c.args.machine) []) (ahead (g.M.Machine.future now.machine) now.begun.items) (ahead (g.M.Machine.future after.machine) after.begun.items) (g.M.Machine.directory c.args.machine) (g.M.Machine.directory now.machine) (g.M.Machine.directory after.machine) (g.R.Source.remaining c.args.reader.now) (g.R.Source.remaining c.reads.reader) (g.R.Source.remaining c.turn.new.reader)
+      heard = heard_turn c.reads.counter (ahead (g.M.Machine.state c.args.machine).future []) (ahead (g.M.Machine.state now.machine).future now.begun.items) (ahead (g.M.Machine.state after.machine).future after.begun.items) (g.M.Machine.state c.args.machine).directory (g.M.Machine.state now.machine).directory (g.M.Machine.state after.machine).directory (g.R.Source.remaining c.args.reader.now) (g.R.Source.remaining c.reads.reader) (g.R.Source.remaining c.turn.new.reader)
           (outlets (g.W.Sink.contents c.args.writer.now) (g.S.Store.seen c.args.store.now)) (outlets (g.W.Sink.contents c.reads.writer) (g.S.Store.seen c.reads.store))
           (outlets (g.W.Sink.contents c.turn.new.writer) (g.S.Store.seen c.turn.new.store)) c.reads.invariant.heard
-          (subst (Turn (g.M.Machine.directory now.machine) (telling (ahead (g.M.Machine.future now.machine) now.begun.items) (ahead (g.M.Machine.future after.machine) after.begun.items) (g.M.Machine.directory after.machine)) (ends (g.R.Source.remaining c.reads.reader) (g.W.Sink.contents c.reads.writer) (g.S.Store.seen c.reads.store))
+          (subst (Turn (g.M.Machine.state now.machine).directory (telling (ahead (g.M.Machine.state now.machine).future now.begun.items) (ahead (g.M.Machine.state after.machine).future after.begun.items) (g.M.Machine.state after.machine).directory) (ends (g.R.Source.remaining c.reads.reader) (g.W.Sink.contents c.reads.writer) (g.S.Store.seen c.reads.store))
           (ends (g.R.Source.remaining c.turn.new.reader) (g.W.Sink.contents c.turn.new.writer) (g.S.Store.seen c.turn.new.store))) c.if-not-branch.false c.in_ok-turn.ensures.answers);
       calls = calls_more _ _ _ c.reads.counter c.reads.invariant.calls c.turn.ensures.calls;
       reads = c.in_ok-turn.ensures.reads ∙ raised_none _ ∙ c.reads.invariant.reads;
@@ -68,8 +68,8 @@ pub returns-clause-answers : goal.returns-clause-answers
 unfolding ahead
 returns-clause-answers g c =
     let now = c.reads.listener in
-    heard_so_far (ahead (g.M.Machine.future c.args.machine) []) (ahead (g.M.Machine.future now.machine) now.begun.items) (g.M.Machine.directory c.args.machine) (g.M.Machine.directory now.machine) (g.R.Source.remaining c.args.reader.now) (g.R.Source.remaining c.reads.reader) (outlets (g.W.Sink.contents c.args.writer.now) (g.S.Store.seen c.args.store.now)) (outlets (g.W.Sink.contents c.reads.writer) (g.S.Store.seen c.reads.store)) c.reads.invariant.heard
-    (nothing_ahead (g.M.Machine.future now.machine) (g.M.Machine.directory now.machine) now.begun.items now.whole (g.met.M.Machine.waits now.machine))
+    heard_so_far (ahead (g.M.Machine.state c.args.machine).future []) (ahead (g.M.Machine.state now.machine).future now.begun.items) (g.M.Machine.state c.args.machine).directory (g.M.Machine.state now.machine).directory (g.R.Source.remaining c.args.reader.now) (g.R.Source.remaining c.reads.reader) (outlets (g.W.Sink.contents c.args.writer.now) (g.S.Store.seen c.args.store.now)) (outlets (g.W.Sink.contents c.reads.writer) (g.S.Store.seen c.reads.store)) c.reads.invariant.heard
+    (nothing_ahead (g.M.Machine.state now.machine).future (g.M.Machine.state now.machine).directory now.begun.items now.whole (g.met.M.Machine.waits now.machine))
 
 pub returns-clause-calls : goal.returns-clause-calls
 returns-clause-calls g c = (c.reads.counter, omega arith, c.reads.invariant.calls)
@@ -77,6 +77,6 @@ returns-clause-calls g c = (c.reads.counter, omega arith, c.reads.invariant.call
 pub returns-clause-reads : goal.returns-clause-reads
 returns-clause-reads g c =
     let all : c.reads.counter ≡ MOST_READS = omega arith in
-    let enough = heard_enough c.reads.counter (ahead (g.M.Machine.future c.args.machine) []) (ahead (g.M.Machine.future c.reads.listener.machine) c.reads.listener.begun.items) (g.M.Machine.directory c.args.machine) (g.M.Machine.directory c.reads.listener.machine) (g.R.Source.remaining c.args.reader.now) (g.R.Source.remaining c.reads.reader) (outlets (g.W.Sink.contents c.args.writer.now) (g.S.Store.seen c.args.store.now)) (outlets (g.W.Sink.contents c.reads.writer) (g.S.Store.seen c.reads.store)) c.reads.invariant.heard in
+    let enough = heard_enough c.reads.counter (ahead (g.M.Machine.state c.args.machine).future []) (ahead (g.M.Machine.state c.reads.listener.machine).future c.reads.listener.begun.items) (g.M.Machine.state c.args.machine).directory (g.M.Machine.state c.reads.listener.machine).directory (g.R.Source.remaining c.args.reader.now) (g.R.Source.remaining c.reads.reader) (outlets (g.W.Sink.contents c.args.writer.now) (g.S.Store.seen c.args.store.now)) (outlets (g.W.Sink.contents c.reads.writer) (g.S.Store.seen c.reads.store)) c.reads.invariant.heard in
     Exhausted c.reads.invariant.reads (c.reads.invariant.calls ∙ ap (raised (g.R.Source.calls c.args.reader.now)) all)
     (subst (λ made. IfSome (g.R.Source.remaining c.args.reader.now) (λ bytes. made ≤ length bytes)) all enough)

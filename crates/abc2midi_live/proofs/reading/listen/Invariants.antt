@@ -8,12 +8,11 @@ use Rattle.abc2midi_live.proofs.reading.listen.Given as goal
 -- what has been read has been served
 abbrev pub invariant-reads : goal.invariant-reads
 invariant-reads g l =
-    let future = g.M.Machine.future in
-    let directory = g.M.Machine.directory in
+    let state = g.M.Machine.state in
     let contents = g.W.Sink.contents in
     let seen = g.S.Store.seen in
     record {
-      heard : Heard l.counter (ahead (future l.fn.machine) []) (ahead (future l.listener.machine) l.listener.begun.items) (directory l.fn.machine) (directory l.listener.machine)
+      heard : Heard l.counter (ahead (state l.fn.machine).future []) (ahead (state l.listener.machine).future l.listener.begun.items) (state l.fn.machine).directory (state l.listener.machine).directory
           (g.R.Source.remaining l.fn.reader) (g.R.Source.remaining l.reader)
           (outlets (contents l.fn.writer) (seen l.fn.store)) (outlets (contents l.writer) (seen l.store));
       calls : g.R.Source.calls l.reader ≡ raised (g.R.Source.calls l.fn.reader) l.counter;

@@ -1,7 +1,6 @@
 use Rattle.std.proofs.Common.{◌≡◌, ◌+◌, drop, get_or, subst}
 use Rattle.std.specs.List.{sum_by}
 use Rattle.abc_book.specs.declared.block.BlockKind.TheVariants.{FileHeader}
-use Rattle.abc_fold.specs.Steps.{steps_of}
 use Rattle.abc_fold.proofs.Folding.{IsWithin, within_more, within_raised}
 use Rattle.abc_chains.specs.Holding.{IsChain, steps_taken}
 use Rattle.abc_chains.proofs.Joining.{sum_at, zip_next}
@@ -10,7 +9,7 @@ use Rattle.abc_chains.proofs.folded.tune_chains.Goals as goal
 
 pub returns-in_err-chain-clause-counted : goal.returns-in_err-chain-clause-counted
 returns-in_err-chain-clause-counted g c =
-    let taken = steps_taken (steps_of (g.F.Fold.next c.args.fold.now) (g.F.Fold.gives c.args.fold.now) (g.F.Resumable.alike c.args.fold.now)) c.args.opening.now c.args.old.now.items c.args.rows.now in
+    let taken = steps_taken (g.F.Fold.steps c.args.fold.now) c.args.opening.now c.args.old.now.items c.args.rows.now in
     let block = get_or c.args.blocks.now c.loop-block.block-index (record { kind = FileHeader; from = 0; to = 0 }) in
     let is : block ≡ get_or c.args.blocks.now c.loop-block.block-index block = get_same c.args.blocks.now c.loop-block.block-index _ block c.loop-block-test.true in
     let before = g.F.Work.Counts.counts c.args.work.now in
@@ -23,7 +22,7 @@ returns-in_err-chain-clause-counted g c =
 
 pub returns-in_err-push-clause-counted : goal.returns-in_err-push-clause-counted
 returns-in_err-push-clause-counted g c =
-    let taken = steps_taken (steps_of (g.F.Fold.next c.args.fold.now) (g.F.Fold.gives c.args.fold.now) (g.F.Resumable.alike c.args.fold.now)) c.args.opening.now c.args.old.now.items c.args.rows.now in
+    let taken = steps_taken (g.F.Fold.steps c.args.fold.now) c.args.opening.now c.args.old.now.items c.args.rows.now in
     let block = get_or c.args.blocks.now c.loop-block.block-index (record { kind = FileHeader; from = 0; to = 0 }) in
     let is : block ≡ get_or c.args.blocks.now c.loop-block.block-index block = get_same c.args.blocks.now c.loop-block.block-index _ block c.loop-block-test.true in
     let before = g.F.Work.Counts.counts c.args.work.now in
@@ -36,7 +35,7 @@ returns-in_err-push-clause-counted g c =
 
 pub loop-block-preserved : goal.loop-block-preserved
 loop-block-preserved g c =
-    let steps = steps_of (g.F.Fold.next c.args.fold.now) (g.F.Fold.gives c.args.fold.now) (g.F.Resumable.alike c.args.fold.now) in
+    let steps = g.F.Fold.steps c.args.fold.now in
     let taken = steps_taken steps c.args.opening.now c.args.old.now.items c.args.rows.now in
     let block = get_or c.args.blocks.now c.loop-block.block-index (record { kind = FileHeader; from = 0; to = 0 }) in
     let is : block ≡ get_or c.args.blocks.now c.loop-block.block-index block = get_same c.args.blocks.now c.loop-block.block-index _ block c.loop-block-test.true in

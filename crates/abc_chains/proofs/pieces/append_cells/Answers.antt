@@ -1,7 +1,6 @@
 use Rattle.std.proofs.Common.{◌+◌}
 use Rattle.std.proofs.lemmas.List.Elements.{All-push}
 use Rattle.abc_fold.specs.Piece.{IsKept}
-use Rattle.abc_fold.specs.Steps.{steps_of}
 use Rattle.abc_chains.specs.Holding.{address_from}
 use Rattle.abc_chains.proofs.Carrying.{cells_next, helds_next}
 use Rattle.abc_chains.proofs.Ending.{ends_next, ends_there, follows_end}
@@ -18,7 +17,7 @@ loop-k-preserved g c =
     record {
       cells = rw c.in_ok-append.ensures.pushed (cells_next c.args.pieces.now c.loop-k.pieces c.args.row.now.cells c.loop-k.k c.in_ok-piece.piece c.loop-k.invariant.cells cell);
       helds = rw c.in_ok-append.ensures.pushed (helds_next c.args.chains.now.items c.args.row.now.origin c.args.pieces.now c.loop-k.pieces c.args.row.now.cells c.loop-k.k c.in_ok-piece.piece c.loop-k.invariant.helds cell c.in_ok-piece.ensures.held);
-      kept = rw c.in_ok-append.ensures.pushed (All-push (IsKept (steps_of (g.F.Fold.next c.args.fold.now) (g.F.Fold.gives c.args.fold.now) (g.F.Resumable.alike c.args.fold.now))) c.loop-k.pieces c.in_ok-piece.piece c.loop-k.invariant.kept c.in_ok-piece.ensures.kept);
+      kept = rw c.in_ok-append.ensures.pushed (All-push (IsKept (g.F.Fold.steps c.args.fold.now)) c.loop-k.pieces c.in_ok-piece.piece c.loop-k.invariant.kept c.in_ok-piece.ensures.kept);
       known = λ held. ends_there c.args.chains.now.items c.append.new.pieces c.args.row.now.origin (c.loop-k.k + 1) (c.is_held-known.ensures held) (rw c.in_ok-append.ensures.pushed ends);
       ends = λ more. rw c.in_ok-append.ensures.pushed ends;
     }

@@ -1,6 +1,5 @@
 use Rattle.std.proofs.Common.{◌≡◌, ◌+◌, length, refl, sym, ◌∙◌, ap, subst, arith, get_or, Some}
 use Rattle.std.proofs.lemmas.Option.{slice_get_read}
-use Rattle.abc_fold.specs.Steps.{steps_of}
 use Rattle.abc_chains.specs.Holding.{IsFolded}
 use Rattle.abc_chains.specs.Rows.{CarriedRow}
 use Rattle.abc_chains.proofs.Carrying.{source_there, place_there, place_within, kept_there, own_cell, own_held}
@@ -41,9 +40,9 @@ returns-in-Some-clause-stands g c = own_place c.args.chains.now.items c.args.row
 
 pub returns-in-Some-clause-kept : goal.returns-in-Some-clause-kept
 returns-in-Some-clause-kept g c =
-    let steps = steps_of (g.F.Fold.next c.args.fold.now) (g.F.Fold.gives c.args.fold.now) (g.F.Resumable.alike c.args.fold.now) in
+    let steps = g.F.Fold.steps c.args.fold.now in
     let there = source_there c.args.chains.now.items c.args.row.now.cells c.args.row.now.origin c.in-Some.origin c.origin.inside.source c.origin.inside.first c.args.k (ap (λ (l : CarriedRow g.row.F-Cell.Denot). l.origin) (sym c.row.view_is) ∙ c.in-Some.is) (sym c.origin.view_is) c.requires.carried c.requires.inside in
     let own : IsFolded steps c.item_at-chain.result.now = subst (IsFolded steps) (sym c.item_at-chain.ensures) (c.requires.folded c.origin.inside.source c.item_at-chain.result.now there) in
     kept_there steps c.item_at-chain.result.now (c.origin.inside.first + c.args.k) c.kept_at.result own
     (place_within c.args.chains.now.items c.args.row.now.cells c.args.row.now.origin c.in-Some.origin c.origin.inside.source c.origin.inside.first c.args.k c.item_at-chain.result.now (ap (λ (l : CarriedRow g.row.F-Cell.Denot). l.origin) (sym c.row.view_is) ∙ c.in-Some.is) (sym c.origin.view_is) c.requires.carried c.requires.inside c.item_at-chain.ensures)
-    (λ opening folds. c.kept_at.ensures.resumable steps opening (g.met.F.Resumable.resumable c.args.fold.now) folds)
+    (λ opening folds. c.kept_at.ensures.resumable steps opening (g.met.F.Fold.resumable c.args.fold.now) folds)

@@ -1,7 +1,6 @@
 use Rattle.std.proofs.Common.{◌≡◌, ◌-◌, All, IfSome, take, drop}
 use Rattle.std.specs.List.{flat_map}
 use Rattle.abc_fold.specs.Piece.{IsKept, cells_of}
-use Rattle.abc_fold.specs.Steps.{steps_of}
 use Rattle.abc_rework.specs.Origins.{Origin}
 use Rattle.abc_chains.specs.Ending.{EndsAt}
 use Rattle.abc_chains.specs.Holding.{cells_in, helds_in, helds_of}
@@ -11,6 +10,6 @@ abbrev pub invariant-loop-i : goal.invariant-loop-i
 invariant-loop-i g l = record {
   cells : cells_of l.pieces ≡ flat_map cells_in (take (l.i - l.block.from) (drop l.block.from l.rows));
   helds : helds_in l.pieces ≡ flat_map (helds_of l.chains.items) (take (l.i - l.block.from) (drop l.block.from l.rows));
-  kept : All (IsKept (steps_of (g.F.Fold.next l.fold) (g.F.Fold.gives l.fold) (g.F.Resumable.alike l.fold))) l.pieces;
+  kept : All (IsKept (g.F.Fold.steps l.fold)) l.pieces;
   ends : IfSome l.end (λ (end : Origin). EndsAt l.chains.items l.pieces end.source end.first);
 }

@@ -1,5 +1,4 @@
 use Rattle.std.proofs.Common.{All, length, ap, sym, ◌∙◌, subst}
-use Rattle.abc_fold.specs.Steps.{steps_of}
 use Rattle.abc_fold.proofs.Raised.{raised-none}
 use Rattle.abc_chains.specs.Holding.{IsChain, LiesWithin}
 use Rattle.abc_chains.proofs.Rising.{tunes_within}
@@ -19,7 +18,7 @@ tunes_taken-requires-clause-within g c =
 
 pub tunes_taken-requires-clause-count : goal.tunes_taken-requires-clause-count
 tunes_taken-requires-clause-count g c =
-    let steps = steps_of (g.F.Fold.next c.args.fold.now) (g.F.Fold.gives c.args.fold.now) (g.F.Resumable.alike c.args.fold.now) in
+    let steps = g.F.Fold.steps c.args.fold.now in
     ap length c.deref-2.ensures.value
     ∙ (zip_length (IsChain steps c.args.opening.now c.args.rows.now) c.in_ok-made.made.items c.deref.result.now c.in_ok-made.ensures.chains
     ∙ ap length (c.deref.ensures.value ∙ sym c.deref-3.ensures.value))

@@ -1,7 +1,6 @@
 use Rattle.std.proofs.Common.{◌≡◌, ◌<◌, IsSome, drop, get_or, length, sym, ◌∙◌, ap, subst, arith}
 use Rattle.abc_book.specs.declared.block.BlockKind.TheVariants.{FileHeader}
 use Rattle.abc_fold.specs.Chain.{Chained, Folds}
-use Rattle.abc_fold.specs.Steps.{steps_of}
 use Rattle.abc_chains.specs.Holding.{IsChain, rows_in}
 use Rattle.abc_chains.specs.Taking.{GoesAlong}
 use Rattle.abc_rework.specs.Folded.{HasItemsOf}
@@ -11,7 +10,7 @@ use Rattle.abc_chains.proofs.whole.tunes_taken.Goals as goal
 
 pub loop-place-preserved : goal.loop-place-preserved
 loop-place-preserved g c =
-    let steps = steps_of (g.F.Fold.next c.args.fold.now) (g.F.Fold.gives c.args.fold.now) (g.F.Resumable.alike c.args.fold.now) in
+    let steps = g.F.Fold.steps c.args.fold.now in
     let place = c.loop-place.place in
     let chain = c.index-chains-place.result in
     let tune = get_or c.args.tunes.now place (record { kind = FileHeader; from = 0; to = 0 }) in

@@ -1,6 +1,5 @@
 use Rattle.std.proofs.Common.{take, drop}
 use Rattle.std.specs.List.{AllZip}
-use Rattle.abc_fold.specs.Steps.{steps_of}
 use Rattle.abc_chains.specs.Holding.{IsChain}
 use Rattle.abc_chains.specs.Taking.{KnowsAlong}
 use Rattle.abc_rework.specs.Folded.{HasItemsOf}
@@ -8,8 +7,8 @@ use Rattle.abc_chains.proofs.whole.tunes_taken.Given as goal
 
 abbrev pub invariant-loop-place : goal.invariant-loop-place
 invariant-loop-place g l = record {
-  items : (opening : g.row.F-State.Denot) → AllZip (IsChain (steps_of (g.F.Fold.next l.fold) (g.F.Fold.gives l.fold) (g.F.Resumable.alike l.fold)) opening l.rows) l.chains l.tunes
+  items : (opening : g.row.F-State.Denot) → AllZip (IsChain (g.F.Fold.steps l.fold) opening l.rows) l.chains l.tunes
       → AllZip (HasItemsOf (drop 1 l.old.items)) (take l.place l.chains) l.taken.items;
-  along : (opening : g.row.F-State.Denot) → AllZip (IsChain (steps_of (g.F.Fold.next l.fold) (g.F.Fold.gives l.fold) (g.F.Resumable.alike l.fold)) opening l.rows) l.chains l.tunes
-      → KnowsAlong (steps_of (g.F.Fold.next l.fold) (g.F.Fold.gives l.fold) (g.F.Resumable.alike l.fold)) l.old.items opening l.rows (take l.place l.tunes) l.taken.items;
+  along : (opening : g.row.F-State.Denot) → AllZip (IsChain (g.F.Fold.steps l.fold) opening l.rows) l.chains l.tunes
+      → KnowsAlong (g.F.Fold.steps l.fold) l.old.items opening l.rows (take l.place l.tunes) l.taken.items;
 }

@@ -1,4 +1,3 @@
-use Rattle.abc_fold.specs.Steps.{steps_of}
 use Rattle.abc_fold.proofs.Alike.{not_taken_cost}
 use Rattle.abc_fold.proofs.Raised.{raised-none, raised-once}
 use Rattle.abc_fold.proofs.piece.passed.Goals as goal
@@ -14,12 +13,12 @@ returns-in-New-clause-counted g c = rw c.in-New.is (raised-once _ _ c.stepped.en
 
 pub returns-then-not-taken-clause-counted : goal.returns-then-not-taken-clause-counted
 returns-then-not-taken-clause-counted g c =
-    let steps = steps_of (g.F.Fold.next c.args.fold.now) (g.F.Fold.gives c.args.fold.now) (g.F.Resumable.alike c.args.fold.now) in
+    let steps = g.F.Fold.steps c.args.fold.now in
     rw (not_taken_cost steps c.args.state.now c.args.piece.now c.args.taken c.requires.taken c.if-not-taken.true)
     (raised-once _ _ c.stepped-then-not-taken.ensures.counted)
 
-pub returns-in_err-share-in-Kept-clause-counted : goal.returns-in_err-share-in-Kept-clause-counted
-returns-in_err-share-in-Kept-clause-counted g c = raised-none _ _
+pub returns-in_err-copy_state-in-Kept-clause-counted : goal.returns-in_err-copy_state-in-Kept-clause-counted
+returns-in_err-copy_state-in-Kept-clause-counted g c = raised-none _ _
 
 pub returns-in_err-copy_items-in-Kept-clause-counted : goal.returns-in_err-copy_items-in-Kept-clause-counted
 returns-in_err-copy_items-in-Kept-clause-counted g c = raised-none _ _

@@ -1,5 +1,4 @@
 use Rattle.std.proofs.Common.{rules, ◌≡◌, ◌<◌, Some, length, map, option_copied, slice_get, ap, ◌∙◌, sym}
-use Rattle.abc_fold.specs.Steps.{steps_of}
 use Rattle.abc_lines.specs.Text.{seen_lines}
 use Rattle.std.proofs.lemmas.List.{length-map}
 use Rattle.std.specs.Borrow.{Bor}
@@ -12,23 +11,23 @@ use Rattle.abc_outputs.proofs.outputs.output_at.Goals as goal
 
 pub bounds-stretch-place : goal.bounds-stretch-place
 bounds-stretch-place g c =
-    as_many (steps_of (g.C.Fold.next c.args.compiler.now) (g.C.Fold.gives c.args.compiler.now) (g.C.Resumable.alike c.args.compiler.now)) (g.C.Compiler.rules c.args.compiler.now)
-    (g.met.C.Resumable.resumable c.args.compiler.now) (g.met.C.Compiler.lawful c.args.compiler.now) (option_copied c.args.stretch.now.left) c.args.stretch.now.before (seen_lines c.args.stretch.now.lines.now)
+    as_many (g.C.Fold.steps c.args.compiler.now) (g.C.Compiler.rules c.args.compiler.now)
+    (g.met.C.Fold.resumable c.args.compiler.now) (g.met.C.Compiler.lawful c.args.compiler.now) (option_copied c.args.stretch.now.left) c.args.stretch.now.before (seen_lines c.args.stretch.now.lines.now)
     c.args.stretch.now.chains.now c.args.stretch.now.places.now c.requires.tunes c.args.place c.requires.place
 
 pub offset_bounds-stretch-place : goal.offset_bounds-stretch-place
 offset_bounds-stretch-place g c =
     let inside : c.args.place < length c.args.stretch.now.places.now =
-    as_many (steps_of (g.C.Fold.next c.args.compiler.now) (g.C.Fold.gives c.args.compiler.now) (g.C.Resumable.alike c.args.compiler.now)) (g.C.Compiler.rules c.args.compiler.now)
-    (g.met.C.Resumable.resumable c.args.compiler.now) (g.met.C.Compiler.lawful c.args.compiler.now) (option_copied c.args.stretch.now.left) c.args.stretch.now.before (seen_lines c.args.stretch.now.lines.now)
+    as_many (g.C.Fold.steps c.args.compiler.now) (g.C.Compiler.rules c.args.compiler.now)
+    (g.met.C.Fold.resumable c.args.compiler.now) (g.met.C.Compiler.lawful c.args.compiler.now) (option_copied c.args.stretch.now.left) c.args.stretch.now.before (seen_lines c.args.stretch.now.lines.now)
     c.args.stretch.now.chains.now c.args.stretch.now.places.now c.requires.tunes c.args.place c.requires.place in
     search rules
 
 pub key_of-requires : goal.key_of-requires
 key_of-requires g c =
     rw (← length-map c.args.stretch.now.lines.now (λ (line : Bor (List ℕ)). line.now))
-    (lies_there (steps_of (g.C.Fold.next c.args.compiler.now) (g.C.Fold.gives c.args.compiler.now) (g.C.Resumable.alike c.args.compiler.now)) (g.C.Compiler.rules c.args.compiler.now)
-    (g.met.C.Resumable.resumable c.args.compiler.now) (g.met.C.Compiler.lawful c.args.compiler.now) (option_copied c.args.stretch.now.left) c.args.stretch.now.before (seen_lines c.args.stretch.now.lines.now)
+    (lies_there (g.C.Fold.steps c.args.compiler.now) (g.C.Compiler.rules c.args.compiler.now)
+    (g.met.C.Fold.resumable c.args.compiler.now) (g.met.C.Compiler.lawful c.args.compiler.now) (option_copied c.args.stretch.now.left) c.args.stretch.now.before (seen_lines c.args.stretch.now.lines.now)
     c.args.stretch.now.chains.now c.args.stretch.now.places.now c.requires.tunes c.args.place _ c.requires.place)
 
 pub returns-in_err-key-clause-counted : goal.returns-in_err-key-clause-counted
@@ -39,8 +38,8 @@ returns-in_err-items-clause-counted g c = built_none _ _
 
 pub built-requires-clause-of_key : goal.built-requires-clause-of_key
 built-requires-clause-of_key g c =
-    items_of_tune (steps_of (g.C.Fold.next c.args.compiler.now) (g.C.Fold.gives c.args.compiler.now) (g.C.Resumable.alike c.args.compiler.now)) (g.C.Compiler.rules c.args.compiler.now)
-    (g.met.C.Resumable.resumable c.args.compiler.now) (g.met.C.Compiler.lawful c.args.compiler.now) (option_copied c.args.stretch.now.left) c.args.stretch.now.before (seen_lines c.args.stretch.now.lines.now)
+    items_of_tune (g.C.Fold.steps c.args.compiler.now) (g.C.Compiler.rules c.args.compiler.now)
+    (g.met.C.Fold.resumable c.args.compiler.now) (g.met.C.Compiler.lawful c.args.compiler.now) (option_copied c.args.stretch.now.left) c.args.stretch.now.before (seen_lines c.args.stretch.now.lines.now)
     c.args.stretch.now.chains.now c.args.stretch.now.places.now c.requires.tunes c.args.place _ c.chain_at-chain.result.now c.in_ok-key.key c.deref.result.now c.requires.limits c.requires.place c.chain_at-chain.ensures c.in_ok-key.ensures
     (c.deref.ensures.value ∙ c.in_ok-items.ensures)
 

@@ -1,5 +1,4 @@
 use Rattle.std.proofs.Common.{◌≡◌, ◌++◌, drop, map}
-use Rattle.abc_fold.specs.Steps.{steps_of}
 use Rattle.abc_memo.specs.Memo.{Remembers}
 use Rattle.abc_outputs.specs.Output.{output_in}
 use Rattle.abc_outputs.proofs.Building.{BuiltSoFar}
@@ -9,6 +8,6 @@ use Rattle.abc_outputs.proofs.outputs.outputs_of.Given as goal
 abbrev pub invariant-loop-place : goal.invariant-loop-place
 invariant-loop-place g l = record {
   values : l.made.items ++ map (output_in (g.C.Compiler.rules l.compiler)) (drop l.place l.stretch.chains.now) ≡ map (output_in (g.C.Compiler.rules l.compiler)) l.stretch.chains.now;
-  remembers : Remembers (steps_of (g.C.Fold.next l.compiler) (g.C.Fold.gives l.compiler) (g.C.Resumable.alike l.compiler)) (g.C.Compiler.rules l.compiler) l.memo;
+  remembers : Remembers (g.C.Fold.steps l.compiler) (g.C.Compiler.rules l.compiler) l.memo;
   built : BuiltSoFar l.old.taken.now (drop l.place l.old.taken.now) (g.C.Work.Counts.counts l.initial.work) (g.C.Work.Counts.counts l.work);
 }

@@ -8,6 +8,6 @@ loop-token-preserved c =
     let at = c.loop-token.token-index in
     let token = c.token-item.result in
     let more : take (at + 1) tokens ≡ take at tokens ++ get_or tokens at token ∷ [] = take_more tokens at token c.loop-token-test.true in
-    c.in_ok-push.ensures.ok
+    c.in_ok-push.ensures.items
     ∙ (λ i. c.loop-token.invariant i ++ (c.in_ok-copy_of.ensures ∙ c.token-item.is) i ∷ [])
     ∙ sym more

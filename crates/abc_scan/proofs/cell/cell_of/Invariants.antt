@@ -3,4 +3,4 @@ use Rattle.abc_scan.proofs.cell.cell_of.Given as goal
 
 -- copies of the tokens so far
 abbrev pub invariant-loop-token : goal.invariant-loop-token
-invariant-loop-token l = l.cell ≡ take l.token-index l.tokens
+invariant-loop-token l = l.copies.items ≡ take l.token-index l.tokens

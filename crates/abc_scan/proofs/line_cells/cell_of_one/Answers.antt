@@ -7,5 +7,5 @@ pub returns-clause-cells : goal.returns-clause-cells
 returns-clause-cells c =
     let tokens = c.args.tokens.items in
     c.in_ok-push.ensures.items
-    ∙ (λ i. c.in_ok-cells.ensures.items i ++ (c.in_ok-new.ensures ∙ c.from.ensures) i ∷ [])
+    ∙ (λ i. c.in_ok-cells.ensures.items i ++ c.in_ok-new.ensures i ∷ [])
     ∙ sym (single_cell tokens (is_some tokens (ap (λ n. n == 0) (sym c.args.tokens.ok.0) ∙ sym c.is_empty.ensures ∙ c.if-is_empty.false)) c.requires)

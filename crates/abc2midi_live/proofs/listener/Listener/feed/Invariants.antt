@@ -7,13 +7,12 @@ use Rattle.abc2midi_live.proofs.listener.Listener.feed.Given as goal
 -- a front of the piece has been served
 abbrev pub invariant-lines : goal.invariant-lines
 invariant-lines g l =
-    let future = g.M.Machine.future in
-    let directory = g.M.Machine.directory in
+    let state = g.M.Machine.state in
     let contents = g.W.Sink.contents in
     let seen = g.S.Store.seen in
     record {
-      fed : Fed (ahead (future l.fn.self.machine) l.fn.self.begun.items) (ahead (future l.self.machine) l.self.begun.items)
-          (directory l.fn.self.machine) (directory l.self.machine) l.fn.piece l.rest
+      fed : Fed (ahead (state l.fn.self.machine).future l.fn.self.begun.items) (ahead (state l.self.machine).future l.self.begun.items)
+          (state l.fn.self.machine).directory (state l.self.machine).directory l.fn.piece l.rest
           (outlets (contents l.fn.writer) (seen l.fn.store)) (outlets (contents l.writer) (seen l.store));
       failures : g.W.Sink.failures l.writer ≡ g.W.Sink.failures l.fn.writer;
     }

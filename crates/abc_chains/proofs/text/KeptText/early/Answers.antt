@@ -1,6 +1,5 @@
 use Rattle.std.proofs.Common.{◌≡◌, ◌+◌, ◌≤◌, List, [], length, sym, ◌∙◌, ap, subst, arith, inl}
 use Rattle.abc_book.specs.declared.block.Block.{Block}
-use Rattle.abc_fold.specs.Steps.{steps_of}
 use Rattle.abc_fold.specs.Work.{IsRaisedUpTo}
 use Rattle.abc_fold.proofs.Raised.{raised-none}
 use Rattle.abc_chains.specs.Renewing.{IsLead, IsRenewed, new_parts, splice_at}
@@ -17,11 +16,11 @@ returns-in_err-rows-clause-counted g c =
 pub opened-requires : goal.opened-requires
 opened-requires g c =
     let now = c.args.self.now in
-    let steps = steps_of (g.C.Fold.next now.compiler) (g.C.Fold.gives now.compiler) (g.C.Resumable.alike now.compiler) in
+    let steps = g.C.Fold.steps now.compiler in
     let rules' = g.C.Compiler.rules now.compiler in
-    let laws = g.met.C.Resumable.resumable now.compiler in
+    let laws = g.met.C.Fold.resumable now.compiler in
     let lawful = g.met.C.Compiler.lawful now.compiler in
-    let stands = stands_now g.C.Fold.next g.C.Fold.gives g.C.Resumable.alike g.C.Compiler.rules c.self.view_is c.self.invariant in
+    let stands = stands_now g.C.Fold.steps g.C.Compiler.rules c.self.view_is c.self.invariant in
     let lead = c.lead_of-lead.result in
     let own_tunes : c.deref.result.now ≡ now.tunes = c.deref.ensures.value ∙ ap (λ (k : Keeping g.row.C.Denot g.row.C-State.Denot g.row.C-Cell.Denot g.row.C-Items.Denot). k.tunes) c.self.view_is in
     let own_count : c.len-count.result ≡ length now.lines.text = c.len-count.ensures.count ∙ ap (λ (k : Keeping g.row.C.Denot g.row.C-State.Denot g.row.C-Cell.Denot g.row.C-Items.Denot). length k.lines.text) c.self.view_is in
@@ -34,11 +33,11 @@ pub returns-in_err-opened-clause-counted : goal.returns-in_err-opened-clause-cou
 returns-in_err-opened-clause-counted g c =
     λ lines new.
     let now = c.args.self.now in
-    let steps = steps_of (g.C.Fold.next now.compiler) (g.C.Fold.gives now.compiler) (g.C.Resumable.alike now.compiler) in
+    let steps = g.C.Fold.steps now.compiler in
     let rules' = g.C.Compiler.rules now.compiler in
-    let laws = g.met.C.Resumable.resumable now.compiler in
+    let laws = g.met.C.Fold.resumable now.compiler in
     let lawful = g.met.C.Compiler.lawful now.compiler in
-    let stands = stands_now g.C.Fold.next g.C.Fold.gives g.C.Resumable.alike g.C.Compiler.rules c.self.view_is c.self.invariant in
+    let stands = stands_now g.C.Fold.steps g.C.Compiler.rules c.self.view_is c.self.invariant in
     let lead = c.lead_of-lead.result in
     let own_tunes : c.deref.result.now ≡ now.tunes = c.deref.ensures.value ∙ ap (λ (k : Keeping g.row.C.Denot g.row.C-State.Denot g.row.C-Cell.Denot g.row.C-Items.Denot). k.tunes) c.self.view_is in
     let own_count : c.len-count.result ≡ length now.lines.text = c.len-count.ensures.count ∙ ap (λ (k : Keeping g.row.C.Denot g.row.C-State.Denot g.row.C-Cell.Denot g.row.C-Items.Denot). length k.lines.text) c.self.view_is in
@@ -51,11 +50,11 @@ returns-in_err-opened-clause-counted g c =
 pub led-requires : goal.led-requires
 led-requires g c =
     let now = c.args.self.now in
-    let steps = steps_of (g.C.Fold.next now.compiler) (g.C.Fold.gives now.compiler) (g.C.Resumable.alike now.compiler) in
+    let steps = g.C.Fold.steps now.compiler in
     let rules' = g.C.Compiler.rules now.compiler in
-    let laws = g.met.C.Resumable.resumable now.compiler in
+    let laws = g.met.C.Fold.resumable now.compiler in
     let lawful = g.met.C.Compiler.lawful now.compiler in
-    let stands = stands_now g.C.Fold.next g.C.Fold.gives g.C.Resumable.alike g.C.Compiler.rules c.self.view_is c.self.invariant in
+    let stands = stands_now g.C.Fold.steps g.C.Compiler.rules c.self.view_is c.self.invariant in
     let lead = c.lead_of-lead.result in
     let own_tunes : c.deref.result.now ≡ now.tunes = c.deref.ensures.value ∙ ap (λ (k : Keeping g.row.C.Denot g.row.C-State.Denot g.row.C-Cell.Denot g.row.C-Items.Denot). k.tunes) c.self.view_is in
     let own_count : c.len-count.result ≡ length now.lines.text = c.len-count.ensures.count ∙ ap (λ (k : Keeping g.row.C.Denot g.row.C-State.Denot g.row.C-Cell.Denot g.row.C-Items.Denot). length k.lines.text) c.self.view_is in
@@ -69,11 +68,11 @@ pub returns-then-may_go_on-clause-renewed : goal.returns-then-may_go_on-clause-r
 returns-then-may_go_on-clause-renewed g c =
     λ lines new.
     let now = c.args.self.now in
-    let steps = steps_of (g.C.Fold.next now.compiler) (g.C.Fold.gives now.compiler) (g.C.Resumable.alike now.compiler) in
+    let steps = g.C.Fold.steps now.compiler in
     let rules' = g.C.Compiler.rules now.compiler in
-    let laws = g.met.C.Resumable.resumable now.compiler in
+    let laws = g.met.C.Fold.resumable now.compiler in
     let lawful = g.met.C.Compiler.lawful now.compiler in
-    let stands = stands_now g.C.Fold.next g.C.Fold.gives g.C.Resumable.alike g.C.Compiler.rules c.self.view_is c.self.invariant in
+    let stands = stands_now g.C.Fold.steps g.C.Compiler.rules c.self.view_is c.self.invariant in
     let lead = c.lead_of-lead.result in
     let own_tunes : c.deref.result.now ≡ now.tunes = c.deref.ensures.value ∙ ap (λ (k : Keeping g.row.C.Denot g.row.C-State.Denot g.row.C-Cell.Denot g.row.C-Items.Denot). k.tunes) c.self.view_is in
     let own_count : c.len-count.result ≡ length now.lines.text = c.len-count.ensures.count ∙ ap (λ (k : Keeping g.row.C.Denot g.row.C-State.Denot g.row.C-Cell.Denot g.row.C-Items.Denot). length k.lines.text) c.self.view_is in
@@ -91,11 +90,11 @@ pub returns-then-may_go_on-clause-counted : goal.returns-then-may_go_on-clause-c
 returns-then-may_go_on-clause-counted g c =
     λ lines new.
     let now = c.args.self.now in
-    let steps = steps_of (g.C.Fold.next now.compiler) (g.C.Fold.gives now.compiler) (g.C.Resumable.alike now.compiler) in
+    let steps = g.C.Fold.steps now.compiler in
     let rules' = g.C.Compiler.rules now.compiler in
-    let laws = g.met.C.Resumable.resumable now.compiler in
+    let laws = g.met.C.Fold.resumable now.compiler in
     let lawful = g.met.C.Compiler.lawful now.compiler in
-    let stands = stands_now g.C.Fold.next g.C.Fold.gives g.C.Resumable.alike g.C.Compiler.rules c.self.view_is c.self.invariant in
+    let stands = stands_now g.C.Fold.steps g.C.Compiler.rules c.self.view_is c.self.invariant in
     let lead = c.lead_of-lead.result in
     let own_tunes : c.deref.result.now ≡ now.tunes = c.deref.ensures.value ∙ ap (λ (k : Keeping g.row.C.Denot g.row.C-State.Denot g.row.C-Cell.Denot g.row.C-Items.Denot). k.tunes) c.self.view_is in
     let own_count : c.len-count.result ≡ length now.lines.text = c.len-count.ensures.count ∙ ap (λ (k : Keeping g.row.C.Denot g.row.C-State.Denot g.row.C-Cell.Denot g.row.C-Items.Denot). length k.lines.text) c.self.view_is in
@@ -111,11 +110,11 @@ pub returns-in_err-rows-2-clause-counted : goal.returns-in_err-rows-2-clause-cou
 returns-in_err-rows-2-clause-counted g c =
     λ lines new.
     let now = c.args.self.now in
-    let steps = steps_of (g.C.Fold.next now.compiler) (g.C.Fold.gives now.compiler) (g.C.Resumable.alike now.compiler) in
+    let steps = g.C.Fold.steps now.compiler in
     let rules' = g.C.Compiler.rules now.compiler in
-    let laws = g.met.C.Resumable.resumable now.compiler in
+    let laws = g.met.C.Fold.resumable now.compiler in
     let lawful = g.met.C.Compiler.lawful now.compiler in
-    let stands = stands_now g.C.Fold.next g.C.Fold.gives g.C.Resumable.alike g.C.Compiler.rules c.self.view_is c.self.invariant in
+    let stands = stands_now g.C.Fold.steps g.C.Compiler.rules c.self.view_is c.self.invariant in
     let lead = c.lead_of-lead.result in
     let own_tunes : c.deref.result.now ≡ now.tunes = c.deref.ensures.value ∙ ap (λ (k : Keeping g.row.C.Denot g.row.C-State.Denot g.row.C-Cell.Denot g.row.C-Items.Denot). k.tunes) c.self.view_is in
     let own_count : c.len-count.result ≡ length now.lines.text = c.len-count.ensures.count ∙ ap (λ (k : Keeping g.row.C.Denot g.row.C-State.Denot g.row.C-Cell.Denot g.row.C-Items.Denot). length k.lines.text) c.self.view_is in
@@ -128,11 +127,11 @@ returns-in_err-rows-2-clause-counted g c =
 pub led-requires-2 : goal.led-requires-2
 led-requires-2 g c =
     let now = c.args.self.now in
-    let steps = steps_of (g.C.Fold.next now.compiler) (g.C.Fold.gives now.compiler) (g.C.Resumable.alike now.compiler) in
+    let steps = g.C.Fold.steps now.compiler in
     let rules' = g.C.Compiler.rules now.compiler in
-    let laws = g.met.C.Resumable.resumable now.compiler in
+    let laws = g.met.C.Fold.resumable now.compiler in
     let lawful = g.met.C.Compiler.lawful now.compiler in
-    let stands = stands_now g.C.Fold.next g.C.Fold.gives g.C.Resumable.alike g.C.Compiler.rules c.self.view_is c.self.invariant in
+    let stands = stands_now g.C.Fold.steps g.C.Compiler.rules c.self.view_is c.self.invariant in
     let lead = c.lead_of-lead.result in
     let own_tunes : c.deref.result.now ≡ now.tunes = c.deref.ensures.value ∙ ap (λ (k : Keeping g.row.C.Denot g.row.C-State.Denot g.row.C-Cell.Denot g.row.C-Items.Denot). k.tunes) c.self.view_is in
     let own_count : c.len-count.result ≡ length now.lines.text = c.len-count.ensures.count ∙ ap (λ (k : Keeping g.row.C.Denot g.row.C-State.Denot g.row.C-Cell.Denot g.row.C-Items.Denot). length k.lines.text) c.self.view_is in
@@ -150,11 +149,11 @@ pub returns-clause-renewed : goal.returns-clause-renewed
 returns-clause-renewed g c =
     λ lines new.
     let now = c.args.self.now in
-    let steps = steps_of (g.C.Fold.next now.compiler) (g.C.Fold.gives now.compiler) (g.C.Resumable.alike now.compiler) in
+    let steps = g.C.Fold.steps now.compiler in
     let rules' = g.C.Compiler.rules now.compiler in
-    let laws = g.met.C.Resumable.resumable now.compiler in
+    let laws = g.met.C.Fold.resumable now.compiler in
     let lawful = g.met.C.Compiler.lawful now.compiler in
-    let stands = stands_now g.C.Fold.next g.C.Fold.gives g.C.Resumable.alike g.C.Compiler.rules c.self.view_is c.self.invariant in
+    let stands = stands_now g.C.Fold.steps g.C.Compiler.rules c.self.view_is c.self.invariant in
     let lead = c.lead_of-lead.result in
     let own_tunes : c.deref.result.now ≡ now.tunes = c.deref.ensures.value ∙ ap (λ (k : Keeping g.row.C.Denot g.row.C-State.Denot g.row.C-Cell.Denot g.row.C-Items.Denot). k.tunes) c.self.view_is in
     let own_count : c.len-count.result ≡ length now.lines.text = c.len-count.ensures.count ∙ ap (λ (k : Keeping g.row.C.Denot g.row.C-State.Denot g.row.C-Cell.Denot g.row.C-Items.Denot). length k.lines.text) c.self.view_is in
@@ -176,11 +175,11 @@ pub returns-clause-counted : goal.returns-clause-counted
 returns-clause-counted g c =
     λ lines new.
     let now = c.args.self.now in
-    let steps = steps_of (g.C.Fold.next now.compiler) (g.C.Fold.gives now.compiler) (g.C.Resumable.alike now.compiler) in
+    let steps = g.C.Fold.steps now.compiler in
     let rules' = g.C.Compiler.rules now.compiler in
-    let laws = g.met.C.Resumable.resumable now.compiler in
+    let laws = g.met.C.Fold.resumable now.compiler in
     let lawful = g.met.C.Compiler.lawful now.compiler in
-    let stands = stands_now g.C.Fold.next g.C.Fold.gives g.C.Resumable.alike g.C.Compiler.rules c.self.view_is c.self.invariant in
+    let stands = stands_now g.C.Fold.steps g.C.Compiler.rules c.self.view_is c.self.invariant in
     let lead = c.lead_of-lead.result in
     let own_tunes : c.deref.result.now ≡ now.tunes = c.deref.ensures.value ∙ ap (λ (k : Keeping g.row.C.Denot g.row.C-State.Denot g.row.C-Cell.Denot g.row.C-Items.Denot). k.tunes) c.self.view_is in
     let own_count : c.len-count.result ≡ length now.lines.text = c.len-count.ensures.count ∙ ap (λ (k : Keeping g.row.C.Denot g.row.C-State.Denot g.row.C-Cell.Denot g.row.C-Items.Denot). length k.lines.text) c.self.view_is in

@@ -1,6 +1,5 @@
 use Rattle.std.proofs.Common.{◌+◌, ◌≤◌, ◌∷◌, List, [], length, map, take, sym, ◌∙◌, ap, subst, arith}
 use Rattle.abc_book.specs.declared.block.Block.{Block}
-use Rattle.abc_fold.specs.Steps.{steps_of}
 use Rattle.abc_chains.specs.Keeping.{header_place}
 use Rattle.abc_chains.specs.Placing.{BlocksRise, placed_until}
 use Rattle.abc_chains.specs.Renewing.{IsLead}
@@ -12,9 +11,9 @@ use Rattle.abc_chains.proofs.text.KeptText.lead_rows.Goals as goal
 pub settled-requires-clause-rise : goal.settled-requires-clause-rise
 settled-requires-clause-rise g c =
     let on : Keeping g.row.C.Denot g.row.C-State.Denot g.row.C-Cell.Denot g.row.C-Items.Denot = record { compiler = c.self.inside.compiler; lines = c.self.inside.lines; rows = c.self.inside.rows; header = c.self.inside.header; tunes = c.self.inside.tunes.items; chains = c.self.inside.chains } in
-    let steps = steps_of (g.C.Fold.next c.self.inside.compiler) (g.C.Fold.gives c.self.inside.compiler) (g.C.Resumable.alike c.self.inside.compiler) in
+    let steps = g.C.Fold.steps c.self.inside.compiler in
     let rules' = g.C.Compiler.rules c.self.inside.compiler in
-    let laws = g.met.C.Resumable.resumable c.self.inside.compiler in
+    let laws = g.met.C.Fold.resumable c.self.inside.compiler in
     let lawful = g.met.C.Compiler.lawful c.self.inside.compiler in
     let is = subst (λ (k : Keeping g.row.C.Denot g.row.C-State.Denot g.row.C-Cell.Denot g.row.C-Items.Denot). IsLead k.tunes (length k.lines.text) (c.args.at + c.args.removed) c.args.lead) (sym c.self.view_is) c.requires.lead in
     let inside = subst (λ (k : Keeping g.row.C.Denot g.row.C-State.Denot g.row.C-Cell.Denot g.row.C-Items.Denot). c.args.at + c.args.removed ≤ length k.lines.text) (sym c.self.view_is) c.requires.inside in
@@ -24,9 +23,9 @@ settled-requires-clause-rise g c =
 pub settled-requires-clause-inside : goal.settled-requires-clause-inside
 settled-requires-clause-inside g c =
     let on : Keeping g.row.C.Denot g.row.C-State.Denot g.row.C-Cell.Denot g.row.C-Items.Denot = record { compiler = c.self.inside.compiler; lines = c.self.inside.lines; rows = c.self.inside.rows; header = c.self.inside.header; tunes = c.self.inside.tunes.items; chains = c.self.inside.chains } in
-    let steps = steps_of (g.C.Fold.next c.self.inside.compiler) (g.C.Fold.gives c.self.inside.compiler) (g.C.Resumable.alike c.self.inside.compiler) in
+    let steps = g.C.Fold.steps c.self.inside.compiler in
     let rules' = g.C.Compiler.rules c.self.inside.compiler in
-    let laws = g.met.C.Resumable.resumable c.self.inside.compiler in
+    let laws = g.met.C.Fold.resumable c.self.inside.compiler in
     let lawful = g.met.C.Compiler.lawful c.self.inside.compiler in
     let is = subst (λ (k : Keeping g.row.C.Denot g.row.C-State.Denot g.row.C-Cell.Denot g.row.C-Items.Denot). IsLead k.tunes (length k.lines.text) (c.args.at + c.args.removed) c.args.lead) (sym c.self.view_is) c.requires.lead in
     let inside = subst (λ (k : Keeping g.row.C.Denot g.row.C-State.Denot g.row.C-Cell.Denot g.row.C-Items.Denot). c.args.at + c.args.removed ≤ length k.lines.text) (sym c.self.view_is) c.requires.inside in
@@ -35,9 +34,9 @@ settled-requires-clause-inside g c =
 pub edited-requires : goal.edited-requires
 edited-requires g c =
     let on : Keeping g.row.C.Denot g.row.C-State.Denot g.row.C-Cell.Denot g.row.C-Items.Denot = record { compiler = c.self.inside.compiler; lines = c.self.inside.lines; rows = c.self.inside.rows; header = c.self.inside.header; tunes = c.self.inside.tunes.items; chains = c.self.inside.chains } in
-    let steps = steps_of (g.C.Fold.next c.self.inside.compiler) (g.C.Fold.gives c.self.inside.compiler) (g.C.Resumable.alike c.self.inside.compiler) in
+    let steps = g.C.Fold.steps c.self.inside.compiler in
     let rules' = g.C.Compiler.rules c.self.inside.compiler in
-    let laws = g.met.C.Resumable.resumable c.self.inside.compiler in
+    let laws = g.met.C.Fold.resumable c.self.inside.compiler in
     let lawful = g.met.C.Compiler.lawful c.self.inside.compiler in
     let is = subst (λ (k : Keeping g.row.C.Denot g.row.C-State.Denot g.row.C-Cell.Denot g.row.C-Items.Denot). IsLead k.tunes (length k.lines.text) (c.args.at + c.args.removed) c.args.lead) (sym c.self.view_is) c.requires.lead in
     let inside = subst (λ (k : Keeping g.row.C.Denot g.row.C-State.Denot g.row.C-Cell.Denot g.row.C-Items.Denot). c.args.at + c.args.removed ≤ length k.lines.text) (sym c.self.view_is) c.requires.inside in

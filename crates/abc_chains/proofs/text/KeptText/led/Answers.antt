@@ -1,6 +1,5 @@
 use Rattle.std.proofs.Common.{subst}
 use Rattle.std.specs.List.{AllZip}
-use Rattle.abc_fold.specs.Steps.{steps_of}
 use Rattle.abc_fold.proofs.Raised.{raised-none}
 use Rattle.abc_chains.specs.Holding.{IsChain}
 use Rattle.abc_chains.specs.Standing.{Keeping}
@@ -14,9 +13,9 @@ returns-in_err-blocks-clause-counted g c =
 
 pub folded_tunes-requires-clause-folded : goal.folded_tunes-requires-clause-folded
 folded_tunes-requires-clause-folded g c =
-    are_folded (steps_of (g.C.Fold.next c.self.inside.compiler) (g.C.Fold.gives c.self.inside.compiler) (g.C.Resumable.alike c.self.inside.compiler)) (g.C.Compiler.rules c.self.inside.compiler) c.self.inside.lines.text c.self.inside.chains.items c.self.invariant.chains_are
+    are_folded (g.C.Fold.steps c.self.inside.compiler) (g.C.Compiler.rules c.self.inside.compiler) c.self.inside.lines.text c.self.inside.chains.items c.self.invariant.chains_are
 
 pub returns-clause-along : goal.returns-clause-along
 returns-clause-along g c =
-    subst (λ (k : Keeping g.row.C.Denot g.row.C-State.Denot g.row.C-Cell.Denot g.row.C-Items.Denot). (begun : g.row.C-State.Denot) → AllZip (IsChain (steps_of (g.C.Fold.next k.compiler) (g.C.Fold.gives k.compiler) (g.C.Resumable.alike k.compiler)) begun c.args.rows.now) c.in_ok-folded.folded.made.items c.in_ok-folded.folded.tunes.items → KnowsAlong (steps_of (g.C.Fold.next k.compiler) (g.C.Fold.gives k.compiler) (g.C.Resumable.alike k.compiler)) k.chains.items begun c.args.rows.now c.in_ok-folded.folded.tunes.items c.in_ok-folded.folded.taken.items) c.self.view_is
+    subst (λ (k : Keeping g.row.C.Denot g.row.C-State.Denot g.row.C-Cell.Denot g.row.C-Items.Denot). (begun : g.row.C-State.Denot) → AllZip (IsChain (g.C.Fold.steps k.compiler) begun c.args.rows.now) c.in_ok-folded.folded.made.items c.in_ok-folded.folded.tunes.items → KnowsAlong (g.C.Fold.steps k.compiler) k.chains.items begun c.args.rows.now c.in_ok-folded.folded.tunes.items c.in_ok-folded.folded.taken.items) c.self.view_is
     c.in_ok-folded.ensures.along

@@ -1,5 +1,4 @@
 use Rattle.std.proofs.Common.{◌≡◌, map, ap, sym, ◌∙◌, subst, arith}
-use Rattle.abc_fold.specs.Steps.{steps_of}
 use Rattle.abc_lines.specs.Text.{lines_of, splice_from, spliced}
 use Rattle.abc_lines.specs.declared.limits.TheConstants.{MOST_LINES}
 use Rattle.abc_chains.specs.Rows.{new_row}
@@ -15,9 +14,9 @@ returns-in_err-new-clause-counted g c = early_work _ _ _ _ c.read.ensures.counte
 pub place-requires-clause-anew : goal.place-requires-clause-anew
 place-requires-clause-anew g c =
     let now = c.args.self.now in
-    let steps = steps_of (g.C.Fold.next now.compiler) (g.C.Fold.gives now.compiler) (g.C.Resumable.alike now.compiler) in
+    let steps = g.C.Fold.steps now.compiler in
     let rules' = g.C.Compiler.rules now.compiler in
-    let stands = stands_now g.C.Fold.next g.C.Fold.gives g.C.Resumable.alike g.C.Compiler.rules c.self.view_is c.self.invariant in
+    let stands = stands_now g.C.Fold.steps g.C.Compiler.rules c.self.view_is c.self.invariant in
     let lines = lines_of c.args.lines.now in
     let s = splice_from c.args.at c.args.removed c.args.lines.now in
     let read : c.in_ok-new.new.items ≡ map (new_row rules') lines = c.in_ok-new.ensures.rows ∙ ap (λ (k : Keeping g.row.C.Denot g.row.C-State.Denot g.row.C-Cell.Denot g.row.C-Items.Denot). map (new_row (g.C.Compiler.rules k.compiler)) lines) c.self.view_is in
@@ -28,9 +27,9 @@ place-requires-clause-anew g c =
 pub place-requires-clause-numbers : goal.place-requires-clause-numbers
 place-requires-clause-numbers g c =
     let now = c.args.self.now in
-    let steps = steps_of (g.C.Fold.next now.compiler) (g.C.Fold.gives now.compiler) (g.C.Resumable.alike now.compiler) in
+    let steps = g.C.Fold.steps now.compiler in
     let rules' = g.C.Compiler.rules now.compiler in
-    let stands = stands_now g.C.Fold.next g.C.Fold.gives g.C.Resumable.alike g.C.Compiler.rules c.self.view_is c.self.invariant in
+    let stands = stands_now g.C.Fold.steps g.C.Compiler.rules c.self.view_is c.self.invariant in
     let lines = lines_of c.args.lines.now in
     let s = splice_from c.args.at c.args.removed c.args.lines.now in
     let read : c.in_ok-new.new.items ≡ map (new_row rules') lines = c.in_ok-new.ensures.rows ∙ ap (λ (k : Keeping g.row.C.Denot g.row.C-State.Denot g.row.C-Cell.Denot g.row.C-Items.Denot). map (new_row (g.C.Compiler.rules k.compiler)) lines) c.self.view_is in
@@ -44,9 +43,9 @@ place-requires-clause-numbers g c =
 pub returns-clause-rows : goal.returns-clause-rows
 returns-clause-rows g c =
     let now = c.args.self.now in
-    let steps = steps_of (g.C.Fold.next now.compiler) (g.C.Fold.gives now.compiler) (g.C.Resumable.alike now.compiler) in
+    let steps = g.C.Fold.steps now.compiler in
     let rules' = g.C.Compiler.rules now.compiler in
-    let stands = stands_now g.C.Fold.next g.C.Fold.gives g.C.Resumable.alike g.C.Compiler.rules c.self.view_is c.self.invariant in
+    let stands = stands_now g.C.Fold.steps g.C.Compiler.rules c.self.view_is c.self.invariant in
     let lines = lines_of c.args.lines.now in
     let s = splice_from c.args.at c.args.removed c.args.lines.now in
     let read : c.in_ok-new.new.items ≡ map (new_row rules') lines = c.in_ok-new.ensures.rows ∙ ap (λ (k : Keeping g.row.C.Denot g.row.C-State.Denot g.row.C-Cell.Denot g.row.C-Items.Denot). map (new_row (g.C.Compiler.rules k.compiler)) lines) c.self.view_is in

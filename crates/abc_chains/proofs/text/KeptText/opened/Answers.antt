@@ -1,6 +1,5 @@
 use Rattle.std.proofs.Common.{Option, IfSome, length, sym, ◌∙◌, ap, subst}
 use Rattle.abc_book.specs.declared.block.Block.{Block}
-use Rattle.abc_fold.specs.Steps.{steps_of}
 use Rattle.abc_fold.proofs.Raised.{raised-none}
 use Rattle.abc_tunebook.specs.Book.{header_in}
 use Rattle.abc_chains.specs.Holding.{LiesWithin}
@@ -14,7 +13,7 @@ returns-in_err-blocks-clause-counted g c =
 
 pub header_chain-requires-clause-folded : goal.header_chain-requires-clause-folded
 header_chain-requires-clause-folded g c =
-    are_folded (steps_of (g.C.Fold.next c.self.inside.compiler) (g.C.Fold.gives c.self.inside.compiler) (g.C.Resumable.alike c.self.inside.compiler)) (g.C.Compiler.rules c.self.inside.compiler) c.self.inside.lines.text c.self.inside.chains.items c.self.invariant.chains_are
+    are_folded (g.C.Fold.steps c.self.inside.compiler) (g.C.Compiler.rules c.self.inside.compiler) c.self.inside.lines.text c.self.inside.chains.items c.self.invariant.chains_are
 
 pub header_chain-requires-clause-within : goal.header_chain-requires-clause-within
 header_chain-requires-clause-within g c =

@@ -1,5 +1,4 @@
 use Rattle.std.proofs.Common.{◌≡◌, ◌≤◌, ◌+◌, All, length, sym, subst, arith}
-use Rattle.abc_fold.specs.Steps.{steps_of}
 use Rattle.abc_lines.specs.GapList.{replaced_run}
 use Rattle.abc_lines.specs.declared.limits.TheConstants.{MOST_LINES}
 use Rattle.abc_chains.specs.Holding.{LiesWithin}
@@ -12,14 +11,14 @@ use Rattle.abc_chains.proofs.text.KeptText.place.Goals as goal
 pub of-requires-clause-within : goal.of-requires-clause-within
 of-requires-clause-within g c =
     let on : Keeping g.row.C.Denot g.row.C-State.Denot g.row.C-Cell.Denot g.row.C-Items.Denot = record { compiler = c.self.inside.compiler; lines = c.self.inside.lines; rows = c.self.inside.rows; header = c.self.inside.header; tunes = c.self.inside.tunes.items; chains = c.self.inside.chains } in
-    let steps = steps_of (g.C.Fold.next c.self.inside.compiler) (g.C.Fold.gives c.self.inside.compiler) (g.C.Resumable.alike c.self.inside.compiler) in
+    let steps = g.C.Fold.steps c.self.inside.compiler in
     let rules' = g.C.Compiler.rules c.self.inside.compiler in
     subst (All (LiesWithin MOST_LINES)) (sym c.deref-2.ensures.value) (within_most (length c.self.inside.lines.text) MOST_LINES c.self.inside.tunes.items (tunes_inside steps rules' on c.self.invariant) c.len.ensures.limits.count)
 
 pub place_chains-requires-clause-inside : goal.place_chains-requires-clause-inside
 place_chains-requires-clause-inside g c =
     let on : Keeping g.row.C.Denot g.row.C-State.Denot g.row.C-Cell.Denot g.row.C-Items.Denot = record { compiler = c.self.inside.compiler; lines = c.self.inside.lines; rows = c.self.inside.rows; header = c.self.inside.header; tunes = c.self.inside.tunes.items; chains = c.self.inside.chains } in
-    let steps = steps_of (g.C.Fold.next c.self.inside.compiler) (g.C.Fold.gives c.self.inside.compiler) (g.C.Resumable.alike c.self.inside.compiler) in
+    let steps = g.C.Fold.steps c.self.inside.compiler in
     let rules' = g.C.Compiler.rules c.self.inside.compiler in
     let total = chain_total steps rules' on c.self.invariant in
     let most = subst (λ (k : Keeping g.row.C.Denot g.row.C-State.Denot g.row.C-Cell.Denot g.row.C-Items.Denot). c.args.renewed.now.stretch.behind ≤ length k.tunes) (sym c.self.view_is) c.requires.inside in

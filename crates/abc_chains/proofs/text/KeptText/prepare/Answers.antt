@@ -1,5 +1,4 @@
 use Rattle.std.proofs.Common.{◌≡◌, ◌+◌, ◌≤◌, length, ap, sym, ◌∙◌, subst}
-use Rattle.abc_fold.specs.Steps.{steps_of}
 use Rattle.abc_lines.specs.Text.{IsText, Text, splice_from, spliced}
 use Rattle.abc_chains.specs.Putting.{MayBePut, tunes_put}
 use Rattle.abc_chains.specs.Standing.{Keeping, Stands, parts}
@@ -24,9 +23,9 @@ made-requires-clause-limits g c =
 pub invariant_of-result : goal.invariant_of-result
 invariant_of-result g c =
     let now = c.args.self.now in
-    let steps = steps_of (g.C.Fold.next now.compiler) (g.C.Fold.gives now.compiler) (g.C.Resumable.alike now.compiler) in
+    let steps = g.C.Fold.steps now.compiler in
     let rules' = g.C.Compiler.rules now.compiler in
-    let stands = stands_now g.C.Fold.next g.C.Fold.gives g.C.Resumable.alike g.C.Compiler.rules c.self.view_is c.self.invariant in
+    let stands = stands_now g.C.Fold.steps g.C.Compiler.rules c.self.view_is c.self.invariant in
     let s = splice_from c.args.at c.args.removed c.args.lines.now in
     let made = c.in-Ok.made in
     let r = made.renewed in
@@ -39,7 +38,7 @@ invariant_of-result g c =
         lines_on = c.in_ok-patch.ensures.on ∙ (ap (λ (k : Keeping g.row.C.Denot g.row.C-State.Denot g.row.C-Cell.Denot g.row.C-Items.Denot). k.lines) c.self.view_is ∙ sym (ap (λ (k : Keeping g.row.C.Denot g.row.C-State.Denot g.row.C-Cell.Denot g.row.C-Items.Denot). k.lines) c.of.ensures));
         rows_on = c.in-Ok.ensures.rows_on ∙ sym (ap (λ (k : Keeping g.row.C.Denot g.row.C-State.Denot g.row.C-Cell.Denot g.row.C-Items.Denot). k.rows) c.of.ensures);
         chains_on = c.in-Ok.ensures.chains_on ∙ sym (ap (λ (k : Keeping g.row.C.Denot g.row.C-State.Denot g.row.C-Cell.Denot g.row.C-Items.Denot). k.chains) c.of.ensures);
-        stands = subst (λ (k : Keeping g.row.C.Denot g.row.C-State.Denot g.row.C-Cell.Denot g.row.C-Items.Denot). Stands (steps_of (g.C.Fold.next k.compiler) (g.C.Fold.gives k.compiler) (g.C.Resumable.alike k.compiler)) (g.C.Compiler.rules k.compiler) c.in_ok-patch.patch.after (parts made.placed.rows.after.items r.header (tunes_put made.placed.tunes r.stretch k.tunes made.placed.places.items) made.placed.chains.after.items)) (sym c.of.ensures) there;
+        stands = subst (λ (k : Keeping g.row.C.Denot g.row.C-State.Denot g.row.C-Cell.Denot g.row.C-Items.Denot). Stands (g.C.Fold.steps k.compiler) (g.C.Compiler.rules k.compiler) c.in_ok-patch.patch.after (parts made.placed.rows.after.items r.header (tunes_put made.placed.tunes r.stretch k.tunes made.placed.places.items) made.placed.chains.after.items)) (sym c.of.ensures) there;
       },
       subst (λ (k : Keeping g.row.C.Denot g.row.C-State.Denot g.row.C-Cell.Denot g.row.C-Items.Denot). MayBePut made.placed.tunes r.stretch k.tunes made.placed.places.items) (sym c.of.ensures) c.in-Ok.ensures.put,
     )
@@ -47,9 +46,9 @@ invariant_of-result g c =
 pub returns-in-Ok-clause-stands : goal.returns-in-Ok-clause-stands
 returns-in-Ok-clause-stands g c =
     let now = c.args.self.now in
-    let steps = steps_of (g.C.Fold.next now.compiler) (g.C.Fold.gives now.compiler) (g.C.Resumable.alike now.compiler) in
+    let steps = g.C.Fold.steps now.compiler in
     let rules' = g.C.Compiler.rules now.compiler in
-    let stands = stands_now g.C.Fold.next g.C.Fold.gives g.C.Resumable.alike g.C.Compiler.rules c.self.view_is c.self.invariant in
+    let stands = stands_now g.C.Fold.steps g.C.Compiler.rules c.self.view_is c.self.invariant in
     let s = splice_from c.args.at c.args.removed c.args.lines.now in
     let made = c.in-Ok.made in
     let r = made.renewed in
@@ -64,9 +63,9 @@ pub returns-in-Ok-clause-stretch : goal.returns-in-Ok-clause-stretch
 returns-in-Ok-clause-stretch g c =
     let on : Keeping g.row.C.Denot g.row.C-State.Denot g.row.C-Cell.Denot g.row.C-Items.Denot = record { compiler = c.self.inside.compiler; lines = c.self.inside.lines; rows = c.self.inside.rows; header = c.self.inside.header; tunes = c.self.inside.tunes.items; chains = c.self.inside.chains } in
     let now = c.args.self.now in
-    let steps = steps_of (g.C.Fold.next now.compiler) (g.C.Fold.gives now.compiler) (g.C.Resumable.alike now.compiler) in
+    let steps = g.C.Fold.steps now.compiler in
     let rules' = g.C.Compiler.rules now.compiler in
-    let stands = stands_now g.C.Fold.next g.C.Fold.gives g.C.Resumable.alike g.C.Compiler.rules c.self.view_is c.self.invariant in
+    let stands = stands_now g.C.Fold.steps g.C.Compiler.rules c.self.view_is c.self.invariant in
     let s = splice_from c.args.at c.args.removed c.args.lines.now in
     let made = c.in-Ok.made in
     let r = made.renewed in

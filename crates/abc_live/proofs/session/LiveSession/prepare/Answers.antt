@@ -1,5 +1,4 @@
 use Rattle.std.proofs.Common.{inl}
-use Rattle.abc_fold.specs.Steps.{steps_of}
 use Rattle.abc_live.specs.Edit.{splice_of}
 use Rattle.abc_live.specs.Prepared.{splice_in}
 use Rattle.abc_live.proofs.Costs.{cost_is, cost_none, edit_is, edit_none}
@@ -10,7 +9,7 @@ returns-in-None-clause-refused g c = inl (edit_none c.args.self.now.text _ c.in-
 
 pub returns-in-None-clause-counted : goal.returns-in-None-clause-counted
 returns-in-None-clause-counted g c =
-    cost_none (steps_of (g.C.Fold.next c.args.self.now.compiler) (g.C.Fold.gives c.args.self.now.compiler) (g.C.Resumable.alike c.args.self.now.compiler)) (g.C.Compiler.rules c.args.self.now.compiler) c.args.self.now.text (splice_of c.args.edit.now) _ c.in-None.ensures
+    cost_none (g.C.Fold.steps c.args.self.now.compiler) (g.C.Compiler.rules c.args.self.now.compiler) c.args.self.now.text (splice_of c.args.edit.now) _ c.in-None.ensures
 
 pub returns-in-Some-clause-text : goal.returns-in-Some-clause-text
 returns-in-Some-clause-text g c = rw (edit_is c.args.self.now.text _ _ c.in-Some.ensures) c.prepare_change.ensures.text
@@ -20,4 +19,4 @@ returns-in-Some-clause-refused g c = rw (edit_is c.args.self.now.text _ _ c.in-S
 
 pub returns-in-Some-clause-counted : goal.returns-in-Some-clause-counted
 returns-in-Some-clause-counted g c =
-    cost_is (steps_of (g.C.Fold.next c.args.self.now.compiler) (g.C.Fold.gives c.args.self.now.compiler) (g.C.Resumable.alike c.args.self.now.compiler)) (g.C.Compiler.rules c.args.self.now.compiler) c.args.self.now.text (splice_of c.args.edit.now) (splice_in c.in-Some.change) _ _ c.in-Some.ensures c.prepare_change.ensures.counted
+    cost_is (g.C.Fold.steps c.args.self.now.compiler) (g.C.Compiler.rules c.args.self.now.compiler) c.args.self.now.text (splice_of c.args.edit.now) (splice_in c.in-Some.change) _ _ c.in-Some.ensures c.prepare_change.ensures.counted

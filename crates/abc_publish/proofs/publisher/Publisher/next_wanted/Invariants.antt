@@ -4,7 +4,7 @@ use Rattle.abc_publish.specs.Publisher.{is_wanted, maps_of}
 use Rattle.abc_publish.proofs.publisher.Publisher.next_wanted.Given as goal
 
 abbrev pub invariant-loop-number : goal.invariant-loop-number
-invariant-loop-number g l = (l.from ≤ l.at) × ((n : ℕ) → l.from ≤ n → n < l.at → is_wanted (maps_of l.self) (book_in g.C.Fold.next g.C.Fold.gives g.C.Compiler.rules l.session).files n ≡ false)
+invariant-loop-number g l = (l.from ≤ l.at) × ((n : ℕ) → l.from ≤ n → n < l.at → is_wanted (maps_of l.self) (book_in g.C.Fold.steps g.C.Compiler.rules l.session).files n ≡ false)
 
 abbrev pub decreases-loop-number : goal.decreases-loop-number
 decreases-loop-number g l = 2 ^ 32 - l.at

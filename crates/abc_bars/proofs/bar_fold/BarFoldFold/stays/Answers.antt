@@ -1,5 +1,5 @@
 use Rattle.abc_cells.specs.SameEntry.{same_entry_tells}
-use Rattle.abc_bars.proofs.bar_fold.BarFoldResumable.stays.Goals as goal
+use Rattle.abc_bars.proofs.bar_fold.BarFoldFold.stays.Goals as goal
 
 pub returns : goal.returns
 returns c = λ told. (same_entry_tells c.args.state.now c.args.behind.now).1 (c.stays.ensures told)

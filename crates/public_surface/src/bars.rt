@@ -1,0 +1,222 @@
+//! The fold over bars, its states and its items, by `abc_bars`.
+
+ghost use Rattle.std.specs.Prelude.{◌≡◌, All, IfOk};
+ghost use Rattle.std.specs.Borrow.{sem};
+ghost use Rattle.std.specs.Option.{option_copied, option_copied_mut};
+ghost use Rattle.abc_bars.specs.Defaults.{no_defaults};
+ghost use Rattle.abc_bars.specs.Entry.{defaults_of, opening_after};
+ghost use Rattle.abc_bars.specs.Item.{IsItem};
+ghost use Rattle.abc_bars.specs.LentTones.{lent_tones};
+ghost use Rattle.abc_bars.specs.SameDefaults.{same_defaults};
+ghost use Rattle.abc_bars.specs.SameEntry.{bar_steps};
+ghost use Rattle.abc_bars.specs.Settings.{without_accidentals};
+ghost use Rattle.abc_bars.specs.Step.{stepped};
+ghost use Rattle.abc_bars.specs.Voices.{voice_at};
+ghost use Rattle.abc_bars.specs.VoicesLent.{lends_voice};
+
+use abc_bars::{
+    BarFold, BarLine, Body, Cell, Defaults, Entry, FaultCode, Fold, Grains, Header, Item, ItemText,
+    Items, ItemsBuilder, LentTones, LocalFault, Meter, Reach, Sequence, Settings, Shared,
+    ShortSequence, Token, Tone, Tones, TuneMeter, TuneProgram, TuneTempo, UnitLength, VoiceName,
+    Voices, Work,
+};
+use std::alloc::{AllocError, Global};
+
+/// Takes a step over a cell.
+pub fn bar_step(
+    alloc: Global,
+    state: &Entry,
+    cell: &Cell,
+    work: &mut Work,
+) -> Result<(Entry, Items), AllocError>
+    ensures state { IfOk result (λ made. made.0 ≡ bar_steps.next state.now cell.now) }
+    ensures items { IfOk result (λ made. made.1 ≡ bar_steps.gives state.now cell.now) }
+{
+    BarFold.step(alloc, state, cell, work)
+}
+
+/// Returns the state in which a file header begins.
+pub fn file_header(alloc: Global) -> Entry
+    ensures value { result ≡ Entry.FileHeader no_defaults }
+{
+    Entry::header(alloc)
+}
+
+/// Returns the state in which a tune begins.
+pub fn tune(alloc: Global, after: Option<&Entry>) -> Entry
+    ensures value { result ≡ opening_after (option_copied after.entry) }
+{
+    Entry::tune(alloc, after)
+}
+
+/// Returns the values in a file header.
+pub fn values_of(entry: &Entry) -> Defaults
+    ensures value { result ≡ defaults_of entry.now }
+{
+    entry.defaults()
+}
+
+/// Returns the meter, the unit, the tempo, the program and the reach of a file header.
+pub fn parts_of(
+    defaults: Defaults,
+) -> (
+    Option<TuneMeter>,
+    Option<UnitLength>,
+    Option<TuneTempo>,
+    Option<TuneProgram>,
+    Reach,
+) {
+    (
+        defaults.meter,
+        defaults.unit,
+        defaults.tempo,
+        defaults.program,
+        defaults.reach,
+    )
+}
+
+/// The values of file headers compare by their definition.
+pub fn values_compare()
+    ensures value { (a b : Defaults) → ⟦<Defaults as PartialEq>⟧.eq a b ≡ same_defaults a b }
+{}
+
+/// Returns the header that a state is in.
+pub fn header_in(entry: &Entry) -> Option<&Shared<Header>> {
+    match entry {
+        Entry::Header(header) => Some(header),
+        Entry::FileHeader(_) | Entry::Opening(_) | Entry::Body(_) => None,
+    }
+}
+
+/// Returns the body that a state is in.
+pub fn body_in(entry: &Entry) -> Option<&Shared<Body>> {
+    match entry {
+        Entry::Body(body) => Some(body),
+        Entry::FileHeader(_) | Entry::Opening(_) | Entry::Header(_) => None,
+    }
+}
+
+/// Whether a state stays as it is over tokens.
+pub fn stays(entry: &Entry, tokens: &[Token], next: &Entry) -> bool
+    requires { next.now ≡ (stepped entry.now tokens.now).0 }
+{
+    entry.stays(tokens, next)
+}
+
+/// Returns what is known of a voice.
+pub fn voice_of<S>(voices: &Voices<S>, at: usize) -> Option<&S>
+    ensures value { option_copied result ≡ voice_at voices.now at }
+{
+    voices.get(at)
+}
+
+/// Returns the same, to be changed.
+pub fn voice_of_mut<S>(voices: &mut Voices<S>, at: usize) -> Option<&mut S>
+    ensures* writes_back { sem 𝓛 (lends_voice S.row voices.entry at result) }
+    ensures value { option_copied_mut result ≡ voice_at voices.old at }
+{
+    voices.get_mut(at)
+}
+
+/// Returns the name of a voice.
+pub fn voice_name(alloc: Global, bytes: &[u8]) -> Result<VoiceName, AllocError>
+    ensures value { IfOk result (λ name. name ≡ bytes.now) }
+{
+    VoiceName::new(alloc, bytes)
+}
+
+/// Ends the accidentals of a bar.
+pub fn end_accidentals(settings: &mut Settings)
+    ensures value { settings.new ≡ without_accidentals settings.old }
+{
+    settings.clear_accidentals();
+}
+
+/// Returns the items and the faults of a cell.
+pub fn given_by(items: &Items) -> (&[Item], &[LocalFault])
+    ensures items { result.0.now ≡ items.now.items }
+    ensures range { All IsItem result.0.now }
+{
+    (items.items(), items.faults())
+}
+
+/// Makes the items and the faults of a cell.
+pub fn items_of(
+    alloc: Global,
+    items: Sequence<Item>,
+    faults: Sequence<LocalFault>,
+) -> Result<Items, AllocError>
+    requires { All IsItem items }
+    ensures value { IfOk result (λ given. given.items ≡ items) }
+{
+    Items::new(alloc, ItemsBuilder::of(items, faults))
+}
+
+/// Returns the column and the code of a fault.
+pub fn parts_of_fault(fault: LocalFault) -> (u32, FaultCode) {
+    fault
+}
+
+/// Makes the tones of a note or chord.
+pub fn tones_of(alloc: Global, tones: ShortSequence<Tone>) -> Result<Tones, AllocError>
+    ensures value { IfOk result (λ made. made ≡ tones) }
+{
+    Tones::of(alloc, tones)
+}
+
+/// Borrows the tones.
+pub fn lent(tones: &Tones) -> LentTones<'_>
+    ensures value { lent_tones result ≡ tones.now }
+{
+    tones.lent()
+}
+
+/// Returns the key of the tone, if it is one.
+pub fn key_of(lent: LentTones<'_>) -> Option<u8> {
+    match lent {
+        LentTones::One(tone) => tone.key,
+        LentTones::List(_) => None,
+    }
+}
+
+/// Returns how long an item takes, if it takes time.
+pub fn length_of(item: &Item) -> Option<Grains> {
+    match item {
+        Item::Tone { length, .. } | Item::Rest { length, .. } => Some(*length),
+        Item::Number(_)
+        | Item::Bar(_)
+        | Item::Ending(_)
+        | Item::Section(_)
+        | Item::Tempo { .. }
+        | Item::Meter { .. }
+        | Item::Key { .. }
+        | Item::Voice { .. }
+        | Item::Program { .. }
+        | Item::Title(_)
+        | Item::Order(_) => None,
+    }
+}
+
+/// Returns the bar line that an item is.
+pub fn bar_of(item: &Item) -> Option<BarLine> {
+    match item {
+        Item::Bar(bar) => Some(*bar),
+        _ => None,
+    }
+}
+
+/// Returns the meter that an item sets.
+pub fn meter_of(item: &Item) -> Option<Meter> {
+    match item {
+        Item::Meter { meter, .. } => *meter,
+        _ => None,
+    }
+}
+
+/// Returns the title that an item says.
+pub fn title_of(item: &Item) -> Option<&ItemText> {
+    match item {
+        Item::Title(text) => Some(text),
+        _ => None,
+    }
+}

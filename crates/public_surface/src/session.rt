@@ -1,0 +1,122 @@
+//! Sessions and edits, by `abc_live`.
+
+ghost use Rattle.std.specs.Prelude.{◌≡◌, ◌≤◌, IfErr, IfOk, Ok, length, option_copied};
+ghost use Rattle.std.specs.List.Sorted.{IsStrictlySortedBy};
+ghost use Rattle.abc_live.specs.Book.{book_of};
+ghost use Rattle.abc_live.specs.Edit.{line_at, splice_of};
+ghost use Rattle.abc_live.specs.EditError.{name_of};
+ghost use Rattle.abc_live.specs.Edits.{Refuses, edited};
+ghost use Rattle.abc_live.specs.Fault.{fault_cmp};
+ghost use Rattle.abc_live.specs.Files.{file_at};
+ghost use Rattle.abc_live.specs.Limits.{MOST_LINES};
+ghost use Rattle.abc_live.specs.Report.{Reports};
+ghost use Rattle.abc_live.specs.Session.{book_in};
+
+use abc_live::{
+    Abc, Compiler, Edit, EditError, Fault, FaultCode, LiveSession, MOST_LINES, Report, Sequence,
+    Session, Title, Work,
+};
+use std::alloc::{AllocError, Global};
+
+/// The most lines of a text.
+pub const LINES: usize = MOST_LINES;
+
+/// Returns a session of ABC.
+pub fn new_session(alloc: Global) -> Result<Session, AllocError> {
+    Session::new(alloc)
+}
+
+/// Returns the same session, by its compiler.
+pub fn session_with(alloc: Global) -> Result<LiveSession<Abc>, AllocError> {
+    LiveSession::with(alloc, Abc)
+}
+
+/// Edits a tune book of ABC.
+pub fn edit_abc(session: &mut Session, edit: &Edit, work: &mut Work) -> Result<Report, EditError> {
+    session.apply(edit, work)
+}
+
+/// Edits a text.
+pub fn edit_text<C: Compiler>(
+    session: &mut LiveSession<C>,
+    edit: &Edit,
+    work: &mut C::Work,
+) -> Result<Report, EditError>
+    ensures text { IfOk result (λ _. edited session.old.text (splice_of edit.now) ≡ Ok session.new.text) }
+    ensures refused { IfErr result (λ e. Refuses e (edited session.old.text (splice_of edit.now))) }
+    ensures report { IfOk result (Reports (book_in C.steps C.rules session.old).files (book_in C.steps C.rules session.new).files) }
+{
+    session.apply(edit, work)
+}
+
+/// Returns the file of a number.
+pub fn file_of<C: Compiler>(session: &LiveSession<C>, n: u32) -> Option<&[u8]>
+    ensures value { option_copied result ≡ file_at (book_in C.steps C.rules session.now).files n }
+{
+    session.output(n)
+}
+
+/// Returns the numbers that have a file.
+pub fn numbers_of<C: Compiler>(session: &LiveSession<C>) -> &[u32] {
+    session.numbers()
+}
+
+/// Returns the titles.
+pub fn titles_of<C: Compiler>(session: &LiveSession<C>) -> &[Title]
+    ensures value { let compiler = session.now.compiler in
+        result.now ≡ (book_of (C.steps compiler) (C.rules compiler) session.now.text).titles }
+{
+    session.titles()
+}
+
+/// Returns the faults.
+pub fn faults_of<C: Compiler>(session: &LiveSession<C>) -> &[Fault]
+    ensures rise { IsStrictlySortedBy fault_cmp result.now }
+{
+    session.faults()
+}
+
+/// Returns a line, counted from 1.
+pub fn line_of<C: Compiler>(session: &LiveSession<C>, n: u32) -> Option<&[u8]>
+    ensures value { option_copied result ≡ line_at session.now.text n }
+{
+    session.line(n)
+}
+
+/// Returns how many lines there are.
+pub fn count_lines<C: Compiler>(session: &LiveSession<C>) -> u32
+    ensures value { result ≡ length session.now.text }
+    ensures limit { result ≤ MOST_LINES }
+{
+    session.line_count()
+}
+
+/// Returns where a fault is, and its code.
+pub fn parts_of_fault(fault: Fault) -> (u32, u32, FaultCode) {
+    (fault.line, fault.column, fault.code)
+}
+
+/// Returns the number and the text of a title.
+pub fn parts_of_title(title: &Title) -> (u32, &Sequence<u8>) {
+    (title.number, &title.text)
+}
+
+/// Returns how many files an edit writes and removes.
+pub fn counts_of_report(report: &Report) -> (usize, usize) {
+    (report.written.len(), report.removed.len())
+}
+
+/// Returns where an edit begins.
+pub fn first_line_of(edit: &Edit) -> u32 {
+    match edit {
+        Edit::Insert { at, .. } => *at,
+        Edit::Replace { from, .. } | Edit::Delete { from, .. } => *from,
+    }
+}
+
+/// Returns the name of an error.
+pub fn error_name(error: EditError) -> &'static str
+    ensures value { result.now ≡ name_of error }
+{
+    error.name()
+}
