@@ -20,6 +20,11 @@ def meanings() -> list[FaultMeaning]:
     return [FaultMeaning(**row) for row in json.loads((PACKAGE / "faults.json").read_text("utf-8"))]
 
 
-def sentences() -> dict[str, str]:
+def sentence_pairs() -> dict[str, tuple[str, str]]:
     """By the name of each fault: what is wrong, and what to write instead."""
-    return {fault.name: f"{fault.wrong} {fault.instead}" for fault in meanings()}
+    return {fault.name: (fault.wrong, fault.instead) for fault in meanings()}
+
+
+def sentences() -> dict[str, str]:
+    """The same, as one text."""
+    return {name: " ".join(pair) for name, pair in sentence_pairs().items()}

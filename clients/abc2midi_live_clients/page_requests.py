@@ -114,6 +114,7 @@ class Request(BaseHTTPRequestHandler):
             self.send(b"", "text/plain", {"Location": f"/{self.server.token}/"}, 308)
             return
         midi = re.fullmatch(r"midi/([0-9]{1,9})", name)
+        changes = re.fullmatch(r"changes/([0-9]{1,15})", name)
         news = re.fullmatch(r"(events|news)/([0-9]{1,15})/([\w.-]{1,64})", name, re.A)
         if name in self.server.files:
             self.send(*self.server.files[name])
@@ -127,6 +128,8 @@ class Request(BaseHTTPRequestHandler):
             number = int(midi[1])
             data = self.server.book.midi(number)
             self.send(data, "audio/midi", {"Content-Disposition": f'attachment; filename="{number}.mid"'})
+        elif changes:
+            self.send_json(self.server.book.changes_after(int(changes[1])))
         elif news and news[1] == "events":
             self.send_events(int(news[2]), news[3])
         elif news:
@@ -135,9 +138,10 @@ class Request(BaseHTTPRequestHandler):
             raise Refused(404, "There is nothing of that name.")
 
     def post(self, name: Optional[str]) -> None:
-        """Follows an edit, saves the book, loads it from disk, or starts the program again."""
+        """Follows an edit, saves the book or a copy, loads the book from disk, or starts the program again."""
         book = self.server.book
-        follow = {"edit": book.edit, "save": book.save, "load": book.load, "restart": book.restart}.get(name or "")
+        known = {"edit": book.edit, "save": book.save, "save-as": book.save_as, "load": book.load, "restart": book.restart}
+        follow = known.get(name or "")
         if follow is None:
             raise Refused(404, "There is nothing of that name.")
         self.send_json(follow(self.body()))

@@ -14,7 +14,7 @@ from pathlib import Path
 from typing import Any
 
 from .connections import Connections
-from .faults import sentences
+from .faults import sentence_pairs
 from .hint_process import ENDED, HintProcess
 from .page_requests import Request
 from .printing import printable
@@ -57,7 +57,7 @@ class Server(ThreadingHTTPServer):
         self.key = book_key(book.path)
         self.connections = Connections()
         self.hosts = {f"{host}:{self.server_port}" for host in ("127.0.0.1", "localhost")}
-        self.sentences = sentences()
+        self.sentences = sentence_pairs()
         self.files = {path.name: (path.read_bytes(), KINDS[path.suffix]) for path in FILES.iterdir() if path.suffix in KINDS}
         page, kind = self.files.pop("index.html")
         self.files[""] = page.replace(b"KEY OF THE BOOK", self.key.encode()), kind

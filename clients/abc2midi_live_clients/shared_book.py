@@ -10,6 +10,7 @@ from contextlib import contextmanager, suppress
 from typing import Any, NamedTuple, Optional
 
 from .book_file import BookFile
+from .copies import BadName, copy_path, save_copy
 from .edits import Edit
 from .hint_process import HintRow, Question
 from .printing import printable
@@ -182,6 +183,11 @@ class SharedBook:
         with self.moved:
             self.moved.wait_for(lambda: self.version > seen or self.state() != told, seconds)
             return [change for change in self.changes if change["version"] > seen], self.state()
+
+    def changes_after(self, seen: int) -> Json:
+        """The changes after a version, as far as they are kept."""
+        with self.moved:
+            return {"changes": [change for change in self.changes if change["version"] > seen]}
 
     def news_for(self, seen: int, name: str) -> Json:
         """The same at once, for a window that asks again and again; and whether it may hold a connection."""
@@ -399,6 +405,27 @@ class SharedBook:
                 self.is_unsaved = self.text.lines != text.lines
                 self.moved.notify_all()
                 return self.state()
+
+    def save_as(self, asked: Json) -> Json:
+        """Writes a copy of the text into the book's folder. The book is the same as before. A file that has the name already is
+        replaced only for a window that says which content it means to replace."""
+        if not self.path:
+            raise Refused(400, "no book was named, so there is no folder")
+        with self.moved:
+            self.same_version(asked)
+            data = self.text.data()
+        try:
+            save_copy(copy_path(self.path, asked.get("name")), data, asked)
+        except BadName as error:
+            raise Refused(400, str(error)) from error
+        except BookChanged as changed:
+            there = "there is no file of this name any more" if changed.present is None else "there is a file of this name"
+            raise Refused(409, there, there=changed.present) from changed
+        except NotSaved as error:
+            raise Refused(500, str(error)) from error
+        except OSError as error:
+            raise Refused(500, f"the copy cannot be saved: {error.strerror}") from error
+        return self.now()
 
 
 def is_count(value: object) -> bool:

@@ -398,7 +398,9 @@ const tests = {
     text.undo();
     same(text.lines, ["A", "x", "y"]);
     text.undo();
-    same([text.lines, text.undo()], [["A", "b"], null]);
+    same(text.lines, ["A", "b"]);
+    text.undo();
+    same([text.lines, text.undo()], [["a", "b"], null]);
     text.take();
     text.others(0, 1, ["other"]);
     same(text.undo(), null);

@@ -20,7 +20,7 @@ from pathlib import Path
 
 import trial
 from abc2midi_live_clients import rows, saving, shared_book, texts
-from abc2midi_live_clients.faults import sentences
+from abc2midi_live_clients.faults import meanings
 
 BOOK = b"X:1\nT:Kesh\nK:G\nGABc &\n\nX:2\nK:C\nCDE -\n"
 BOOK_FAULTS = [[3, 5, 6, "BadByte"], [7, 4, 5, "LooseTie"]]
@@ -148,7 +148,8 @@ class Requests(Page):
         self.assertEqual(book["lines"], BOOK.decode().split("\n"))
         self.assertEqual(book["faults"], BOOK_FAULTS)
         self.assertEqual(book["tunes"], [[0, 1, "Kesh", True], [5, 2, "", True]])
-        self.assertEqual((book["name"], book["version"], book["sentences"]), ("book.abc", 0, sentences()))
+        pairs = {fault.name: [fault.wrong, fault.instead] for fault in meanings()}
+        self.assertEqual((book["name"], book["version"], book["sentences"]), ("book.abc", 0, pairs))
 
     def test_edits(self):
         made = self.edit(3, 4, "GAB", "é&d")

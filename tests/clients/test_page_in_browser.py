@@ -267,7 +267,7 @@ class Editing(Browser):
         self.assertEqual(self.run_script(FAULTS), [])
         self.type("C -")
         self.wait(lambda: self.run_script(FAULTS) == [[7, 2, 3, "LooseTie"]])
-        self.assertIn("Line 8This tie does not stand directly behind a note", self.text("told"))
+        self.assertIn("Line 8- This tie does not stand directly behind a note", self.text("told"))
         self.type(3 * BACKSPACE)
         self.wait(lambda: self.text("count") == "No faults" and not self.run_script(FAULTS))
         self.roll("2 bars, 0:01", "from C4 to C5")
@@ -304,7 +304,7 @@ class Editing(Browser):
         self.type(text)
         self.settled(text)
         self.wait(lambda: self.run_script(FAULTS) == [[2, 0, 18, "BadProgram"]])
-        self.assertIn("Line 3There is no program of this number", self.text("told"))
+        self.assertIn("Line 3%%MIDI program 128 There is no program of this number", self.text("told"))
         self.roll("from C4 to D4")
 
     def test_a_change_while_it_plays(self):
@@ -366,7 +366,7 @@ class Editing(Browser):
         self.wait(lambda: self.text("count") == "2 faults" and self.text("hinted") == "1 hint")
         kinds = self.run_script("return [...document.querySelectorAll('mark')].map((mark) => [mark.fault[3], mark.className])")
         self.assertEqual(sorted(kinds), [["BadByte", ""], ["LooseTie", ""], ["Overlay", "hint"]])
-        self.assertIn("Line 3, hintWhat follows this & is played after", self.text("told"))
+        self.assertIn("Line 3, hint& What follows this & is played after", self.text("told"))
         colours = "return ['mark:not(.hint)', 'mark.hint'].map((one) => getComputedStyle(document.querySelector(one)).backgroundColor)"
         self.assertEqual(len(set(self.run_script(colours))), 2)
         self.type("X:2\nK:C\n|:C|")

@@ -1,17 +1,24 @@
 // The page: ties the text, its faults, the tunes, the roll and the player together.
 
+import { Colours } from "./colours.js";
 import { Drafts } from "./drafts.js";
+import { Starter, whyNothing } from "./empty.js";
+import { Files, SaveAs } from "./files.js";
+import { keysOf, nameKeys } from "./keys.js";
 import { Link } from "./link.js";
 import { scoreOf, secondOf } from "./midi.js";
 import { Player } from "./player.js";
 import { Questions } from "./questions.js";
+import { Remarks } from "./remarks.js";
 import { Roll, nameOf } from "./roll.js";
+import { changed, placeOf, rowsIn, without } from "./rows.js";
+import { Search } from "./search.js";
 import { Server } from "./server.js";
 import { Sheet } from "./sheet.js";
 import { Text } from "./text.js";
 import { Tunes } from "./tunes.js";
+import { UndoStore } from "./undo_store.js";
 
-const MOST_TOLD = 50; // faults of a tune in the list below the text
 const HINT = 50; // milliseconds after which new hints are read
 const find = (id) => document.getElementById(id);
 
@@ -23,11 +30,20 @@ const questions = new Questions(find("notice"), find("later"), sheet.area);
 const tunes = new Tunes(find("list"));
 const roll = new Roll(find("roll"), document.querySelector("canvas"));
 const player = new Player();
+const undoKey = keysOf("Ctrl-Z");
+const search = new Search(sheet, find("search"), say, undoKey);
+const starter = new Starter(sheet, find("starter"));
+const remarks = new Remarks(find("told"), find("tip"), (line, column) => sheet.go(line, column, true));
+const undoStore = new UndoStore(text, link, (version) => server.ask(`changes/${version}`));
+new Colours(sheet);
+nameKeys(document);
 
-const book = { name: "", faults: [], hints: [], tunes: [], sentences: {} }; // as the server has it
+const book = { name: "", faults: [], hints: [], tunes: [] }; // as the server has it
+const files = new Files({ text, link, book, questions, say, doubt: standingDoubt, undoKey });
+const saveAs = new SaveAs(files, find("copy"));
 let drafts = null;
 let faults = [], hints = [], rows = []; // in this window's text
-let shown = { number: null, score: null, asked: 0 }; // the tune in the roll
+let shown = { number: null, score: null, of: null, asked: 0 }; // the tune in the roll, and the one whose score is there
 let start = 0; // the tick at which to play
 
 /** Rows of the server's text, as they are in this window's. */
@@ -39,48 +55,23 @@ function placed(found) {
   }, found);
 }
 
-/** Rows after a change of the server's text. */
-function changed(old, { start, stop, lines }, { at, out, put }) {
-  const found = without(old, start, stop, lines.length - (stop - start));
-  return found.slice(0, at).concat(put, found.slice(at + out));
-}
-
-/** Rows but for those of some lines; those after them are moved. Rows are sorted by their lines. */
-function without(found, start, stop, more) {
-  const from = placeOf(found, start), to = placeOf(found, stop);
-  if (from === to && !more) return found;
-  return found.slice(0, from).concat(more ? found.slice(to).map(([line, ...row]) => [line + more, ...row]) : found.slice(to));
-}
-
-/** The place in sorted rows of the first that is at a line or after it. */
-function placeOf(found, line) {
-  let low = 0, high = found.length;
-  while (low < high) {
-    const middle = (low + high) >> 1;
-    if (found[middle][0] < line) low = middle + 1;
-    else high = middle;
-  }
-  return low;
-}
-
 /** Faults and hints of some lines, in order. */
 function foundIn(first, last) {
-  const some = (found) => found.slice(placeOf(found, first), placeOf(found, last));
-  return some(faults).concat(some(hints)).sort((a, b) => a[0] - b[0] || a[1] - b[1]);
+  return rowsIn(faults, first, last).concat(rowsIn(hints, first, last)).sort((a, b) => a[0] - b[0] || a[1] - b[1]);
 }
 
 const tuneAt = (line) => placeOf(rows, line + 1) - 1;
+const endOf = (at) => rows[at + 1]?.[0] ?? text.lines.length;
 
 /** What stands around the text follows it. */
 function follow() {
   faults = placed(book.faults);
   hints = placed(book.hints);
   rows = placed(book.tunes);
-  find("tally").textContent = rows.length ? String(rows.length) : "";
   const count = find("count"), counted = (number, thing) => `${number} ${thing}${number === 1 ? "" : "s"}`;
   count.textContent = faults.length ? counted(faults.length, "fault") : "No faults";
   find("hinted").textContent = hints.length ? counted(hints.length, "hint") : "";
-  count.classList.toggle("some", faults.length > 0);
+  count.disabled = !faults.length;
   find("before").disabled = find("after").disabled = !faults.length && !hints.length;
   sheet.drawFaults(foundIn(sheet.first, sheet.last));
   tell();
@@ -88,36 +79,27 @@ function follow() {
 
 /** What belongs to the caret's line and its tune. */
 function tell() {
+  if (!link.state) return;
   const line = Math.max(0, sheet.caret().line);
   const at = tuneAt(line);
   tunes.show(rows, at);
-  const from = at < 0 ? 0 : rows[at][0], to = rows[at + 1]?.[0] ?? text.lines.length;
-  const those = foundIn(from, to).slice(0, MOST_TOLD);
-  const nearest = those.sort((a, b) => (a[0] !== line) - (b[0] !== line) || Boolean(a[4]) - Boolean(b[4]));
-  const list = find("told");
-  const items = nearest.map(told);
-  if (list.textContent !== items.map((item) => item.textContent).join("")) list.replaceChildren(...items);
+  tally();
+  remarks.show(foundIn(at < 0 ? 0 : rows[at][0], endOf(at)), text.lines, line);
+  starter.look();
   if (!player.playing) show(at < 0 ? null : rows[at]);
 }
 
-function told(fault) {
-  const [line, column, , , hint] = fault;
-  const item = document.createElement("li"), button = document.createElement("button");
-  button.type = "button";
-  item.classList.toggle("hint", Boolean(hint));
-  button.append(Object.assign(document.createElement("b"), { textContent: `Line ${line + 1}${hint ? ", hint" : ""}` }), ...worded(fault));
-  button.addEventListener("click", () => sheet.go(line, column, true));
-  item.append(button);
-  return item;
+/** Shows the tunes that the filter lets through. */
+function sift() {
+  tunes.sift(find("filter").value);
+  tally();
 }
 
-const sentenceOf = ([, , , name, hint]) => hint ?? book.sentences[name] ?? name;
-
-/** The sentence of a fault or a hint, with what is in backquotes as code. */
-function worded(fault) {
-  return sentenceOf(fault).split("`").map((part, n) => {
-    return n % 2 ? Object.assign(document.createElement("code"), { textContent: part }) : part;
-  });
+/** Says how many tunes there are, and how many of them the filter lets through. */
+function tally() {
+  const isSifted = tunes.rows !== rows;
+  find("list").classList.toggle("none", isSifted && !tunes.rows.length);
+  find("tally").textContent = isSifted ? `${tunes.rows.length} of ${rows.length}` : rows.length ? String(rows.length) : "";
 }
 
 /** Shows a tune in the roll, or why it has no file. */
@@ -125,17 +107,16 @@ function show(row) {
   const number = row?.[3] ? row[1] : null;
   const title = row ? `${row[1]} ${row[2]}` : "";
   find("tune").textContent = title;
-  find("empty").textContent = row && !row[3] ? whyNoFile(row) : "";
-  find("empty").hidden = !find("empty").textContent;
   if (number !== shown.number) load(number);
+  explain(row);
 }
 
-/** Why a tune has no file. */
-function whyNoFile([line, number]) {
-  const owner = rows.find((row) => row[1] === number && row[3]);
-  if (owner) return `Number ${number} is used at line ${owner[0] + 1}; this tune has no file.`;
-  const isLong = faults.some((fault) => fault[0] === line && fault[3] === "TuneTooLong");
-  return isLong ? "This tune is too long; it has no file." : "";
+/** Says why the roll is empty. */
+function explain(row) {
+  const notes = row?.[3] && row[1] === shown.of && shown.score ? shown.score.notes.length : null;
+  const why = whyNothing({ lines: text.lines, rows, faults, row, notes });
+  find("empty").textContent = why;
+  find("empty").hidden = !why;
 }
 
 /** Reads the file of a number; one that is asked for later comes in its place. */
@@ -154,9 +135,10 @@ async function load(number) {
     return;
   }
   if (shown.asked !== asked) return;
-  shown.score = score;
+  Object.assign(shown, { score, of: number });
   roll.show(score);
   if (player.playing) score ? player.change(score) : player.stop();
+  else explain(rows[tuneAt(Math.max(0, sheet.caret().line))]);
   describe(score, number);
 }
 
@@ -216,21 +198,18 @@ sheet.moved = () => {
   find("tip").hidden = true;
   tell();
 };
-sheet.pointed = (under, event) => {
-  const tip = find("tip");
-  tip.hidden = !under.length;
-  if (!under.length) return;
-  const different = [...new Map(under.map((fault) => [sentenceOf(fault), fault])).values()];
-  tip.replaceChildren(...different.flatMap((fault) => [...worded(fault), " "]));
-  tip.style.left = `${Math.max(8, Math.min(event.clientX + 12, innerWidth - tip.offsetWidth - 8))}px`;
-  const below = event.clientY + 20;
-  tip.style.top = `${below + tip.offsetHeight < innerHeight ? below : event.clientY - tip.offsetHeight - 12}px`;
+sheet.placed = ({ line, column }) => {
+  find("place").textContent = `Line ${line + 1}, column ${column + 1}`;
 };
+sheet.pointed = (under, event) => remarks.point(under, event);
+tunes.faultsOf = ([line]) => rowsIn(faults, line, endOf(tuneAt(line))).length;
 tunes.chosen = ([line]) => sheet.go(line, 0, true);
-text.edited = () => {
+text.edited = (...edit) => {
+  search.edited(...edit);
   follow();
   link.soon();
   keepSoon();
+  undoStore.soon();
   showUnsaved();
 };
 server.renewed = () => {
@@ -239,18 +218,29 @@ server.renewed = () => {
 };
 
 link.opened = (fresh, whole) => {
+  const isFirst = !drafts;
   if (fresh) {
-    const { name, faults, hintRows, hints, tunes, sentences } = fresh;
-    Object.assign(book, { name, faults, hints: hintRows, hintsTold: hints, tunes, sentences });
+    const { name, faults, hintRows, hints, tunes } = fresh;
+    Object.assign(book, { name, faults, hints: hintRows, hintsTold: hints, tunes });
+    remarks.sentences = fresh.sentences;
     drafts ??= new Drafts(fresh.id, link.window);
     text.open(fresh.lines);
+    search.renew();
+    if (isFirst) undoStore.open(fresh.id);
   }
   shown.number = undefined;
-  sheet.refresh(sheet.selection());
+  sheet.refresh(isFirst ? atFirstTune() : sheet.selection());
   follow();
   if (fresh && whole) offer();
 };
+/** The selection at the begin of the first tune. */
+function atFirstTune() {
+  const place = { line: book.tunes[0]?.[0] ?? 0, column: 0 };
+  return { start: place, end: place, direction: "forward" };
+}
+
 link.changed = (change, own) => {
+  undoStore.soon();
   book.faults = changed(book.faults, change.edit, change.faults);
   book.tunes = changed(book.tunes, change.edit, change.tunes);
   book.hints = changed(book.hints, change.edit, { at: 0, out: 0, put: [] });
@@ -280,7 +270,7 @@ link.told = () => {
     say(trouble ? `${book.name} on disk cannot be read: ${trouble}.` : `${book.name} on disk can be read again.`);
   }
   book.trouble = trouble;
-  if (link.state && book.name) askAboutTheFile();
+  if (link.state && book.name) files.askAboutTheFile();
   if (!link.isStuck) questions.withdraw("refused");
   if (slow && !link.away) {
     questions.ask({ name: "slow", words: "The program has not answered for some seconds.", answers: { "Start it again": restart, Wait: null } });
@@ -330,7 +320,9 @@ function hintSoon() {
 let doubts = 0;
 
 /** The first question about this window's text that is not answered. Nothing is saved before. */
-const standingDoubt = () => Array.from({ length: doubts }, (_, n) => `doubt ${n + 1}`).find((name) => questions.find(name));
+function standingDoubt() {
+  return Array.from({ length: doubts }, (_, n) => `doubt ${n + 1}`).find((name) => questions.find(name));
+}
 
 function showUnsaved() {
   const unsaved = link.isUnsaved;
@@ -341,37 +333,18 @@ function showUnsaved() {
 
 /** Says that the server is away, or is there again. */
 function showAway() {
-  const footer = find("status"), away = link.away;
-  footer.classList.toggle("away", Boolean(away));
+  const status = find("status"), away = link.away;
+  status.classList.toggle("away", Boolean(away));
   if (away) {
     const kept = keep() ? "What you type is kept in this browser, and sent when it is there again" : "This browser has no room to keep the text: do not close it";
     say(`The server is away: ${away}. ${kept}.`);
     find("midi").removeAttribute("href");
-  } else if (footer.dataset.away) {
+  } else if (status.dataset.away) {
     say("The server is there again.");
     describe(shown.score, shown.number);
     tell();
   }
-  footer.dataset.away = away;
-}
-
-/** Asks what to do if another program changed the file while the text has changes too. */
-function askAboutTheFile() {
-  const { saved, disk } = link.state;
-  const gone = disk === null;
-  if (disk === saved || link.away || !(gone || link.isUnsaved)) return questions.withdraw("disk");
-  questions.ask({
-    name: "disk",
-    about: disk,
-    words: gone
-      ? `${book.name} is not on the disk any more.`
-      : `Another program changed ${book.name} on the disk, and this text has changes that are not saved.`,
-    answers: {
-      [gone ? "Save this text" : "Save this text over it"]: () => save({ over: disk }),
-      ...(!gone && { "Load the book from disk": () => loadFromDisk({ over: disk }) }),
-      "Decide later": null,
-    },
-  });
+  status.dataset.away = away;
 }
 
 /** A selection, after lines replaced others. */
@@ -424,65 +397,15 @@ function say(words) {
   find("status").textContent = words;
 }
 
-/** Saves the book, or hands it out if no book was named. */
-async function save(over) {
-  const doubt = standingDoubt();
-  if (doubt) {
-    questions.focus(doubt);
-    return say("Not saved: answer the question first.");
-  }
-  if (!book.name) return download();
-  if (!over && questions.find("disk")) {
-    questions.focus("disk");
-    return say(`Not saved: another program changed ${book.name}.`);
-  }
-  try {
-    await link.file("save", over);
-    questions.withdraw("failed");
-    say(`Saved ${book.name}.`);
-  } catch (error) {
-    failed("saved", error);
-  }
-}
-
-/** Makes the book on disk the text. */
-async function loadFromDisk(over) {
-  try {
-    await link.file("load", over);
-    say(`Loaded ${book.name} from the disk. Ctrl-Z takes that back.`);
-  } catch (error) {
-    failed("loaded", error);
-  }
-}
-
-/** Says why the book is not saved or loaded. If there is nothing to ask, the text can be had as a file of the browser. */
-function failed(what, error) {
-  say(`Not ${what}: ${error.message}.`);
-  if (questions.find("disk")) questions.focus("disk");
-  else if (error.status && what === "saved") {
-    const words = `${book.name} is not saved: ${error.message}.`;
-    questions.ask({ name: "failed", about: words, words, answers: { "Download the text": download, Close: () => {} }, focus: true });
-  }
-}
-
 async function restart() {
   await server.ask("restart", {}).catch((error) => say(`The program was not started again: ${error.message}.`));
 }
 
-function download() {
-  const link = document.createElement("a");
-  link.href = URL.createObjectURL(new Blob([text.lines.join("\n")], { type: "text/vnd.abc" }));
-  link.download = book.name || "book.abc";
-  link.click();
-  setTimeout(() => URL.revokeObjectURL(link.href), 60000);
-}
-
 /** Goes to the next fault or hint, or the one before. */
-function toFault(forward) {
+function toFault(forward, found = foundIn(0, Infinity)) {
   const { line, column } = sheet.caret();
   const later = ([at, from]) => at > line || (at === line && from > column);
   const earlier = ([at, from]) => at < line || (at === line && from < column);
-  const found = foundIn(0, Infinity);
   const fault = forward ? (found.find(later) ?? found[0]) : (found.findLast(earlier) ?? found[found.length - 1]);
   if (fault) sheet.go(fault[0], fault[1], true);
 }
@@ -491,18 +414,35 @@ document.addEventListener("keydown", (event) => {
   const command = event.ctrlKey || event.metaKey;
   const inText = event.target === sheet.area;
   const plain = !inText && !event.target.closest("button, a, input");
-  if (command && event.key.toLowerCase() === "s") save();
+  if (event.target.closest("dialog")) return;
+  if (search.takes(event)) return event.preventDefault();
+  if (command && event.key.toLowerCase() === "s") event.shiftKey ? saveAs.open() : files.save();
   else if (event.code === "Space" && (event.ctrlKey || (plain && !event.altKey && !event.metaKey))) playOrStop();
   else if (event.key === "F8") toFault(!event.shiftKey);
+  else if (event.key === "Escape" && inText && search.isOpen) search.close();
   else if (event.key === "Escape" && inText) questions.enter() || find(find("play").disabled ? "save" : "play").focus();
   else return;
   event.preventDefault();
 });
-find("save").addEventListener("click", () => save());
+find("save").addEventListener("click", () => files.save());
+find("save-as").addEventListener("click", () => saveAs.open());
+find("find").addEventListener("click", () => search.open(false));
+find("count").addEventListener("click", () => toFault(true, faults));
+find("filter").addEventListener("input", () => sift());
+find("filter").addEventListener("keydown", (event) => {
+  if (event.key === "Escape" && event.target.value) sift((event.target.value = ""));
+  else if (event.key === "Enter" && tunes.rows.length) tunes.chosen(tunes.rows[0]);
+  else if (event.key === "ArrowDown") find("list").focus();
+  else return;
+  event.preventDefault();
+});
 find("play").addEventListener("click", playOrStop);
 find("before").addEventListener("click", () => toFault(false));
 find("after").addEventListener("click", () => toFault(true));
-addEventListener("pagehide", keep);
+addEventListener("pagehide", () => {
+  keep();
+  undoStore.keep();
+});
 addEventListener("beforeunload", (event) => {
   if (link.state && !link.settled) event.preventDefault();
 });

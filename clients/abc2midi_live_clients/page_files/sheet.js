@@ -1,22 +1,26 @@
 // The text box. A text area has the lines about those that are seen, and no others, so that a long book is as quick as
-// a short one; line numbers and marks of faults stand beside and below it.
+// a short one. Line numbers are beside it; marks of faults and the layers of other modules are below it.
 
 import { difference } from "./text.js";
 
 const MARGIN = 100; // lines above and below those that are seen
 const EDGE = 6; // lines that the caret keeps from the edge of the area
+const ROOM = 8; // pixels above the first line and below the last
 
 export class Sheet {
   constructor(text, root) {
     this.text = text;
     this.scroller = root.querySelector(".scroller");
-    [this.paper, this.leaf, this.numbers, this.marks, this.here, this.area] = [
-      ".paper", ".leaf", ".numbers", ".marks", ".here", "textarea",
+    [this.view, this.paper, this.leaf, this.numbers, this.marks, this.here, this.area] = [
+      ".view", ".paper", ".leaf", ".numbers", ".marks", ".here", "textarea",
     ].map((name) => root.querySelector(name));
+    this.layers = []; // each draws the lines in the area: draw(sheet)
     this.first = this.last = 0;
+    this.drawn = [0, 0]; // the lines that the layers have drawn
     this.away = null; // the selection, while its lines are not in the area
     this.faultsOf = () => []; // from a line, to a line
-    this.moved = () => {};
+    this.moved = () => {}; // the caret is in another line, or lines became others
+    this.placed = () => {}; // the place of the caret
     this.pointed = () => {};
     this.line = -1;
     this.height = parseFloat(getComputedStyle(this.area).lineHeight);
@@ -46,7 +50,7 @@ export class Sheet {
 
   /** The lines that are seen: from, to. */
   seen() {
-    const first = Math.floor(this.scroller.scrollTop / this.height);
+    const first = Math.max(0, Math.floor((this.scroller.scrollTop - ROOM) / this.height));
     return [first, first + Math.ceil(this.scroller.clientHeight / this.height) + 1];
   }
 
@@ -76,13 +80,13 @@ export class Sheet {
     return direction === "backward" ? start : end;
   }
 
-  /** Puts these lines into the area, and those that are selected. */
+  /** Puts these lines into the area, and those that are selected if they are several. */
   load(first, last, selection = this.selection()) {
     const lines = this.text.lines;
     const { start, end, direction } = within(selection, lines);
     this.first = Math.max(0, first);
     this.last = Math.min(lines.length, last);
-    if (start.line !== end.line || start.column !== end.column) {
+    if (start.line !== end.line) {
       this.first = Math.min(this.first, start.line);
       this.last = Math.max(this.last, end.line + 1);
     }
@@ -103,6 +107,18 @@ export class Sheet {
     const { start, end } = this.selection();
     const much = this.last - this.first > last - first + 4 * MARGIN && start.line === end.line;
     if ((lacking || much) && !this.composing) this.load(first - MARGIN, last + MARGIN);
+    else if (first < this.drawn[0] || Math.min(last, this.last) > this.drawn[1]) this.drawLayers();
+    this.cover();
+  }
+
+  /** Covers a line of which the bottom has no room, and lets the ends of long lines fade. */
+  cover() {
+    const { scrollTop, scrollLeft, clientWidth, clientHeight, offsetWidth, offsetHeight, scrollWidth } = this.scroller;
+    const style = this.view.style, rest = (scrollTop + clientHeight - ROOM) % this.height;
+    style.setProperty("--rest", `${Math.max(0, rest)}px`);
+    style.setProperty("--below", `${offsetHeight - clientHeight}px`);
+    style.setProperty("--beside", `${offsetWidth - clientWidth}px`);
+    this.view.classList.toggle("wide", scrollWidth - clientWidth - scrollLeft > 4);
   }
 
   /** The lines were changed from elsewhere. */
@@ -123,7 +139,7 @@ export class Sheet {
     const { selectionStart, selectionEnd, selectionDirection } = this.area;
     this.text.edit(from, this.first + edit.stop, edit.put, before, null);
     const after = { start: this.place(selectionStart), end: this.place(selectionEnd), direction: selectionDirection };
-    this.text.past[this.text.past.length - 1].after = after;
+    this.text.history.last.after = after;
     this.draw();
     this.watch();
   }
@@ -163,7 +179,8 @@ export class Sheet {
     else if (command && key === "z") this.history(!event.shiftKey);
     else if (command && key === "y") this.history(false);
     else {
-      if (this.away && !["Shift", "Control", "Alt", "Meta", "Tab", "Escape"].includes(key) && key !== "s") this.back();
+      const acts = !(command && "fghs".includes(key)) && !/^(Shift|Control|Alt|Meta|Tab|Escape|F\d+)$/.test(key);
+      if (this.away && acts) this.back();
       return;
     }
     event.preventDefault();
@@ -197,18 +214,31 @@ export class Sheet {
     this.area.classList.remove("away");
   }
 
+  /** Gives the paper the room of all lines. */
+  stretch() {
+    this.paper.style.height = `${this.text.lines.length * this.height + 2 * ROOM}px`;
+  }
+
   /** Scrolls no farther than a line wants to be seen. */
   reveal(line) {
-    const top = line * this.height, { scrollTop, clientHeight } = this.scroller;
-    this.paper.style.height = `${this.text.lines.length * this.height + 8}px`;
+    const top = line * this.height + ROOM, { scrollTop, clientHeight } = this.scroller;
+    this.stretch();
     if (top < scrollTop) this.scroller.scrollTop = top - this.height;
     else if (top + 2 * this.height > scrollTop + clientHeight) this.scroller.scrollTop = top + 2 * this.height - clientHeight;
   }
 
+  /** Scrolls a line that is not seen to a third of the view. */
+  bring(line) {
+    const { scrollTop, clientHeight } = this.scroller, top = line * this.height + ROOM;
+    if (top >= scrollTop && top + 2 * this.height <= scrollTop + clientHeight) return;
+    this.stretch();
+    this.scroller.scrollTop = Math.max(0, top - clientHeight / 3);
+  }
+
   /** Goes to a place, some lines below the top. A fault that begins there is seen, where its line is longer than the view. */
   go(line, column = 0, focus = false) {
-    this.paper.style.height = `${this.text.lines.length * this.height + 8}px`;
-    this.scroller.scrollTop = Math.max(0, (line - 2) * this.height);
+    this.stretch();
+    this.scroller.scrollTop = line < 3 ? 0 : (line - 2) * this.height + ROOM;
     this.select({ line, column }, { line, column });
     this.scroller.scrollLeft = 0;
     const marks = [...this.marks.querySelectorAll("mark")];
@@ -219,7 +249,8 @@ export class Sheet {
   /** The caret may have moved. */
   watch() {
     if (this.away) return;
-    const { line } = this.caret();
+    const { line, column } = this.caret();
+    this.placed({ line, column });
     const near = (line < this.first + EDGE && this.first > 0) || (line >= this.last - EDGE && this.last < this.text.lines.length);
     if (near && !this.composing && document.activeElement === this.area) this.load(line - 2 * MARGIN, line + 2 * MARGIN);
     if (line === this.line && !this.changed) return;
@@ -232,9 +263,9 @@ export class Sheet {
   /** Draws the numbers and the marks of the lines in the area. */
   draw() {
     const { first, last, height, text } = this;
-    this.paper.style.height = `${text.lines.length * height + 8}px`;
+    this.stretch();
     this.paper.style.setProperty("--digits", String(text.lines.length).length);
-    this.leaf.style.top = `${first * height}px`;
+    this.leaf.style.top = `${first * height + ROOM}px`;
     this.area.style.height = `${(last - first) * height}px`;
     let widest = 0;
     for (let line = first; line < last; line += 1) widest = Math.max(widest, text.lines[line].length);
@@ -242,6 +273,15 @@ export class Sheet {
     this.here.style.top = `${(this.caret().line - first) * height}px`;
     this.changed = true;
     this.drawFaults(this.faultsOf(first, last));
+    this.drawLayers();
+    requestAnimationFrame(() => this.cover());
+  }
+
+  /** Lets the layers draw the lines about those that are seen. A long selection may have many more lines in the area. */
+  drawLayers() {
+    const [first, last] = this.seen();
+    this.drawn = [Math.max(this.first, first - MARGIN), Math.min(this.last, last + MARGIN)];
+    for (const layer of this.layers) layer.draw(...this.drawn);
   }
 
   drawFaults(faults) {

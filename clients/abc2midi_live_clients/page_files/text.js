@@ -1,11 +1,6 @@
 // The text of the book as its lines, what can be undone, and what the server does not have yet.
 
-const ONE_GO = 800; // milliseconds: keys in one line within this are undone together
-
-/** Lines that replace others. */
-export function replaced(lines, start, stop, put) {
-  return lines.slice(0, start).concat(put, lines.slice(stop));
-}
+import { History, applied, replaced } from "./history.js";
 
 /** Where two lists of lines differ: lines start..stop of the old one became `put`; null where they are the same. */
 export function difference(old, now) {
@@ -30,54 +25,57 @@ export function grown(region, start, stop, count) {
 export class Text {
   constructor() {
     this.lines = [""];
-    this.past = []; // edits that can be undone: { start, taken, put, before, after, when }
-    this.future = [];
+    this.history = new History();
     this.pending = null; // the region that the server does not have
     this.edited = () => {}; // start, stop, count: called after each edit
   }
 
-  /** Another text altogether, which the server has. */
+  /** The whole text that the server has. What can be undone stays, if other lines became different. */
   open(lines) {
+    const edit = difference(this.lines, lines);
+    if (edit) this.history.others(edit.start, edit.stop, edit.put.length);
     this.lines = lines;
-    this.past = [];
-    this.future = [];
     this.pending = null;
   }
 
   /** An edit of this window; `before` and `after` are the selections. */
   edit(start, stop, put, before, after) {
-    const taken = this.lines.slice(start, stop);
-    this.put(start, stop, put);
-    this.future = [];
-    const last = this.past[this.past.length - 1], when = performance.now();
-    const same = last && last.start === start && last.put.length === 1 && taken.length === 1 && put.length === 1;
-    if (same && when - last.when < ONE_GO) Object.assign(last, { put, after, when });
-    else this.past.push({ start, taken, put, before, after, when });
-    if (this.past.length > 1000) this.past.shift();
+    const edits = [{ start, taken: this.lines.slice(start, stop), put }];
+    this.history.add({ edits, before, after });
+    this.put(edits);
   }
 
-  /** Takes the last edit back; the selection that was before it, or null. */
+  /** Several edits of this window, which are undone together and alone: in order, at places of the present text. */
+  change(edits, before, after) {
+    this.history.add({ edits, before, after }, true);
+    this.put(edits);
+  }
+
+  /** Takes the last step back; the selection that was before it, or null. */
   undo() {
-    const edit = this.past.pop();
-    if (!edit) return null;
-    this.put(edit.start, edit.start + edit.put.length, edit.taken);
-    this.future.push(edit);
-    return edit.before;
+    return this.go(this.history.undo());
   }
 
   /** Does again what was undone last. */
   redo() {
-    const edit = this.future.pop();
-    if (!edit) return null;
-    this.put(edit.start, edit.start + edit.taken.length, edit.put);
-    this.past.push({ ...edit, when: 0 });
-    return edit.after;
+    return this.go(this.history.redo());
   }
 
-  put(start, stop, put) {
-    this.lines = replaced(this.lines, start, stop, put);
-    this.pending = grown(this.pending, start, stop, put.length);
-    this.edited(start, stop, put.length);
+  /** Makes the edits of a step; the selection after it. A text has a line, so a step that leaves none puts in an empty one. */
+  go(step) {
+    if (!step) return null;
+    const { edits } = step;
+    const more = edits.reduce((sum, { taken, put }) => sum + put.length - taken.length, 0);
+    this.put(this.lines.length + more ? edits : [{ ...edits[0], put: [""] }, ...edits.slice(1)]);
+    return step.after;
+  }
+
+  put(edits) {
+    const last = edits[edits.length - 1], start = edits[0].start, stop = last.start + last.taken.length;
+    const count = edits.reduce((sum, { taken, put }) => sum + put.length - taken.length, stop - start);
+    this.lines = applied(this.lines, edits);
+    this.pending = grown(this.pending, start, stop, count);
+    this.edited(start, stop, count);
   }
 
   /** The edit that brings the server up to date; the text has it to send no more. */
@@ -96,33 +94,35 @@ export class Text {
 
   /** An edit of another window, of the text that the server had. Where this window has changed the same lines too, both
    * are kept, the other's first; then true is answered. Lines put in before a line are not that line; two windows that put
-   * lines in at one place have the other's first, too. What came from disk can be undone, all else that came before cannot. */
+   * lines in at one place have the other's first, too. What came from disk can be undone. */
   others(start, stop, put, fromDisk = false) {
     const own = this.pending;
-    this.past = fromDisk && !own && this.past[this.past.length - 1]?.fromDisk ? this.past : [];
-    this.future = [];
-    if (fromDisk && !own) {
-      const place = { line: Math.min(start, this.lines.length - 1), column: 0 };
-      const selection = { start: place, end: place, direction: "forward" };
-      const taken = this.lines.slice(start, stop);
-      this.past.push({ start, taken, put, before: selection, after: selection, when: -Infinity, fromDisk });
-    }
     const more = own ? own.count - (own.stop - own.start) : 0;
     const shift = put.length - (stop - start);
     if (!own || start > own.stop || (start === own.stop && (start > own.start || stop > start))) {
-      this.lines = replaced(this.lines, start + more, stop + more, put);
-      this.edited(start + more, stop + more, put.length);
+      this.follow(start + more, stop + more, put, fromDisk && !own);
     } else if (stop <= own.start) {
-      this.lines = replaced(this.lines, start, stop, put);
       this.pending = { start: own.start + shift, stop: own.stop + shift, count: own.count };
-      this.edited(start, stop, put.length);
+      this.follow(start, stop, put);
     } else {
       const first = Math.min(own.start, start), end = Math.max(own.stop, stop);
-      this.lines = replaced(this.lines, first, first, put);
       this.pending = { start: first, stop: end + shift, count: end - first + more + put.length };
-      this.edited(first, first, put.length);
+      this.follow(first, first, put);
       return true;
     }
     return false;
+  }
+
+  /** Lines of this window's text become those of another's: as a step that can be undone, or before all steps that can. */
+  follow(start, stop, put, isStep = false) {
+    if (isStep) {
+      const place = { line: Math.min(start, this.lines.length - 1), column: 0 };
+      const selection = { start: place, end: place, direction: "forward" };
+      this.history.add({ edits: [{ start, taken: this.lines.slice(start, stop), put }], before: selection, after: selection }, true);
+    } else {
+      this.history.others(start, stop, put.length);
+    }
+    this.lines = replaced(this.lines, start, stop, put);
+    this.edited(start, stop, put.length);
   }
 }

@@ -1,6 +1,8 @@
 // The list of the tunes: rows are made for those that are seen. A row stays one element for as long as it is drawn, so that
 // the press and the release of a click meet the same one.
 
+import { Filter, folded } from "./filter.js";
+
 const BEYOND = 2; // rows drawn above and below those that are seen
 const LIGHT = 1600; // milliseconds
 
@@ -8,7 +10,10 @@ export class Tunes {
   constructor(list) {
     this.list = list;
     this.space = list.querySelector(".space");
-    this.rows = [];
+    this.all = []; // the tunes of the book
+    this.rows = []; // those that the filter lets through
+    this.filter = new Filter();
+    this.faultsOf = () => 0; // of a tune: how many faults it has
     this.drawn = new Map(); // by place: the element of its row
     this.here = -1; // the tune that is shown
     this.at = -1; // the one that the keyboard stands at
@@ -30,12 +35,23 @@ export class Tunes {
   }
 
   /** Other tunes, of which one is shown. */
-  show(rows, here) {
-    const moved = here !== this.here;
-    this.rows = rows;
+  show(all, at) {
+    this.all = all;
+    this.shown = all[at];
+    this.rows = this.filter.rows(all);
+    const here = this.rows.indexOf(this.shown), moved = here !== this.here;
     this.here = here;
     if (moved && here >= 0) this.stand(here);
     else this.draw();
+  }
+
+  /** Shows the tunes alone that have these words. */
+  sift(words) {
+    this.filter.words = folded(words).split(/\s+/).filter(Boolean);
+    this.here = -1;
+    this.list.scrollTop = 0;
+    this.at = 0;
+    this.show(this.all, this.all.indexOf(this.shown));
   }
 
   /** Lights up numbers for a moment. Those that are alight already go out first, which lets them begin anew. */
@@ -127,8 +143,10 @@ export class Tunes {
     const [, number, title, hasFile] = this.rows[at];
     row.ariaSelected = String(at === this.here);
     row.ariaSetSize = String(this.rows.length);
-    row.className = `${this.lit.get(number) ?? ""} ${at === this.at ? "at" : ""} ${hasFile ? "" : "silent"}`;
-    row.title = hasFile ? title : "This tune has no file: it is too long, or another one has its number.";
+    const faults = this.faultsOf(this.rows[at]), counted = faults ? `${faults} fault${faults === 1 ? "" : "s"}` : "";
+    row.className = `${this.lit.get(number) ?? ""} ${at === this.at ? "at" : ""} ${hasFile ? "" : "silent"} ${faults ? "faulty" : ""}`;
+    row.title = hasFile ? [title, counted].filter(Boolean).join(": ") : "This tune has no file: it is too long, or another one has its number.";
+    row.ariaDescription = counted;
     row.firstChild.textContent = number;
     row.lastChild.textContent = title || "(no title)";
   }

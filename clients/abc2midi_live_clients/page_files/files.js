@@ -1,0 +1,149 @@
+// The book on disk: saving it, under another name too, loading it, and what to ask if another program changed it.
+
+export class Files {
+  /** `book` has the name of the book; `say` shows a sentence; `doubt` returns the name of a question to be answered before a
+   * save, if there is one. */
+  constructor({ text, link, book, questions, say, doubt, undoKey }) {
+    Object.assign(this, { text, link, book, questions, say, doubt, undoKey });
+  }
+
+  /** Whether a question is to be answered before anything is saved: it gets the focus. */
+  isAsked() {
+    const doubt = this.doubt();
+    if (doubt) this.questions.focus(doubt);
+    if (doubt) this.say("Not saved: answer the question first.");
+    return Boolean(doubt);
+  }
+
+  /** Saves the book, or hands it out if no book was named. */
+  async save(over) {
+    const { book, link, questions } = this;
+    if (this.isAsked()) return;
+    if (!book.name) return this.download();
+    if (!over && questions.find("disk")) {
+      questions.focus("disk");
+      return this.say(`Not saved: another program changed ${book.name}.`);
+    }
+    try {
+      await link.file("save", over);
+      questions.withdraw("failed");
+      this.say(`Saved ${book.name}.`);
+    } catch (error) {
+      this.failed("saved", error);
+    }
+  }
+
+  /** Makes the book on disk the text. */
+  async load(over) {
+    try {
+      await this.link.file("load", over);
+      this.say(`Loaded ${this.book.name} from the disk. ${this.undoKey} takes that back.`);
+    } catch (error) {
+      this.failed("loaded", error);
+    }
+  }
+
+  /** Says why the book is not saved or loaded. If there is nothing to ask, the text can be had as a file of the browser. */
+  failed(what, error) {
+    const { book, questions } = this;
+    this.say(`Not ${what}: ${error.message}.`);
+    if (questions.find("disk")) questions.focus("disk");
+    else if (error.status && what === "saved") {
+      const words = `${book.name} is not saved: ${error.message}.`;
+      questions.ask({ name: "failed", about: words, words, answers: { "Download the text": () => this.download(), Close: () => {} }, focus: true });
+    }
+  }
+
+  /** Asks what to do if another program changed the file while the text has changes too. */
+  askAboutTheFile() {
+    const { book, link, questions } = this;
+    const { saved, disk } = link.state;
+    const gone = disk === null;
+    if (disk === saved || link.away || !(gone || link.isUnsaved)) return questions.withdraw("disk");
+    questions.ask({
+      name: "disk",
+      about: disk,
+      words: gone
+        ? `${book.name} is not on the disk any more.`
+        : `Another program changed ${book.name} on the disk, and this text has changes that are not saved.`,
+      answers: {
+        [gone ? "Save this text" : "Save this text over it"]: () => this.save({ over: disk }),
+        ...(!gone && { "Load the book from disk": () => this.load({ over: disk }) }),
+        "Decide later": null,
+      },
+    });
+  }
+
+  /** Hands the text out as a file of the browser. */
+  download(name = this.book.name || "book.abc") {
+    const link = document.createElement("a");
+    link.href = URL.createObjectURL(new Blob([this.text.lines.join("\n")], { type: "text/vnd.abc" }));
+    link.download = name;
+    link.click();
+    setTimeout(() => URL.revokeObjectURL(link.href), 60000);
+  }
+}
+
+/** The question for another name. */
+export class SaveAs {
+  constructor(files, dialog) {
+    Object.assign(this, { files, dialog });
+    [this.words, this.name, this.wrong, this.saves, this.over, this.downloads, this.closes] = [
+      "words", "name", "wrong", "save", "over", "download", "close",
+    ].map((part) => dialog.querySelector(`#copy-${part}`));
+    dialog.querySelector("form").addEventListener("submit", (event) => {
+      event.preventDefault();
+      if (this.files.book.name) this.save({});
+      else this.download();
+    });
+    this.name.addEventListener("input", () => this.complain(""));
+    this.downloads.addEventListener("click", () => this.download());
+    this.closes.addEventListener("click", () => dialog.close());
+  }
+
+  open() {
+    const { files, dialog, words, name, saves } = this;
+    const { book } = files;
+    if (dialog.open || files.isAsked()) return;
+    words.textContent = book.name
+      ? `Saves a copy in the folder of ${book.name}, or downloads it. This page goes on with ${book.name}.`
+      : "No book was named, so there is no folder to save into. Downloads the text.";
+    saves.hidden = !book.name;
+    name.value = book.name ? book.name.replace(/(\.[^.]*)?$/, " copy$1") : "book.abc";
+    this.complain("");
+    dialog.showModal();
+    name.focus();
+    name.setSelectionRange(0, name.value.lastIndexOf("."));
+  }
+
+  /** The name that was typed, which ends as books do. */
+  get named() {
+    const name = this.name.value.trim();
+    return !name || name.includes(".") ? name : `${name}.abc`;
+  }
+
+  /** Says what is wrong; if `there` is the content of a file with this name, it may be replaced. */
+  complain(words, there) {
+    this.wrong.textContent = words;
+    this.over.hidden = there === undefined;
+    this.over.onclick = () => this.save({ over: there });
+  }
+
+  async save(over) {
+    const { files, dialog, named } = this;
+    try {
+      await files.link.file("save-as", { name: named, ...over });
+      dialog.close();
+      files.say(`Saved a copy as ${named}. This page goes on with ${files.book.name}.`);
+    } catch (error) {
+      const { there } = error.told ?? {};
+      if (there) this.complain(`There is a file ${named} in this folder.`, there);
+      else this.complain(`Not saved: ${error.message}.`);
+    }
+  }
+
+  download() {
+    this.files.download(this.named || undefined);
+    this.dialog.close();
+  }
+}

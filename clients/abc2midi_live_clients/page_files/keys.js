@@ -1,0 +1,24 @@
+// The names of keys, which differ on a Mac; and the line at the bottom that has them.
+
+const isMac = /Mac|iPhone|iPad/.test(globalThis.navigator?.userAgentData?.platform || globalThis.navigator?.platform || "");
+
+/** Keys as this machine names them: "Ctrl-S" is "⌘S" on a Mac. There Ctrl-H hides the program, and Ctrl-Space is Ctrl-Space too. */
+export function keysOf(name, onMac = isMac) {
+  if (!onMac || name === "Ctrl-Space") return name;
+  if (name === "Ctrl-H") return "⌥⌘F";
+  if (name === "Ctrl-Y") return "⇧⌘Z";
+  return name.replace("Ctrl-", "⌘").replace("Shift-", "⇧").replace("Alt-", "⌥");
+}
+
+/** Words with the names of keys as this machine has them. */
+export const withKeys = (words, onMac = isMac) => words.replace(/\b(?:(?:Ctrl|Shift|Alt)-)+(?:Space|Enter|F\d+|[A-Z]\b)/g, (name) => keysOf(name, onMac));
+
+/** Names the keys in the titles of a page. */
+export function nameKeys(root) {
+  if (!isMac) return;
+  for (const element of root.querySelectorAll("[title]")) element.title = withKeys(element.title);
+  for (const element of root.querySelectorAll("kbd")) element.textContent = keysOf(element.textContent);
+  for (const element of root.querySelectorAll("[aria-keyshortcuts^=Control]:not(#play)")) {
+    element.setAttribute("aria-keyshortcuts", element.getAttribute("aria-keyshortcuts").replace("Control", "Meta"));
+  }
+}

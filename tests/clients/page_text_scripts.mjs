@@ -1,0 +1,363 @@
+// Tries those scripts of the page that work on the text, without a browser: what can be undone, find and replace, colours, the
+// filter, and what the page says. The folder that has them is the argument. Each test prints `ok` or `FAILED`, with its name.
+
+import { pathToFileURL } from "node:url";
+import { isDeepStrictEqual } from "node:util";
+
+const folder = process.argv[2];
+const from = (name) => import(pathToFileURL(`${folder}/${name}.js`));
+const { kindsOf, partsOf } = await from("colours");
+const { STARTER, whyNothing } = await from("empty");
+const { Filter, folded } = await from("filter");
+const { Matches, matchesIn, replacedIn, sought } = await from("find");
+const { applied, inverse } = await from("history");
+const { keysOf, withKeys } = await from("keys");
+const { grouped } = await from("remarks");
+const { changed, placeOf, without } = await from("rows");
+const { Text } = await from("text");
+const { UndoStore, printOf } = await from("undo_store");
+
+const PLACE = { start: { line: 0, column: 0 }, end: { line: 0, column: 0 }, direction: "forward" };
+
+function same(found, wanted) {
+  if (!isDeepStrictEqual(found, wanted)) throw new Error(`${JSON.stringify(found)}, wanted ${JSON.stringify(wanted)}`);
+}
+
+/** Numbers below a limit, the same ones in each run. */
+function chances(seed) {
+  let state = seed;
+  return (below) => {
+    state = (Math.imul(state, 1664525) + 1013904223) >>> 0;
+    return Math.floor((state / 2 ** 32) * below);
+  };
+}
+
+/** A text of these lines, which the server has. */
+function opened(...lines) {
+  const text = new Text();
+  text.open(lines);
+  return text;
+}
+
+/** An edit of this window, which the server gets. */
+function typed(text, start, stop, ...put) {
+  text.edit(start, stop, put, PLACE, PLACE);
+  text.take();
+}
+
+/** What is left of a text after so many steps back. */
+function undone(text, count = 1) {
+  for (let n = 0; n < count; n += 1) text.undo();
+  return text.lines.join("");
+}
+
+const what = (words, { matchesCase = false, isWhole = false, isRegular = false } = {}) => sought({ words, matchesCase, isWhole, isRegular });
+const textsOf = (line, ...words) => matchesIn(line, what(...words)).map((match) => [match.index, match[0]]);
+const coloured = (line, kind = "music") => partsOf(line, kind).map(([start, end, name]) => [line.slice(start, end), name]);
+
+/** A store as the browser's. */
+function storeOf(most = Infinity) {
+  const kept = new Map();
+  return {
+    getItem: (key) => kept.get(key) ?? null,
+    setItem: (key, value) => {
+      if (value.length > most) throw new Error("no room");
+      kept.set(key, value);
+    },
+  };
+}
+
+/** The store of a window over a text, which the server has at a version. */
+function undoStoreOf(text, store, { run = "r", version = 0, changes = [] } = {}) {
+  const link = { state: { run, version }, settled: true };
+  return new UndoStore(text, link, async (since) => ({ changes: changes.filter((change) => change.version > since) }), store);
+}
+
+/** One random edit of some lines; the lines that it puts in are new ones. */
+function randomEdit(chance, lines, name) {
+  const start = chance(lines.length + 1);
+  const stop = Math.min(lines.length, start + chance(3));
+  const count = stop > start && lines.length > stop - start ? chance(3) : 1 + chance(2);
+  return { start, stop, put: Array.from({ length: count }, (_, n) => `${name}.${n}`) };
+}
+
+const tests = {
+  "edits of others at other lines leave what can be undone"() {
+    const text = opened("a", "b", "c");
+    typed(text, 2, 3, "C");
+    text.others(0, 1, ["x", "y"]);
+    same([text.lines.join(""), undone(text)], ["xybC", "xybc"]);
+    text.redo();
+    same(text.lines.join(""), "xybC");
+    text.others(3, 3, ["z"]);
+    same([text.lines.join(""), undone(text)], ["xybzC", "xybzc"]);
+  },
+
+  "edits of others at the same line end it, and older steps stay"() {
+    const text = opened("a", "b", "c");
+    typed(text, 0, 1, "A");
+    typed(text, 2, 3, "C", "D");
+    text.others(2, 3, ["x"]);
+    same([text.lines.join(""), undone(text)], ["AbxD", "abxD"]);
+    same(text.undo(), null);
+  },
+
+  "a step that is left out moves the older ones"() {
+    const text = opened("a", "b", "c");
+    typed(text, 2, 3, "C");
+    typed(text, 0, 0, "1", "2", "3");
+    text.others(1, 2, []);
+    same([text.lines.join(""), undone(text, 2)], ["13abC", "13abc"]);
+  },
+
+  "edits of others at other lines leave what can be done again"() {
+    const text = opened("a", "b", "c");
+    typed(text, 2, 3, "C");
+    typed(text, 0, 0, "new");
+    undone(text, 2);
+    text.take();
+    text.others(1, 2, ["B", "B"]);
+    text.redo();
+    text.redo();
+    same(text.lines.join(" "), "new a B B C");
+  },
+
+  "steps of several edits"() {
+    const text = opened("a", "b", "c", "d", "e");
+    text.change([{ start: 0, taken: ["a"], put: ["1", "2"] }, { start: 3, taken: ["d"], put: [] }], PLACE, PLACE);
+    same([text.lines.join(""), text.pending], ["12bce", { start: 0, stop: 4, count: 4 }]);
+    text.take();
+    text.others(2, 3, ["B", "B"]);
+    same([text.lines.join(""), undone(text)], ["12BBce", "aBBcde"]);
+    text.redo();
+    same(text.lines.join(""), "12BBce");
+  },
+
+  "the caret of a step moves too"() {
+    const text = opened("a", "b");
+    const at = { start: { line: 1, column: 1 }, end: { line: 1, column: 1 }, direction: "forward" };
+    text.edit(1, 2, ["B"], at, at);
+    text.take();
+    text.others(0, 0, ["x", "y"]);
+    same(text.undo().start, { line: 3, column: 1 });
+  },
+
+  "a text keeps a line"() {
+    const text = opened("a");
+    typed(text, 1, 1, "b");
+    text.others(0, 1, []);
+    text.undo();
+    same(text.lines, [""]);
+  },
+
+  "a whole text that the server has leaves steps at other lines"() {
+    const text = opened("a", "b", "c");
+    typed(text, 2, 3, "C");
+    text.open(["new", "a", "b", "C"]);
+    same(undone(text), "newabc");
+  },
+
+  "edits at random: what others put in stays, what they took stays away, and all can be done again"() {
+    for (let seed = 1; seed <= 300; seed += 1) {
+      const chance = chances(seed), base = Array.from({ length: 12 }, (_, n) => `base.${n}`);
+      const text = opened(...base), put = new Set(), taken = new Set();
+      for (let n = 0; n < 12; n += 1) {
+        const edit = randomEdit(chance, text.lines, n % 3 === 2 ? `other${n}` : `own${n}`);
+        if (n % 3 === 2) {
+          text.lines.slice(edit.start, edit.stop).forEach((line) => taken.add(line) && put.delete(line));
+          edit.put.forEach((line) => put.add(line));
+          text.others(edit.start, edit.stop, edit.put);
+        } else {
+          text.lines.slice(edit.start, edit.stop).forEach((line) => put.delete(line));
+          typed(text, edit.start, edit.stop, ...edit.put);
+        }
+      }
+      const before = text.lines, steps = text.history.past.length;
+      const kept = [...put];
+      for (let n = 0; n < steps; n += 1) text.undo();
+      same([seed, kept.filter((line) => !text.lines.includes(line)), text.lines.filter((line) => taken.has(line))], [seed, [], []]);
+      const left = base.filter((line) => text.lines.includes(line));
+      same([seed, text.lines.filter((line) => line.startsWith("base"))], [seed, left]);
+      for (let n = 0; n < steps; n += 1) text.redo();
+      same([seed, text.lines], [seed, before]);
+    }
+  },
+
+  "a step and its inverse"() {
+    const lines = ["a", "b", "c", "d"], step = { edits: [{ start: 0, taken: [], put: ["1"] }, { start: 1, taken: ["b", "c"], put: ["2"] }] };
+    const now = applied(lines, step.edits);
+    same([now, applied(now, inverse(step).edits)], [["1", "a", "2", "d"], lines]);
+  },
+
+  async "what can be undone is kept while the page is loaded anew"() {
+    const store = storeOf(), text = opened("a", "b");
+    const kept = undoStoreOf(text, store, { version: 1 });
+    await kept.open("book");
+    typed(text, 0, 1, "A");
+    typed(text, 1, 2, "B");
+    text.undo();
+    kept.keep();
+    const next = opened("A", "b");
+    await undoStoreOf(next, store, { run: "another", version: 7 }).open("book");
+    next.redo();
+    same([next.lines.join(""), undone(next, 2)], ["AB", "ab"]);
+    const other = opened("A", "b");
+    await undoStoreOf(other, store).open("other book");
+    same(other.undo(), null);
+  },
+
+  async "it is moved over what changed meanwhile, and dropped if that is not known"() {
+    const store = storeOf(), text = opened("a", "b");
+    const kept = undoStoreOf(text, store, { version: 1 });
+    await kept.open("book");
+    typed(text, 1, 2, "B");
+    kept.keep();
+    const changes = [{ version: 2, edit: { start: 0, stop: 1, lines: ["x", "y"] } }, { version: 3, edit: { start: 0, stop: 1, lines: [] } }];
+    const next = opened("y", "B");
+    await undoStoreOf(next, store, { version: 3, changes }).open("book");
+    same(undone(next), "yb");
+    for (const state of [{ run: "another", version: 3, changes }, { version: 3, changes: changes.slice(1) }]) {
+      const other = opened("y", "B");
+      await undoStoreOf(other, store, state).open("book");
+      same(other.undo(), null);
+    }
+  },
+
+  async "what is kept has a limit: the oldest steps are left out"() {
+    const store = storeOf(), text = opened("");
+    const kept = undoStoreOf(text, store);
+    await kept.open("book");
+    for (let n = 1; n <= 5; n += 1) typed(text, 0, text.lines.length, `${n}`.repeat(300_000), "");
+    kept.keep();
+    const next = opened(...text.lines);
+    await undoStoreOf(next, store).open("book");
+    same([undone(next)[0], next.undo()], ["4", null]);
+    const full = undoStoreOf(opened("a"), storeOf(10));
+    await full.open("book");
+    full.keep();
+  },
+
+  "texts that differ have other names"() {
+    const names = [["a", "b"], ["ab"], ["b", "a"], ["a", "b", ""], ["a", "c"]].map(printOf);
+    same([new Set(names).size, printOf(["a", "b"])], [5, names[0]]);
+  },
+
+  "matches by case, by whole words, and by expressions"() {
+    same(textsOf("The the [the]", "THE"), [[0, "The"], [4, "the"], [9, "the"]]);
+    same(textsOf("The the", "the", { matchesCase: true }), [[4, "the"]]);
+    same(textsOf("an anan Än an2 (an)", "an", { isWhole: true }), [[0, "an"], [16, "an"]]);
+    same(textsOf("a.b axb", "a.b"), [[0, "a.b"]]);
+    same(textsOf("C2 D C4", "[A-G](\\d)", { isRegular: true }), [[0, "C2"], [5, "C4"]]);
+    same(textsOf("abc", "x*", { isRegular: true }), []);
+    same(textsOf("𝄞a", ".", { isRegular: true }), [[0, "𝄞"], [2, "a"]]);
+  },
+
+  "a bad expression has a name"() {
+    const wrongs = ["(", "[a", "*"].map((words) => {
+      try {
+        return what(words, { isRegular: true }) && "none";
+      } catch (error) {
+        return error.message.replace(/: .+/, ": why");
+      }
+    });
+    same(wrongs, Array(3).fill("This is no regular expression: why"));
+  },
+
+  "replacements"() {
+    same(replacedIn("C D C", what("c"), "$1"), { lines: ["$1 D $1"], count: 2 });
+    const groups = what("([A-G])(\\d)", { isRegular: true });
+    same(replacedIn("C2 D E4", groups, "$2$1$$$&"), { lines: ["2C$C2 D 4E$E4"], count: 2 });
+    same(replacedIn("a|b|c", what("\\|", { isRegular: true }), "|\\n"), { lines: ["a|", "b|", "c"], count: 2 });
+    same(replacedIn("a", what("(?<name>a)", { isRegular: true }), "$<name>$7"), { lines: ["a$7"], count: 1 });
+  },
+
+  "the count follows edits, and goes on in slices"() {
+    const lines = Array.from({ length: 3000 }, (_, n) => (n % 3 ? "x" : "aa"));
+    const matches = new Matches(lines, what("a"));
+    same([matches.count(-1), matches.at < 300, matches.count(Infinity), matches.total], [false, true, true, 2000]);
+    const now = ["a", ...lines.slice(3)];
+    matches.edited(now, 0, 3, 1);
+    same([matches.isDone, matches.count(Infinity), matches.total, matches.before(1, 1)], [false, true, 1999, 2]);
+  },
+
+  "the next match, the one before, and around the ends"() {
+    const matches = new Matches(["ab", "", "b b"], what("b"));
+    const next = (line, column, isForward) => {
+      const { line: at, start } = matches.next({ line, column }, isForward);
+      return [at, start];
+    };
+    same([next(0, 0, true), next(0, 2, true), next(2, 1, true), next(2, 3, true)], [[0, 1], [2, 0], [2, 2], [0, 1]]);
+    same([next(2, 2, false), next(2, 0, false), next(0, 1, false)], [[2, 0], [0, 1], [2, 2]]);
+    same(new Matches(["a"], what("b")).next({ line: 0, column: 0 }, true), null);
+  },
+
+  "kinds of lines"() {
+    const lines = ["I:linebreak $", "", "C D E", "X:1", "K:C", "CDE|", "% words", "%%MIDI program 1", "w:la", "C:|D", "z::", "", "CDE"];
+    const kinds = ["field", "text", "text", "field", "field", "music", "comment", "directive", "field", "music", "music", "text", "text"];
+    same([kindsOf(lines, 0, lines.length), kindsOf(lines, 5, 7), kindsOf(lines, 12, 13)], [kinds, kinds.slice(5, 7), ["text"]]);
+  },
+
+  "colours of a line of music"() {
+    same(coloured('|:"Am"C2 !p!D|[1 {ab}c:|]% end'), [
+      ["|:", "barline"], ['"Am"', "chord"], ["!p!", "decoration"], ["|[1", "barline"], ["{ab}", "grace"], [":|]", "barline"], ["% end", "comment"],
+    ]);
+    same(coloured('[K:D]"^slow"~A .B [CEG]|] a\\%|'), [["[K:D]", "field"], ['"^slow"', "string"], ["~", "decoration"], [".", "decoration"], ["|]", "barline"], ["|", "barline"]]);
+    same(coloured("C ! D |2 E :: F ||"), [["|2", "barline"], ["::", "barline"], ["||", "barline"]]);
+  },
+
+  "colours of other lines"() {
+    same(coloured("T:Kesh % jig", "field"), [["T:", "field"], ["Kesh ", "value"], ["% jig", "comment"]]);
+    same(coloured("w:la la", "field"), [["w:", "field"], ["la la", "lyric"]]);
+    same([coloured("X:", "field"), coloured("%%MIDI", "directive"), coloured("|:C", "text")], [[["X:", "field"]], [["%%MIDI", "directive"]], []]);
+  },
+
+  "the filter takes accents and capitals for nothing"() {
+    const filter = new Filter(), rows = [[0, 1, "Ó Súilleabháin’s", true], [5, 12, "The Kesh", true], [9, 2, "Straße 12", true], [12, 31, "Bjørn", true]];
+    const sifted = (...words) => Object.assign(filter, { words }).rows(rows).map((row) => row[1]);
+    same([sifted("suil"), sifted("12"), sifted("kesh", "the"), sifted("strasse"), sifted("bjorn"), sifted("1", "o"), sifted()], [[1], [12, 2], [12], [2], [31], [1], [1, 12, 2, 31]]);
+    same(folded("ÉÈÖ"), "eeo");
+  },
+
+  "equal remarks are one, with their count"() {
+    const lines = ["C- D-", "E -", "& C&"];
+    const faults = [[0, 1, 2, "LooseTie"], [0, 4, 5, "LooseTie"], [1, 2, 3, "LooseTie"], [2, 0, 1, "BadByte"], [2, 0, 1, "Overlay", "words"]];
+    same(grouped(faults, lines), [{ fault: faults[0], sign: "-", count: 3 }, { fault: faults[3], sign: "&", count: 1 }, { fault: faults[4], sign: "&", count: 1 }]);
+  },
+
+  "why there is nothing to see"() {
+    const why = (more) => whyNothing({ lines: ["X:1", "C"], rows: [[4, 7, "", true]], faults: [], row: null, notes: null, ...more });
+    const tunes = [[4, 7, "", true], [9, 7, "", false], [20, 0, "", true], [30, 0, "", false]];
+    same(why({ lines: ["", " "], rows: [] }), "The book is empty. A tune begins with a line X:1.");
+    same(why({ rows: [] }), "This text has no tune. A tune begins with a line X: and its number, as X:1.");
+    same(why(), "The caret is before the first tune, which begins at line 5.");
+    same(why({ rows: tunes, row: tunes[1] }), "Number 7 is used at line 5; this tune has no file.");
+    same(why({ rows: tunes, row: tunes[1], faults: [[9, 0, 2, "TuneTooLong"]] }), "This tune is too long; it has no file.");
+    same(why({ rows: tunes, row: tunes[3] }), "This tune has no number, as the one at line 21; it has no file. Write one, as X:2.");
+    same(why({ row: tunes[0], notes: 0 }), "Tune 7 has no notes yet.");
+    same(why({ row: tunes[2], notes: 0, faults: [[20, 0, 2, "BadReference"]] }), "This tune has no notes yet, and its number cannot be read. Write it as X:1.");
+    same([why({ row: tunes[0] }), why({ row: tunes[0], notes: 3 })], ["", ""]);
+    same([STARTER[0], STARTER.at(-1), STARTER.filter((line) => line.startsWith("K:")).length], ["X:1", "", 1]);
+  },
+
+  "names of keys on a Mac"() {
+    same(["Ctrl-S", "Ctrl-Shift-S", "Ctrl-H", "Ctrl-Space", "Shift-F8"].map((name) => keysOf(name, true)), ["⌘S", "⌘⇧S", "⌥⌘F", "Ctrl-Space", "⇧F8"]);
+    same([keysOf("Ctrl-S", false), withKeys("Save (Ctrl-S), or Ctrl-Space", true)], ["Ctrl-S", "Save (⌘S), or Ctrl-Space"]);
+  },
+
+  "rows move with their lines"() {
+    const rows = [[1, "a"], [3, "b"], [3, "c"], [8, "d"]];
+    same([placeOf(rows, 3), placeOf(rows, 4), placeOf(rows, 9)], [1, 3, 4]);
+    same(without(rows, 3, 4, 2), [[1, "a"], [10, "d"]]);
+    same(changed(rows, { start: 3, stop: 4, lines: [] }, { at: 1, out: 0, put: [[2, "new"]] }), [[1, "a"], [2, "new"], [7, "d"]]);
+  },
+};
+
+for (const [name, test] of Object.entries(tests)) {
+  try {
+    await test();
+    console.log(`ok ${name}`);
+  } catch (error) {
+    console.log(`FAILED ${name}: ${error.stack}`);
+  }
+}
+process.exit(0);

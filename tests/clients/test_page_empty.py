@@ -1,0 +1,130 @@
+"""What the page says when there is nothing or something wrong, in a real browser."""
+
+import test_page_in_browser
+from browser_keys import BACKSPACE, CONTROL, DOWN, END, F8, HOME
+
+STARTS = "return !document.getElementById('starter').hidden"
+TOLD = """
+return [...document.querySelectorAll("#told li")].map((item) => [...item.querySelector("button").children].map((part) => [part.tagName, part.textContent]));
+"""
+DOTS = """
+return [...document.querySelectorAll("[role=option]")].map((row) => [row.firstChild.textContent, row.classList.contains("faulty"), row.ariaDescription]);
+"""
+PLACE = "return document.getElementById('place').textContent"
+
+
+class Empty(test_page_in_browser.Browser):
+    """Empty books and rolls, and the first tune."""
+
+    def says(self, words: str):
+        """Waits till the place of the roll says this."""
+        self.wait(lambda: self.text("empty") == words)
+
+    def test_an_empty_book_offers_a_tune(self):
+        """It comes by an edit that can be undone, and sounds; with some text there is no offer."""
+        self.wait(lambda: self.run_script(STARTS))
+        self.says("The book is empty. A tune begins with a line X:1.")
+        self.driver.find_element("css selector", "#starter button").click()
+        self.roll("Piano roll of tune 1", "from G4 to D5")
+        self.assertEqual((self.text("empty"), self.text("count"), self.run_script(STARTS)), ("", "No faults", False))
+        self.run_script("document.execCommand('insertText', false, 'The Kesh')")
+        self.wait(lambda: self.book()["lines"][:2] == ["X:1", "T:The Kesh"])
+        self.assertEqual(self.book()["faults"], [])
+        self.press("z", CONTROL)
+        self.press("z", CONTROL)
+        self.settled("")
+        self.wait(lambda: self.run_script(STARTS))
+        self.type("X")
+        self.wait(lambda: not self.run_script(STARTS))
+
+    def test_an_empty_roll_says_why(self):
+        self.type("Some words")
+        self.says("This text has no tune. A tune begins with a line X: and its number, as X:1.")
+        self.press("\n\nX:4\nK:C\n")
+        self.says("Tune 4 has no notes yet.")
+        self.press("C")
+        self.says("")
+        self.press("\n\nX:4\nK:D\nD")
+        self.says("Number 4 is used at line 3; this tune has no file.")
+        self.press(HOME, CONTROL)
+        self.says("The caret is before the first tune, which begins at line 3.")
+        self.press(END, CONTROL)
+        self.press("\n\nX:5\nM:4/4\nK:C\n" + "Z1000|" * 140)
+        self.says("This tune is too long; it has no file.")
+        self.press("\n\nX:none\nK:C\n")
+        self.says("This tune has no notes yet, and its number cannot be read. Write it as X:1.")
+        self.press("C\n\nX:\nK:C\nC")
+        self.wait(lambda: self.text("empty").startswith("This tune has no number, as the one at line "))
+
+    def test_the_first_tune_is_selected(self):
+        self.edit(0, 1, "% a header", "I:linebreak $", "", "X:3", "T:First", "K:C", "CEG", "", "X:5", "K:C", "C")
+        self.load()
+        self.wait(lambda: self.run_script("return document.querySelector('[aria-selected=true]')?.textContent") == "3First")
+        self.roll("Piano roll of tune 3")
+        self.wait(lambda: self.run_script(PLACE) == "Line 4, column 1")
+        self.assertEqual(self.run_script("return document.querySelector('.scroller').scrollTop"), 0)
+
+
+class FaultList(test_page_in_browser.Browser):
+    """Faults below the text, in the list of the tunes, and the line at the bottom."""
+
+    def test_place_sign_problem_and_remedy(self):
+        """In this order; equal ones are one, with their count."""
+        self.type("X:1\nK:C\nC - D -\nE - &")
+        problem, remedy = "This tie does not stand directly behind a note or chord; it has no effect.", "Write it after the length, with nothing between, as in C2-C or C2-|C."
+        self.wait(lambda: self.text("count") == "4 faults")
+        tie = [["B", "Line 4"], ["CODE", "-"], ["SPAN", problem], ["SPAN", remedy], ["SMALL", " 3 times"]]
+        self.wait(lambda: self.run_script(TOLD)[0] == tie)
+        told = self.run_script(TOLD)
+        self.assertEqual((len(told), told[1][:3]), (2, [["B", "Line 4"], ["CODE", "&"], ["SPAN", "This sign means nothing here, and is skipped."]]))
+        self.run_script("document.querySelectorAll('#told button')[1].click()")
+        self.wait(lambda: self.run_script(PLACE) == "Line 4, column 5")
+        self.press("z", CONTROL)
+
+    def test_lines_that_move(self):
+        """A fault of the list is where its line is now."""
+        self.type("X:1\nK:C\nC -")
+        self.wait(lambda: self.text("count") == "1 fault")
+        self.edit(0, 0, "%", "%")
+        self.wait(lambda: self.run_script(TOLD)[0][0] == ["B", "Line 5"])
+        self.run_script("document.querySelector('#told button').click()")
+        self.wait(lambda: self.run_script(PLACE) == "Line 5, column 3")
+
+    def test_tunes_with_faults_have_a_dot(self):
+        self.type("X:1\nK:C\nC -\n\nX:2\nK:C\nC\n\nX:3\nK:C\n& &")
+        self.wait(lambda: self.run_script(DOTS) == [["1", True, "1 fault"], ["2", False, ""], ["3", True, "2 faults"]])
+        self.press(3 * BACKSPACE)
+        self.wait(lambda: self.run_script(DOTS)[2] == ["3", False, ""])
+
+    def test_the_count_goes_to_the_next_fault(self):
+        self.assertTrue(self.run_script("return document.getElementById('count').disabled"))
+        self.edit(0, 1, "X:1", "K:C", "C - C", "", "X:2", "K:C", "C &")
+        self.load()
+        places = []
+        for _ in range(3):
+            self.driver.find_element("id", "count").click()
+            places.append(self.run_script(PLACE))
+        self.assertEqual(places, ["Line 3, column 3", "Line 7, column 3", "Line 3, column 3"])
+        self.press(F8)
+        self.wait(lambda: self.run_script(PLACE) == "Line 7, column 3")
+
+    def test_the_line_at_the_bottom(self):
+        """It has the keys, and the place of the caret."""
+        keys = self.run_script("return [...document.querySelectorAll('#keys kbd')].map((one) => one.textContent)")
+        self.assertEqual(keys, ["Ctrl-F", "Ctrl-S", "Ctrl-Z", "F8", "Ctrl-Space"])
+        self.type("X:1\nK:")
+        self.wait(lambda: self.run_script(PLACE) == "Line 2, column 3")
+        self.press(HOME)
+        self.wait(lambda: self.run_script(PLACE) == "Line 2, column 1")
+        self.press(HOME, CONTROL)
+        self.press(DOWN)
+        self.wait(lambda: self.run_script(PLACE) == "Line 2, column 1")
+
+    def test_keys_of_a_mac(self):
+        script = "Object.defineProperty(navigator, 'userAgentData', { value: { platform: 'macOS' } });"
+        added = self.driver.execute_cdp_cmd("Page.addScriptToEvaluateOnNewDocument", {"source": script})
+        self.addCleanup(lambda: self.driver and self.driver.execute_cdp_cmd("Page.removeScriptToEvaluateOnNewDocument", added))
+        self.load()
+        keys = self.run_script("return [...document.querySelectorAll('#keys kbd')].map((one) => one.textContent)")
+        self.assertEqual(keys, ["⌘F", "⌘S", "⌘Z", "F8", "Ctrl-Space"])
+        self.assertEqual(self.run_script("return document.getElementById('save').title"), "Save the book (⌘S)")
