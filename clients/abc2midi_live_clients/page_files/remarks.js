@@ -1,13 +1,15 @@
 // The faults and hints of a tune below the text, and what a mark says when someone points at it.
 
 const MOST = 50; // in the list
+const MOST_OF_A_SIGN = 24; // characters
 
 /** Remarks that say the same of the same sign, as one: the first of them, the sign, and how many there are. */
 export function grouped(faults, lines) {
   const groups = new Map();
   for (const fault of faults) {
     const [line, start, end, name, hint] = fault;
-    const sign = (lines[line] ?? "").slice(start, end).trim();
+    const whole = (lines[line] ?? "").slice(start, end).trim();
+    const sign = whole.length > MOST_OF_A_SIGN ? `${whole.slice(0, MOST_OF_A_SIGN)}…` : whole;
     const key = JSON.stringify([name, hint, sign]);
     if (groups.has(key)) groups.get(key).count += 1;
     else groups.set(key, { fault, sign, count: 1 });

@@ -224,7 +224,12 @@ export class Sheet {
     const top = line * this.height + ROOM, { scrollTop, clientHeight } = this.scroller;
     this.stretch();
     if (top < scrollTop) this.scroller.scrollTop = top - this.height;
-    else if (top + 2 * this.height > scrollTop + clientHeight) this.scroller.scrollTop = top + 2 * this.height - clientHeight;
+    else if (top + 2 * this.height > scrollTop + clientHeight) this.scroller.scrollTop = this.aligned(top + 2 * this.height - clientHeight);
+  }
+
+  /** The top at or after a place at which a line begins. */
+  aligned(top) {
+    return top <= 0 ? 0 : Math.ceil((top - ROOM) / this.height) * this.height + ROOM;
   }
 
   /** Scrolls a line that is not seen to a third of the view. */
@@ -232,7 +237,7 @@ export class Sheet {
     const { scrollTop, clientHeight } = this.scroller, top = line * this.height + ROOM;
     if (top >= scrollTop && top + 2 * this.height <= scrollTop + clientHeight) return;
     this.stretch();
-    this.scroller.scrollTop = Math.max(0, top - clientHeight / 3);
+    this.scroller.scrollTop = this.aligned(top - clientHeight / 3);
   }
 
   /** Goes to a place, some lines below the top. A fault that begins there is seen, where its line is longer than the view. */
