@@ -137,6 +137,7 @@ class Search(test_page_in_browser.Browser):
         self.press("a", CONTROL)
         self.press("E")
         self.press(ENTER, ALT)
+        self.found("4 replaced")
         self.settled("X:1\nK:C\nE E\n\n% E\nE|")
         self.press(ESCAPE)
         self.press("z", CONTROL)

@@ -27,6 +27,12 @@ class Undo(test_page_in_browser.Browser):
         """Types words at once, as one step."""
         self.run_script("document.querySelector('textarea').focus(); document.execCommand('insertText', false, arguments[0])", words)
 
+    def other(self, start: int, stop: int, *lines):
+        """An edit of another window, which the page shows."""
+        state = self.ask("state")
+        self.ask("edit", {"run": state["run"], "version": state["version"], "window": "other", "start": start, "stop": stop, "lines": lines})
+        self.wait(lambda: all(line in self.run_script("return document.querySelector('textarea').value") for line in lines))
+
     def test_a_reload(self):
         """What was typed before it can be undone, and be done again."""
         self.put("X:1\nK:C\n")
@@ -65,14 +71,12 @@ class Undo(test_page_in_browser.Browser):
         self.type(END, CONTROL)
         self.put("EF")
         self.lines("X:1", "K:C", "C", "", "X:2", "K:D", "DEF")
-        self.edit(2, 3, "CCC", "GGG")
-        self.wait(lambda: "GGG" in self.run_script("return document.querySelector('textarea').value"))
+        self.other(2, 3, "CCC", "GGG")
         self.press("z", CONTROL)
         self.lines("X:1", "K:C", "CCC", "GGG", "", "X:2", "K:D", "D")
         self.press("y", CONTROL)
         self.lines("X:1", "K:C", "CCC", "GGG", "", "X:2", "K:D", "DEF")
-        self.edit(7, 8, "another's")
-        self.wait(lambda: "another's" in self.run_script("return document.querySelector('textarea').value"))
+        self.other(7, 8, "another's")
         self.press("z", CONTROL)
         self.press("z", CONTROL)
         self.type(HOME, CONTROL)

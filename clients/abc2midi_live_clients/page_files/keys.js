@@ -1,6 +1,6 @@
 // The names of keys, which differ on a Mac; and the line at the bottom that has them.
 
-const isMac = /Mac|iPhone|iPad/.test(globalThis.navigator?.userAgentData?.platform || globalThis.navigator?.platform || "");
+const isMac = /mac|iphone|ipad/i.test(globalThis.navigator?.userAgentData?.platform || globalThis.navigator?.platform || "");
 
 /** Keys as this machine names them: "Ctrl-S" is "⌘S" on a Mac. There Ctrl-H hides the program, and Ctrl-Space is Ctrl-Space too. */
 export function keysOf(name, onMac = isMac) {

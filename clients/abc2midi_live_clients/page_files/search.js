@@ -16,6 +16,8 @@ export class Search {
     this.told = part("found");
     this.replacing = part("replacing");
     this.matches = null; // of what is looked for
+    this.wrong = ""; // with the words
+    this.news = ""; // what was replaced
     this.here = null; // the match that is selected
     this.from = { line: 0, column: 0 }; // where to look while words are typed
     this.layer = Object.assign(document.createElement("div"), { className: "finds", ariaHidden: "true" });
@@ -91,7 +93,7 @@ export class Search {
   look() {
     const [matchesCase, isWhole, isRegular] = ["match-case", "whole-words", "regular"].map((id) => this.root.querySelector(`#${id}`).checked);
     this.matches = this.here = null;
-    this.wrong = "";
+    this.wrong = this.news = "";
     try {
       if (this.words.value) this.matches = new Matches(this.sheet.text.lines, sought({ words: this.words.value, matchesCase, isWhole, isRegular }));
     } catch (error) {
@@ -121,6 +123,7 @@ export class Search {
   /** Goes to the next match, or the one before. */
   step(isForward) {
     if (!this.matches) return this.words.focus();
+    this.news = "";
     const { start, end } = this.sheet.selection();
     const at = isForward && this.isHere(this.here) ? end : start;
     this.go(this.matches.next(this.fit(at), isForward));
@@ -189,8 +192,8 @@ export class Search {
     const total = matches && `${matches.total}${matches.isDone ? "" : "…"}`;
     const isKnown = matches && this.isHere(here) && matches.at >= here.line;
     const found = isKnown ? `${matches.before(here.line, here.start) + 1} of ${total}` : `${total} found`;
-    this.told.textContent = this.wrong || (!matches ? "" : isBad ? "Nothing found" : found);
-    this.told.classList.toggle("bad", isBad);
+    this.told.textContent = this.wrong || this.news || (!matches ? "" : isBad ? "Nothing found" : found);
+    this.told.classList.toggle("bad", isBad && !this.news);
     this.words.ariaInvalid = String(Boolean(this.wrong));
     for (const button of this.root.querySelectorAll(".needs-match")) button.disabled = !matches || isBad;
   }
@@ -229,6 +232,8 @@ export class Search {
       }
     });
     if (edits.length) this.change(edits, this.fit(this.sheet.selection().start));
+    this.news = `${count} replaced`;
+    this.tell();
     this.say(`${count} replaced. ${this.undoKey} takes ${count === 1 ? "it" : "them"} back.`);
   }
 
