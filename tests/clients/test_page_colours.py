@@ -10,10 +10,11 @@ return [...document.querySelectorAll(".colours div")].map((row) => [...row.query
 PLACES = """
 const found = [], layer = document.querySelector(".colours").getBoundingClientRect();
 const area = document.querySelector("textarea"), at = area.getBoundingClientRect();
+const rows = [...document.querySelectorAll(".colours div")].map((row) => row.textContent), first = Math.round((layer.top - at.top) / 21);
 const style = (one) => ["fontFamily", "fontSize", "lineHeight", "letterSpacing", "tabSize", "fontVariantLigatures"].map((name) => getComputedStyle(one)[name]).join();
 return {
-  text: [...document.querySelectorAll(".colours div")].map((row) => row.textContent).join("\\n"), value: area.value,
-  left: layer.left - at.left, top: layer.top - at.top, high: layer.height - at.height, same: style(document.querySelector(".colours")) === style(area),
+  text: rows.join("\\n"), value: area.value.split("\\n").slice(first, first + rows.length).join("\\n"),
+  left: layer.left - at.left, top: layer.top - at.top - 21 * first, high: layer.height - 21 * rows.length, same: style(document.querySelector(".colours")) === style(area),
   hidden: document.querySelector(".colours").getAttribute("aria-hidden"),
 };
 """
@@ -105,7 +106,7 @@ class Colours(test_page_in_browser.Browser):
 
     def same_places(self):
         """Waits till the layer has what the text area has."""
-        self.wait(lambda: (found := self.run_script(PLACES))["text"] == found["value"])
+        self.wait(lambda: (found := self.run_script(PLACES))["text"] == found["value"] and self.run_script(COVERS))
         found = self.run_script(PLACES)
         self.assertEqual((found["left"], found["top"], found["high"], found["same"], found["hidden"]), (0, 0, 0, True, "true"))
 
