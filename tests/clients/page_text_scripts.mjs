@@ -277,7 +277,9 @@ const tests = {
     same([matches.count(-1), matches.at < 300, matches.count(Infinity), matches.total], [false, true, true, 2000]);
     const now = ["a", ...lines.slice(3)];
     matches.edited(now, 0, 3, 1);
-    same([matches.isDone, matches.count(Infinity), matches.total, matches.before(1, 1)], [false, true, 1999, 2]);
+    same([matches.isDone, matches.total, matches.before(1, 1)], [true, 1999, 2]);
+    matches.edited(["a", ...Array(2997).fill("aaa")], 1, 2998, 2997);
+    same([matches.isDone, matches.count(Infinity), matches.total], [false, true, 1 + 3 * 2997]);
   },
 
   "the next match, the one before, and around the ends"() {

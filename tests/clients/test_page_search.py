@@ -6,9 +6,13 @@ from browser_keys import ALT, BACKSPACE, CONTROL, DOWN, END, ENTER, ESCAPE, F3, 
 
 TUNES = [line for number in range(1, 301) for line in (f"X:{number}", f"T:Tune {number}", "K:C", "C2 D2 E2", "")]
 MARKED = """
-return [...document.querySelectorAll(".finds div")].map((row) => {
-  const line = Math.round((row.getBoundingClientRect().top - document.querySelector(".lines").getBoundingClientRect().top) / 21);
-  return [line, row.firstChild.textContent.length, row.lastChild.textContent, row.lastChild.className];
+const top = document.querySelector("textarea").getBoundingClientRect().top;
+return [...document.querySelectorAll(".finds span")].map((mark) => {
+  const before = document.createRange();
+  before.setStart(mark.parentNode, 0);
+  before.setEndBefore(mark);
+  const line = Math.round((mark.parentNode.getBoundingClientRect().top - top) / 21);
+  return [line, before.toString().length, mark.textContent, mark.className];
 });
 """
 SELECTED = """

@@ -1,7 +1,7 @@
 // Colours for the parts of a text: a layer below the text area, whose own letters cannot be seen, has the lines about those
 // that are seen.
 
-import { difference } from "./text.js";
+import { Layer, rowOf } from "./layer.js";
 
 const MOST = 5000; // characters of a line that is coloured
 const FAR = 3000; // lines before the first one in which the begin of its tune is looked for
@@ -63,38 +63,15 @@ function musicOf(line) {
 export class Colours {
   constructor(sheet) {
     this.sheet = sheet;
-    this.layer = Object.assign(document.createElement("div"), { className: "colours", ariaHidden: "true" });
-    this.rows = []; // of the lines that are drawn: the kind of each, and the line
-    sheet.area.before(this.layer);
+    this.layer = new Layer(sheet, "colours");
     sheet.layers.push(this);
   }
 
-  /** Draws some lines. Those that are as they were keep their elements. */
+  /** Draws some lines. */
   draw(first, last) {
-    const { text, height } = this.sheet;
-    const kinds = kindsOf(text.lines, first, last);
-    const rows = kinds.map((kind, n) => `${kind} ${text.lines[first + n]}`);
-    this.layer.style.top = `${(first - this.sheet.first) * height}px`;
-    const edit = difference(this.rows, rows);
-    this.rows = rows;
-    if (!edit) return;
-    const after = this.layer.children[edit.stop] ?? null;
-    for (let n = edit.start; n < edit.stop; n += 1) this.layer.children[edit.start].remove();
-    const made = edit.put.map((_, n) => this.row(text.lines[first + edit.start + n], kinds[edit.start + n]));
-    const some = document.createDocumentFragment();
-    some.append(...made);
-    this.layer.insertBefore(some, after);
-  }
-
-  row(line, kind) {
-    const row = document.createElement("div");
-    let at = 0;
-    for (const [start, end, name] of partsOf(line, kind)) {
-      const part = Object.assign(document.createElement("span"), { className: name, textContent: line.slice(start, end) });
-      row.append(line.slice(at, start), part);
-      at = end;
-    }
-    row.append(line.slice(at));
-    return row;
+    const { lines } = this.sheet.text;
+    const kinds = kindsOf(lines, first, last);
+    const keys = kinds.map((kind, n) => `${kind} ${lines[first + n]}`);
+    this.layer.draw(first, keys, (n) => rowOf(lines[first + n], partsOf(lines[first + n], kinds[n])));
   }
 }

@@ -92,9 +92,15 @@ export class Matches {
   /** Lines of the text became others. */
   edited(lines, start, stop, count) {
     for (let line = start; line < stop; line += 1) this.total -= Math.max(0, this.counts[line]);
+    const wasDone = this.isDone;
     this.counts = this.counts.slice(0, start).concat(new Array(count).fill(-1), this.counts.slice(stop));
     this.lines = lines;
-    this.at = Math.min(this.at, start);
+    if (wasDone && count <= OFTEN) {
+      for (let line = start; line < start + count; line += 1) this.of(line);
+      this.at = lines.length;
+    } else {
+      this.at = Math.min(this.at, start);
+    }
   }
 
   /** The matches of a line, as places. */

@@ -1,10 +1,11 @@
 // Find and replace over the whole book: the line above the text, and the marks of the matches in the lines that are seen.
 
 import { Matches, replacedIn, replacement, sought } from "./find.js";
+import { Layer, rowOf } from "./layer.js";
 
 const AT_ONCE = 12; // milliseconds of counting after a key
 const SLICE = 10; // and before the page does something else
-const MOST_MARKS = 2000;
+const MOST_MARKS = 500; // in a line
 
 export class Search {
   /** `say` shows a sentence; `undoKey` is the name of the keys that take something back. */
@@ -20,8 +21,7 @@ export class Search {
     this.news = ""; // what was replaced
     this.here = null; // the match that is selected
     this.from = { line: 0, column: 0 }; // where to look while words are typed
-    this.layer = Object.assign(document.createElement("div"), { className: "finds", ariaHidden: "true" });
-    sheet.area.before(this.layer);
+    this.layer = new Layer(sheet, "finds");
     sheet.layers.push(this);
     this.listen(part);
   }
@@ -76,7 +76,7 @@ export class Search {
   close() {
     this.root.hidden = true;
     this.matches = this.here = null;
-    this.layer.replaceChildren();
+    this.layer.clear();
     this.sheet.area.focus({ preventScroll: true });
   }
 
@@ -94,6 +94,7 @@ export class Search {
     const [matchesCase, isWhole, isRegular] = ["match-case", "whole-words", "regular"].map((id) => this.root.querySelector(`#${id}`).checked);
     this.matches = this.here = null;
     this.wrong = this.news = "";
+    this.layer.clear();
     try {
       if (this.words.value) this.matches = new Matches(this.sheet.text.lines, sought({ words: this.words.value, matchesCase, isWhole, isRegular }));
     } catch (error) {
@@ -146,7 +147,7 @@ export class Search {
       if (focus !== document.activeElement) focus.focus({ preventScroll: true });
     }
     this.draw(...this.sheet.drawn);
-    this.layer.querySelector(".selected")?.scrollIntoView({ block: "nearest", inline: "nearest" });
+    this.layer.element.querySelector(".selected")?.scrollIntoView({ block: "nearest", inline: "nearest" });
   }
 
   /** The text is another one altogether. */
@@ -169,20 +170,15 @@ export class Search {
   /** Marks the matches of some lines, and says how many there are. */
   draw(first, last) {
     if (!this.isOpen) return;
-    const places = [];
-    for (let line = first; this.matches && line < last && places.length < MOST_MARKS; line += 1) places.push(...this.matches.placesIn(line));
-    this.layer.replaceChildren(...places.slice(0, MOST_MARKS).map((place) => this.mark(place)));
+    const { lines } = this.sheet.text, { matches } = this;
+    const here = this.isHere(this.here) ? this.here : null;
+    const selected = (line) => (here?.line === line ? here.start : -1);
+    const keys = matches ? lines.slice(first, last).map((line, n) => `${selected(first + n)} ${line}`) : [];
+    this.layer.draw(first, keys, (n) => {
+      const places = matches.placesIn(first + n).slice(0, MOST_MARKS);
+      return rowOf(lines[first + n], places.map(({ start, end }) => [start, end, start === selected(first + n) ? "selected" : ""]));
+    });
     this.tell();
-  }
-
-  mark(place) {
-    const line = this.sheet.text.lines[place.line];
-    const row = document.createElement("div"), mark = document.createElement("span");
-    row.style.top = `${(place.line - this.sheet.first) * this.sheet.height}px`;
-    mark.textContent = line.slice(place.start, place.end);
-    mark.className = this.isHere(place) ? "selected" : "";
-    row.append(line.slice(0, place.start), mark);
-    return row;
   }
 
   /** Says which match is selected, of how many. */
