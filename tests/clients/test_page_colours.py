@@ -146,6 +146,21 @@ class Colours(test_page_in_browser.Browser):
                 self.run_script("document.querySelector('.scroller').scrollTop = arguments[0]", top)
                 self.wait(lambda: (found := self.run_script(BOTTOM))["cut"] == 0 and found["shown"] > 5 and found["cover"] < 21)
 
+    def test_the_line_of_the_caret_stays_in_view(self):
+        """Faults that appear below the text make its view lower."""
+        self.edit(0, 1, "X:1", "K:C", *["C|"] * 60)
+        self.load()
+        self.type(END, CONTROL)
+        high = self.run_script("return document.querySelector('.scroller').clientHeight")
+        self.press("&")
+        self.wait(lambda: self.run_script("return document.querySelector('.scroller').clientHeight") < high)
+        seen = """
+        const here = document.querySelector(".here").getBoundingClientRect(), view = document.querySelector(".scroller");
+        const cover = parseFloat(getComputedStyle(document.querySelector(".view"), "::before").height);
+        return here.top >= view.getBoundingClientRect().top && here.bottom <= view.getBoundingClientRect().top + view.clientHeight - cover + 0.5;
+        """
+        self.wait(lambda: self.run_script(seen))
+
     def test_room_above_the_first_line(self):
         self.edit(0, 1, *TEXT)
         self.load()

@@ -148,7 +148,21 @@ class Copies(test_page_in_browser.Browser):
         self.assertEqual(self.text("status"), "Saved a copy as other.abc. This page goes on with book.abc.")
         self.assertTrue(self.is_unsaved())
         self.press("more")
-        self.wait(lambda: "more" in self.book()["lines"][1])
+        self.wait(lambda: self.book()["lines"][1] == "moreX:1")
+
+    def test_the_caret_comes_back(self):
+        self.type(END, CONTROL)
+        for key, name in ((ENTER, "one"), (ESCAPE, "two")):
+            self.press("x")
+            self.press("s", CONTROL, SHIFT)
+            self.wait(lambda: self.run_script(COPY))
+            self.press(name + key)
+            self.wait(lambda: not self.run_script(COPY) and self.run_script("return document.activeElement.tagName") == "TEXTAREA")
+            self.press("y")
+        self.lines("X:1", "K:C", "C", "xyxy")
+
+    def lines(self, *lines: str):
+        self.settled("\n".join(lines))
 
     def test_a_name_that_is_taken(self):
         """The file is replaced only when the user says so."""

@@ -86,8 +86,8 @@ export class Files {
 
 /** The question for another name. */
 export class SaveAs {
-  constructor(files, dialog) {
-    Object.assign(this, { files, dialog });
+  constructor(files, dialog, sheet) {
+    Object.assign(this, { files, dialog, sheet });
     [this.words, this.name, this.wrong, this.saves, this.over, this.downloads, this.closes] = [
       "words", "name", "wrong", "save", "over", "download", "close",
     ].map((part) => dialog.querySelector(`#copy-${part}`));
@@ -99,6 +99,13 @@ export class SaveAs {
     this.name.addEventListener("input", () => this.complain(""));
     this.downloads.addEventListener("click", () => this.download());
     this.closes.addEventListener("click", () => dialog.close());
+    dialog.addEventListener("close", () => this.leave());
+  }
+
+  /** Gives the focus back. Browsers do that too, but some lose the caret of a text area. */
+  leave() {
+    this.sheet.refresh(this.selection);
+    this.before.focus({ preventScroll: true });
   }
 
   open() {
@@ -111,6 +118,9 @@ export class SaveAs {
     saves.hidden = !book.name;
     name.value = book.name ? book.name.replace(/(\.[^.]*)?$/, " copy$1") : "book.abc";
     this.complain("");
+    this.before = document.activeElement;
+    this.selection = this.sheet.selection();
+    this.before.blur();
     dialog.showModal();
     name.focus();
     name.setSelectionRange(0, name.value.lastIndexOf("."));

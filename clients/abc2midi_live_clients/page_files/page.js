@@ -40,7 +40,7 @@ nameKeys(document);
 
 const book = { name: "", faults: [], hints: [], tunes: [] }; // as the server has it
 const files = new Files({ text, link, book, questions, say, doubt: standingDoubt, undoKey });
-const saveAs = new SaveAs(files, find("copy"));
+const saveAs = new SaveAs(files, find("copy"), sheet);
 let drafts = null;
 let faults = [], hints = [], rows = []; // in this window's text
 let shown = { number: null, score: null, of: null, asked: 0 }; // the tune in the roll, and the one whose score is there

@@ -23,6 +23,7 @@ export class Sheet {
     this.placed = () => {}; // the place of the caret
     this.pointed = () => {};
     this.line = -1;
+    this.high = 0; // of the view
     this.height = parseFloat(getComputedStyle(this.area).lineHeight);
     this.listen();
   }
@@ -30,7 +31,7 @@ export class Sheet {
   listen() {
     const area = this.area;
     this.scroller.addEventListener("scroll", () => this.look());
-    new ResizeObserver(() => this.look()).observe(this.scroller);
+    new ResizeObserver(() => this.resized()).observe(this.scroller);
     area.addEventListener("input", () => this.read());
     area.addEventListener("compositionend", () => this.look());
     area.addEventListener("beforeinput", (event) => this.before(event));
@@ -109,6 +110,16 @@ export class Sheet {
     if ((lacking || much) && !this.composing) this.load(first - MARGIN, last + MARGIN);
     else if (first < this.drawn[0] || Math.min(last, this.last) > this.drawn[1]) this.drawLayers();
     this.cover();
+  }
+
+  /** The view has another height. The line of the caret stays in it, as when faults appear below the text. */
+  resized() {
+    const { scrollTop, clientHeight } = this.scroller, before = this.high;
+    this.high = clientHeight;
+    const end = (this.caret().line + 1) * this.height + ROOM;
+    const isLost = end <= scrollTop + before && end > scrollTop + clientHeight;
+    if (isLost && !this.away && document.activeElement === this.area) this.reveal(this.caret().line);
+    this.look();
   }
 
   /** Covers a line of which the bottom has no room, and lets the ends of long lines fade. */
