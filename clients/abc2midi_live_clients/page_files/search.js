@@ -184,7 +184,7 @@ export class Search {
   /** Says which match is selected, of how many. */
   tell() {
     const { matches, here } = this;
-    const isBad = Boolean(this.wrong) || (matches?.isDone && !matches.total);
+    const isBad = Boolean(this.wrong || (matches?.isDone && !matches.total));
     const total = matches && `${matches.total}${matches.isDone ? "" : "…"}`;
     const isKnown = matches && this.isHere(here) && matches.at >= here.line;
     const found = isKnown ? `${matches.before(here.line, here.start) + 1} of ${total}` : `${total} found`;
