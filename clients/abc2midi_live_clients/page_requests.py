@@ -138,8 +138,11 @@ class Request(BaseHTTPRequestHandler):
             raise Refused(404, "There is nothing of that name.")
 
     def post(self, name: Optional[str]) -> None:
-        """Follows an edit, saves the book or a copy, loads the book from disk, or starts the program again."""
+        """Follows an edit, saves the book or a copy, loads the book from disk, starts the program again, or draws a tune."""
         book = self.server.book
+        if name == "score":
+            self.send(self.server.scorer.answer(self.body()), "application/json")
+            return
         known = {"edit": book.edit, "save": book.save, "save-as": book.save_as, "load": book.load, "restart": book.restart}
         follow = known.get(name or "")
         if follow is None:

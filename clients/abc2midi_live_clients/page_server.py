@@ -15,11 +15,13 @@ from typing import Any
 
 from .connections import Connections
 from .faults import sentence_pairs
-from .hint_process import ENDED, HintProcess
+from .hint_process import HintProcess
+from .own_process import ENDED
 from .page_requests import Request
 from .printing import printable
 from .program import ProgramEnded, ProgramMissing, add_common_options, find_program
 from .proofs import book_key, proof
+from .scorer import Scorer
 from .shared_book import SharedBook
 from .signals import when_told_to_end
 
@@ -51,6 +53,7 @@ class Server(ThreadingHTTPServer):
     request_queue_size = 128
 
     def __init__(self, port: int, book: SharedBook):
+        self.scorer = Scorer()  # first: a server whose port is taken is closed at once
         super().__init__(("127.0.0.1", port), Request)
         self.book = book
         self.token = secrets.token_urlsafe(24)
@@ -77,6 +80,11 @@ class Server(ThreadingHTTPServer):
             connection.close()
             raise OSError("there are too many connections")
         return connection, address
+
+    def server_close(self) -> None:
+        """Ends the server, and what draws scores for it."""
+        super().server_close()
+        self.scorer.close()
 
     def shutdown_request(self, request: Any) -> None:
         """Ends a connection."""

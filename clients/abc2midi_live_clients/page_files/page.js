@@ -12,6 +12,7 @@ import { Questions } from "./questions.js";
 import { Remarks } from "./remarks.js";
 import { Roll, nameOf } from "./roll.js";
 import { changed, placeOf, rowsIn, without } from "./rows.js";
+import { Score, tuneOf } from "./score.js";
 import { Search } from "./search.js";
 import { Server } from "./server.js";
 import { Sheet } from "./sheet.js";
@@ -30,6 +31,10 @@ const questions = new Questions(find("notice"), find("later"), sheet.area);
 const tunes = new Tunes(find("list"));
 const roll = new Roll(find("roll"), document.querySelector("canvas"));
 const player = new Player();
+const staves = new Score(find("score"), async (question) => {
+  if (link.away) throw new Error(link.away);
+  return server.ask("score", question);
+});
 const undoKey = keysOf("Ctrl-Z");
 const search = new Search(sheet, find("search"), say, undoKey);
 const starter = new Starter(sheet, find("starter"));
@@ -87,6 +92,8 @@ function tell() {
   remarks.show(foundIn(at < 0 ? 0 : rows[at][0], endOf(at)), text.lines, line);
   starter.look();
   if (!player.playing) show(at < 0 ? null : rows[at]);
+  const played = (row) => row[1] === shown.number && row[3];
+  staves.see(tuneOf(text.lines, rows, player.playing ? rows.findIndex(played) : at));
 }
 
 /** Shows the tunes that the filter lets through. */
@@ -201,6 +208,10 @@ sheet.moved = () => {
 sheet.placed = ({ line, column }) => {
   find("place").textContent = `Line ${line + 1}, column ${column + 1}`;
 };
+staves.drawn = () => {
+  find("print").hidden = !staves.notes.length;
+};
+staves.picked = (line, column) => sheet.go(line, column, true);
 sheet.pointed = (under, event) => remarks.point(under, event);
 tunes.faultsOf = ([line]) => rowsIn(faults, line, endOf(tuneAt(line))).length;
 tunes.chosen = ([line]) => sheet.go(line, 0, true);
@@ -417,6 +428,7 @@ document.addEventListener("keydown", (event) => {
   if (event.target.closest("dialog")) return;
   if (search.takes(event)) return event.preventDefault();
   if (command && event.key.toLowerCase() === "s") event.shiftKey ? saveAs.open() : files.save();
+  else if (command && event.key.toLowerCase() === "p") staves.print();
   else if (event.code === "Space" && (event.ctrlKey || (plain && !event.altKey && !event.metaKey))) playOrStop();
   else if (event.key === "F8") toFault(!event.shiftKey);
   else if (event.key === "Escape" && inText && search.isOpen) search.close();
@@ -437,12 +449,14 @@ find("filter").addEventListener("keydown", (event) => {
   event.preventDefault();
 });
 find("play").addEventListener("click", playOrStop);
+find("print").addEventListener("click", () => staves.print());
 find("before").addEventListener("click", () => toFault(false));
 find("after").addEventListener("click", () => toFault(true));
 addEventListener("pagehide", () => {
   keep();
   undoStore.keep();
 });
+document.addEventListener("selectionchange", () => staves.caret(sheet.caret()));
 addEventListener("beforeunload", (event) => {
   if (link.state && !link.settled) event.preventDefault();
 });

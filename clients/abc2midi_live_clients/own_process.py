@@ -1,0 +1,50 @@
+"""A process of one's own for work that is not to hold up the client."""
+
+import os
+import pickle
+import subprocess
+import sys
+from collections.abc import Callable
+from contextlib import suppress
+from pathlib import Path
+from typing import Any
+
+ENDED = (EOFError, OSError, ValueError, pickle.UnpicklingError)  # one of these is raised if the process ended
+
+
+class OwnProcess:
+    """A process that answers questions by the function `serve` of a module of this package. It ends with the client."""
+
+    def __init__(self, module: str, **environment: str) -> None:
+        start = f"from abc2midi_live_clients.{module} import serve; serve()"
+        path = str(Path(__file__).resolve().parent.parent)
+        self.process = subprocess.Popen(
+            [sys.executable, "-c", start], stdin=subprocess.PIPE, stdout=subprocess.PIPE, start_new_session=True,
+            env={**os.environ, "PYTHONPATH": path, "PYTHONDONTWRITEBYTECODE": "1", **environment},
+        )  # fmt: skip
+        assert self.process.stdin and self.process.stdout
+        self.questions, self.answers = self.process.stdin, self.process.stdout
+
+    def ask(self, question: object) -> Any:
+        """The answer to a question. Raises one of `ENDED` if the process ended."""
+        pickle.dump(question, self.questions)
+        self.questions.flush()
+        return pickle.load(self.answers)
+
+    def close(self) -> None:
+        """Ends the process."""
+        self.process.kill()
+        with suppress(OSError):
+            self.questions.close()
+        self.answers.close()
+        self.process.wait()
+
+
+def answer_all(answer: Callable[[Any], object], niceness: int) -> None:
+    """Answers questions till there are no more."""
+    os.nice(niceness)
+    questions, answers = sys.stdin.buffer, sys.stdout.buffer
+    with suppress(EOFError, OSError, pickle.UnpicklingError):
+        while True:
+            pickle.dump(answer(pickle.load(questions)), answers)
+            answers.flush()

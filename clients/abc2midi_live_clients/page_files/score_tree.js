@@ -1,0 +1,70 @@
+// Elements of a drawing, made one by one of what the server sends: those that are listed here, with attributes that are listed
+// here. No text is ever read as markup.
+
+const SVG = "http://www.w3.org/2000/svg";
+const TAGS = new Set(["g", "defs", "path", "ellipse", "circle", "line", "rect", "text", "tspan", "use"]);
+const ATTRIBUTES = new Set([
+  "class", "cx", "cy", "d", "dx", "dy", "font-family", "font-size", "font-style", "font-weight", "height", "href", "id", "r", "rx", "ry",
+  "stroke-dasharray", "stroke-width", "text-anchor", "transform", "viewBox", "width", "x", "x1", "x2", "y", "y1", "y2",
+]);
+
+/** An image of a drawing: its element is there at once, what is in it when it is filled. */
+class Page {
+  constructor([, attributes, ...inside], places) {
+    this.inside = inside;
+    this.covers = new Map(); // by the node of a note: the element that covers it
+    this.element = made("svg", attributes);
+    this.cover(inside, places);
+  }
+
+  /** Makes the elements that cover notes. */
+  cover(nodes, places) {
+    for (const node of nodes) {
+      const [tag, attributes, ...inside] = node;
+      if (tag === "place") {
+        const { row, column, kind, x, y, width, height } = attributes;
+        const element = made("rect", { class: "score-place", rx: "2", x, y, width, height });
+        this.covers.set(node, element);
+        places.push({ element, row, column, kind, page: this });
+      } else if (typeof node !== "string") {
+        this.cover(inside, places);
+      }
+    }
+  }
+
+  /** Makes what is in the image, if it is not there. */
+  fill() {
+    this.element.append(...this.contents(this.inside));
+    this.inside = [];
+  }
+
+  contents(nodes) {
+    return nodes.map((node) => this.content(node)).filter((child) => child !== null);
+  }
+
+  /** A text, or the element of a node; null if it is not to be shown. */
+  content(node) {
+    if (typeof node === "string" || this.covers.has(node)) return this.covers.get(node) ?? node;
+    const [tag, attributes, ...inside] = node;
+    if (!TAGS.has(tag)) return null;
+    const element = made(tag, attributes);
+    element.append(...this.contents(inside));
+    return element;
+  }
+}
+
+/** An element, with those of its attributes that are known. */
+function made(tag, attributes) {
+  const element = document.createElementNS(SVG, tag);
+  for (const [name, value] of Object.entries(attributes)) {
+    if (ATTRIBUTES.has(name) && (name !== "href" || /^#score-[\w.-]+$/.test(value))) element.setAttribute(name, value);
+  }
+  return element;
+}
+
+/** The pages of a drawing, not filled yet; and the places of its notes, each with its page and the element that covers it. */
+export function laidOut(images) {
+  const places = [];
+  const pages = images.filter(([tag]) => tag === "svg").map((image) => new Page(image, places));
+  return { pages, places };
+}

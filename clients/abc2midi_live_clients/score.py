@@ -1,0 +1,165 @@
+"""The score of a tune: the staves that `abcm2ps` draws, within limits of time, memory and output."""
+
+import json
+import os
+import select
+import signal
+import subprocess
+import sys
+import tempfile
+import threading
+import time
+from contextlib import suppress
+from pathlib import Path
+from typing import NamedTuple, Optional
+
+from .own_process import answer_all
+from .places import utf8, utf16
+from .rows import Json
+from .score_markup import Node, NoDrawing, images_of
+from .score_text import TuneLine, header_lines, tune_lines
+
+MOST_LINES, MOST_CHARACTERS = 2_000, 100_000  # of a tune that is drawn
+MOST_BYTES = 2 << 20  # of a drawing
+SECONDS = 10  # that a drawing may take by the clock; `score_limits` has those of the processor
+NARROWEST, WIDEST = 240, 2_000  # pixels
+WIDTH_OF_FULL_SIZE, LEAST_SCALE = 800, 0.7  # staves are smaller where there is less room
+ENVIRONMENT: dict[str, str] = {}
+LATE = "abcm2ps took too long for this tune."
+NICENESS = 5
+LIMITS = str(Path(__file__).resolve().parent / "score_limits.py")
+MARGINS = ["--leftmargin", "4pt", "--rightmargin", "4pt", "--topmargin", "4pt", "--botmargin", "4pt"]
+OPTIONS = ["-q", "-S", "+F", "-k", "1024", "--pango", "0", *MARGINS, "--topspace", "0pt", "--staffsep", "36pt"]
+TO_OUTPUT = ["-v", "-A", "-O-", "-"]  # `-g` fails on long tunes
+SCREEN = ["--pageheight", "25cm"]  # short pages: the page fills those that are seen first
+PAPER = ["--pageheight", "24.5cm", "--pagewidth", "18cm", "-s", "0.75"]  # within the margins of A4 and of Letter
+
+
+class NoScore(Exception):
+    """Why there is no score, as a sentence."""
+
+
+class Question(NamedTuple):
+    """The lines of a file header and of a tune, and how many pixels wide the staves are to be on a screen; None for pages of
+    paper."""
+
+    header: tuple[str, ...]
+    tune: tuple[str, ...]
+    width: Optional[int]
+
+
+def serve() -> None:
+    """Answers questions till there are no more: each is a program and a question, each answer is JSON."""
+    answer_all(lambda asked: json.dumps(outcome(*asked)).encode(), NICENESS)
+
+
+def outcome(program: str, question: Question) -> Json:
+    """The images of a tune, or why there are none."""
+    try:
+        return {"images": images(program, question)}
+    except NoScore as why:
+        return {"why": str(why)}
+
+
+def images(program: str, question: Question) -> list[Node]:
+    """The images that a program draws of a tune, or `NoScore`. A `place` in them is a note: its row is the line of the tune,
+    counted from 0, and its column counts there in UTF-16 units."""
+    if len(question.tune) > MOST_LINES or sum(map(len, question.tune + question.header)) > MOST_CHARACTERS:
+        raise NoScore("This tune is too long to be drawn.")
+    header, tune = header_lines(question.header), tune_lines(question.tune)
+    if not any(line.readable.startswith("K:") for line in tune):
+        raise NoScore("abcm2ps draws no tune that has no K: line.")
+    data = drawing(program, question.width, "\n".join([*header, "", *(line.readable for line in tune), ""]).encode())
+    try:
+        found = images_of(data)
+    except NoDrawing as error:
+        raise NoScore(f"abcm2ps drew nothing that can be shown: {error}.") from error
+    placed = [image for image in found if in_tune(image, len(header) + 2, tune)]
+    if not placed:
+        raise NoScore("This tune has no notes to draw.")
+    return placed
+
+
+def in_tune(node: Node, first: int, tune: list[TuneLine]) -> bool:
+    """Gives the places in a node the lines and the columns of the tune. Returns whether there is a note in it."""
+    has_notes = False
+    for child in [child for child in node[2:] if isinstance(child, list)]:
+        if child[0] != "place":
+            has_notes = in_tune(child, first, tune) or has_notes
+            continue
+        row = child[1].pop("row") - first
+        if 0 <= row < len(tune):
+            before = utf8(tune[row].text)[: child[1].pop("col")].decode("utf-8", "ignore")
+            child[1] |= {"row": row, "column": len(utf16(before)) // 2}
+            has_notes = True
+        else:
+            node.remove(child)
+    return has_notes
+
+
+def form_of(width: Optional[int]) -> list[str]:
+    """How `abcm2ps` is to draw: so many pixels wide, or on pages of paper."""
+    if width is None:
+        return PAPER
+    pixels = min(max(width, NARROWEST), WIDEST)
+    scale = min(max(pixels / WIDTH_OF_FULL_SIZE, LEAST_SCALE), 1)
+    return [*SCREEN, "--pagewidth", f"{pixels / 96:.3f}in", "-s", f"{scale:.2f}"]
+
+
+def drawing(program: str, width: Optional[int], text: bytes) -> bytes:
+    """What `abcm2ps` writes for a text. It runs in an empty folder, in a group of processes that is killed at the end."""
+    command = [sys.executable, "-I", "-S", LIMITS, program, *OPTIONS, *form_of(width), *TO_OUTPUT]
+    with tempfile.TemporaryDirectory() as folder, tempfile.TemporaryFile() as asked:
+        asked.write(text)
+        asked.seek(0)
+        try:
+            process = subprocess.Popen(
+                command, stdin=asked, stdout=subprocess.PIPE, stderr=subprocess.DEVNULL, cwd=folder, env=ENVIRONMENT, start_new_session=True
+            )
+        except OSError as error:
+            raise NoScore(f"abcm2ps cannot be started: {error.strerror}.") from error
+        try:
+            data = written(process)
+        finally:
+            end(process)
+    if process.returncode in (-signal.SIGXCPU, -signal.SIGKILL):
+        raise NoScore(LATE)
+    if process.returncode < 0:
+        raise NoScore(f"abcm2ps failed on this tune: {signal.strsignal(-process.returncode)}.")
+    return data
+
+
+def written(process: "subprocess.Popen[bytes]") -> bytes:
+    """What a process writes until it ends, or is killed because it takes too long."""
+    assert process.stdout
+    until = time.monotonic() + SECONDS
+    looks = select.poll()
+    looks.register(process.stdout, select.POLLIN)
+    data = bytearray()
+    while looks.poll(1000 * max(0.0, until - time.monotonic())):
+        part = os.read(process.stdout.fileno(), 1 << 16)
+        data += part
+        if len(data) > MOST_BYTES:
+            raise NoScore("The score of this tune is too large to be shown.")
+        if not part:
+            break
+    else:
+        raise NoScore(LATE)
+    limit = threading.Timer(max(0.0, until - time.monotonic()), kill, [process])
+    limit.start()
+    os.waitid(os.P_PID, process.pid, os.WEXITED | os.WNOWAIT)  # its number stays its own till it is let go
+    limit.cancel()
+    return bytes(data)
+
+
+def kill(process: "subprocess.Popen[bytes]") -> None:
+    """Kills a process, with all that it started."""
+    with suppress(ProcessLookupError, PermissionError):
+        os.killpg(process.pid, signal.SIGKILL)
+
+
+def end(process: "subprocess.Popen[bytes]") -> None:
+    """Kills a process and all that it started, and lets go of it."""
+    kill(process)
+    with process:
+        pass

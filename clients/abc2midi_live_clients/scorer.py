@@ -1,0 +1,93 @@
+"""The scores that windows ask for: each tune is drawn once, in a process of its own."""
+
+import json
+import os
+import shutil
+import tempfile
+import threading
+from collections import OrderedDict
+from typing import Optional
+
+from .own_process import ENDED, OwnProcess
+from .rows import Json
+from .score import Question
+from .shared_book import Refused
+
+PROGRAM = "abcm2ps"
+INSTALL = "To see the score, install abcm2ps: sudo apt install abcm2ps"
+SECONDS_IN_A_ROW = 12  # that a request may wait for the one before
+MOST_KEPT = 8  # answers
+
+
+class Scorer:
+    """Draws one tune at a time, in a process that starts with the first. What became of the last ones is kept, for other windows and
+    for a tune that is looked at again: `abcm2ps` does not run for ever again on a text on which it did so."""
+
+    def __init__(self) -> None:
+        self.turn = threading.Lock()
+        self.kept: OrderedDict[Question, bytes] = OrderedDict()
+        self.process: Optional[OwnProcess] = None
+        self.folder: Optional[tempfile.TemporaryDirectory[str]] = None  # has all files of the process
+        self.is_closed = False
+
+    def answer(self, asked: Json) -> bytes:
+        """The images of a tune, or why there are none, as JSON, for a window that sends its lines."""
+        question = question_of(asked)
+        program = found_program()  # each time: it may be installed while the page is open
+        if not program:
+            return told(INSTALL, missing=True)
+        if not self.turn.acquire(timeout=SECONDS_IN_A_ROW):
+            return told("abcm2ps is busy with other tunes.")
+        try:
+            if question not in self.kept:
+                self.kept[question] = self.drawn(program, question)
+            self.kept.move_to_end(question)
+            while len(self.kept) > MOST_KEPT:
+                self.kept.popitem(last=False)
+            return self.kept[question]
+        finally:
+            self.turn.release()
+
+    def drawn(self, program: str, question: Question) -> bytes:
+        """What the process answers."""
+        self.folder = self.folder or tempfile.TemporaryDirectory()
+        self.process = self.process or OwnProcess("score", TMPDIR=self.folder.name)
+        try:
+            answer: bytes = self.process.ask((program, question))
+            return answer
+        except ENDED:
+            self.process.close()
+            self.process = None
+            return told("The process that draws scores ended on this tune.")
+        finally:
+            if self.is_closed:
+                self.close()
+
+    def close(self) -> None:
+        """Ends the process, also while a tune is drawn."""
+        self.is_closed = True
+        if self.process:
+            self.process.close()
+        if self.folder:
+            self.folder.cleanup()
+
+
+def told(why: str, **more: bool) -> bytes:
+    """Why there is no score, as JSON."""
+    return json.dumps({"why": why, **more}).encode()
+
+
+def found_program() -> Optional[str]:
+    """The program in a folder of the path; relative ones, as that in which the page was started, do not count."""
+    return shutil.which(PROGRAM, path=os.pathsep.join(filter(os.path.isabs, os.get_exec_path())))
+
+
+def question_of(asked: Json) -> Question:
+    """The question that a window asks."""
+    header, tune, width = asked.get("header"), asked.get("tune"), asked.get("width")
+    for lines in (header, tune):
+        if not isinstance(lines, list) or not all(isinstance(line, str) for line in lines):
+            raise Refused(400, "a tune to be drawn is a list of lines, and so is the file header")
+    if width is not None and type(width) is not int:
+        raise Refused(400, "the width of a score is a number of pixels, or null for paper")
+    return Question(tuple(header or ()), tuple(tune or ()), width)

@@ -1,0 +1,283 @@
+"""The score in the page: what its server answers, and what a browser shows. It needs `abcm2ps`."""
+
+import base64
+import os
+import re
+import shutil
+import unittest
+from contextlib import contextmanager
+from unittest import mock
+
+import browser
+import test_page
+import test_page_in_browser
+import trial
+from abc2midi_live_clients.scorer import INSTALL
+
+DRAWS = shutil.which("abcm2ps")
+TUNE = 'X:1\nT:Scale\nM:3/4\nL:1/4\nK:C\nCEG|"é𝄞"c2 z|\n'
+EVIL = '<script>window.evil = 1</script><img src=x onerror="window.evil = 1"> --><text x="1">evil</text><!--'
+NOTES = "return [...document.querySelectorAll('#score .score-place')].map(({ note }) => [note.line, note.column, note.length, note.kind])"
+HERE = "return [...document.querySelectorAll('#score .score-here')].map(({ note }) => [note.line, note.column])"
+WHY = "return document.querySelector('#score .why')?.textContent"
+CARET = """
+const area = document.querySelector("textarea");
+const before = area.value.slice(0, area.selectionStart).split("\\n");
+return document.activeElement === area && [before.length - 1, before.at(-1).length];
+"""
+STRANGE = """
+const known = new Set(["svg", "g", "defs", "path", "ellipse", "circle", "line", "rect", "text", "tspan", "use"]);
+const all = [...document.querySelectorAll("#score *")];
+const attributes = all.flatMap((one) => one.getAttributeNames()).filter((name) => /^on|^style$|:/.test(name));
+return [all.map((one) => one.localName).filter((name) => !known.has(name)), attributes, window.evil ?? null];
+"""
+HOLD = """
+const plain = window.fetch;
+window.held = [];
+window.fetch = (path, options) => {
+  const answer = plain(path, options);
+  return path.endsWith("/score") ? answer.then((one) => new Promise((done) => held.push(() => done(one)))) : answer;
+};
+"""
+PIXELS = """
+const [shot, done] = arguments;
+const { left, top, width, height } = document.querySelector("#score svg").getBoundingClientRect();
+const picture = new Image();
+picture.onload = () => {
+  const canvas = new OffscreenCanvas(picture.width, picture.height), pen = canvas.getContext("2d");
+  pen.drawImage(picture, 0, 0);
+  const { data } = pen.getImageData(left, top, width, Math.min(height, innerHeight - top));
+  const lights = Array.from({ length: data.length / 4 }, (_, n) => data[4 * n] + data[4 * n + 1] + data[4 * n + 2]);
+  lights.sort((a, b) => a - b);
+  done([lights[0], lights[lights.length >> 1], lights.at(-1)]);
+};
+picture.src = `data:image/png;base64,${shot}`;
+"""
+SEEN_ON_PAPER = """
+return [...document.querySelectorAll("body *")].filter((one) => {
+  return one.checkVisibility() && ["CANVAS", "TEXTAREA", "BUTTON", "HEADER", "FOOTER", "NAV", "svg"].includes(one.tagName);
+}).map((one) => one.tagName);
+"""
+
+
+class Programs:
+    """A server that finds another `abcm2ps`, or none."""
+
+    drawing = None  # the script of an `abcm2ps`; empty for none
+
+    def start(self, *words, **more):
+        starter = self.folder / "program"
+        starter.write_text(starter.read_text().replace("\necho", f"\nexport PATH='{os.environ['PATH']}'\necho", 1))
+        found = self.folder / "bin"
+        found.mkdir(exist_ok=True)
+        if self.drawing is not None:
+            self.draw_by(self.drawing)
+        path = os.environ["PATH"] if self.drawing is None else str(found)
+        with mock.patch.dict(os.environ, {"PATH": path}):
+            super().start(*words, **more)
+
+    def draw_by(self, script: str):
+        """Makes a script the `abcm2ps` that the server finds."""
+        program = self.folder / "bin/abcm2ps"
+        if script:
+            program.write_text(f"#!/bin/sh\n{script}\n")
+            program.chmod(0o755)
+        else:
+            program.unlink(missing_ok=True)
+
+
+class Requests(Programs, test_page.Page):
+    """What the server answers."""
+
+    drawing = "sleep 1000"
+
+    def test_who_may_ask(self):
+        """Those with the token alone."""
+        question = {"header": [], "tune": ["X:1", "K:C"], "width": 600}
+        for path in ("/score", f"/{self.token[:-1]}/score", "/x/score"):
+            self.assertEqual(self.request("", question, path=path)[0], 403)
+        for headers in ({"Host": "example.org"}, {"Origin": "http://example.org"}):
+            self.assertEqual(self.request("score", question, headers)[0], 403)
+        self.assertEqual(self.request("score")[0], 404)
+
+    def test_questions_that_are_none(self):
+        for more in ({"tune": "X:1"}, {"tune": [1]}, {"tune": None}, {"header": {}}, {"width": "1"}, {"width": True}, {"width": 1.5}, {"width": []}):
+            self.assertEqual(self.ask("score", {"header": [], "tune": ["K:C"], "width": 600, **more})["status"], 400, more)
+        self.assertEqual(self.ask("score", {})["status"], 400)
+
+    def test_a_program_that_hangs(self):
+        """Other requests are answered meanwhile, and a server that is told to end leaves nothing."""
+        question = {"header": [], "tune": ["X:1", "K:C", "C"], "width": 600}
+        self.assertIn("took too long", self.ask("score", question)["why"])
+        self.finish()
+
+    def test_no_program(self):
+        self.draw_by("")
+        question = {"header": [], "tune": ["X:1", "K:C", "C"], "width": 600}
+        self.assertEqual(self.ask("score", question), {"why": INSTALL, "missing": True})
+        self.finish()
+
+
+@unittest.skipIf(not DRAWS, "abcm2ps is not installed")
+class Staves(test_page_in_browser.Browser):
+    """The score that `abcm2ps` draws."""
+
+    def notes(self, *wanted):
+        """Waits till these notes are drawn."""
+        self.wait(lambda: self.run_script(NOTES) == [list(note) for note in wanted])
+
+    def here(self, *wanted):
+        """Waits till these notes are marked as that of the caret."""
+        self.wait(lambda: self.run_script(HERE) == [list(place) for place in wanted])
+
+    def click(self, at: int):
+        """Clicks a note."""
+        browser.press_button(self.driver, self.run_script("return document.querySelectorAll('#score .score-place')[arguments[0]]", at))
+        browser.release_button(self.driver)
+
+    def test_a_tune(self):
+        """It appears, follows an edit and other tunes, and what is edited before it."""
+        self.type(TUNE)
+        first = [(5, 0, 1, "note"), (5, 1, 1, "note"), (5, 2, 1, "note"), (5, 9, 2, "note"), (5, 12, 1, "rest")]
+        self.notes(*first)
+        self.assertIn("Scale", self.text("score"))
+        self.edit(0, 0, "% one more line", "")
+        self.notes(*[(line + 2, *more) for line, *more in first])
+        self.type("\ue011", test_page_in_browser.CONTROL)
+        self.type("X:2\nK:C\n[CE]2^f,\n\n")
+        self.notes((2, 0, 5, "note"), (2, 5, 3, "note"))
+
+    def test_places(self):
+        """A click goes to a note's place; the note at the caret is marked, and no other."""
+        self.type(TUNE)
+        self.wait(lambda: len(self.run_script(NOTES)) == 5)
+        self.here()
+        for at, place in ((3, [5, 9]), (0, [5, 0]), (4, [5, 12])):
+            self.click(at)
+            self.wait(lambda place=place: self.run_script(CARET) == place)
+            self.here(place)
+        self.press("\ue012")
+        self.here([5, 9])
+        self.press(3 * "\ue012")
+        self.here([5, 9])
+        self.press(6 * "\ue012")
+        self.here([5, 1])
+        self.press("\ue013")
+        self.here()
+
+    def test_an_answer_that_comes_late(self):
+        """What was asked for an older text is not drawn over a newer one."""
+        self.run_script(HOLD)
+        self.type("X:1\nK:C\nC")
+        self.wait(lambda: self.run_script("return held.length") == 1)
+        self.type("D")
+        self.settled("X:1\nK:C\nCD")
+        self.run_script("held.shift()()")
+        self.wait(lambda: self.run_script("return held.length") == 1)
+        self.assertEqual(self.run_script(NOTES), [])
+        self.run_script("held.shift()()")
+        self.notes((2, 0, 1, "note"), (2, 1, 1, "note"))
+
+    def test_texts_are_no_elements(self):
+        """Nothing of a tune becomes an element of the page, nor an attribute that does something."""
+        tune = f'X:1\nT:{EVIL}\nC:{EVIL}\nM:3/4\nK:C\n"^{EVIL.replace(chr(34), "")}"CDE|\nw:{EVIL.replace(" ", "~")}\nW:{EVIL}'
+        self.edit(0, 1, *tune.split("\n"))
+        self.wait(lambda: len(self.run_script(NOTES)) == 3)
+        self.assertEqual(self.run_script(STRANGE), [[], [], None])
+        self.assertEqual(self.text("score").count("<script>window.evil = 1</script>"), 5)
+
+    def test_why_there_is_none(self):
+        self.type("X:1\n")
+        self.wait(lambda: self.run_script(WHY) == "abcm2ps draws no tune that has no K: line.")
+        self.type("K:C\n")
+        self.wait(lambda: self.run_script(WHY) == "This tune has no notes to draw.")
+        self.type("C")
+        self.notes((2, 0, 1, "note"))
+        self.assertIsNone(self.run_script(WHY))
+
+    def test_light_dark_and_paper(self):
+        """The score has the colour of the text; on paper it is black on white, and alone."""
+        self.type(TUNE)
+        self.wait(lambda: len(self.run_script(NOTES)) == 5)
+        for scheme in ("light", "dark"):
+            with self.media(features=[{"name": "prefers-color-scheme", "value": scheme}]):
+                darkest, most, lightest = self.pixels()
+                self.assertLess(darkest, 300)
+                self.assertGreater(lightest, 450)
+                self.assertEqual(most, lightest if scheme == "light" else darkest)
+            with self.media(media="print", features=[{"name": "prefers-color-scheme", "value": scheme}]):
+                self.assertEqual(self.pixels(), [0, 765, 765])
+                self.assertEqual(self.run_script(SEEN_ON_PAPER), ["svg"])
+
+    def test_printing(self):
+        """A key prints the tune page by page, and nothing else; afterwards the page is as before."""
+        self.edit(0, 1, "X:1", "T:Long", "K:C", *["CDEF GABc|" * 4] * 60)
+        self.wait(lambda: len(self.run_script(NOTES)) == 60 * 32)
+        self.run_script("window.print = () => { window.printed = true; }")
+        self.press("p", test_page_in_browser.CONTROL)
+        self.wait(lambda: self.run_script("return window.printed"))
+        pages = self.run_script("return document.querySelectorAll('#paper svg').length")
+        self.assertGreater(pages, 1)
+        with self.media(media="print"):
+            shown = self.run_script(SEEN_ON_PAPER)
+        self.assertEqual(shown, pages * ["svg"])
+        printed = base64.b64decode(self.driver.execute_cdp_cmd("Page.printToPDF", {})["data"])
+        self.assertEqual(len(re.findall(rb"/Type\s*/Page\b", printed)), pages)
+        self.wait(lambda: self.run_script("return !document.getElementById('paper')"))
+
+    def pixels(self) -> list:
+        """How light the darkest, most, and the lightest pixels of the score are: 765 is white."""
+        return self.driver.execute_async_script(PIXELS, self.driver.get_screenshot_as_base64())
+
+    @contextmanager
+    def media(self, **words):
+        """The browser shows pages as on another medium."""
+        self.driver.execute_cdp_cmd("Emulation.setEmulatedMedia", words)
+        yield
+        self.driver.execute_cdp_cmd("Emulation.setEmulatedMedia", {"media": "", "features": []})
+
+    def test_while_the_server_is_away(self):
+        """Nothing is asked, and the score is drawn when the server is there again."""
+        self.type("X:1\nK:C\nC")
+        self.notes((2, 0, 1, "note"))
+        self.kill()
+        self.wait(lambda: "away" in self.text("status"))
+        self.type("D")
+        self.start(str(self.path), port=str(self.port))
+        self.settled("X:1\nK:C\nCD")
+        self.notes((2, 0, 1, "note"), (2, 1, 1, "note"))
+
+
+class OtherPrograms(Programs, test_page_in_browser.Browser):
+    """An `abcm2ps` that is missing, or means harm."""
+
+    drawing = ""
+
+    def test_none(self):
+        """The page says what to install, once, and goes on without; when it is there the score appears."""
+        self.type("X:1\nK:C\nC")
+        self.wait(lambda: self.run_script(WHY) == "To see the score, install abcm2ps: sudo apt install abcm2ps")
+        self.roll("1 voice")
+        shown = self.run_script("return document.getElementById('roll').clientWidth > document.getElementById('music').clientWidth - 9")
+        self.assertTrue(shown)
+        self.draw_by("exec sleep 1000")
+        self.type("D")
+        self.wait(lambda: "took too long" in (self.run_script(WHY) or ""))
+
+    def test_typing_goes_on(self):
+        """An `abcm2ps` that hangs holds nothing up."""
+        self.draw_by("while :; do :; done")
+        self.type("X:1\nK:C\nC")
+        self.wait(lambda: self.run_script("return document.querySelector('#score').getAttribute('aria-busy')") == "true")
+        self.type("D")
+        self.settled("X:1\nK:C\nCD")
+        self.assertIsNone(self.run_script(WHY))
+        self.wait(lambda: "took too long" in (self.run_script(WHY) or ""))
+
+    def test_a_drawing_that_means_harm(self):
+        place = '<abc type="N" row="4" col="0" x="1" y="2" width="3" height="4"/>'
+        evil = "<script>window.evil = 1</script><image href='x' onerror='window.evil = 1'/><g onload='window.evil = 1' style='fill:red'><a href='javascript:evil=1'>x</a></g>"
+        self.draw_by(f"cat <<'END'\n<svg width=\"9px\" height=\"9px\">{evil}{place}</svg>\nEND")
+        self.type("X:1\nT:a\nK:C\nC")
+        self.wait(lambda: len(self.run_script(NOTES)) == 1)
+        self.assertEqual(self.run_script(STRANGE), [[], [], None])
