@@ -5,7 +5,7 @@ const DRUMS = 9;
 /** The score of a file's bytes: notes in order of their starts, each with the voice (track) it belongs to. */
 export function scoreOf(buffer) {
   const bytes = new DataView(buffer);
-  const score = { division: bytes.getUint16(12), notes: [], tempos: [], meters: [], end: 0, voices: 0 };
+  const score = { division: bytes.getUint16(12), notes: [], tempos: [], meters: [], end: 0, voices: 0, tracks: [] };
   let at = 8 + bytes.getUint32(4);
   while (at + 8 <= bytes.byteLength) {
     const end = at + 8 + bytes.getUint32(at + 4);
@@ -56,6 +56,7 @@ function readTrack(bytes, score) {
     }
   }
   score.end = Math.max(score.end, tick);
+  score.tracks.push({ voice: notes.length ? score.voices : null });
   if (notes.length) {
     for (const note of notes) score.notes.push({ ...note, voice: score.voices });
     score.voices += 1;
