@@ -342,7 +342,8 @@ const tests = {
   },
 
   "names of keys on a Mac"() {
-    same(["Ctrl-S", "Ctrl-Shift-S", "Ctrl-H", "Ctrl-Space", "Shift-F8"].map((name) => keysOf(name, true)), ["⌘S", "⌘⇧S", "⌥⌘F", "Ctrl-Space", "⇧F8"]);
+    same(["Ctrl-S", "Ctrl-Shift-S", "Ctrl-H", "Ctrl-Space", "Ctrl-Shift-Space", "Shift-F8"].map((name) => keysOf(name, true)),
+      ["⌘S", "⌘⇧S", "⌥⌘F", "Ctrl-Space", "Ctrl-Shift-Space", "⇧F8"]);
     same([keysOf("Ctrl-S", false), withKeys("Save (Ctrl-S), or Ctrl-Space", true)], ["Ctrl-S", "Save (⌘S), or Ctrl-Space"]);
   },
 

@@ -2,9 +2,9 @@
 
 const isMac = /mac|iphone|ipad/i.test(globalThis.navigator?.userAgentData?.platform || globalThis.navigator?.platform || "");
 
-/** Keys as this machine names them: "Ctrl-S" is "⌘S" on a Mac. There Ctrl-H hides the program, and Ctrl-Space is Ctrl-Space too. */
+/** Keys as this machine names them: "Ctrl-S" is "⌘S" on a Mac. There Ctrl-H hides the program, and Ctrl-Space stays. */
 export function keysOf(name, onMac = isMac) {
-  if (!onMac || name === "Ctrl-Space") return name;
+  if (!onMac || name.endsWith("Space")) return name;
   if (name === "Ctrl-H") return "⌥⌘F";
   if (name === "Ctrl-Y") return "⇧⌘Z";
   return name.replace("Ctrl-", "⌘").replace("Shift-", "⇧").replace("Alt-", "⌥");
@@ -18,7 +18,7 @@ export function nameKeys(root) {
   if (!isMac) return;
   for (const element of root.querySelectorAll("[title]")) element.title = withKeys(element.title);
   for (const element of root.querySelectorAll("kbd")) element.textContent = keysOf(element.textContent);
-  for (const element of root.querySelectorAll("[aria-keyshortcuts^=Control]:not(#play)")) {
+  for (const element of root.querySelectorAll("[aria-keyshortcuts^=Control]:not([aria-keyshortcuts$=Space])")) {
     element.setAttribute("aria-keyshortcuts", element.getAttribute("aria-keyshortcuts").replace("Control", "Meta"));
   }
 }

@@ -4,10 +4,12 @@ import { Colours } from "./colours.js";
 import { Drafts } from "./drafts.js";
 import { Starter, whyNothing } from "./empty.js";
 import { Files, SaveAs } from "./files.js";
+import { Follower } from "./follower.js";
 import { keysOf, nameKeys } from "./keys.js";
 import { Link } from "./link.js";
 import { scoreOf, secondOf } from "./midi.js";
 import { Player } from "./player.js";
+import { Practice } from "./practice.js";
 import { Questions } from "./questions.js";
 import { Remarks } from "./remarks.js";
 import { Roll, nameOf } from "./roll.js";
@@ -17,6 +19,7 @@ import { Search } from "./search.js";
 import { Server } from "./server.js";
 import { Sheet } from "./sheet.js";
 import { Text } from "./text.js";
+import { Tip } from "./tip.js";
 import { Tunes } from "./tunes.js";
 import { UndoStore } from "./undo_store.js";
 
@@ -38,8 +41,11 @@ const staves = new Score(find("score"), async (question) => {
 const undoKey = keysOf("Ctrl-Z");
 const search = new Search(sheet, find("search"), say, undoKey);
 const starter = new Starter(sheet, find("starter"));
-const remarks = new Remarks(find("told"), find("tip"), (line, column) => sheet.go(line, column, true));
+const tip = new Tip(find("tip"));
+const remarks = new Remarks(find("told"), tip, (line, column) => sheet.go(line, column, true));
 const undoStore = new UndoStore(text, link, (version) => server.ask(`changes/${version}`));
+const follower = new Follower(text, sheet, roll, tuneShown);
+const practice = new Practice(player, roll, follower);
 new Colours(sheet);
 nameKeys(document);
 
@@ -48,7 +54,7 @@ const files = new Files({ text, link, book, questions, say, doubt: standingDoubt
 const saveAs = new SaveAs(files, find("copy"), sheet);
 let drafts = null;
 let faults = [], hints = [], rows = []; // in this window's text
-let shown = { number: null, score: null, of: null, asked: 0 }; // the tune in the roll, and the one whose score is there
+let shown = { number: null, score: null, owner: null, asked: 0 }; // the tune in the roll; `owner` is the number of the score
 let start = 0; // the tick at which to play
 
 /** Rows of the server's text, as they are in this window's. */
@@ -80,6 +86,7 @@ function follow() {
   find("before").disabled = find("after").disabled = !faults.length && !hints.length;
   sheet.drawFaults(foundIn(sheet.first, sheet.last));
   tell();
+  practice.refresh();
 }
 
 /** What belongs to the caret's line and its tune. */
@@ -120,10 +127,16 @@ function show(row) {
 
 /** Says why the roll is empty. */
 function explain(row) {
-  const notes = row?.[3] && row[1] === shown.of && shown.score ? shown.score.notes.length : null;
+  const notes = row?.[3] && row[1] === shown.owner && shown.score ? shown.score.notes.length : null;
   const why = whyNothing({ lines: text.lines, rows, faults, row, notes });
   find("empty").textContent = why;
   find("empty").hidden = !why;
+}
+
+/** The tune whose file is in the roll: its lines, and how many lines precede the first tune. */
+function tuneShown() {
+  const at = shown.score ? rows.findIndex((row) => row[1] === shown.owner && row[3]) : -1;
+  return at < 0 ? null : { score: shown.score, first: rows[at][0], last: rows[at + 1]?.[0] ?? text.lines.length, before: rows[0][0] };
 }
 
 /** Reads the file of a number; one that is asked for later comes in its place. */
@@ -142,8 +155,8 @@ async function load(number) {
     return;
   }
   if (shown.asked !== asked) return;
-  Object.assign(shown, { score, of: number });
-  roll.show(score);
+  Object.assign(shown, { score, owner: number });
+  practice.show(score, number);
   if (player.playing) score ? player.change(score) : player.stop();
   else explain(rows[tuneAt(Math.max(0, sheet.caret().line))]);
   describe(score, number);
@@ -156,13 +169,13 @@ function describe(score, number) {
   if (score && !link.away) Object.assign(midi, { href: server.address(`midi/${number}`), download: `${number}.mid` });
   else midi.removeAttribute("href");
   const range = score?.notes.length ? `, from ${nameOf(roll.lowest)} to ${nameOf(roll.highest)}` : "";
-  const counted = score && `${score.voices} voice${score.voices === 1 ? "" : "s"}, ${score.bars.length - 1} bars`;
+  const counted = score && `${score.voices} voice${score.voices === 1 ? "" : "s"}, ${roll.grid.count} bars`;
   const label = score ? `Piano roll of tune ${number}: ${counted}, ${clock(secondOf(score, score.end))}${range}` : "No tune is here";
   find("roll").setAttribute("aria-label", label);
   find("voices").replaceChildren(...Array.from({ length: score?.voices > 1 ? score.voices : 0 }, (_, voice) => {
     const swatch = document.createElement("i"), name = document.createElement("span");
     swatch.style.background = roll.colour(voice);
-    name.append(swatch, String(voice + 1));
+    name.append(swatch, follower.voiceName(voice));
     return name;
   }));
   time(player.playing ? player.tick : start);
@@ -180,29 +193,49 @@ function playOrStop() {
   if (player.playing) return player.stop();
   if (!shown.score) return;
   find("play").textContent = "■ Stop";
-  player.play(shown.score, start < shown.score.end ? start : 0);
+  practice.play(shown.score, start < shown.score.end ? start : 0);
+}
+
+/** Goes to a tick of the tune, and plays on from there if it plays. */
+function goTo(tick) {
+  start = tick;
+  if (player.playing) player.seek(tick);
+  else roll.cursor(tick);
+  time(tick);
+  practice.tell(tick);
 }
 
 player.moved = (tick) => {
   roll.cursor(tick);
   time(tick);
+  follower.sound(tick);
 };
 player.ended = () => {
   find("play").textContent = "▶ Play";
   roll.cursor(start || null);
   time(start);
+  follower.sound(null);
   tell();
 };
-roll.picked = (tick) => {
-  start = tick;
-  if (player.playing) player.begin(player.score, tick, player.audio.currentTime + 0.05);
-  else roll.cursor(tick);
-  time(tick);
+roll.picked = (tick, note) => {
+  goTo(tick);
+  if (note) follower.goTo(note, tick);
+};
+roll.pointed = (note, event) => tip.show(note ? [follower.describe(note)] : [], event);
+roll.recoloured = () => {
+  describe(shown.score, shown.number);
+  practice.silence();
+};
+follower.lit = (places) => staves.mark(places.map(({ line, from }) => ({ line, column: from })), true);
+practice.say = say;
+practice.played = (tick) => {
+  goTo(tick);
+  if (!player.playing) playOrStop();
 };
 
 sheet.faultsOf = foundIn;
 sheet.moved = () => {
-  find("tip").hidden = true;
+  tip.show([]);
   tell();
 };
 sheet.placed = ({ line, column }) => {
@@ -210,6 +243,7 @@ sheet.placed = ({ line, column }) => {
 };
 staves.drawn = () => {
   find("print").hidden = !staves.notes.length;
+  follower.lit(follower.sounding);
 };
 staves.picked = (line, column) => sheet.go(line, column, true);
 sheet.pointed = (under, event) => remarks.point(under, event);
@@ -429,6 +463,7 @@ document.addEventListener("keydown", (event) => {
   if (search.takes(event)) return event.preventDefault();
   if (command && event.key.toLowerCase() === "s") event.shiftKey ? saveAs.open() : files.save();
   else if (command && event.key.toLowerCase() === "p") staves.print();
+  else if (event.code === "Space" && event.ctrlKey && event.shiftKey) practice.fromCaret();
   else if (event.code === "Space" && (event.ctrlKey || (plain && !event.altKey && !event.metaKey))) playOrStop();
   else if (event.key === "F8") toFault(!event.shiftKey);
   else if (event.key === "Escape" && inText && search.isOpen) search.close();

@@ -60,14 +60,8 @@ export class Remarks {
 
   /** Shows what the faults say at which someone points, beside the mouse. */
   point(faults, event) {
-    const { tip } = this;
-    tip.hidden = !faults.length;
-    if (!faults.length) return;
     const different = [...new Map(faults.map((fault) => [`${fault[3]} ${fault[4]}`, fault])).values()];
-    tip.replaceChildren(...different.flatMap((fault) => [...this.words(fault), " "]));
-    tip.style.left = `${Math.max(8, Math.min(event.clientX + 12, innerWidth - tip.offsetWidth - 8))}px`;
-    const below = event.clientY + 20;
-    tip.style.top = `${below + tip.offsetHeight < innerHeight ? below : event.clientY - tip.offsetHeight - 12}px`;
+    this.tip.show(different.flatMap((fault) => [...this.words(fault), " "]), event);
   }
 }
 

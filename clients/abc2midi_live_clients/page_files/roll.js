@@ -1,15 +1,18 @@
-// A tune as a piano roll: pitch by time, a colour for each voice, bar by bar. What is seen is drawn.
+// A tune as a piano roll: pitch by time, a colour for each voice, bars and beats. This part has the measures, the mouse and the keys;
+// what is seen is drawn by roll_picture.js.
 
-const QUARTER = 44; // pixels
-const HEAD = 16; // pixels above the keys, for the numbers of the bars
-const FOOT = 8; // pixels below them, where a scroll bar may lie over the roll
-const SIDE = 32; // pixels before the notes, for the names of the keys
-const LETTERS = 12; // pixels that the name of a key needs
-const FONT = "11px system-ui, sans-serif";
-const HUES = [212, 28, 145, 330, 265, 50, 185, 0, 95, 300, 240, 15, 165, 70, 200];
-const BLACK = new Set([1, 3, 6, 8, 10]);
-const CS = Array.from({ length: 11 }, (_, octave) => 12 * octave);
-const NAMES = ["C", "C♯", "D", "E♭", "E", "F", "F♯", "G", "G♯", "A", "B♭", "B"];
+import { Grid } from "./grid.js";
+import { lanesOf } from "./lanes.js";
+import { FOOT, HEAD, SIDE, drawRoll, nameOf } from "./roll_picture.js";
+import { Shades } from "./shades.js";
+
+const QUARTER = 44, NARROWEST = 8, WIDEST = 360; // pixels of a quarter note
+const LEAST_ROW = 5, MOST_ROW = 26; // pixels of a key
+const ZOOM = 1.25; // a step of the zoom
+const TOLD = 2500; // milliseconds for which a note that was touched is named
+const DRAG = 6; // pixels that make a click a stretch
+
+export { nameOf };
 
 export class Roll {
   constructor(scroller, canvas) {
@@ -17,37 +20,104 @@ export class Roll {
     this.canvas = canvas;
     this.space = scroller.querySelector(".space");
     this.dark = matchMedia("(prefers-color-scheme: dark)");
-    this.score = null;
-    this.tick = null;
-    this.picked = () => {};
+    this.quarter = QUARTER;
+    this.score = this.grid = this.tick = this.loop = null;
+    this.lanes = new Map();
+    this.pointedAt = new Set(); // notes of the caret
+    this.silent = new Set(); // voices
+    this.picked = () => {}; // a tick, and the note there
+    this.stretched = () => {}; // from a tick, to a tick
+    this.pointed = () => {}; // a note or null, and where the mouse is
+    this.recoloured = () => {};
+    this.shades = { name: "" };
+    this.listen();
+  }
+
+  listen() {
+    const { scroller } = this;
     scroller.addEventListener("scroll", () => this.soon());
-    scroller.addEventListener("click", (event) => this.pick(event));
-    this.dark.addEventListener("change", () => this.soon());
-    new ResizeObserver(() => this.soon()).observe(scroller);
+    scroller.addEventListener("pointerdown", (event) => this.press(event));
+    scroller.addEventListener("pointerup", () => this.dragged?.range && this.stretched(...this.dragged.range));
+    scroller.addEventListener("click", (event) => this.release(event));
+    scroller.addEventListener("pointermove", (event) => this.move(event));
+    scroller.addEventListener("pointerleave", () => this.pointed(null));
+    scroller.addEventListener("wheel", (event) => this.turn(event), { passive: false });
+    scroller.addEventListener("keydown", (event) => this.key(event));
+    this.dark.addEventListener("change", () => {
+      this.soon();
+      this.recoloured();
+    });
+    new ResizeObserver(() => this.measure()).observe(scroller);
+  }
+
+  /** The colours of the voices, on what the page has behind them now. */
+  get colours() {
+    const style = getComputedStyle(this.scroller);
+    const grounds = ["paper", "row", "loop"].map((name) => style.getPropertyValue(`--${name}`).trim() || "#ffffff");
+    if (this.shades.name !== grounds.join()) this.shades = { name: grounds.join(), shades: new Shades(grounds) };
+    return this.shades.shades;
   }
 
   /** The colour of a voice. */
   colour(voice) {
-    return `hsl(${HUES[voice % HUES.length]} 70% ${this.dark.matches ? 64 : 42}%)`;
+    return this.colours.of(voice);
   }
 
-  /** Draws another score, or none. */
-  show(score) {
-    this.score = score;
+  /** Draws another score, or none, with its bars and beats. */
+  show(score, grid = score && Grid.ofMeters(score)) {
     const notes = score?.notes ?? [];
-    this.lowest = notes.reduce((key, note) => Math.min(key, note.key), 127);
-    this.highest = notes.reduce((key, note) => Math.max(key, note.key), 0);
-    [this.low, this.high] = notes.length ? [this.lowest - 1, this.highest + 1] : [58, 74];
-    this.space.style.width = score ? `${this.along(score.end) + 24}px` : "0";
+    this.grid = grid;
+    if (score !== this.score) {
+      this.score = score;
+      this.lanes = lanesOf(notes);
+      this.lowest = notes.reduce((key, note) => Math.min(key, note.key), 127);
+      this.highest = notes.reduce((key, note) => Math.max(key, note.key), 0);
+      [this.low, this.high] = notes.length ? [this.lowest - 1, this.highest + 1] : [58, 74];
+    }
+    this.measure();
+  }
+
+  /** How high the row of a key is, and how far the roll scrolls. */
+  measure() {
+    const keys = (this.high ?? 74) - (this.low ?? 58) + 1, room = this.scroller.clientHeight - HEAD - FOOT;
+    this.row = Math.max(LEAST_ROW, Math.min(MOST_ROW, room / keys));
+    this.space.style.width = this.score ? `${this.along(this.score.end) + 24}px` : "0";
+    this.space.style.height = this.score ? `${HEAD + FOOT + Math.floor(keys * this.row)}px` : "0";
     this.soon();
   }
 
-  /** How far from the left end a tick stands. */
+  /** How far from the left end a tick is. */
   along(tick) {
-    return SIDE + (tick / this.score.division) * QUARTER;
+    return SIDE + (tick / this.score.division) * this.quarter;
   }
 
-  /** Where the cursor stands, or null: it is kept in view. */
+  /** How far below the top end the row of a key is. */
+  down(key) {
+    return HEAD + (this.high - key) * this.row;
+  }
+
+  /** The tick at a number of pixels from the left end. */
+  tickAt(x) {
+    return Math.max(0, Math.min(this.score.end, ((x - SIDE) / this.quarter) * this.score.division));
+  }
+
+  /** Makes the roll wider or narrower; what is at a number of pixels in the view stays there. */
+  zoom(steps, at = this.middle()) {
+    if (!this.score) return;
+    const tick = this.tickAt(this.scroller.scrollLeft + at);
+    this.quarter = steps === 0 ? QUARTER : Math.max(NARROWEST, Math.min(WIDEST, this.quarter * ZOOM ** steps));
+    this.measure();
+    this.scroller.scrollLeft = this.along(tick) - at;
+  }
+
+  /** Where a zoom by keys is centred: at the cursor if that is seen. */
+  middle() {
+    const wide = this.scroller.clientWidth;
+    const x = this.tick === null ? -1 : this.along(this.tick) - this.scroller.scrollLeft;
+    return x >= SIDE && x <= wide ? x : wide / 2;
+  }
+
+  /** Puts the cursor at a tick, or takes it away; it is kept in view. */
   cursor(tick) {
     this.tick = tick;
     if (tick !== null && this.score) {
@@ -57,122 +127,86 @@ export class Roll {
     this.soon();
   }
 
-  /** Someone points at a moment. */
-  pick(event) {
+  /** Where in the roll an event is, and the note there: the one that is drawn last. */
+  under(event) {
+    const { left, top } = this.scroller.getBoundingClientRect();
+    const [seenX, seenY] = [event.clientX - left, event.clientY - top];
+    const [x, y] = [seenX + this.scroller.scrollLeft, seenY + this.scroller.scrollTop];
+    const note = seenX < SIDE || seenY < HEAD ? undefined : this.score.notes.findLast((one) => this.covers(one, x, y));
+    return { x, tick: this.tickAt(x), note: note ?? null, isHead: seenY < HEAD };
+  }
+
+  /** Whether a note is drawn at a place; a short one is as wide as a finger of the mouse. */
+  covers(note, x, y) {
+    const { lane, of } = this.lanes.get(note) ?? { lane: 0, of: 1 };
+    const top = this.down(note.key) + (lane * this.row) / of;
+    return y >= top && y < top + this.row / of && x >= this.along(note.start) && x < Math.max(this.along(note.end), this.along(note.start) + 3);
+  }
+
+  press(event) {
+    this.dragged = null;
+    if (!this.score || event.pointerType === "touch" || event.button !== 0) return;
+    const { x, isHead } = this.under(event);
+    if (!isHead) return;
+    this.dragged = { from: x, range: null };
+    this.scroller.setPointerCapture(event.pointerId);
+  }
+
+  /** The mouse points at a note, or draws a stretch along the numbers of the bars. */
+  move(event) {
     if (!this.score) return;
-    const x = event.clientX - this.scroller.getBoundingClientRect().left + this.scroller.scrollLeft;
-    this.picked(Math.max(0, Math.min(this.score.end, ((x - SIDE) / QUARTER) * this.score.division)));
+    if (this.dragged && event.buttons & 1) this.stretch(this.under(event).x);
+    else if (event.pointerType !== "touch") this.pointed(this.under(event).note, event);
+  }
+
+  /** Shows the stretch up to where the mouse is. It begins and ends with a beat. */
+  stretch(x) {
+    const [from, to] = [this.dragged.from, x].sort((a, b) => a - b);
+    if (to - from < DRAG) return;
+    const range = [this.grid.before(this.tickAt(from) + 1, false), this.grid.after(this.tickAt(to) - 1, false)];
+    if (range[0] >= range[1]) return;
+    this.dragged.range = this.loop = range;
+    this.soon();
+  }
+
+  /** Someone points at a moment or at a note. */
+  release(event) {
+    if (!this.score || this.dragged?.range) return;
+    const { tick, note } = this.under(event);
+    this.pointed(note, event);
+    if (event.pointerType === "touch") setTimeout(() => this.pointed(null), TOLD);
+    this.picked(note ? note.start : tick, note);
+  }
+
+  /** The wheel zooms while Ctrl is held. */
+  turn(event) {
+    if (!event.ctrlKey) return;
+    event.preventDefault();
+    this.zoom(event.deltaY < 0 ? 1 : -1, event.clientX - this.scroller.getBoundingClientRect().left);
+  }
+
+  /** Keys move the cursor by beats and by bars, and zoom. */
+  key(event) {
+    if (!this.score || event.altKey) return;
+    const tick = this.tick ?? 0, byBar = event.ctrlKey || event.metaKey || event.shiftKey;
+    const to = {
+      ArrowRight: () => this.grid.after(tick, byBar),
+      ArrowLeft: () => this.grid.before(tick, byBar),
+      Home: () => 0,
+      End: () => this.grid.before(this.score.end, true),
+    }[event.key]?.();
+    const steps = event.ctrlKey || event.metaKey ? undefined : { "+": 1, "=": 1, "-": -1, 0: 0 }[event.key];
+    if (to !== undefined) this.picked(Math.min(to, this.score.end), null);
+    else if (steps !== undefined) this.zoom(steps);
+    else return;
+    event.preventDefault();
   }
 
   /** Draws at the next frame. */
   soon() {
     this.frame ??= requestAnimationFrame(() => {
       this.frame = null;
-      this.draw();
+      drawRoll(this);
     });
   }
-
-  draw() {
-    const wide = this.scroller.clientWidth, high = this.scroller.clientHeight;
-    const pen = this.cleared(wide, high);
-    if (!this.score) return;
-    const style = getComputedStyle(this.scroller);
-    const row = (high - HEAD - FOOT) / (this.high - this.low + 1);
-    const view = {
-      pen, wide, high, row,
-      colour: (name) => style.getPropertyValue(`--${name}`),
-      top: (key) => HEAD + (this.high - key) * row,
-      x: (tick) => this.along(tick) - this.scroller.scrollLeft,
-    };
-    this.drawRows(view);
-    this.drawBars(view);
-    this.drawNotes(view);
-    if (this.tick !== null) {
-      pen.fillStyle = view.colour("cursor");
-      pen.fillRect(view.x(this.tick) - 1, 0, 2, high);
-    }
-    this.drawNames(view);
-  }
-
-  /** The pen on an empty canvas of so many pixels. */
-  cleared(wide, high) {
-    const scale = devicePixelRatio;
-    if (this.canvas.width !== Math.round(wide * scale) || this.canvas.height !== Math.round(high * scale)) {
-      this.canvas.width = Math.round(wide * scale);
-      this.canvas.height = Math.round(high * scale);
-      this.canvas.style.width = `${wide}px`;
-      this.canvas.style.height = `${high}px`;
-    }
-    const pen = this.canvas.getContext("2d");
-    pen.setTransform(scale, 0, 0, scale, 0, 0);
-    pen.clearRect(0, 0, wide, high);
-    return pen;
-  }
-
-  /** The rows of the black keys, and a line below each C. */
-  drawRows({ pen, wide, row, colour, top }) {
-    for (let key = this.low; key <= this.high; key += 1) {
-      pen.fillStyle = colour("row");
-      if (BLACK.has(((key % 12) + 12) % 12)) pen.fillRect(0, top(key), wide, row);
-      pen.fillStyle = colour("line");
-      if (key % 12 === 0) pen.fillRect(0, top(key) + row, wide, 1);
-    }
-  }
-
-  /** The bars, with the numbers of those that have room. */
-  drawBars({ pen, wide, high, colour, x }) {
-    pen.font = FONT;
-    pen.textAlign = "left";
-    pen.textBaseline = "alphabetic";
-    let free = -Infinity;
-    this.score.bars.forEach((tick, n) => {
-      const at = x(tick);
-      if (at < -40 || at > wide) return;
-      pen.fillStyle = colour("line");
-      pen.fillRect(at, 0, 1, high);
-      if (at < free || n === this.score.bars.length - 1) return;
-      pen.fillStyle = colour("quiet");
-      pen.fillText(String(n + 1), at + 4, 12);
-      free = at + 30;
-    });
-  }
-
-  /** The notes: one that sounds in the ink of the text, every other one in the colour of its voice, the louder the brighter. */
-  drawNotes({ pen, wide, row, colour, top, x }) {
-    for (const note of this.score.notes) {
-      const left = x(note.start), right = x(note.end);
-      if (left > wide) break;
-      if (right < 0) continue;
-      const sounds = this.tick !== null && note.start <= this.tick && this.tick < note.end;
-      pen.fillStyle = sounds ? colour("ink") : this.colour(note.voice);
-      pen.globalAlpha = sounds ? 1 : 0.45 + 0.55 * (note.velocity / 127);
-      pen.beginPath();
-      pen.roundRect(left + 0.5, top(note.key) + 0.5, Math.max(2, right - left - 1.5), Math.max(2, row - 1), 2);
-      pen.fill();
-    }
-    pen.globalAlpha = 1;
-  }
-
-  /** The names of the lowest and the highest key that sound, and of each C that has room. They stay where they are. */
-  drawNames({ pen, high, row, colour, top }) {
-    pen.fillStyle = colour("paper");
-    pen.fillRect(0, 0, SIDE, high);
-    pen.fillStyle = colour("line");
-    pen.fillRect(SIDE - 1, 0, 1, high);
-    pen.fillStyle = colour("quiet");
-    pen.font = FONT;
-    pen.textAlign = "right";
-    pen.textBaseline = "middle";
-    const named = [];
-    for (const key of [this.lowest, this.highest, ...CS]) {
-      if (key < this.low || key > this.high || named.some((other) => Math.abs(other - key) * row < LETTERS)) continue;
-      named.push(key);
-      pen.fillText(nameOf(key), SIDE - 6, top(key) + row / 2);
-    }
-  }
-}
-
-/** The name of a key, with its octave: 60 is C4. */
-export function nameOf(key) {
-  return `${NAMES[key % 12]}${Math.floor(key / 12) - 1}`;
 }

@@ -14,7 +14,7 @@ export class Sheet {
     [this.view, this.paper, this.leaf, this.numbers, this.marks, this.here, this.area] = [
       ".view", ".paper", ".leaf", ".numbers", ".marks", ".here", "textarea",
     ].map((name) => root.querySelector(name));
-    this.layers = []; // each draws the lines in the area: draw(sheet)
+    this.layers = []; // each draws the lines about those that are seen: draw(first, last)
     this.first = this.last = 0;
     this.drawn = [0, 0]; // the lines that the layers have drawn
     this.away = null; // the selection, while its lines are not in the area

@@ -1,0 +1,161 @@
+// The text and the roll follow each other: what sounds is marked in the text, the caret's notes are marked in the roll, and a note in
+// the roll leads to its place in the text. What has no known place is not marked.
+
+import { placesOf } from "./places.js";
+import { nameOf } from "./roll_picture.js";
+
+const PAUSE = 4000; // milliseconds for which the text stays where someone scrolls it
+const SOON = 80; // milliseconds after which the caret's notes are marked
+const STEPS = { C: 0, D: 2, E: 4, F: 5, G: 7, A: 9, B: 11 };
+const TIMES = { 2: "second", 3: "third" };
+const SIGNS = { "-2": "♭♭", "-1": "♭", 0: "", 1: "♯", 2: "♯♯" };
+
+export class Follower {
+  /** `tune` gives the tune in the roll, or null: { score, first, last, before }, its lines and how many precede the first tune. */
+  constructor(text, sheet, roll, tune) {
+    Object.assign(this, { text, sheet, roll, tune });
+    this.known = { score: null, lines: null, own: [], head: [], places: null };
+    this.sounding = []; // places in the text: { line, from, to }
+    this.picked = []; // where the caret's note is
+    this.lit = () => {}; // hears of the places that sound
+    this.layer = Object.assign(document.createElement("div"), { className: "sounding", ariaHidden: "true" });
+    sheet.here.after(this.layer);
+    sheet.layers.push(this);
+    document.addEventListener("selectionchange", () => this.caretSoon());
+    for (const name of ["keyup", "pointerup", "focus", "blur"]) sheet.area.addEventListener(name, () => this.caretSoon());
+    this.free = -Infinity; // until when the text is not scrolled to what sounds
+    const pause = () => (this.free = performance.now() + PAUSE);
+    for (const name of ["wheel", "touchmove", "pointerdown"]) sheet.scroller.addEventListener(name, pause, { passive: true });
+  }
+
+  /** The places of the notes of the tune in the roll, null without one. They are found again when its text or its file changes. */
+  get places() {
+    const tune = this.tune(), { known } = this, { lines } = this.text;
+    if (!tune) return null;
+    this.first = tune.first;
+    if (known.score === tune.score && known.lines === lines) return known.places;
+    const own = lines.slice(tune.first, tune.last), head = lines.slice(0, tune.before);
+    const isSame = (a, b) => a.length === b.length && a.every((line, n) => line === b[n]);
+    const places = known.score === tune.score && isSame(own, known.own) && isSame(head, known.head)
+      ? known.places : placesOf(own, head, tune.score);
+    this.known = { score: tune.score, lines, own, head, places };
+    return places;
+  }
+
+  /** The place in the book of a place in the tune. */
+  inBook({ line, from, to }) {
+    return { line: this.first + line, from, to };
+  }
+
+  /** The name of a voice in the text, with a word before it if it is a number. */
+  voiceName(voice) {
+    const name = this.places?.names.get(voice) ?? String(voice + 1);
+    return /^\d+$/.test(name) ? `Voice ${name}` : name;
+  }
+
+  /** Marks what sounds at a tick, or nothing. */
+  sound(tick) {
+    const tokens = tick === null ? [] : this.places?.at(tick) ?? [];
+    const sounding = tokens.map(({ mark }) => this.inBook(mark));
+    if (JSON.stringify(sounding) === JSON.stringify(this.sounding)) return;
+    this.sounding = sounding;
+    this.draw();
+    this.reveal();
+    this.lit(sounding);
+  }
+
+  /** Keeps in view what sounds, unless someone is at the text. */
+  reveal() {
+    const { sheet } = this, lines = this.sounding.map(({ line }) => line);
+    if (!lines.length || document.activeElement === sheet.area || performance.now() < this.free) return;
+    sheet.reveal(Math.max(...lines));
+    sheet.reveal(Math.min(...lines));
+    sheet.look();
+    this.layer.querySelector(".note i")?.scrollIntoView({ block: "nearest", inline: "nearest" });
+  }
+
+  /** Marks lines and places in the text. */
+  draw() {
+    const { sheet } = this, rows = document.createDocumentFragment();
+    const seen = ({ line }) => line >= sheet.first && line < sheet.last;
+    for (const line of new Set(this.sounding.filter(seen).map((place) => place.line))) rows.append(this.row(line, "line"));
+    for (const place of this.sounding.filter(seen)) rows.append(this.row(place.line, "note", place));
+    if (document.activeElement !== sheet.area) for (const place of this.picked.filter(seen)) rows.append(this.row(place.line, "picked", place));
+    this.layer.replaceChildren(rows);
+  }
+
+  /** A row over a line of the text. The text before the place, not to be seen, moves the mark there. */
+  row(line, className, place) {
+    const row = Object.assign(document.createElement("div"), { className });
+    row.style.top = `${(line - this.sheet.first) * this.sheet.height}px`;
+    if (!place) return row;
+    const words = this.text.lines[line] ?? "", mark = document.createElement("i");
+    mark.textContent = words.slice(place.from, place.to);
+    row.append(words.slice(0, place.from), mark);
+    return row;
+  }
+
+  /** The caret may have moved. */
+  caretSoon() {
+    this.timer ??= setTimeout(() => {
+      this.timer = null;
+      this.caret();
+    }, SOON);
+  }
+
+  /** Marks the notes of the caret in the roll. */
+  caret() {
+    const { roll, places } = this, { line, column } = this.sheet.caret();
+    const isSelected = JSON.stringify(this.sheet.selection().start) !== JSON.stringify(this.sheet.selection().end);
+    const tokens = places && !isSelected ? places.under(line - this.first, column) : [];
+    this.picked = tokens.slice(0, 1).map(({ mark }) => this.inBook(mark));
+    roll.pointedAt = tokens.length ? places.notesUnder(line - this.first, column) : new Set();
+    roll.soon();
+    this.draw();
+  }
+
+  /** The tick at which the music at the caret begins, null if that is not known. */
+  get tickOfCaret() {
+    const { places } = this, { line, column } = this.sheet.caret(), tune = this.tune();
+    if (!places || line < tune.first || line >= tune.last) return null;
+    return places.tickFrom(line - tune.first, column);
+  }
+
+  /** The ticks of the lines that are selected, or of the caret's line; null if they are not known. */
+  get rangeOfSelection() {
+    const { places } = this, { start, end } = this.sheet.selection();
+    if (!places) return null;
+    const last = end.line > start.line && end.column === 0 ? end.line - 1 : end.line;
+    return places.rangeOf(start.line - this.first, last - this.first);
+  }
+
+  /** Puts the caret at the place of a note: of the tone that sounds at a tick, where several are tied. */
+  goTo(note, tick) {
+    const tones = this.places?.tonesOf(note) ?? [];
+    const { token, tone } = tones.findLast((one) => one.token.start <= tick) ?? tones[0] ?? {};
+    if (!tone) return;
+    const place = { line: this.first + token.mark.line, column: tone.from };
+    this.sheet.select(place, place);
+  }
+
+  /** The name of a note, spelled as in the text if its place is known. */
+  noteName(note) {
+    const tone = this.places?.tonesOf(note)[0]?.tone;
+    const isSpelled = tone && (STEPS[tone.letter] + tone.alteration - note.key) % 12 === 0;
+    if (!isSpelled) return nameOf(note.key);
+    return `${tone.letter}${SIGNS[tone.alteration]}${Math.floor((note.key - tone.alteration) / 12) - 1}`;
+  }
+
+  /** What a note is: its name, its voice, its bar and beat. */
+  describe(note) {
+    const { score, grid } = this.roll;
+    const voice = score.voices > 1 ? `, ${this.voiceName(note.voice)}` : "";
+    return `${this.noteName(note)}${voice}, ${momentName(grid.momentOf(note.start))}`;
+  }
+}
+
+/** Where in the tune a moment is, in words. */
+export function momentName({ bar, beat, pass }) {
+  const again = pass > 1 ? `, ${TIMES[pass] ?? `${pass}th`} time` : "";
+  return bar ? `bar ${bar}${again}, beat ${beat}` : `pickup${again}, beat ${beat}`;
+}

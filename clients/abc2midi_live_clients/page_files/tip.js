@@ -1,0 +1,18 @@
+// Words beside the mouse, about what it points at.
+
+export class Tip {
+  constructor(root) {
+    this.root = root;
+  }
+
+  /** Shows words and elements where an event was; without words it hides. */
+  show(words, event) {
+    const { root } = this;
+    root.hidden = !words.length;
+    if (!words.length) return;
+    root.replaceChildren(...words);
+    root.style.left = `${Math.max(8, Math.min(event.clientX + 12, innerWidth - root.offsetWidth - 8))}px`;
+    const below = event.clientY + 20;
+    root.style.top = `${below + root.offsetHeight < innerHeight ? below : event.clientY - root.offsetHeight - 12}px`;
+  }
+}
