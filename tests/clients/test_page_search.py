@@ -97,12 +97,6 @@ class Search(test_page_in_browser.Browser):
         self.press("zzz")
         self.found("Nothing found")
         self.assertTrue(self.run_script("return document.getElementById('find-after').disabled"))
-        bad = "return document.getElementById('found').classList.contains('bad')"
-        self.assertTrue(self.run_script(bad))
-        self.press("a", CONTROL)
-        for _ in range(2):
-            self.press(BACKSPACE)
-            self.assertEqual((self.text("found"), self.run_script(bad)), ("", False))
 
     def test_marks(self):
         """The matches of the lines that are seen are marked at their places, and follow what is typed."""
