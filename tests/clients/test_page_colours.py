@@ -65,12 +65,6 @@ class Colours(test_page_in_browser.Browser):
         self.driver.execute_cdp_cmd("Emulation.setEmulatedMedia", {"features": [feature]})
         self.addCleanup(lambda: self.driver and self.driver.execute_cdp_cmd("Emulation.setEmulatedMedia", {"features": []}))
 
-    def size(self, wide: int, high: int):
-        """Another size of the page, till the end of the test."""
-        metrics = {"width": wide, "height": high, "deviceScaleFactor": 1, "mobile": False}
-        self.driver.execute_cdp_cmd("Emulation.setDeviceMetricsOverride", metrics)
-        self.addCleanup(lambda: self.driver and self.driver.execute_cdp_cmd("Emulation.clearDeviceMetricsOverride", {}))
-
     def test_parts_of_lines(self):
         self.edit(0, 1, *TEXT)
         self.load()

@@ -11,6 +11,11 @@ DOTS = """
 return [...document.querySelectorAll("[role=option]")].map((row) => [row.firstChild.textContent, row.classList.contains("faulty"), row.ariaDescription]);
 """
 PLACE = "return document.getElementById('place').textContent"
+IN_THE_ROLL = """
+const box = (identifier) => document.getElementById(identifier).getBoundingClientRect();
+const [words, roll] = [box("empty"), box("roll")];
+return words.top >= roll.top && words.bottom <= roll.bottom && words.left >= roll.left && words.right <= roll.right;
+"""
 
 
 class Empty(test_page_in_browser.Browser):
@@ -55,6 +60,15 @@ class Empty(test_page_in_browser.Browser):
         self.says("This tune has no notes yet, and its number cannot be read. Write it as X:1.")
         self.press("C\n\nX:\nK:C\nC")
         self.wait(lambda: self.text("empty").startswith("This tune has no number, as the one at line "))
+
+    def test_the_words_are_in_the_roll(self):
+        """So they cover neither what one practises with nor the score, in a window of any width."""
+        self.type("X:1\nK:C\n")
+        self.says("Tune 1 has no notes yet.")
+        self.run_script("document.getElementById('practise').click()")
+        for wide, high in ((1280, 900), (390, 844)):
+            self.size(wide, high)
+            self.wait(lambda: self.run_script(IN_THE_ROLL))
 
     def test_the_first_tune_is_selected(self):
         self.edit(0, 1, "% a header", "I:linebreak $", "", "X:3", "T:First", "K:C", "CEG", "", "X:5", "K:C", "C")

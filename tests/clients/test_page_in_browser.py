@@ -213,6 +213,12 @@ class Browser(test_page.Page):
         """Presses keys, wherever the focus is, while others are held down."""
         browser.type_keys(self.driver, words, *held)
 
+    def size(self, wide: int, high: int):
+        """Another size of the page, till the end of the test."""
+        metrics = {"width": wide, "height": high, "deviceScaleFactor": 1, "mobile": wide < 500}
+        self.driver.execute_cdp_cmd("Emulation.setDeviceMetricsOverride", metrics)
+        self.addCleanup(lambda: self.driver and self.driver.execute_cdp_cmd("Emulation.clearDeviceMetricsOverride", {}))
+
     def turn_to(self, window: str):
         """Goes to a window, which comes to the front."""
         self.driver.switch_to.window(window)

@@ -237,17 +237,14 @@ class Practising(music_page.MusicPage):
 
     def test_on_a_telephone(self):
         """All of it is in a window of 390 pixels, and nothing scrolls aside."""
-        self.driver.execute_cdp_cmd("Emulation.setDeviceMetricsOverride", {"width": 390, "height": 844, "deviceScaleFactor": 1, "mobile": True})
-        try:
-            self.open(DUET, "2 voices")
-            self.click("practise")
-            for identifier in ("from-caret", "tempo", "full-tempo", "count-in", "looping", "loop-from", "loop-to", "loop-lines", "narrower", "wider"):
-                element = self.driver.find_element("id", identifier)
-                self.run_script("arguments[0].scrollIntoView({ block: 'nearest' })", element)
-                self.assertTrue(element.is_displayed(), identifier)
-                box = self.run_script("const { left, right } = arguments[0].getBoundingClientRect(); return [left, right]", element)
-                self.assertTrue(0 <= box[0] and box[1] <= self.run_script("return innerWidth"), (identifier, box))
-            self.assertEqual(self.run_script("return document.documentElement.scrollWidth - innerWidth"), 0)
-            self.assertGreater(self.run_script("return document.getElementById('roll').clientHeight"), 80)
-        finally:
-            self.driver.execute_cdp_cmd("Emulation.clearDeviceMetricsOverride", {})
+        self.size(390, 844)
+        self.open(DUET, "2 voices")
+        self.click("practise")
+        for identifier in ("from-caret", "tempo", "full-tempo", "count-in", "looping", "loop-from", "loop-to", "loop-lines", "narrower", "wider"):
+            element = self.driver.find_element("id", identifier)
+            self.run_script("arguments[0].scrollIntoView({ block: 'nearest' })", element)
+            self.assertTrue(element.is_displayed(), identifier)
+            box = self.run_script("const { left, right } = arguments[0].getBoundingClientRect(); return [left, right]", element)
+            self.assertTrue(0 <= box[0] and box[1] <= self.run_script("return innerWidth"), (identifier, box))
+        self.assertEqual(self.run_script("return document.documentElement.scrollWidth - innerWidth"), 0)
+        self.assertGreater(self.run_script("return document.getElementById('roll').clientHeight"), 80)

@@ -25,6 +25,10 @@ const mark = document.querySelector(".finds .selected").getBoundingClientRect();
 const view = document.querySelector(".scroller").getBoundingClientRect();
 return view.left < mark.left && mark.right < view.right && view.top < mark.top && mark.bottom < view.bottom;
 """
+ROOM = """
+const seen = (identifier) => document.getElementById(identifier).checkVisibility();
+return [seen("replace-words"), seen("faults"), seen("roll"), document.querySelector(".scroller").clientHeight >= 5 * 21];
+"""
 
 
 class Search(test_page_in_browser.Browser):
@@ -209,3 +213,12 @@ class Search(test_page_in_browser.Browser):
         self.run_script("document.getElementById('find-words').focus()")
         self.press(ENTER)
         self.wait(lambda: self.run_script(SELECTED)[0] == "abc" and self.text("found").endswith(" of 2"))
+
+    def test_on_a_telephone(self):
+        """The text has room for five lines and more, beside the search, a fault and the roll."""
+        self.size(390, 844)
+        self.edit(0, 1, "X:1", "K:C", "C -")
+        self.load()
+        self.type("h", CONTROL)
+        self.wait(lambda: self.text("told"))
+        self.assertEqual(self.run_script(ROOM), [True, True, True, True])
