@@ -32,10 +32,11 @@ const contrast = (one, other) => {
   return (high + 0.05) / (low + 0.05);
 };
 const style = getComputedStyle(document.documentElement), value = (name) => style.getPropertyValue(name).trim();
-const backs = ["--paper", "--here", "--fault-back", "--hint-back", "--find"].map(value);
+const backs = ["--paper", "--here", "--fault-back", "--hint-back", "--find", "--sounding", "--sounding-line"].map(value);
 const fronts = [...document.querySelectorAll(".colours, .colours span")].map((part) => [part.className, getComputedStyle(part).color]);
-const edges = [...document.querySelectorAll("main > *, header button, input:not([type=checkbox]), .choices span, #search button, #music button, .bar button:not(#count)")]
-  .map((one) => [one.id || one.className || one.textContent, getComputedStyle(one).borderTopColor]);
+const edges = [...document.querySelectorAll("main > *, header button, input:not([type=checkbox], [type=range]), .choices span, #search button, #music button, .bar button:not(#count)")]
+  .map((one) => [one.id || one.className || one.textContent, getComputedStyle(one).borderTopColor])
+  .concat([["slider", value("--accent")]]);
 const quiet = [...document.querySelectorAll("#status, #place, #keys, #tally, .numbers, #count")].map((one) => [one.id || one.className, getComputedStyle(one).color]);
 return {
   text: fronts.map(([name, colour]) => [name, Math.min(...backs.map((back) => contrast(colour, back)))]),
