@@ -148,7 +148,7 @@ class Staves(test_page_in_browser.Browser):
         self.notes((2, 0, 5, "note"), (2, 5, 3, "note"))
 
     def test_places(self):
-        """A click goes to a note's place; the note at the caret is marked, and no other."""
+        """A click goes to a note's place; the note at the caret, or the one before it, is marked, and no other."""
         self.type(TUNE)
         self.wait(lambda: len(self.run_script(NOTES)) == 5)
         self.here()
@@ -159,7 +159,7 @@ class Staves(test_page_in_browser.Browser):
         self.press("\ue012")
         self.here([5, 9])
         self.press(3 * "\ue012")
-        self.here([5, 9])
+        self.here([5, 2])
         self.press(6 * "\ue012")
         self.here([5, 1])
         self.press("\ue013")
