@@ -258,8 +258,8 @@ class OtherPrograms(Programs, test_page_in_browser.Browser):
         self.type("X:1\nK:C\nC")
         self.wait(lambda: self.run_script(WHY) == "To see the score, install abcm2ps: sudo apt install abcm2ps")
         self.roll("1 voice")
-        shown = self.run_script("return document.getElementById('roll').clientWidth > document.getElementById('music').clientWidth - 9")
-        self.assertTrue(shown)
+        wide = "return document.getElementById('roll').clientWidth > document.getElementById('music').clientWidth - 9"
+        self.wait(lambda: self.run_script(wide))
         self.draw_by("exec sleep 1000")
         self.type("D")
         self.wait(lambda: "took too long" in (self.run_script(WHY) or ""))
