@@ -98,7 +98,7 @@ def in_tune(node: Node, first: int, tune: list[TuneLine]) -> bool:
 
 
 def form_of(width: Optional[int]) -> list[str]:
-    """How `abcm2ps` is to draw: so many pixels wide, or on pages of paper."""
+    """How `abcm2ps` draws: for a pane of this width in pixels, or on pages of paper."""
     if width is None:
         return PAPER
     pixels = min(max(width, NARROWEST), WIDEST)

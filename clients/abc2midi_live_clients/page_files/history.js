@@ -135,7 +135,7 @@ export class History {
     this.future = movedOver(this.future, edits);
   }
 
-  /** The newest steps, as text of at most about so many characters. */
+  /** Returns the newest steps as text, at most about this many characters. */
   stored(most) {
     let room = most;
     const [past, future] = [this.past, this.future].map((steps) => {

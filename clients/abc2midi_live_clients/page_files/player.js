@@ -150,7 +150,7 @@ export class Player {
     this.next = { score, tick: latest < tick ? tick : (bars.find((one) => one > latest) ?? end) };
   }
 
-  /** Plays so many times as fast, from the notes on that are not handed over yet. */
+  /** Changes the tempo by this factor, from the next note that is not scheduled yet. */
   setSpeed(speed) {
     this.speed = speed;
     if (!this.timer) return;

@@ -37,7 +37,7 @@ export function drawRoll(roll) {
   drawNames(view);
 }
 
-/** The pen on an empty canvas of so many pixels. */
+/** Returns the drawing context of an empty canvas of this size in pixels. */
 function cleared(canvas, wide, high) {
   const scale = devicePixelRatio;
   if (canvas.width !== Math.round(wide * scale) || canvas.height !== Math.round(high * scale)) {
