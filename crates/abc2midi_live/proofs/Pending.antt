@@ -9,7 +9,7 @@ use Rattle.abc_lines.specs.Text.{Text}
 use Rattle.abc_publish.specs.Publisher.{Directory, Jobs, Publishing, Slots, maps_of, begun, differs, ended, is_pending, is_wanted, stored_as, with_entry, HasNone, IsNext}
 use Rattle.abc_publish.specs.declared.slot.Stored.{Stored}
 use Rattle.abc_publish.specs.declared.slot.Stored.TheVariants.{Unknown}
-use Rattle.abc_tunebook.specs.Files.{Files, file_at}
+use Rattle.abc_tune_compiler.specs.Files.{Files, file_at}
 use Rattle.abc2midi_live.specs.Answer.{end_line, failed_line, stored_line}
 use Rattle.abc2midi_live.specs.Book.{files_of}
 use Rattle.abc2midi_live.specs.Building.{answer_line, answer_of, entry_behind, numbers_from, pending_from, pending_numbers, stage, storing, storing_at, Builds, BuildStops, Stage, IsIdle, StopsAtOnce, StopsBy, Stores, StoresOneAtMost}

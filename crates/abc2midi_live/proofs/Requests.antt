@@ -10,7 +10,7 @@ use Rattle.std.specs.Result.{result_unwrap_or}
 use Rattle.abc_lines.specs.Text.{Text, Splice, text_of}
 use Rattle.abc_lines.specs.Edits.{insertion, replacement, deletion, edited, Refuses}
 use Rattle.abc2midi_live.specs.Book.{files_of, faults_of, titles_of}
-use Rattle.abc_tunebook.specs.Files.{file_at, written, removed}
+use Rattle.abc_tune_compiler.specs.Files.{file_at, written, removed}
 use Rattle.abc2midi_live.specs.Answer.{report_line, refusal}
 use Rattle.abc2midi_live.specs.Command.{line_count, command_of}
 use Rattle.abc_publish.specs.Publisher.{Directory}
@@ -26,8 +26,8 @@ use Rattle.abc2midi_live.specs.Waiting.{request_unasked}
 use Rattle.abc2midi_live.proofs.Storing.{follows_same}
 use Rattle.abc2midi_live.specs.Dialogue.{Begun, awaited, is_taken, AnswersWith, Says, Responds}
 use Rattle.abc2midi_live.specs.Machine.{AsksNothing, CarriesOut, Future, Replies, telling}
-use Rattle.abc_tunebook.specs.declared.fault.Fault.{Fault}
-use Rattle.abc_tunebook.specs.declared.title.Title.{Title}
+use Rattle.abc_tune_compiler.specs.declared.fault.Fault.{Fault}
+use Rattle.abc_tune_compiler.specs.declared.title.Title.{Title}
 use Rattle.abc2midi_live.specs.declared.machine.Reply.{Reply}
 use Rattle.abc2midi_live.specs.declared.machine.Reply.TheVariants.{Nothing, Answer, End}
 use Rattle.abc_lines.specs.declared.edit_error.EditError.{EditError}

@@ -5,9 +5,9 @@ use Rattle.abc_text.specs.Byte.{space}
 use Rattle.abc_lines.specs.EditError.{name_of}
 use Rattle.abc_fields.specs.Fault as fault_codes
 use Rattle.abc_lines.specs.declared.edit_error.EditError.{EditError}
-use Rattle.abc_tunebook.specs.Files.{Files, written, removed}
-use Rattle.abc_tunebook.specs.declared.fault.Fault.{Fault}
-use Rattle.abc_tunebook.specs.declared.title.Title.{Title}
+use Rattle.abc_tune_compiler.specs.Files.{Files, written, removed}
+use Rattle.abc_tune_compiler.specs.declared.fault.Fault.{Fault}
+use Rattle.abc_tune_compiler.specs.declared.title.Title.{Title}
 
 -- numbers, each with a space before it
 unfoldable pub listed : List ℕ → List ℕ

@@ -8,7 +8,7 @@ use Rattle.abc_text.specs.Byte.{line_feed}
 use Rattle.abc_lines.specs.Text.{Text, Splice}
 use Rattle.abc_lines.specs.Edits.{insertion, replacement, deletion, edited}
 use Rattle.abc_publish.specs.Publisher.{Directory}
-use Rattle.abc_tunebook.specs.Files.{file_at}
+use Rattle.abc_tune_compiler.specs.Files.{file_at}
 use Rattle.abc2midi_live.specs.Book.{files_of, faults_of, titles_of}
 use Rattle.abc2midi_live.specs.Command.{command_of, line_count}
 use Rattle.abc2midi_live.specs.Answer.{report, refusal, fault_list, title_list, hex_line, unknown_line, truncated_line}

@@ -9,7 +9,7 @@ use Rattle.std.proofs.Math.Dec.{leb-zero}
 use Rattle.abc_lines.specs.Text.{Text, text_of}
 use Rattle.abc_lines.specs.Edits.{edited, insertion, replacement}
 use Rattle.abc_publish.specs.Publisher.{Directory}
-use Rattle.abc_tunebook.specs.Files.{file_at}
+use Rattle.abc_tune_compiler.specs.Files.{file_at}
 use Rattle.abc2midi_live.specs.Answer.{end_line, fault_list, hex_line, title_list, unknown_line}
 use Rattle.abc2midi_live.specs.Book.{faults_of, files_of, titles_of}
 use Rattle.abc2midi_live.specs.Building.{pending_numbers, storing}

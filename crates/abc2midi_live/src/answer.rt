@@ -4,7 +4,7 @@ ghost use Rattle.std.specs.Prelude.{◌≡◌, ◌≢◌, ◌++◌, decimal, opt
 ghost use Rattle.abc2midi_live.specs.Answer.{listed, report_line, refusal, fault_line, fault_list, title_line, title_list, hex_line, stored_line, failed_line};
 
 use abc_lines::EditError;
-use abc_tunebook::{Fault, Report, Title};
+use abc_tune_compiler::{Fault, Report, Title};
 use itoa::Buffer;
 use std::alloc::{AllocError, Global};
 

@@ -12,12 +12,12 @@ use Rattle.abc_fields.specs.declared.fault.FaultCode.{FaultCode}
 use Rattle.abc_fields.specs.declared.fault.FaultCode.TheVariants.{TooManyVoices}
 use Rattle.abc_fields.specs.declared.shift.Shift.{Shift}
 use Rattle.abc_fields.specs.Shift.{no_shift}
-use Rattle.abc_header.specs.Header.{declared, declared_by, said_at, said_of, shift_said}
-use Rattle.abc_header.specs.HeaderLine.{HeaderLine}
+use Rattle.abc_bars_header.specs.Header.{declared, declared_by, said_at, said_of, shift_said}
+use Rattle.abc_bars_header.specs.HeaderLine.{HeaderLine}
 use Rattle.abc_bars.specs.LookBack.Header.{declared_names, declared_shift, last_part, part_said, voice_on, voices_at, with_name, with_named}
-use Rattle.abc_header.specs.Voices.{place_of, voice_at}
-use Rattle.abc_items.specs.declared.item.TheConstants.{MOST_VOICES}
-use Rattle.abc_header.proofs.NamePlaces.{place_here, place_behind}
+use Rattle.abc_bars_header.specs.Voices.{place_of, voice_at}
+use Rattle.abc_bars_items.specs.declared.item.TheConstants.{MOST_VOICES}
+use Rattle.abc_bars_header.proofs.NamePlaces.{place_here, place_behind}
 
 -- A test passes or does not.
 by_test : {P : Type 0} (b : Bool) → (b ≡ true → P) → (b ≡ false → P) → P

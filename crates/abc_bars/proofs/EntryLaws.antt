@@ -1,9 +1,9 @@
 -- Places of different kinds.
 use Rattle.std.proofs.Common.{◌≡◌, ◌∙◌, ◌↔◌, ℕ, Bool, true, [], ◌∷◌, refl, sym, ap}
 use Rattle.std.proofs.lemmas.Bool.Decides.{same_from_decides}
-use Rattle.abc_cells.specs.SameEntry.{same_entry, same_entry_tells}
-use Rattle.abc_cells.specs.declared.entry.Entry.{Entry}
-use Rattle.abc_cells.specs.declared.entry.Entry.TheVariants as entries
+use Rattle.abc_bars_body.specs.SameEntry.{same_entry, same_entry_tells}
+use Rattle.abc_bars_body.specs.declared.entry.Entry.{Entry}
+use Rattle.abc_bars_body.specs.declared.entry.Entry.TheVariants as entries
 use Rattle.abc_bars.specs.LookBack.Place.{InBody, InFileHeader, InHeader, KindsApart, Place, kind_of_place, view}
 
 -- The kind of a place, by what holds there.

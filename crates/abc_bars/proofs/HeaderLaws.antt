@@ -10,17 +10,17 @@ use Rattle.abc_fields.specs.declared.voice.Voice.{Voice}
 use Rattle.abc_fields.specs.Key.{key_of}
 use Rattle.abc_fields.specs.Parts.{parts_of}
 use Rattle.abc_fields.specs.Voice.{voice_of}
-use Rattle.abc_header.specs.FieldKind.{kind_of}
-use Rattle.abc_header.specs.Header.{declared_by, declared_given, header_given, header_key_by, header_voice_by, order_by, own_given, reference_by}
-use Rattle.abc_header.specs.HeaderLine.{HeaderLine, FieldLine, DirectiveLine}
+use Rattle.abc_bars_header.specs.FieldKind.{kind_of}
+use Rattle.abc_bars_header.specs.Header.{declared_by, declared_given, header_given, header_key_by, header_voice_by, order_by, own_given, reference_by}
+use Rattle.abc_bars_header.specs.HeaderLine.{HeaderLine, FieldLine, DirectiveLine}
 use Rattle.abc_bars.specs.LookBack.Header.{declared_names, declared_shift, header_at, named_in, part_said, voice_said, voices_at, with_named}
-use Rattle.abc_header.specs.Reference.{reference_of}
-use Rattle.abc_header.specs.Voices.{place_of}
-use Rattle.abc_items.specs.declared.item.TheConstants.{MOST_VOICES}
-use Rattle.abc_header.specs.declared.defaults.Defaults.{Defaults}
-use Rattle.abc_header.specs.declared.field_kind.FieldKind.{FieldKind}
-use Rattle.abc_header.specs.declared.field_kind.FieldKind.TheVariants as kinds
-use Rattle.abc_header.specs.declared.header.Header.{Header}
+use Rattle.abc_bars_header.specs.Reference.{reference_of}
+use Rattle.abc_bars_header.specs.Voices.{place_of}
+use Rattle.abc_bars_items.specs.declared.item.TheConstants.{MOST_VOICES}
+use Rattle.abc_bars_header.specs.declared.defaults.Defaults.{Defaults}
+use Rattle.abc_bars_header.specs.declared.field_kind.FieldKind.{FieldKind}
+use Rattle.abc_bars_header.specs.declared.field_kind.FieldKind.TheVariants as kinds
+use Rattle.abc_bars_header.specs.declared.header.Header.{Header}
 use Rattle.abc_bars.specs.LookBack.Defaults.{defaults_at}
 use Rattle.abc_bars.proofs.DeclaredVoices.{voice_with, voices_named}
 use Rattle.abc_bars.proofs.HeaderViews.{defaults_behind, said, setting_said}

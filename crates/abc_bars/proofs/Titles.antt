@@ -17,19 +17,19 @@ use Rattle.abc_fields.specs.Tempo.{tempo_of}
 use Rattle.abc_fields.specs.Unit.{unit_of}
 use Rattle.abc_fields.specs.Voice.{voice_of}
 use Rattle.abc_fold.specs.Steps.{items_from}
-use Rattle.abc_music.specs.BarRest.{bar_rest_of}
-use Rattle.abc_music.specs.Broken.{factors_of, is_bad_mark}
-use Rattle.abc_music.specs.Chords.{inside_of}
-use Rattle.abc_items.specs.Item.{Items}
-use Rattle.abc_settings.specs.TempoItem.{is_out, tempo_item}
-use Rattle.abc_music.specs.TimeTokens.{chord_by, note_played, rest_played}
-use Rattle.abc_music.specs.TokenRole.{has_note}
-use Rattle.abc_settings.specs.Tuplet.{tuplet_opened}
-use Rattle.abc_items.specs.declared.item.Item.{Item}
-use Rattle.abc_items.specs.declared.item.Item.TheVariants as items
-use Rattle.abc_settings.specs.declared.settings.Settings.{Settings}
-use Rattle.abc_music.specs.declared.sound.Inside.{Inside}
-use Rattle.abc_items.specs.Program.{program_of}
+use Rattle.abc_bars_notes.specs.BarRest.{bar_rest_of}
+use Rattle.abc_bars_notes.specs.Broken.{factors_of, is_bad_mark}
+use Rattle.abc_bars_notes.specs.Chords.{inside_of}
+use Rattle.abc_bars_items.specs.Item.{Items}
+use Rattle.abc_bars_voice.specs.TempoItem.{is_out, tempo_item}
+use Rattle.abc_bars_notes.specs.TimeTokens.{chord_by, note_played, rest_played}
+use Rattle.abc_bars_notes.specs.TokenRole.{has_note}
+use Rattle.abc_bars_voice.specs.Tuplet.{tuplet_opened}
+use Rattle.abc_bars_items.specs.declared.item.Item.{Item}
+use Rattle.abc_bars_items.specs.declared.item.Item.TheVariants as items
+use Rattle.abc_bars_voice.specs.declared.settings.Settings.{Settings}
+use Rattle.abc_bars_notes.specs.declared.sound.Inside.{Inside}
+use Rattle.abc_bars_items.specs.Program.{program_of}
 use Rattle.abc_scan.specs.declared.directive.Directive.{Directive}
 use Rattle.abc_scan.specs.declared.directive.Directive.TheVariants as directives
 use Rattle.abc_scan.specs.declared.field.Field.{Field}
@@ -37,27 +37,27 @@ use Rattle.abc_scan.specs.declared.spanned.Spanned.{Spanned}
 use Rattle.abc_scan.specs.declared.token.TokenKind.{TokenKind}
 use Rattle.abc_scan.specs.declared.token.TokenKind.TheVariants as kinds
 use Rattle.abc_time.specs.declared.ratio.Ratio.{Ratio}
-use Rattle.abc_cells.specs.Body.{here, made_current, mentioned, with_here}
-use Rattle.abc_cells.specs.BodyFields.{field_given, key_by, kind_given, meter_by, part_by, part_of, tempo_by, unit_by, voice_by, voice_made, accepted, faulty}
-use Rattle.abc_cells.specs.BodyOpening.{body_from}
-use Rattle.abc_cells.specs.Cell.{given_from, mentioned_by_chord, nothing_given, tie_ahead, with_directive, with_ending, with_fault, with_fault_if, with_item, with_kind, with_played_in, with_some_fault, with_token}
-use Rattle.abc_header.specs.Defaults.{unit_in}
-use Rattle.abc_header.specs.FieldKind.{kind_of}
-use Rattle.abc_header.specs.Header.{and_program, declared, declared_given, directive_item, header_key_by, header_voice_by, items_with, line_own, line_program, opening_header, order_by, own_given, reference_by}
-use Rattle.abc_header.specs.HeaderLine.{HeaderLine, FieldLine, DirectiveLine}
-use Rattle.abc_header.specs.Opening.{opening_meter, opening_tempo, opening_tempo_by}
-use Rattle.abc_header.specs.Reference.{reference_of}
-use Rattle.abc_cells.specs.SameEntry.{bar_steps}
-use Rattle.abc_cells.specs.Step.{behind_kind, behind_line, body_stepped, directive_in, field_in, file_header_stepped, header_stepped, line_in, line_of, stepped}
+use Rattle.abc_bars_body.specs.Body.{here, made_current, mentioned, with_here}
+use Rattle.abc_bars_body.specs.BodyFields.{field_given, key_by, kind_given, meter_by, part_by, part_of, tempo_by, unit_by, voice_by, voice_made, accepted, faulty}
+use Rattle.abc_bars_body.specs.BodyOpening.{body_from}
+use Rattle.abc_bars_body.specs.Cell.{given_from, mentioned_by_chord, nothing_given, tie_ahead, with_directive, with_ending, with_fault, with_fault_if, with_item, with_kind, with_played_in, with_some_fault, with_token}
+use Rattle.abc_bars_header.specs.Defaults.{unit_in}
+use Rattle.abc_bars_header.specs.FieldKind.{kind_of}
+use Rattle.abc_bars_header.specs.Header.{and_program, declared, declared_given, directive_item, header_key_by, header_voice_by, items_with, line_own, line_program, opening_header, order_by, own_given, reference_by}
+use Rattle.abc_bars_header.specs.HeaderLine.{HeaderLine, FieldLine, DirectiveLine}
+use Rattle.abc_bars_header.specs.Opening.{opening_meter, opening_tempo, opening_tempo_by}
+use Rattle.abc_bars_header.specs.Reference.{reference_of}
+use Rattle.abc_bars_body.specs.SameEntry.{bar_steps}
+use Rattle.abc_bars_body.specs.Step.{behind_kind, behind_line, body_stepped, directive_in, field_in, file_header_stepped, header_stepped, line_in, line_of, stepped}
 use Rattle.abc_bars.specs.Titles.{title_said, titles_by, titles_from, titles_of_header, titles_said, SaysTitlesOfHeader}
-use Rattle.abc_cells.specs.declared.body.Body.{Body}
-use Rattle.abc_cells.specs.declared.cell.Given.{Given}
-use Rattle.abc_header.specs.declared.defaults.Defaults.{Defaults}
-use Rattle.abc_cells.specs.declared.entry.Entry.{Entry}
-use Rattle.abc_cells.specs.declared.entry.Entry.TheVariants as entries
-use Rattle.abc_header.specs.declared.field_kind.FieldKind.{FieldKind}
-use Rattle.abc_header.specs.declared.field_kind.FieldKind.TheVariants as fields
-use Rattle.abc_header.specs.declared.header.Header.{Header}
+use Rattle.abc_bars_body.specs.declared.body.Body.{Body}
+use Rattle.abc_bars_body.specs.declared.cell.Given.{Given}
+use Rattle.abc_bars_header.specs.declared.defaults.Defaults.{Defaults}
+use Rattle.abc_bars_body.specs.declared.entry.Entry.{Entry}
+use Rattle.abc_bars_body.specs.declared.entry.Entry.TheVariants as entries
+use Rattle.abc_bars_header.specs.declared.field_kind.FieldKind.{FieldKind}
+use Rattle.abc_bars_header.specs.declared.field_kind.FieldKind.TheVariants as fields
+use Rattle.abc_bars_header.specs.declared.header.Header.{Header}
 
 abbrev pub Cell : Type 0
 Cell = List (Spanned TokenKind)

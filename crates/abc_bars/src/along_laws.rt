@@ -1,13 +1,13 @@
 //! The law of the fold along the cells of a file header and of a tune.
 
 ghost use Rattle.std.specs.Prelude.{◌≡◌, ◌↔◌, IsTrue, List, Option};
-ghost use Rattle.abc_header.specs.Defaults.{no_defaults};
+ghost use Rattle.abc_bars_header.specs.Defaults.{no_defaults};
 ghost use Rattle.abc_bars.specs.LookBack.Along.{CellTokens, IsLookBack, file_header_begins, given_along, place_after, tune_begins, tune_state, values_set};
 ghost use Rattle.abc_bars.specs.LookBack.Place.{Place, view};
 ghost use Rattle.abc_bars.specs.LookBack.TunePlaces.{IsOfTune};
 ghost use Rattle.abc_bars.specs.declared.bar_fold.BarFold.{BarFold};
-ghost use Rattle.abc_cells.specs.declared.entry.Entry.{Entry};
-ghost use Rattle.abc_cells.specs.declared.entry.Entry.TheVariants as entries;
+ghost use Rattle.abc_bars_body.specs.declared.entry.Entry.{Entry};
+ghost use Rattle.abc_bars_body.specs.declared.entry.Entry.TheVariants as entries;
 
 use crate::bar_fold::BarFold;
 use abc_fold::Fold;

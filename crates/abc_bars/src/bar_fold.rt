@@ -2,20 +2,20 @@
 
 ghost use Rattle.std.specs.Prelude.{◌≡◌, IfOk};
 ghost use Rattle.std.specs.Option.{option_copied};
-ghost use Rattle.abc_cells.specs.Cell.{cell_given};
-ghost use Rattle.abc_cells.specs.SameEntry.{bar_steps, bars_resumable};
-ghost use Rattle.abc_header.specs.Header.{header_given};
-ghost use Rattle.abc_header.specs.HeaderLine.{DirectiveLine, FieldLine};
-ghost use Rattle.abc_cells.specs.Step.{field_line, field_in, directive_line, directive_in, line_in, body_stepped, line_stepped, header_stepped, file_header_made, file_header_stepped, stepped};
+ghost use Rattle.abc_bars_body.specs.Cell.{cell_given};
+ghost use Rattle.abc_bars_body.specs.SameEntry.{bar_steps, bars_resumable};
+ghost use Rattle.abc_bars_header.specs.Header.{header_given};
+ghost use Rattle.abc_bars_header.specs.HeaderLine.{DirectiveLine, FieldLine};
+ghost use Rattle.abc_bars_body.specs.Step.{field_line, field_in, directive_line, directive_in, line_in, body_stepped, line_stepped, header_stepped, file_header_made, file_header_stepped, stepped};
 
-use abc_cells::{BodyCopy, Entry, Given, body_from, cell_given};
-use abc_fields::{EMPTY_KEY, key_set_by};
-use abc_fold::{Fold, Work};
-use abc_header::{
+use abc_bars_body::{BodyCopy, Entry, Given, body_from, cell_given};
+use abc_bars_header::{
     Defaults, FieldKind, FileHeaderGiven, Header, HeaderGiven, file_header_directed,
     file_header_given, header_directed, header_given, kind_of,
 };
-use abc_items::{Items, ItemsBuilder};
+use abc_bars_items::{Items, ItemsBuilder};
+use abc_fields::{EMPTY_KEY, key_set_by};
+use abc_fold::{Fold, Work};
 use abc_scan::{Cell, Directive, Field, Token, TokenKind};
 use abc_text::Sequence;
 use std::alloc::{AllocError, Global};
@@ -157,7 +157,7 @@ fn file_header_stepped(alloc: Global, defaults: Defaults, cell: &[Token]) -> Ste
 }
 
 /// A cell that is entered there.
-#[tactic(auto, unfolding(abc_cells::specs::Step::stepped))]
+#[tactic(auto, unfolding(abc_bars_body::specs::Step::stepped))]
 fn stepped(alloc: Global, entry: &Entry, cell: &[Token]) -> Stepped
     ensures { IfOk result (λ made. made ≡ stepped entry.now cell.now) }
 {

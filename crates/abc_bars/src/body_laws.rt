@@ -2,7 +2,7 @@
 
 ghost use Rattle.std.specs.Prelude.{◌≤◌, bytes_eq, length};
 ghost use Rattle.std.specs.List.{IsDistinct};
-ghost use Rattle.abc_items.specs.declared.item.TheConstants.{MOST_VOICES};
+ghost use Rattle.abc_bars_items.specs.declared.item.TheConstants.{MOST_VOICES};
 ghost use Rattle.abc_bars.specs.LookBack.Held.{IsPlaced, roll_of};
 ghost use Rattle.abc_bars.specs.LookBack.Place.{AtEachPlace};
 

@@ -1,13 +1,13 @@
 //! Laws of what the cells of a tune give.
 
 ghost use Rattle.std.specs.Prelude.{◌≡◌, List};
-ghost use Rattle.abc_cells.specs.Cell.{with_token};
-ghost use Rattle.abc_cells.specs.Step.{stepped};
+ghost use Rattle.abc_bars_body.specs.Cell.{with_token};
+ghost use Rattle.abc_bars_body.specs.Step.{stepped};
 ghost use Rattle.abc_bars.specs.LookBack.AfterBody.{body_after};
 ghost use Rattle.abc_bars.specs.LookBack.Cells.{element_of};
 ghost use Rattle.abc_bars.specs.LookBack.Place.{Place, given_at, place_behind, view};
-ghost use Rattle.abc_cells.specs.declared.body.Body.{Body};
-ghost use Rattle.abc_cells.specs.declared.cell.Given.{Given};
+ghost use Rattle.abc_bars_body.specs.declared.body.Body.{Body};
+ghost use Rattle.abc_bars_body.specs.declared.cell.Given.{Given};
 ghost use Rattle.abc_scan.specs.declared.spanned.Spanned.{Spanned};
 ghost use Rattle.abc_scan.specs.declared.token.TokenKind.{TokenKind};
 

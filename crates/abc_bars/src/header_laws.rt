@@ -4,15 +4,15 @@ ghost use Rattle.std.specs.Prelude.{◌≡◌, ◌≤◌, [], ◌∷◌, List, b
 ghost use Rattle.std.specs.List.{IsDistinct};
 ghost use Rattle.std.specs.Map.{keys_of};
 ghost use Rattle.abc_fields.specs.declared.key.Key.{Key};
-ghost use Rattle.abc_header.specs.declared.defaults.Defaults.{Defaults};
-ghost use Rattle.abc_cells.specs.declared.entry.Entry.TheVariants as entries;
-ghost use Rattle.abc_header.specs.declared.header.Header.{Header};
-ghost use Rattle.abc_items.specs.declared.item.TheConstants.{MOST_VOICES};
-ghost use Rattle.abc_cells.specs.BodyOpening.{body_from};
-ghost use Rattle.abc_header.specs.Defaults.{no_defaults};
-ghost use Rattle.abc_header.specs.FileHeader.{file_header_given};
-ghost use Rattle.abc_header.specs.Header.{header_given, opening_header};
-ghost use Rattle.abc_header.specs.HeaderLine.{HeaderLine};
+ghost use Rattle.abc_bars_header.specs.declared.defaults.Defaults.{Defaults};
+ghost use Rattle.abc_bars_body.specs.declared.entry.Entry.TheVariants as entries;
+ghost use Rattle.abc_bars_header.specs.declared.header.Header.{Header};
+ghost use Rattle.abc_bars_items.specs.declared.item.TheConstants.{MOST_VOICES};
+ghost use Rattle.abc_bars_body.specs.BodyOpening.{body_from};
+ghost use Rattle.abc_bars_header.specs.Defaults.{no_defaults};
+ghost use Rattle.abc_bars_header.specs.FileHeader.{file_header_given};
+ghost use Rattle.abc_bars_header.specs.Header.{header_given, opening_header};
+ghost use Rattle.abc_bars_header.specs.HeaderLine.{HeaderLine};
 ghost use Rattle.abc_bars.specs.LookBack.Defaults.{defaults_at};
 ghost use Rattle.abc_bars.specs.LookBack.Header.{declared_names, file_header_view, header_at, header_view};
 ghost use Rattle.abc_bars.specs.LookBack.Place.{KindsApart};
@@ -43,7 +43,7 @@ pub fn places_apart()
 
 /// The voices that a header declares, with which its body begins: no two have the same name, and there are no
 /// more than a tune may have.
-#[tactic(auto, using(crate::proofs::DeclaredVoices::declared_keys, crate::proofs::DeclaredVoices::distinct_names, crate::proofs::DeclaredVoices::few_names, abc_cells::proofs::BodyOpenings::opening_names))]
+#[tactic(auto, using(crate::proofs::DeclaredVoices::declared_keys, crate::proofs::DeclaredVoices::distinct_names, crate::proofs::DeclaredVoices::few_names, abc_bars_body::proofs::BodyOpenings::opening_names))]
 pub fn declared_voices()
     ensures names { (opening : Defaults) (before : List HeaderLine) → keys_of (header_at opening before).voices ≡ declared_names before }
     ensures distinct { (before : List HeaderLine) → IsDistinct bytes_eq (declared_names before) }

@@ -1,12 +1,12 @@
 //! Laws of what holds at the places of a body.
 
 ghost use Rattle.std.specs.Prelude.{◌≡◌, List, [], ◌∷◌};
-ghost use Rattle.abc_header.specs.HeaderLine.{HeaderLine};
+ghost use Rattle.abc_bars_header.specs.HeaderLine.{HeaderLine};
 ghost use Rattle.abc_bars.specs.LookBack.AfterBody.{body_after};
 ghost use Rattle.abc_bars.specs.LookBack.Element.{Element};
 ghost use Rattle.abc_bars.specs.LookBack.Held.{held_at};
 ghost use Rattle.abc_bars.specs.LookBack.Place.{AtEachPlace, opening_at};
-ghost use Rattle.abc_header.specs.declared.defaults.Defaults.{Defaults};
+ghost use Rattle.abc_bars_header.specs.declared.defaults.Defaults.{Defaults};
 ghost use Rattle.abc_fields.specs.declared.key.Key.{Key};
 
 /// What holds at a place of a body, for all voices, is what looking back finds: where the body begins what it

@@ -24,16 +24,16 @@ mod velocity_laws;
 mod voice_laws;
 mod voice_place_laws;
 
-pub use abc_cells::{Body, Entry, Given};
-pub use abc_fields::{FaultCode, Key, Meter, Tempo};
-pub use abc_fold::{Fold, Shared, Work};
-pub use abc_header::{Defaults, Header, TuneProgram, VoiceName, Voices};
-pub use abc_items::{
+pub use abc_bars_body::{Body, Entry, Given};
+pub use abc_bars_header::{Defaults, Header, TuneProgram, VoiceName, Voices};
+pub use abc_bars_items::{
     HIGHEST_PROGRAM, Item, ItemText, Items, ItemsBuilder, LentTones, LocalFault, MOST_VOICES, Tone,
     Tones,
 };
+pub use abc_bars_voice::{Settings, TuneMeter, TuneTempo, UnitLength};
+pub use abc_fields::{FaultCode, Key, Meter, Tempo};
+pub use abc_fold::{Fold, Shared, Work};
 pub use abc_scan::{BarLine, Cell, Note, Reach, Spanned, Token, TokenKind};
-pub use abc_settings::{Settings, TuneMeter, TuneTempo, UnitLength};
 pub use abc_text::{Sequence, ShortSequence};
 pub use abc_time::{Grains, Ratio};
 pub use along_laws::{alike_views, tune_places, views_along, views_decide};

@@ -1,11 +1,11 @@
 //! The law of the look back for voices, by their names.
 
 ghost use Rattle.std.specs.Prelude.{◌≡◌, ℕ, List, Some, slice_get};
-ghost use Rattle.abc_cells.specs.Body.{here};
+ghost use Rattle.abc_bars_body.specs.Body.{here};
 ghost use Rattle.abc_bars.specs.LookBack.ByName.{naming_at, settings_named};
 ghost use Rattle.abc_bars.specs.LookBack.Held.{roll_of};
 ghost use Rattle.abc_bars.specs.LookBack.Place.{AtEachPlace};
-ghost use Rattle.abc_header.specs.Voices.{voice_at};
+ghost use Rattle.abc_bars_header.specs.Voices.{voice_at};
 
 /// What looking back finds at a place of a body, said in two sentences. The name of the voice is that of the last
 /// accepted V:, if it is not one voice too many; else that of the first voice of the header, or none. What holds for

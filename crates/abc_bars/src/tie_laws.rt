@@ -2,16 +2,16 @@
 
 ghost use Rattle.std.specs.Prelude.{◌≡◌, All, List, [], filter, false};
 ghost use Rattle.abc_fields.specs.declared.key.Key.{Key};
-ghost use Rattle.abc_settings.specs.declared.settings.Settings.{Settings};
-ghost use Rattle.abc_music.specs.Broken.{is_time_token};
-ghost use Rattle.abc_music.specs.LooseTies.{is_loose_tie};
-ghost use Rattle.abc_header.specs.HeaderLine.{HeaderLine};
+ghost use Rattle.abc_bars_voice.specs.declared.settings.Settings.{Settings};
+ghost use Rattle.abc_bars_notes.specs.Broken.{is_time_token};
+ghost use Rattle.abc_bars_notes.specs.LooseTies.{is_loose_tie};
+ghost use Rattle.abc_bars_header.specs.HeaderLine.{HeaderLine};
 ghost use Rattle.abc_bars.specs.LookBack.Along.{CellTokens};
 ghost use Rattle.abc_bars.specs.LookBack.Element.{Element};
 ghost use Rattle.abc_bars.specs.LookBack.Place.{given_in_body};
 ghost use Rattle.abc_bars.specs.LookBack.Ties.{IsTimeBefore, loose_ties, tied_after};
 ghost use Rattle.abc_bars.specs.LookBack.Voice.{settings_at};
-ghost use Rattle.abc_header.specs.declared.defaults.Defaults.{Defaults};
+ghost use Rattle.abc_bars_header.specs.declared.defaults.Defaults.{Defaults};
 
 /// The faults `LooseTie` of a cell of music, wherever it stands, are at those of its ties that have no note or chord
 /// directly before them, and at those inside a chord that have no note directly before them.

@@ -1,7 +1,7 @@
 //! Laws of what holds for a voice at the places of a tune.
 
 ghost use Rattle.std.specs.Prelude.{◌≡◌, List, ◌∷◌};
-ghost use Rattle.abc_settings.specs.declared.settings.Settings.{Settings};
+ghost use Rattle.abc_bars_voice.specs.declared.settings.Settings.{Settings};
 ghost use Rattle.abc_bars.specs.LookBack.After.{after};
 ghost use Rattle.abc_bars.specs.LookBack.Element.{Element};
 ghost use Rattle.abc_bars.specs.LookBack.Voice.{settings_at};

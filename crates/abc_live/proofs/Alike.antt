@@ -2,13 +2,13 @@
 use Rattle.std.proofs.Common.{◌≡◌, ◌⊎◌, List, [], ◌∷◌, refl, ap, inl, inr}
 use Rattle.std.specs.List.{AllZip}
 use Rattle.abc_book.specs.declared.block.Block.{Block}
-use Rattle.abc_rework.specs.Folded.{IsChainOf}
+use Rattle.abc_live_cost.specs.Folded.{IsChainOf}
 use Rattle.abc_fold.specs.Chain.{Chained}
 use Rattle.abc_fold.specs.Steps.{Steps, AreAlike, IsAlike, IsResumable, states_from}
 use Rattle.abc_lines.specs.Text.{Text}
-use Rattle.abc_tunebook.specs.Placed.{Placed, items_along, placed_at}
-use Rattle.abc_tunebook.specs.Rules.{Rules}
-use Rattle.abc_tunebook.specs.Tune.{cells_in, tune_from, tune_of}
+use Rattle.abc_tune_compiler.specs.Placed.{Placed, items_along, placed_at}
+use Rattle.abc_tune_compiler.specs.Rules.{Rules}
+use Rattle.abc_tune_compiler.specs.Tune.{cells_in, tune_from, tune_of}
 use Rattle.std.specs.Prelude.{ℕ, ◌+◌, map}
 
 module _ {State Cell Items : Type 0} (steps : Steps State Cell Items) (laws : IsResumable steps) where

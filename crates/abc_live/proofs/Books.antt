@@ -8,13 +8,13 @@ use Rattle.std.proofs.lemmas.Bool.Decides.{nat_tests}
 use Rattle.std.proofs.lemmas.Map.Views.{Contains-keys_from_lookup, IsSome-lookup_from_Contains}
 use Rattle.abc_fold.specs.Steps.{Steps}
 use Rattle.abc_lines.specs.Text.{Text}
-use Rattle.abc_tunebook.specs.Book.{blocks_in, book_of, given_by}
-use Rattle.abc_tunebook.specs.Fault.{fault_cmp}
-use Rattle.abc_tunebook.specs.Files.{Files, file_at, first_file}
-use Rattle.abc_tunebook.specs.Rules.{Rules}
-use Rattle.abc_tunebook.specs.Tune.{Tune}
-use Rattle.abc_tunebook.proofs.Order.{faults_rise}
-use Rattle.abc_tunebook.proofs.Owners.{first_owner}
+use Rattle.abc_tune_compiler.specs.Book.{blocks_in, book_of, given_by}
+use Rattle.abc_tune_compiler.specs.Fault.{fault_cmp}
+use Rattle.abc_tune_compiler.specs.Files.{Files, file_at, first_file}
+use Rattle.abc_tune_compiler.specs.Rules.{Rules}
+use Rattle.abc_tune_compiler.specs.Tune.{Tune}
+use Rattle.abc_tune_compiler.proofs.Order.{faults_rise}
+use Rattle.abc_tune_compiler.proofs.Owners.{first_owner}
 
 same_number : IsEquivalence (λ (n k : ℕ). k == n)
 same_number = record { refl = λ n. grind (arith, nat_tests); symm = λ n k. grind (arith, nat_tests); congr = λ n k m same. grind (arith, nat_tests) }

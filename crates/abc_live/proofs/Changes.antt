@@ -7,14 +7,14 @@ use Rattle.std.proofs.lemmas.Grind.{flat_map-append}
 use Rattle.std.proofs.lemmas.List.{drop-drop, map-append, take-append-drop}
 use Rattle.std.proofs.lemmas.List.Elements.{All-append, All-contains, All-contains_itself, All-drop, All-nil, All-take}
 use Rattle.abc_book.specs.declared.block.Block.{Block}
-use Rattle.abc_chains.specs.Keeping.{AreChains, IsHeaderOf}
-use Rattle.abc_chains.specs.Standing.{Edited, HoldsHeader, KeepsHeader, gone, moved_on}
+use Rattle.abc_live_text.specs.Keeping.{AreChains, IsHeaderOf}
+use Rattle.abc_live_text.specs.Standing.{Edited, HoldsHeader, KeepsHeader, gone, moved_on}
 use Rattle.abc_fold.specs.Chain.{Chained}
 use Rattle.abc_fold.specs.Steps.{Steps, IsAlike, IsResumable}
-use Rattle.abc_kept_book.specs.Faults.{fault_shifted, faults_after}
-use Rattle.abc_kept_book.specs.Laws.{StandsAmong, StandsBefore, StandsBehind}
-use Rattle.abc_kept_book.proofs.Following.{files_follow, titles_follow}
-use Rattle.abc_kept_book.proofs.Meeting.{faults_meet}
+use Rattle.abc_live_index.specs.Faults.{fault_shifted, faults_after}
+use Rattle.abc_live_index.specs.Laws.{StandsAmong, StandsBefore, StandsBehind}
+use Rattle.abc_live_index.proofs.Following.{files_follow, titles_follow}
+use Rattle.abc_live_index.proofs.Meeting.{faults_meet}
 use Rattle.abc_lines.specs.Text.{Splice, Text}
 use Rattle.abc_live.specs.Prepared.{IsBook, IsPrepared, header_faults_there}
 use Rattle.abc_live.proofs.Alike.{tunes_alike}
@@ -22,17 +22,17 @@ use Rattle.abc_live.proofs.Found.{header_stands, same_behind, same_header_faults
 use Rattle.abc_live.proofs.Lying.{LiesIn, header_lies}
 use Rattle.abc_live.proofs.Parts.{tells_of, tune_chains}
 use Rattle.abc_live.proofs.Stretches.{first_is, made_chains, old_lie, old_stretch, parts_lie, places_lie, still_alike}
-use Rattle.abc_outputs.specs.Output.{output_in}
-use Rattle.abc_outputs.specs.Tunes.{LiesAmong, OutputTells, cell_faults_by, counts_among, faults_by, faults_of_tunes}
-use Rattle.abc_outputs.specs.declared.output.Output.{Output}
-use Rattle.abc_outputs.proofs.Following.{faults_follow, header_follows}
-use Rattle.abc_tunebook.specs.Book.{behind_header, blocks_in, book_of, header_faults, header_in, opening_of, tunes_in}
-use Rattle.abc_tunebook.specs.Fault.{fault_cmp}
-use Rattle.abc_tunebook.specs.Rules.{Rules}
-use Rattle.abc_tunebook.specs.Sorted.{sorted_once}
-use Rattle.abc_tunebook.specs.Tune.{Tune, tune_of}
-use Rattle.abc_tunebook.specs.declared.fault.Fault.{Fault}
-use Rattle.abc_tunebook.proofs.Order.{no_fault_lost}
+use Rattle.abc_live_index.specs.Output.{output_in}
+use Rattle.abc_live_index.specs.Tunes.{LiesAmong, OutputTells, cell_faults_by, counts_among, faults_by, faults_of_tunes}
+use Rattle.abc_live_index.specs.declared.output.Output.{Output}
+use Rattle.abc_live_index.proofs.OutputFollowing.{faults_follow, header_follows}
+use Rattle.abc_tune_compiler.specs.Book.{behind_header, blocks_in, book_of, header_faults, header_in, opening_of, tunes_in}
+use Rattle.abc_tune_compiler.specs.Fault.{fault_cmp}
+use Rattle.abc_tune_compiler.specs.Rules.{Rules}
+use Rattle.abc_tune_compiler.specs.Sorted.{sorted_once}
+use Rattle.abc_tune_compiler.specs.Tune.{Tune, tune_of}
+use Rattle.abc_tune_compiler.specs.declared.fault.Fault.{Fault}
+use Rattle.abc_tune_compiler.proofs.Order.{no_fault_lost}
 
 if_below : {A : Type 0} (a b : ℕ) (x y : A) → a < b → (if nat_lt a b then x else y) ≡ x
 if_below a b x y below = grind (arith, nat_tests)

@@ -1,21 +1,21 @@
 -- What an edit costs, put together, and what an edit means.
 use Rattle.std.proofs.Common.{◌≡◌, ℕ, zero, suc, ◌+◌, ◌-◌, ◌≤◌, List, ◌++◌, length, Option, Some, None, Err, refl, sym, ap, subst, arith}
 use Rattle.std.proofs.lemmas.List.Sums.{sum_by-append, sum_by-cons}
-use Rattle.abc_chains.specs.Standing.{Edited, IsWorkUpTo, all_taken, kept_numbers}
-use Rattle.abc_rework.specs.Folded.{TakesUntouched}
+use Rattle.abc_live_text.specs.Standing.{Edited, IsWorkUpTo, all_taken, kept_numbers}
+use Rattle.abc_live_cost.specs.Folded.{TakesUntouched}
 use Rattle.abc_fold.specs.Steps.{Steps}
 use Rattle.abc_fold.specs.Work.{Counters, raised}
 use Rattle.abc_fold.proofs.Raised.{raised-least, raised-mono}
 use Rattle.abc_lines.specs.Edits.{edited, replaced}
 use Rattle.abc_lines.specs.Text.{Splice, Text, spliced}
 use Rattle.abc_lines.specs.declared.edit_error.EditError.TheVariants.{BadRange}
-use Rattle.abc_outputs.specs.Built.{IsBuiltUpTo, made_at, made_of}
-use Rattle.abc_rework.specs.Fresh.{fresh_after, is_untouched, touched_after}
-use Rattle.abc_tunebook.specs.Rules.{Rules}
+use Rattle.abc_live_index.specs.Built.{IsBuiltUpTo, made_at, made_of}
+use Rattle.abc_live_cost.specs.Fresh.{fresh_after, is_untouched, touched_after}
+use Rattle.abc_tune_compiler.specs.Rules.{Rules}
 use Rattle.abc_live.specs.Counting.{Cost, HasRisen, IsWorkedUpTo, MayCost, cost_of}
-use Rattle.abc_outputs.proofs.Taking.{made_least}
-use Rattle.abc_rework.specs.Entered.{entered_of}
-use Rattle.abc_rework.specs.Laid.{laid_in, tune_chains}
+use Rattle.abc_live_index.proofs.Taking.{made_least}
+use Rattle.abc_live_cost.specs.Entered.{entered_of}
+use Rattle.abc_live_cost.specs.Laid.{laid_in, tune_chains}
 
 -- a counter that stays
 stays : (k count : ℕ) → HasRisen k count count

@@ -6,18 +6,18 @@ use Rattle.std.proofs.lemmas.List.Elements.{All-append, All-head, All-nil, All-t
 use Rattle.abc_book.specs.Stretch.{shifted}
 use Rattle.abc_book.specs.declared.block.Block.{Block}
 use Rattle.abc_fold.specs.Steps.{Steps}
-use Rattle.abc_kept_book.specs.Faults.{fault_shifted}
+use Rattle.abc_live_index.specs.Faults.{fault_shifted}
 use Rattle.abc_lines.specs.Text.{Text}
 use Rattle.abc_live.proofs.Lying.{LiesIn, all_second}
-use Rattle.abc_outputs.specs.Tunes.{faults_of_tunes}
-use Rattle.abc_tunebook.specs.Book.{behind_header, header_faults}
-use Rattle.abc_tunebook.specs.Laws.{fault_moved}
-use Rattle.abc_tunebook.specs.Placed.{cells_from, items_along, state_along, things}
-use Rattle.abc_tunebook.specs.Rules.{Rules}
-use Rattle.abc_tunebook.specs.Tune.{Tune, fault_of_tune, faults_along, lines_in, tune_from, tune_of}
-use Rattle.abc_tunebook.specs.declared.fault.Fault.{Fault}
-use Rattle.abc_tunebook.proofs.Moves.{tunes_move}
-use Rattle.abc_tunebook.proofs.Within.{faults_in_lines}
+use Rattle.abc_live_index.specs.Tunes.{faults_of_tunes}
+use Rattle.abc_tune_compiler.specs.Book.{behind_header, header_faults}
+use Rattle.abc_tune_compiler.specs.Laws.{fault_moved}
+use Rattle.abc_tune_compiler.specs.Placed.{cells_from, items_along, state_along, things}
+use Rattle.abc_tune_compiler.specs.Rules.{Rules}
+use Rattle.abc_tune_compiler.specs.Tune.{Tune, fault_of_tune, faults_along, lines_in, tune_from, tune_of}
+use Rattle.abc_tune_compiler.specs.declared.fault.Fault.{Fault}
+use Rattle.abc_tune_compiler.proofs.Moves.{tunes_move}
+use Rattle.abc_tune_compiler.proofs.Within.{faults_in_lines}
 
 -- A fault stands in one of the lines behind the first so many, and not behind so many.
 abbrev pub StandsIn : ℕ → ℕ → Fault → Type 0

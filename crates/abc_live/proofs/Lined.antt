@@ -7,8 +7,8 @@ use Rattle.abc_lines.specs.Text.{IsText, Text, lines_of, splice_from, spliced}
 use Rattle.abc_lines.specs.declared.limits.TheConstants.{MOST_LINES}
 use Rattle.abc_lines.proofs.ListSplices.{item_among, item_back, item_front}
 use Rattle.abc_lines.proofs.Splices.{length-lines_of, length-spliced}
-use Rattle.abc_outputs.proofs.Lists.{read_at}
-use Rattle.abc_outputs.proofs.Taking.{mapped_at}
+use Rattle.abc_live_index.proofs.OutputLists.{read_at}
+use Rattle.abc_live_index.proofs.Taking.{mapped_at}
 
 -- the element at a place behind others
 pub dropped_at : {X : Type 0} (from : ℕ) (xs : List X) (i : ℕ) → slice_get xs (from + i) ≡ slice_get (drop from xs) i

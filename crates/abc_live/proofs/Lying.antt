@@ -9,7 +9,7 @@ use Rattle.abc_book.specs.Laws.{RiseFromTo}
 use Rattle.abc_book.proofs.Rising.{blocks_rise}
 use Rattle.abc_lines.specs.Text.{Text}
 use Rattle.abc_scan.specs.declared.class.LineClass.{LineClass}
-use Rattle.abc_tunebook.specs.Book.{header_in, is_file_header, is_tune, tunes_in}
+use Rattle.abc_tune_compiler.specs.Book.{header_in, is_file_header, is_tune, tunes_in}
 
 -- a block of at least one line of so many
 pub record LiesIn (count : ℕ) (block : Block) : Type 0 where

@@ -4,11 +4,11 @@ use Rattle.std.specs.List.{AllZip, list_all}
 use Rattle.std.specs.Prelude.{All, IfOk}
 use Rattle.std.proofs.lemmas.List.{length-map}
 use Rattle.abc_book.specs.declared.block.Block.{Block}
-use Rattle.abc_chains.specs.Standing.{Edited, Keeping, gone, old_tunes}
-use Rattle.abc_chains.specs.declared.stretch.Stretch.{Stretch}
+use Rattle.abc_live_text.specs.Standing.{Edited, Keeping, gone, old_tunes}
+use Rattle.abc_live_text.specs.declared.stretch.Stretch.{Stretch}
 use Rattle.abc_fold.specs.Chain.{Chained}
 use Rattle.abc_fold.specs.Steps.{Steps, IsResumable}
-use Rattle.abc_kept_book.specs.Faults.{faults_after}
+use Rattle.abc_live_index.specs.Faults.{faults_after}
 use Rattle.abc_lines.specs.Lines.{Lines}
 use Rattle.abc_lines.specs.Text.{IsText, Splice, Text, is_line, spliced}
 use Rattle.abc_lines.specs.declared.limits.TheConstants.{MOST_LINES}
@@ -16,12 +16,12 @@ use Rattle.abc_live.specs.Prepared.{HeaderCells, IsBook, IsPrepared, count_in, h
 use Rattle.abc_live.proofs.Changes.{book_is, faults_are, faults_within}
 use Rattle.abc_live.proofs.Lying.{header_lies}
 use Rattle.abc_live.proofs.Stretches.{counts_many, counts_there, first_cells, lines_good, made_cells, new_outputs, old_count, old_lie, stretch_inside, takes_over}
-use Rattle.abc_outputs.specs.Output.{TakesOver, output_in}
-use Rattle.abc_outputs.specs.Tunes.{HasCells, counts_among, faults_by}
-use Rattle.abc_outputs.specs.declared.output.Output.{Output}
-use Rattle.abc_tunebook.specs.Book.{book_of}
-use Rattle.abc_tunebook.specs.Rules.{Rules}
-use Rattle.abc_tunebook.specs.declared.fault.Fault.{Fault}
+use Rattle.abc_live_index.specs.Output.{TakesOver, output_in}
+use Rattle.abc_live_index.specs.Tunes.{HasCells, counts_among, faults_by}
+use Rattle.abc_live_index.specs.declared.output.Output.{Output}
+use Rattle.abc_tune_compiler.specs.Book.{book_of}
+use Rattle.abc_tune_compiler.specs.Rules.{Rules}
+use Rattle.abc_tune_compiler.specs.declared.fault.Fault.{Fault}
 
 -- what holds of an answer twice
 pub ok_both : {A E : Type 0} (answer : Result A E) (P Q R : A → Type 0) → ((x : A) → P x → Q x → R x) → IfOk answer P → IfOk answer Q → IfOk answer R

@@ -2,20 +2,20 @@
 use Rattle.std.proofs.Common.{◌≡◌, ℕ, ◌≤◌, List, [], ◌∷◌, length, drop, map, Some, slice_get, ap, ◌∙◌, refl, subst, arith}
 use Rattle.std.specs.List.{AllZip}
 use Rattle.abc_book.specs.declared.block.Block.{Block}
-use Rattle.abc_chains.specs.Keeping.{AreChains, IsHeaderOf}
-use Rattle.abc_rework.specs.Folded.{IsChainOf}
-use Rattle.abc_chains.specs.Rows.{Row, row_cells}
-use Rattle.abc_chains.specs.Standing.{AreRows}
+use Rattle.abc_live_text.specs.Keeping.{AreChains, IsHeaderOf}
+use Rattle.abc_live_cost.specs.Folded.{IsChainOf}
+use Rattle.abc_live_text.specs.Rows.{Row, row_cells}
+use Rattle.abc_live_text.specs.Standing.{AreRows}
 use Rattle.abc_fold.specs.Chain.{Chained}
 use Rattle.abc_fold.specs.Steps.{Steps}
 use Rattle.abc_live.specs.Prepared.{count_in}
 use Rattle.abc_lines.specs.Text.{Text}
-use Rattle.abc_outputs.specs.Output.{counts_of, output_in}
-use Rattle.abc_outputs.specs.Tunes.{OutputTells}
-use Rattle.abc_outputs.proofs.Following.{output_follows}
-use Rattle.abc_tunebook.specs.Book.{blocks_in, header_in, opening_of, tunes_in}
-use Rattle.abc_tunebook.specs.Rules.{Rules}
-use Rattle.abc_tunebook.specs.Tune.{tune_of}
+use Rattle.abc_live_index.specs.Output.{counts_of, output_in}
+use Rattle.abc_live_index.specs.Tunes.{OutputTells}
+use Rattle.abc_live_index.proofs.OutputFollowing.{output_follows}
+use Rattle.abc_tune_compiler.specs.Book.{blocks_in, header_in, opening_of, tunes_in}
+use Rattle.abc_tune_compiler.specs.Rules.{Rules}
+use Rattle.abc_tune_compiler.specs.Tune.{tune_of}
 
 module _ {State Cell Items Defaults : Type 0} (steps : Steps State Cell Items) (rules : Rules State Cell Items Defaults) (text : Text) where
   -- there is a chain of the file header

@@ -2,8 +2,8 @@
 use Rattle.std.proofs.Common.{◌≡◌, Bool, true, false, if◌then◌else◌, drop, not, length, nat_le, Result, Ok, Err, refl, sym, subst, ◌∙◌, ap}
 use Rattle.std.specs.List.{AllZip, list_all}
 use Rattle.std.specs.Prelude.{IfOk}
-use Rattle.abc_chains.specs.Standing.{Edited, IsStretch, Keeping, Stands, parts_after, parts_of}
-use Rattle.abc_rework.specs.Folded.{HasItemsOf}
+use Rattle.abc_live_text.specs.Standing.{Edited, IsStretch, Keeping, Stands, parts_after, parts_of}
+use Rattle.abc_live_cost.specs.Folded.{HasItemsOf}
 use Rattle.abc_fold.specs.Steps.{Steps}
 use Rattle.abc_lines.specs.Edits.{replaced}
 use Rattle.abc_lines.specs.Text.{IsText, Splice, Text, is_line, spliced}
@@ -11,7 +11,7 @@ use Rattle.abc_lines.specs.declared.limits.TheConstants.{MOST_LINES}
 use Rattle.abc_lines.specs.declared.edit_error.EditError.{EditError}
 use Rattle.abc_lines.specs.declared.edit_error.EditError.TheVariants.{BadRange, BadLine, TooLarge}
 use Rattle.abc_live.specs.Prepared.{IsPrepared}
-use Rattle.abc_tunebook.specs.Rules.{Rules}
+use Rattle.abc_tune_compiler.specs.Rules.{Rules}
 use Rattle.std.proofs.Common.{◌+◌}
 
 abbrev judged : {A E : Type 0} → Bool → Bool → Bool → E → E → E → A → Result A E

@@ -5,11 +5,11 @@ use Rattle.std.specs.Prelude.{All, IfSome, ◌⊎◌}
 use Rattle.std.proofs.lemmas.List.{drop-map, length-map, take-map, map-append}
 use Rattle.std.proofs.lemmas.List.Elements.{All-head, All-tail}
 use Rattle.abc_book.specs.declared.block.Block.{Block}
-use Rattle.abc_chains.specs.Keeping.{IsHeaderOf, behind_chain}
-use Rattle.abc_rework.specs.Folded.{IsChainOf}
-use Rattle.abc_chains.specs.Standing.{Edited, HoldsHeader, KeepsHeader, moved_on, old_tunes}
-use Rattle.abc_chains.proofs.Opening.{opening_alike}
-use Rattle.abc_compiler.specs.Lawful.{AreLawful}
+use Rattle.abc_live_text.specs.Keeping.{IsHeaderOf, behind_chain}
+use Rattle.abc_live_cost.specs.Folded.{IsChainOf}
+use Rattle.abc_live_text.specs.Standing.{Edited, HoldsHeader, KeepsHeader, moved_on, old_tunes}
+use Rattle.abc_live_text.proofs.Opening.{opening_alike}
+use Rattle.abc_tune_compiler.specs.Lawful.{AreLawful}
 use Rattle.abc_fold.specs.Chain.{Chained}
 use Rattle.abc_fold.specs.Steps.{Steps, IsAlike, IsResumable, items_from}
 use Rattle.abc_fold.proofs.Alike.{equal_items}
@@ -20,16 +20,16 @@ use Rattle.abc_live.proofs.Alike.{chains_alike}
 use Rattle.abc_live.proofs.Lying.{LiesIn, all_first, all_second, header_lies, tunes_lie}
 use Rattle.abc_live.proofs.Parts.{counts_are, header_chain, some_chain, tune_chains}
 use Rattle.abc_live.proofs.Zips.{zip_behind, zip_fronts, zip_middle, zip_rest}
-use Rattle.abc_outputs.specs.Output.{TakesOver, counts_of, output_in}
-use Rattle.abc_outputs.specs.Tunes.{HasCells, IsTuneAt, LiesAmong, counts_among, line_run, lowered}
-use Rattle.abc_outputs.proofs.Following.{has_cells, zipped_cells}
-use Rattle.abc_outputs.proofs.Keys.{all_dropped, all_taken}
-use Rattle.abc_outputs.proofs.Lists.{zipped_count}
-use Rattle.abc_outputs.proofs.Places.{among, among_inside}
-use Rattle.abc_outputs.proofs.Taking.{items_suffice}
-use Rattle.abc_tunebook.specs.Book.{behind_header, blocks_in, opening_of}
-use Rattle.abc_tunebook.specs.Rules.{Rules}
-use Rattle.abc_tunebook.specs.Tune.{lines_in}
+use Rattle.abc_live_index.specs.Output.{TakesOver, counts_of, output_in}
+use Rattle.abc_live_index.specs.Tunes.{HasCells, IsTuneAt, LiesAmong, counts_among, line_run, lowered}
+use Rattle.abc_live_index.proofs.OutputFollowing.{has_cells, zipped_cells}
+use Rattle.abc_live_index.proofs.Keys.{all_dropped, all_taken}
+use Rattle.abc_live_index.proofs.OutputLists.{zipped_count}
+use Rattle.abc_live_index.proofs.OutputPlaces.{among, among_inside}
+use Rattle.abc_live_index.proofs.Taking.{items_suffice}
+use Rattle.abc_tune_compiler.specs.Book.{behind_header, blocks_in, opening_of}
+use Rattle.abc_tune_compiler.specs.Rules.{Rules}
+use Rattle.abc_tune_compiler.specs.Tune.{lines_in}
 
 -- places that lie in order, and among lines
 lies_among : (from came count : ℕ) (places : List Block) → All (λ (place : Block). (from ≤ place.from) × (place.to ≤ from + came)) places → All (LiesIn count) places → All (LiesAmong from came) places

@@ -3,8 +3,8 @@ use Rattle.std.specs.Prelude.{◌≡◌, ℕ, ◌≤◌, length, Option, Some, N
 use Rattle.abc_fold.specs.Steps.{Steps}
 use Rattle.abc_fold.specs.Work.{Counters, raised}
 use Rattle.abc_lines.specs.Text.{Splice, Text}
-use Rattle.abc_rework.specs.Fresh.{fresh_after, touched_after}
-use Rattle.abc_tunebook.specs.Rules.{Rules}
+use Rattle.abc_live_cost.specs.Fresh.{fresh_after, touched_after}
+use Rattle.abc_tune_compiler.specs.Rules.{Rules}
 
 -- One counter has not fallen, and has risen by k at most.
 pub record HasRisen (k before after : ℕ) : Type 0 where

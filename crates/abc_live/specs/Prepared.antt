@@ -2,21 +2,21 @@
 use Rattle.std.specs.Prelude.{◌≡◌, ℕ, ◌<◌, ◌++◌, List, [], drop, if◌then◌else◌, length, map, nat_lt, Option, Some, None}
 use Rattle.std.specs.List.{AllZip}
 use Rattle.abc_book.specs.declared.block.Block.{Block}
-use Rattle.abc_chains.specs.Rows.{Row}
-use Rattle.abc_chains.specs.Standing.{Edited, IsStretch, Keeping, Stands, old_tunes, parts_after, parts_of}
-use Rattle.abc_rework.specs.Folded.{HasItemsOf}
+use Rattle.abc_live_text.specs.Rows.{Row}
+use Rattle.abc_live_text.specs.Standing.{Edited, IsStretch, Keeping, Stands, old_tunes, parts_after, parts_of}
+use Rattle.abc_live_cost.specs.Folded.{HasItemsOf}
 use Rattle.abc_fold.specs.Chain.{Chained}
 use Rattle.abc_fold.specs.Steps.{Steps}
-use Rattle.abc_kept_book.specs.Kept.{Kept}
-use Rattle.abc_kept_book.specs.Outputs.{files_of, titles_of}
+use Rattle.abc_live_index.specs.Kept.{Kept}
+use Rattle.abc_live_index.specs.Outputs.{files_of, titles_of}
 use Rattle.abc_lines.specs.Text.{IsText, Splice, splice_from, spliced}
 use Rattle.abc_live.specs.declared.change.Change.{Change}
-use Rattle.abc_outputs.specs.Output.{output_in}
-use Rattle.abc_outputs.specs.Tunes.{HasCells, cell_faults_by, faults_by}
-use Rattle.abc_outputs.specs.declared.output.Output.{Output}
-use Rattle.abc_tunebook.specs.Book.{Book, book_of}
-use Rattle.abc_tunebook.specs.Rules.{Rules}
-use Rattle.abc_tunebook.specs.declared.fault.Fault.{Fault}
+use Rattle.abc_live_index.specs.Output.{output_in}
+use Rattle.abc_live_index.specs.Tunes.{HasCells, cell_faults_by, faults_by}
+use Rattle.abc_live_index.specs.declared.output.Output.{Output}
+use Rattle.abc_tune_compiler.specs.Book.{Book, book_of}
+use Rattle.abc_tune_compiler.specs.Rules.{Rules}
+use Rattle.abc_tune_compiler.specs.declared.fault.Fault.{Fault}
 
 -- The splice that the replacing of a run of lines is.
 abbrev pub splice_in : Change → Splice

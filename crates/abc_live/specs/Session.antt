@@ -1,13 +1,13 @@
 -- What contracts see of a session: its compiler and its text, which say all else, and what is kept of the text. Our own.
-use Rattle.abc_chains.specs.Standing.{Keeping}
+use Rattle.abc_live_text.specs.Standing.{Keeping}
 use Rattle.std.specs.Prelude.{List}
 use Rattle.abc_fold.specs.Steps.{Steps}
-use Rattle.abc_kept_book.specs.Kept.{Kept}
+use Rattle.abc_live_index.specs.Kept.{Kept}
 use Rattle.abc_lines.specs.Text.{Text}
-use Rattle.abc_tunebook.specs.Book.{Book, blocks_in, book_of, given_by}
-use Rattle.abc_tunebook.specs.Rules.{Rules}
-use Rattle.abc_tunebook.specs.declared.report.Report.{Report}
-use Rattle.abc_tunebook.specs.Tune.{Tune}
+use Rattle.abc_tune_compiler.specs.Book.{Book, blocks_in, book_of, given_by}
+use Rattle.abc_tune_compiler.specs.Rules.{Rules}
+use Rattle.abc_tune_compiler.specs.declared.report.Report.{Report}
+use Rattle.abc_tune_compiler.specs.Tune.{Tune}
 
 -- A compiler of tunes, a text, and both with all that is kept of the text and of its book.
 pub record Live (C State Cell Items : Type 0) : Type 0 where

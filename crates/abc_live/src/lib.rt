@@ -10,12 +10,11 @@ mod session;
 mod stretch;
 
 pub use abc::Session;
-pub use abc_compiler::Compiler;
 pub use abc_fields::FaultCode;
 pub use abc_fold::Work;
 pub use abc_lines::{EditError, MOST_LINES};
 pub use abc_text::Sequence;
 pub use abc_tune::Abc;
-pub use abc_tunebook::{Fault, Report, Title};
+pub use abc_tune_compiler::{Compiler, Fault, Report, Title};
 pub use edit::Edit;
 pub use session::{EditPatch, LiveSession};

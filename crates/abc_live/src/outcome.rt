@@ -2,26 +2,27 @@
 
 ghost use Rattle.std.specs.Prelude.{◌≡◌, ◌+◌, ◌≤◌, IfOk, Some, drop, length, map, slice_get};
 ghost use Rattle.std.specs.List.{AllZip};
-ghost use Rattle.abc_kept_book.specs.Outputs.{files_of};
+ghost use Rattle.abc_live_index.specs.Outputs.{files_of};
 ghost use Rattle.abc_lines.specs.declared.limits.TheConstants.{MOST_LINES};
 ghost use Rattle.abc_live.specs.Prepared.{HeaderCells, IsBook, IsPrepared, stretch_faults, splice_in};
-ghost use Rattle.abc_memo.specs.Memo.{Remembers};
-ghost use Rattle.abc_outputs.specs.Built.{IsBuiltUpTo, made_of};
-ghost use Rattle.abc_outputs.specs.Output.{output_in};
-ghost use Rattle.abc_outputs.specs.Tunes.{HasCells};
-ghost use Rattle.abc_tunebook.specs.Book.{book_of};
-ghost use Rattle.abc_tunebook.specs.Report.{Reports};
+ghost use Rattle.abc_tune_memo.specs.Memo.{Remembers};
+ghost use Rattle.abc_live_index.specs.Built.{IsBuiltUpTo, made_of};
+ghost use Rattle.abc_live_index.specs.Output.{output_in};
+ghost use Rattle.abc_live_index.specs.Tunes.{HasCells};
+ghost use Rattle.abc_tune_compiler.specs.Book.{book_of};
+ghost use Rattle.abc_tune_compiler.specs.Report.{Reports};
 
 use crate::change::Change;
 use crate::stretch::{counts_of, lines_of};
 use abc_book::Block;
-use abc_chains::{KeptPatch, KeptText, left_by};
-use abc_compiler::Compiler;
 use abc_fold::{Chain, Shared};
-use abc_kept_book::{BookPatch, KeptBook, NewTunes};
-use abc_memo::TuneMemo;
-use abc_outputs::{FoldedStretch, Output, TakenOver, outputs_of, put_cell_faults, put_tune_faults};
-use abc_tunebook::Fault;
+use abc_live_index::{
+    BookPatch, FoldedStretch, KeptBook, NewTunes, Output, TakenOver, outputs_of, put_cell_faults,
+    put_tune_faults,
+};
+use abc_live_text::{KeptPatch, KeptText, left_by};
+use abc_tune_compiler::{Compiler, Fault};
+use abc_tune_memo::TuneMemo;
 use std::alloc::{AllocError, Global};
 
 /// The chain that the file header would have. The edit belongs to the text as it is now.

@@ -9,20 +9,19 @@ ghost use Rattle.abc_live.specs.Counting.{MayCost, cost_of};
 ghost use Rattle.abc_live.specs.Edit.{line_at, splice_of};
 ghost use Rattle.abc_live.specs.Prepared.{splice_in};
 ghost use Rattle.abc_live.specs.Session.{book_in, tunes_given};
-ghost use Rattle.abc_tunebook.specs.Book.{book_of};
-ghost use Rattle.abc_tunebook.specs.Fault.{fault_cmp};
-ghost use Rattle.abc_tunebook.specs.Files.{file_at, first_file};
-ghost use Rattle.abc_tunebook.specs.Report.{Reports};
+ghost use Rattle.abc_tune_compiler.specs.Book.{book_of};
+ghost use Rattle.abc_tune_compiler.specs.Fault.{fault_cmp};
+ghost use Rattle.abc_tune_compiler.specs.Files.{file_at, first_file};
+ghost use Rattle.abc_tune_compiler.specs.Report.{Reports};
 
 use crate::change::{Change, change_of};
 use crate::edit::Edit;
 use crate::outcome::book_after;
-use abc_chains::{KeptPatch, KeptText};
-use abc_compiler::Compiler;
-use abc_kept_book::{BookPatch, KeptBook};
 use abc_lines::EditError;
-use abc_memo::TuneMemo;
-use abc_tunebook::{Fault, Report, Title};
+use abc_live_index::{BookPatch, KeptBook};
+use abc_live_text::{KeptPatch, KeptText};
+use abc_tune_compiler::{Compiler, Fault, Report, Title};
+use abc_tune_memo::TuneMemo;
 use std::alloc::{AllocError, Global};
 use std::marker::Model;
 
@@ -40,7 +39,7 @@ impl<C: Compiler> Model for LiveSession<C> {
     ghost use Rattle.abc_fold.specs.Steps.{};
     ghost use Rattle.abc_live.specs.Prepared.{HasOutputs, IsBookOf};
     ghost use Rattle.abc_live.specs.Session.{Live, live};
-    ghost use Rattle.abc_memo.specs.Memo.{Remembers};
+    ghost use Rattle.abc_tune_memo.specs.Memo.{Remembers};
 
     ghost Value = { Live C C.State C.Cell C.Items };
 
@@ -60,8 +59,8 @@ impl<C: Compiler> Model for EditPatch<C> {
     ghost use Rattle.std.specs.Prelude.{◌≡◌, drop, map};
     ghost use Rattle.abc_live.specs.Prepared.{IsBook};
     ghost use Rattle.abc_live.specs.Session.{EditPatched, live};
-    ghost use Rattle.abc_outputs.specs.Output.{output_in};
-    ghost use Rattle.abc_tunebook.specs.Book.{book_of};
+    ghost use Rattle.abc_live_index.specs.Output.{output_in};
+    ghost use Rattle.abc_tune_compiler.specs.Book.{book_of};
 
     ghost Value = { EditPatched C C.State C.Cell C.Items };
 

@@ -6,9 +6,9 @@ ghost use Rattle.abc_lines.specs.declared.limits.TheConstants.{MOST_LINES};
 ghost use Rattle.abc_live.specs.Prepared.{count_in, splice_in};
 
 use crate::change::Change;
-use abc_chains::{KeptPatch, KeptText, Stretch};
-use abc_compiler::Compiler;
 use abc_lines::LineBuffer;
+use abc_live_text::{KeptPatch, KeptText, Stretch};
+use abc_tune_compiler::Compiler;
 use std::alloc::{AllocError, Global};
 
 /// The line with `i` lines before it in the text that a change makes.

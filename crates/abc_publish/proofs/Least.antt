@@ -10,7 +10,7 @@ use Rattle.std.proofs.lemmas.List.Elements.{All-head, All-tail}
 use Rattle.std.specs.List.Sorted.{IsNonDecreasingBy, IsPartitionPoint, IsStrictlyIncreasing}
 use Rattle.std.specs.Map.{keys_of}
 use Rattle.abc_publish.specs.Publisher.{Kept, Slots, differs, slot_at, stored_of, carried_of, maps_of, is_wanted}
-use Rattle.abc_tunebook.specs.Files.{Files, file_at}
+use Rattle.abc_tune_compiler.specs.Files.{Files, file_at}
 
 pub no_file : (files : Files) (n : ℕ) → All (λ m. (m == n) ≡ false) (keys_of files) → file_at files n ≡ None
 no_file [] n other = refl

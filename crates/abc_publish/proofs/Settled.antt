@@ -11,7 +11,7 @@ use Rattle.std.proofs.lemmas.Bool.Decides.{nat_tests}
 use Rattle.std.proofs.lemmas.Slice.Eq.{bytes_eq-Decides}
 use Rattle.abc_publish.specs.Publisher.{Stored, Known, Unknown, Kept, Slots, Publishing, differs, stored_as, slot_at, carried_of, is_pending, is_wanted, HasNone, IsSettled}
 use Rattle.abc_publish.specs.Laws.{SettledIsCurrent, CurrentIsSettled, JobOnce}
-use Rattle.abc_tunebook.specs.Files.{Files, file_at}
+use Rattle.abc_tune_compiler.specs.Files.{Files, file_at}
 
 same_bytes : (b f : List ℕ) (r : Bool) → bytes_eq b f ≡ r → not r ≡ false → b ≡ f
 same_bytes b f true is same = (bytes_eq-Decides b f).0 is

@@ -1,7 +1,7 @@
 -- What the words on a publisher say together. Our own.
 use Rattle.std.specs.Prelude.{◌≡◌, ℕ, ◌<◌, ◌^◌, false, List, Option, None}
 use Rattle.abc_publish.specs.Publisher.{Publishing, begun, is_pending, is_wanted, IsSettled}
-use Rattle.abc_tunebook.specs.Files.{Files}
+use Rattle.abc_tune_compiler.specs.Files.{Files}
 
 -- Once all is settled no number is pending.
 abbrev pub SettledIsCurrent : Type 0

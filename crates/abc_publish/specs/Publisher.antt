@@ -5,7 +5,7 @@ use Rattle.std.specs.BTreeMap.{is_at}
 use Rattle.std.specs.Map.{lookup}
 use Rattle.std.specs.Ordering.{nat_cmp}
 use Rattle.abc_publish.specs.declared.job.Job.{Job}
-use Rattle.abc_tunebook.specs.Files.{Files, file_at}
+use Rattle.abc_tune_compiler.specs.Files.{Files, file_at}
 pub use Rattle.abc_publish.specs.declared.slot.Stored.{Stored}
 pub use Rattle.abc_publish.specs.declared.slot.Stored.TheVariants.{Known, Unknown}
 

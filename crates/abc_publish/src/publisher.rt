@@ -8,9 +8,9 @@ ghost use Rattle.abc_publish.specs.declared.slot.Stored.TheVariants.{Unknown};
 
 use crate::job::Job;
 use crate::slot::{Slot, Stored};
-use abc_compiler::Compiler;
 use abc_live::LiveSession;
 use abc_text::Sequence;
+use abc_tune_compiler::Compiler;
 use std::alloc::{AllocError, Global};
 use std::collections::BTreeMap;
 use std::marker::Model;

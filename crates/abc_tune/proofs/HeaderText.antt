@@ -16,10 +16,10 @@ use Rattle.abc_bars.specs.LookBack.Element.{Element}
 use Rattle.abc_bars.specs.LookBack.Flags.{is_of_header}
 use Rattle.abc_bars.specs.LookBack.Header.{header_at}
 use Rattle.abc_bars.specs.LookBack.Place.{InBody, InHeader, behind_field, behind_header, behind_header_line, given_in_body, given_in_header}
-use Rattle.abc_cells.specs.SameEntry.{bar_steps}
-use Rattle.abc_cells.specs.Step.{directive_in, field_in, header_stepped, line_in, line_of, stepped}
-use Rattle.abc_cells.specs.declared.entry.Entry.{Entry}
-use Rattle.abc_cells.specs.declared.entry.Entry.TheVariants as entries
+use Rattle.abc_bars_body.specs.SameEntry.{bar_steps}
+use Rattle.abc_bars_body.specs.Step.{directive_in, field_in, header_stepped, line_in, line_of, stepped}
+use Rattle.abc_bars_body.specs.declared.entry.Entry.{Entry}
+use Rattle.abc_bars_body.specs.declared.entry.Entry.TheVariants as entries
 use Rattle.abc_fields.specs.Key.{empty_key, key_of, key_or_empty}
 use Rattle.abc_fields.specs.Parts.{parts_of}
 use Rattle.abc_fields.specs.Voice.{voice_of}
@@ -33,23 +33,23 @@ use Rattle.abc_fields.specs.declared.tempo.Tempo.{Tempo}
 use Rattle.abc_fields.specs.declared.tempo.Tempo.TheVariants.{Unset, Units, Beat}
 use Rattle.abc_fields.specs.declared.voice.Voice.{Voice}
 use Rattle.abc_fold.specs.Steps.{items_from}
-use Rattle.abc_header.specs.Defaults.{unit_in}
-use Rattle.abc_header.specs.FieldKind.{kind_of}
-use Rattle.abc_header.specs.Header.{and_program, declared, declared_given, directive_item, header_given, header_key_by, header_line_given, header_voice_by, items_with, line_own, line_program, opening_header, opening_program, order_by, own_given, reference_by}
-use Rattle.abc_header.specs.HeaderLine.{HeaderLine, FieldLine, DirectiveLine}
-use Rattle.abc_header.specs.Opening.{opening_tempo, opening_tempo_by}
-use Rattle.abc_header.specs.Reference.{from_one, reference_of}
-use Rattle.abc_header.specs.declared.defaults.Defaults.{Defaults}
-use Rattle.abc_header.specs.declared.field_kind.FieldKind.{FieldKind}
-use Rattle.abc_header.specs.declared.field_kind.FieldKind.TheVariants as fields
-use Rattle.abc_header.specs.declared.header.Header.{Header}
-use Rattle.abc_items.specs.Item.{Items}
-use Rattle.abc_items.specs.declared.item.Item.{Item}
-use Rattle.abc_items.specs.declared.item.Item.TheVariants as items
+use Rattle.abc_bars_header.specs.Defaults.{unit_in}
+use Rattle.abc_bars_header.specs.FieldKind.{kind_of}
+use Rattle.abc_bars_header.specs.Header.{and_program, declared, declared_given, directive_item, header_given, header_key_by, header_line_given, header_voice_by, items_with, line_own, line_program, opening_header, opening_program, order_by, own_given, reference_by}
+use Rattle.abc_bars_header.specs.HeaderLine.{HeaderLine, FieldLine, DirectiveLine}
+use Rattle.abc_bars_header.specs.Opening.{opening_tempo, opening_tempo_by}
+use Rattle.abc_bars_header.specs.Reference.{from_one, reference_of}
+use Rattle.abc_bars_header.specs.declared.defaults.Defaults.{Defaults}
+use Rattle.abc_bars_header.specs.declared.field_kind.FieldKind.{FieldKind}
+use Rattle.abc_bars_header.specs.declared.field_kind.FieldKind.TheVariants as fields
+use Rattle.abc_bars_header.specs.declared.header.Header.{Header}
+use Rattle.abc_bars_items.specs.Item.{Items}
+use Rattle.abc_bars_items.specs.declared.item.Item.{Item}
+use Rattle.abc_bars_items.specs.declared.item.Item.TheVariants as items
 use Rattle.abc_scan.specs.declared.directive.Directive.{Directive}
 use Rattle.abc_scan.specs.declared.directive.Directive.TheVariants as directives
 use Rattle.abc_scan.specs.declared.field.Field.{Field}
-use Rattle.abc_settings.specs.Unit.{unit_by}
+use Rattle.abc_bars_voice.specs.Unit.{unit_by}
 use Rattle.abc_text.specs.Number.{number_of as number_spelled}
 use Rattle.abc_text.proofs.Numbers.{number_of-spelled, number_of-spells, one_number}
 use Rattle.abc_time.specs.declared.ratio.Ratio.{Ratio}
@@ -58,7 +58,7 @@ use Rattle.abc_tune.specs.Built.{build_faults_of, has_uneven_voices, names_unkno
 use Rattle.abc_tune.specs.HeaderText.{IsReference, empty, written, refused, MissesKeyByText, NumberByText, TempoRangeByText, and_line, has_key, has_key_from, header_lines, header_up_to, is_key, is_key_line, is_missing_key, is_out_of_range, is_tempo_range, items_of_tune, sets_out_of_range, unit_of_meter}
 use Rattle.abc_tune.specs.WholeFaults.{fault_if, faults_with, is_opening_key, lacks_key, opens_out_of_range, out_past}
 use Rattle.abc_tune.proofs.WholeFaults.{past_append}
-use Rattle.abc_tunebook.specs.Tune.{first_of}
+use Rattle.abc_tune_compiler.specs.Tune.{first_of}
 use Rattle.abc_voices.specs.Arrange.{is_too_long, items_in}
 use Rattle.abc_voices.specs.Opening.{past_all}
 

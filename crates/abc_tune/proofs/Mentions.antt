@@ -3,13 +3,13 @@ use Rattle.std.proofs.Common.{◌≡◌, ◌≤◌, ℕ, suc, Bool, true, false,
 use Rattle.std.specs.Prelude.{◌||◌}
 use Rattle.std.specs.List.{flat_map, list_any}
 use Rattle.std.proofs.lemmas.Bool.{and_parts}
-use Rattle.abc_cells.specs.Mentioned.{AreNamed, behind_items}
-use Rattle.abc_cells.proofs.Mentions.{mentions_few, names_voices}
-use Rattle.abc_items.specs.declared.item.Item.{Item}
-use Rattle.abc_items.specs.declared.item.Item.TheVariants as items
+use Rattle.abc_bars_body.specs.Mentioned.{AreNamed, behind_items}
+use Rattle.abc_bars_body.proofs.Mentions.{mentions_few, names_voices}
+use Rattle.abc_bars_items.specs.declared.item.Item.{Item}
+use Rattle.abc_bars_items.specs.declared.item.Item.TheVariants as items
 use Rattle.abc_tune.specs.Abc.{cells_in}
 use Rattle.abc_tune.specs.Lines.{HasFewVoices}
-use Rattle.abc_sections.specs.Section.{opening_voice}
+use Rattle.abc_voices_sections.specs.Section.{opening_voice}
 use Rattle.abc_voices.specs.Track.{everyone, names_from, nameless_plays, plays_first, tracks, with_name}
 
 -- where one is the current one, only fields mention voices

@@ -4,14 +4,14 @@ use Rattle.std.specs.Prelude.{All, IfSome, nat_le, not, ◌==◌}
 use Rattle.std.specs.List.{flat_map, list_all, list_any}
 use Rattle.std.proofs.lemmas.Bool.{and_parts, cond_both, leb-true}
 use Rattle.std.proofs.lemmas.List.Elements.{All-nil, All-cons, All-head, All-tail, All-append}
-use Rattle.abc_cells.specs.Mentioned.{items_of_cells}
-use Rattle.abc_cells.specs.Step.{field_in, field_line}
+use Rattle.abc_bars_body.specs.Mentioned.{items_of_cells}
+use Rattle.abc_bars_body.specs.Step.{field_in, field_line}
 use Rattle.abc_bars.specs.Titles.{titles_said}
-use Rattle.abc_header.specs.declared.defaults.Defaults.{Defaults}
+use Rattle.abc_bars_header.specs.declared.defaults.Defaults.{Defaults}
 use Rattle.abc_bars.proofs.Titles.{says_titles_of_header, titles_pass}
 use Rattle.abc_lines.specs.Text.{is_line}
-use Rattle.abc_items.specs.declared.item.Item.{Item}
-use Rattle.abc_items.specs.declared.item.Item.TheVariants as items
+use Rattle.abc_bars_items.specs.declared.item.Item.{Item}
+use Rattle.abc_bars_items.specs.declared.item.Item.TheVariants as items
 use Rattle.abc_scan.specs.Cell.{cells_of, ends_cell, put_first}
 use Rattle.abc_scan.specs.Class.{class_of}
 use Rattle.abc_scan.specs.Cutting.{alone_at, IsSpan}

@@ -3,9 +3,9 @@ use Rattle.std.specs.Prelude.{◌≡◌, ◌≢◌, ◌≤◌, ℕ, ◌*◌, Boo
 use Rattle.std.specs.List.{list_any}
 use Rattle.abc_bars.specs.LookBack.Along.{CellTokens}
 use Rattle.abc_bars.specs.LookBack.Defaults.{defaults_at}
-use Rattle.abc_cells.specs.SameEntry.{bar_steps}
-use Rattle.abc_cells.specs.Step.{field_in, line_in}
-use Rattle.abc_cells.specs.declared.entry.Entry.TheVariants as entries
+use Rattle.abc_bars_body.specs.SameEntry.{bar_steps}
+use Rattle.abc_bars_body.specs.Step.{field_in, line_in}
+use Rattle.abc_bars_body.specs.declared.entry.Entry.TheVariants as entries
 use Rattle.abc_fields.specs.declared.fault.FaultCode.{FaultCode}
 use Rattle.abc_fields.specs.declared.fault.FaultCode.TheVariants as codes
 use Rattle.abc_fields.specs.declared.meter.Meter.{Meter}
@@ -13,19 +13,19 @@ use Rattle.abc_fields.specs.declared.meter.Meter.TheVariants.{Free, Of}
 use Rattle.abc_fields.specs.declared.tempo.Tempo.{Tempo}
 use Rattle.abc_fields.specs.declared.tempo.Tempo.TheVariants.{Unset, Units, Beat}
 use Rattle.abc_fold.specs.Steps.{items_from}
-use Rattle.abc_header.specs.FieldKind.{kind_of}
-use Rattle.abc_header.specs.HeaderLine.{HeaderLine, FieldLine, DirectiveLine}
-use Rattle.abc_header.specs.declared.defaults.Defaults.{Defaults}
-use Rattle.abc_header.specs.declared.field_kind.FieldKind.{FieldKind}
-use Rattle.abc_header.specs.declared.field_kind.FieldKind.TheVariants as kinds
+use Rattle.abc_bars_header.specs.FieldKind.{kind_of}
+use Rattle.abc_bars_header.specs.HeaderLine.{HeaderLine, FieldLine, DirectiveLine}
+use Rattle.abc_bars_header.specs.declared.defaults.Defaults.{Defaults}
+use Rattle.abc_bars_header.specs.declared.field_kind.FieldKind.{FieldKind}
+use Rattle.abc_bars_header.specs.declared.field_kind.FieldKind.TheVariants as kinds
 use Rattle.abc_scan.specs.declared.field.Field.{Field}
-use Rattle.abc_items.specs.Item.{Items}
+use Rattle.abc_bars_items.specs.Item.{Items}
 use Rattle.abc_text.specs.Number.{IsNumber}
 use Rattle.abc_time.specs.Tempo.{quarter_micros_of}
 use Rattle.abc_time.specs.declared.ratio.Ratio.{Ratio}
 use Rattle.abc_tune.specs.Abc.{rules_of_abc}
 use Rattle.abc_tune.specs.Built.{build_faults_of}
-use Rattle.abc_tunebook.specs.Tune.{first_of}
+use Rattle.abc_tune_compiler.specs.Tune.{first_of}
 
 -- What the cells of a tune give, if the file header sets these values.
 abbrev pub items_of_tune : Defaults → List CellTokens → List Items

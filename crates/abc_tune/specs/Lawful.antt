@@ -2,12 +2,12 @@
 use Rattle.std.specs.Prelude.{◌≡◌, ◌↔◌, ◌⊎◌, ℕ, Bool, true, false, ◌&&◌, not, ◌==◌, if◌then◌else◌, List, [], ◌∷◌, length, Option, Some, None, is_some, refl, IsTrue}
 use Rattle.std.proofs.Common.{inl, inr, sym, ap, ◌∙◌}
 use Rattle.std.proofs.lemmas.Bool.{eqb-true, false≢true}
-use Rattle.abc_cells.specs.Entry.{defaults_of, opening_after}
-use Rattle.abc_header.specs.SameDefaults.{same_defaults, same_defaults_tells}
-use Rattle.abc_cells.specs.SameEntry.{bar_steps, same_entry_tells}
-use Rattle.abc_header.specs.declared.defaults.Defaults.{Defaults}
-use Rattle.abc_cells.specs.declared.entry.Entry.TheVariants as entries
-use Rattle.abc_compiler.specs.Lawful.{AreLawful}
+use Rattle.abc_bars_body.specs.Entry.{defaults_of, opening_after}
+use Rattle.abc_bars_header.specs.SameDefaults.{same_defaults, same_defaults_tells}
+use Rattle.abc_bars_body.specs.SameEntry.{bar_steps, same_entry_tells}
+use Rattle.abc_bars_header.specs.declared.defaults.Defaults.{Defaults}
+use Rattle.abc_bars_body.specs.declared.entry.Entry.TheVariants as entries
+use Rattle.abc_tune_compiler.specs.Lawful.{AreLawful}
 use Rattle.abc_scan.specs.Byte.{space, percent, backslash}
 use Rattle.abc_scan.specs.Cell.{cells_of, ends_cell, put_first}
 use Rattle.abc_scan.specs.Class.{class_of, class_of_text, class_by, first_visible, field_letter, field_or_music}

@@ -1,11 +1,11 @@
 -- What the lines of a tune give, and what makes it too long.
 use Rattle.std.specs.Prelude.{◌≡◌, ◌≤◌, ◌<◌, ◌↔◌, ℕ, true, List, length}
 use Rattle.std.specs.List.{flat_map, list_all}
-use Rattle.abc_cells.specs.Mentioned.{items_of_cells}
-use Rattle.abc_header.specs.declared.defaults.Defaults.{Defaults}
+use Rattle.abc_bars_body.specs.Mentioned.{items_of_cells}
+use Rattle.abc_bars_header.specs.declared.defaults.Defaults.{Defaults}
 use Rattle.abc_lines.specs.Text.{is_line}
-use Rattle.abc_items.specs.declared.item.Item.{Item}
-use Rattle.abc_items.specs.declared.item.TheConstants.{MOST_VOICES}
+use Rattle.abc_bars_items.specs.declared.item.Item.{Item}
+use Rattle.abc_bars_items.specs.declared.item.TheConstants.{MOST_VOICES}
 use Rattle.abc_repeat.specs.declared.order.TheConstants.{MOST_SECTIONS}
 use Rattle.abc_repeat.specs.declared.play.TheConstants.{MOST_PLACES}
 use Rattle.abc_time.specs.Grains.{grains_of_the_latest_end}
@@ -13,7 +13,7 @@ use Rattle.abc_tune.specs.Abc.{cells_in}
 use Rattle.abc_voices.specs.Arrange.{end_of, is_too_long, places_played, sections_played}
 use Rattle.abc_voices.specs.Opening.{title_of}
 use Rattle.abc_voices.specs.Track.{tracks}
-use Rattle.abc_score.specs.declared.limits.TheConstants.{LONGEST_TITLE}
+use Rattle.abc_voices_score.specs.declared.limits.TheConstants.{LONGEST_TITLE}
 
 -- What a tune of these lines gives to its score, where a file header set these values.
 abbrev pub items_of_lines : Defaults → List (List ℕ) → List Item

@@ -1,8 +1,8 @@
 -- The faults of a tune as a whole.
 use Rattle.std.specs.Prelude.{ℕ, ◌<◌, Bool, true, false, not, if◌then◌else◌, List, [], ◌∷◌, ◌++◌}
 use Rattle.std.specs.List.{list_any}
-use Rattle.abc_items.specs.declared.item.Item.{Item}
-use Rattle.abc_items.specs.declared.item.Item.TheVariants as items
+use Rattle.abc_bars_items.specs.declared.item.Item.{Item}
+use Rattle.abc_bars_items.specs.declared.item.Item.TheVariants as items
 use Rattle.abc_fields.specs.declared.fault.FaultCode.{FaultCode}
 use Rattle.abc_fields.specs.declared.fault.FaultCode.TheVariants as codes
 use Rattle.abc_fields.specs.Fault.{number_of}

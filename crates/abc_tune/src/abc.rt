@@ -1,20 +1,20 @@
 //! The compiler of ABC.
 
 ghost use Rattle.std.specs.Prelude.{◌≡◌, option_copied};
-ghost use Rattle.abc_cells.specs.SameEntry.{bars_resumable};
+ghost use Rattle.abc_bars_body.specs.SameEntry.{bars_resumable};
 ghost use Rattle.abc_bars.specs.Titles.{title_said};
 ghost use Rattle.abc_tune.specs.Abc.{rules_of_abc, number_of, first_value, steps_of_abc};
 ghost use Rattle.abc_tune.specs.Lawful.{abc_lawful, abc_told_apart};
 
 use crate::built::build;
 use abc_bars::BarFold;
-use abc_cells::Entry;
-use abc_compiler::{Built, Compiler};
+use abc_bars_body::Entry;
+use abc_bars_header::Defaults;
+use abc_bars_items::{Item, Items};
 use abc_fields::FaultCode;
 use abc_fold::{Fold, Work};
-use abc_header::Defaults;
-use abc_items::{Item, Items};
 use abc_scan::{Cell, LineClass, cells_of_line, class_of};
+use abc_tune_compiler::{Built, Compiler};
 use std::alloc::{AllocError, Global};
 
 /// The compiler of tunes in ABC.

@@ -6,14 +6,14 @@ ghost use Rattle.abc_fold.specs.Work.{raised};
 ghost use Rattle.abc_tune.specs.Built.{bytes_of, build_faults_of};
 ghost use Rattle.abc_tune.specs.WholeFaults.{faults_with, is_too_long_fault, AreRisingFrom};
 ghost use Rattle.abc_voices.specs.Arrange.{items_in};
-ghost use Rattle.abc_score.specs.Limits.{IsWithinLimits};
+ghost use Rattle.abc_voices_score.specs.Limits.{IsWithinLimits};
 ghost use Rattle.smf_bytes.specs.File.{file_bytes};
 
 use crate::whole_faults::faults_with;
-use abc_compiler::Built;
+use abc_bars_items::Items;
 use abc_fold::{Shared, Work};
-use abc_items::Items;
 use abc_text::Sequence;
+use abc_tune_compiler::Built;
 use abc_voices::{Arranged, BuildFault, arrange};
 use smf_bytes::file_of;
 use std::alloc::{AllocError, Global};

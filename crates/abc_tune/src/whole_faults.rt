@@ -6,8 +6,8 @@ ghost use Rattle.abc_tune.specs.WholeFaults.{is_opening_key, lacks_key, out_past
 ghost use Rattle.abc_voices.specs.Arrange.{items_in};
 ghost use Rattle.abc_voices.specs.Opening.{past_all};
 
+use abc_bars_items::{Item, Items};
 use abc_fields::FaultCode;
-use abc_items::{Item, Items};
 use abc_text::Sequence;
 use std::alloc::{AllocError, Global};
 

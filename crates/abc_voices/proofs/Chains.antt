@@ -3,8 +3,8 @@ use Rattle.std.proofs.Common.{◌≡◌, ◌<◌, ◌≤◌, ℕ, zero, suc, ◌
 use Rattle.std.specs.Prelude.{◌&&◌, slice_get}
 use Rattle.std.proofs.lemmas.Bool.{and_parts, eqb-true, ltb-true, ltb-false}
 use Rattle.std.proofs.Math.Seq.{take-append_seam}
-use Rattle.abc_items.specs.declared.item.Tone.{Tone}
-use Rattle.abc_score.specs.declared.score.Sounding.{Sounding}
+use Rattle.abc_bars_items.specs.declared.item.Tone.{Tone}
+use Rattle.abc_voices_score.specs.declared.score.Sounding.{Sounding}
 use Rattle.abc_voices.specs.Ties.{TimeToken, has_key, tones_with, tied_with, tone_at, joined_with, end_by, chain_end, begun_by, begun_at, chains}
 use Rattle.abc_voices.specs.Chains.{IsJoined, IsChain, length_if, end_of_chain, IsBegun, AreBegun, AreHeard, HearsChains, HearsNoOthers, silent, goes_on, begins}
 

@@ -2,8 +2,8 @@
 use Rattle.std.proofs.Common.{◌≡◌, ℕ, Bool, true, false, not, cond, get_or, drop, List, [], ◌∷◌, ◌++◌, map, refl, sym, ap, ◌∙◌, ⊎_elim, append-nil, append_assoc}
 use Rattle.std.specs.Prelude.{◌&&◌, ◌||◌}
 use Rattle.std.proofs.lemmas.Bool.{and_parts, cases_Bool, cond-true, cond-false}
-use Rattle.abc_items.specs.declared.item.Item.{Item}
-use Rattle.abc_items.specs.declared.item.Item.TheVariants as items
+use Rattle.abc_bars_items.specs.declared.item.Item.{Item}
+use Rattle.abc_bars_items.specs.declared.item.Item.TheVariants as items
 use Rattle.abc_repeat.specs.declared.mark.Mark.{Mark}
 use Rattle.abc_repeat.specs.declared.mark.Mark.TheVariants as marks
 use Rattle.abc_repeat.specs.Mark.{is_ending, is_single, opens_next, closes_common, closes_ending}
@@ -11,12 +11,12 @@ use Rattle.abc_repeat.specs.Strain.{Strain, without_endings, leads_to_ending, go
 use Rattle.abc_repeat.proofs.Cuts.{one_or_cut}
 use Rattle.abc_repeat.proofs.Existence.{with_plain}
 use Rattle.abc_repeat.proofs.Readings.{stays, ends, single_stays, inside_stays, bar_stays, bar_ends, sign_stays, reading_computed}
-use Rattle.abc_sections.specs.declared.ending_fields.Region.{Region}
-use Rattle.abc_sections.specs.declared.ending_fields.Region.TheVariants.{Common, Inside, Behind}
+use Rattle.abc_voices_sections.specs.declared.ending_fields.Region.{Region}
+use Rattle.abc_voices_sections.specs.declared.ending_fields.Region.TheVariants.{Common, Inside, Behind}
 use Rattle.abc_voices.specs.Endings.{without_fields, has_ending, past_its_bar, between_endings, between_endings_of, between_endings_in, with_waits, behind_signs, MovesByStrains}
-use Rattle.abc_sections.specs.EndingFields.{with_fields_in_endings_from, set_down, waits, past, past_bar, region_past}
-use Rattle.abc_sections.specs.Play.{marks_of}
-use Rattle.abc_sections.specs.Step.{is_field, mark_of}
+use Rattle.abc_voices_sections.specs.EndingFields.{with_fields_in_endings_from, set_down, waits, past, past_bar, region_past}
+use Rattle.abc_voices_sections.specs.Play.{marks_of}
+use Rattle.abc_voices_sections.specs.Step.{is_field, mark_of}
 
 -- the marks of items without their fields
 abbrev marks_left : List Item → List Mark

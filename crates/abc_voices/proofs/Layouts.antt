@@ -7,24 +7,24 @@ use Rattle.std.proofs.lemmas.List.Sums.{sum_by_from}
 use Rattle.std.proofs.lemmas.Option.{slice_get-map, slice_get-get_or, slice_get_past}
 use Rattle.std.specs.Prelude.{◌||◌, pos, bytes_eq, All, slice_get, filter_map, sum_by, option_map}
 use Rattle.std.specs.List.{list_any, flat_map}
-use Rattle.abc_items.specs.declared.item.Item.{Item}
-use Rattle.abc_items.specs.declared.item.Item.TheVariants as items
+use Rattle.abc_bars_items.specs.declared.item.Item.{Item}
+use Rattle.abc_bars_items.specs.declared.item.Item.TheVariants as items
 use Rattle.abc_fields.specs.declared.meter.Meter.TheVariants as meters
 use Rattle.abc_time.specs.Grains.{grains_of_the_latest_end}
-use Rattle.abc_items.specs.Item.{IsItem}
+use Rattle.abc_bars_items.specs.Item.{IsItem}
 use Rattle.abc_repeat.specs.Order.{sections_of, has_unknown}
-use Rattle.abc_sections.specs.Section.{letters, sections}
-use Rattle.abc_score.specs.declared.score.Score.{Score}
-use Rattle.abc_sections.specs.declared.stage.Part.{Part}
-use Rattle.abc_sections.specs.declared.stage.Stage.{Stage}
+use Rattle.abc_voices_sections.specs.Section.{letters, sections}
+use Rattle.abc_voices_score.specs.declared.score.Score.{Score}
+use Rattle.abc_voices_sections.specs.declared.stage.Part.{Part}
+use Rattle.abc_voices_sections.specs.declared.stage.Stage.{Stage}
 use Rattle.abc_voices.specs.Turns.{IsStage, length_along, steps_of, notes_along, for_voices, voices_along, set_by_all, set_by_one, parts_differ, is_stage_uneven, first_place, changes_along, programs_by, programs_along, end_along, score_along}
 use Rattle.abc_voices.specs.Arrange.{played_sections, voice_notes, all_notes, set_in, first_of, differ, is_uneven, voices_notes, last_off, end_of, changes_of, programs_in, programs_of, score_of, or_else, usual_tempo, arranged_of}
-use Rattle.abc_sections.specs.PlayedSection.{play_in, longest}
+use Rattle.abc_voices_sections.specs.PlayedSection.{play_in, longest}
 use Rattle.abc_voices.specs.Change.{tempo_of, meter_of, key_of, program_of, set_from, behind}
 use Rattle.abc_voices.specs.ScoreChanges.{programs_that_stand}
 use Rattle.abc_voices.specs.TiedNotes.{notes_from}
 use Rattle.abc_voices.specs.Opening.{tempo_past, meter_past, key_past, program_past, order_past, past_all}
-use Rattle.abc_sections.specs.Stage.{part_of, stage_of}
+use Rattle.abc_voices_sections.specs.Stage.{part_of, stage_of}
 use Rattle.abc_voices.specs.Track.{everyone, nameless_plays, names_from, names_past, tracks}
 use Rattle.abc_voices.proofs.Fitting.Kept.{played_kept}
 use Rattle.abc_voices.proofs.Alike.{conductor_same, score_same, laid_same}

@@ -4,18 +4,18 @@ use Rattle.std.proofs.lemmas.List.Elements.{filter-append}
 use Rattle.std.specs.Prelude.{◌==◌, ◌||◌, filter, is_some, option_map}
 use Rattle.std.specs.List.{cons_option}
 use Rattle.std.specs.Option.{option_to_list}
-use Rattle.abc_items.specs.declared.item.Item.{Item}
-use Rattle.abc_items.specs.declared.item.Item.TheVariants as items
+use Rattle.abc_bars_items.specs.declared.item.Item.{Item}
+use Rattle.abc_bars_items.specs.declared.item.Item.TheVariants as items
 use Rattle.abc_time.specs.declared.grains.Grains.{Grains}
 use Rattle.abc_time.specs.Grains.{tick_at}
-use Rattle.abc_score.specs.declared.score.ProgramChange.{ProgramChange}
+use Rattle.abc_voices_score.specs.declared.score.ProgramChange.{ProgramChange}
 use Rattle.abc_voices.specs.Arrange.{played_sections, programs_in, set_in}
-use Rattle.abc_sections.specs.PlayedSection.{longest, play_in}
+use Rattle.abc_voices_sections.specs.PlayedSection.{longest, play_in}
 use Rattle.abc_voices.specs.Change.{at_moment, behind, program_of, set_from}
 use Rattle.abc_voices.specs.Opening.{past_all, program_past}
 use Rattle.abc_voices.specs.OnTicks.{last_said, opening_program_of, at_moments, moments_in, set_on, set_by, program_on, HaveProgramsOnTicks}
 use Rattle.abc_voices.specs.ScoreChanges.{program_change}
-use Rattle.abc_sections.specs.Step.{length_of}
+use Rattle.abc_voices_sections.specs.Step.{length_of}
 use Rattle.abc_voices.specs.Ticks.{has_tick, last_of_each_tick}
 use Rattle.abc_voices.specs.Track.{everyone, tracks}
 use Rattle.abc_voices.specs.Voices.{or_said}

@@ -1,10 +1,10 @@
 -- The last order of a tune counts.
 use Rattle.std.proofs.Common.{◌≡◌, ℕ, List, length, filter_map, Option, None, refl, ap}
 use Rattle.std.specs.Prelude.{slice_get}
-use Rattle.abc_items.specs.declared.item.Item.{Item}
-use Rattle.abc_items.specs.declared.item.Item.TheVariants as items
+use Rattle.abc_bars_items.specs.declared.item.Item.{Item}
+use Rattle.abc_bars_items.specs.declared.item.Item.TheVariants as items
 use Rattle.abc_repeat.specs.Order.{sections_of, has_unknown}
-use Rattle.abc_sections.specs.Section.{letters, sections}
+use Rattle.abc_voices_sections.specs.Section.{letters, sections}
 use Rattle.abc_voices.specs.Arrange.{arranged_of}
 use Rattle.abc_voices.specs.OnTicks.{last_said}
 use Rattle.abc_voices.specs.Opening.{order_past, past_all}

@@ -11,14 +11,14 @@ use Rattle.std.specs.Prelude.{Option, Some, None, Result, Ok, Err, All, sum_by, 
 use Rattle.std.proofs.lemmas.List.{length-map}
 use Rattle.std.proofs.lemmas.List.Elements.{All-nil, All-head, All-tail, All-weaker, All-more}
 use Rattle.std.proofs.lemmas.List.Sums.{sum_by-cons, sum_by_more, sum_by_more_le}
-use Rattle.abc_items.specs.declared.item.Item.{Item}
+use Rattle.abc_bars_items.specs.declared.item.Item.{Item}
 use Rattle.abc_repeat.specs.declared.play.TheConstants.{MOST_PLACES}
 use Rattle.abc_time.specs.Grains.{grains_of_the_latest_end}
-use Rattle.abc_sections.specs.declared.section.Section.{Section}
-use Rattle.abc_sections.specs.declared.stage.Stage.{Stage}
-use Rattle.abc_sections.specs.declared.stage.StageFault.{StageFault}
-use Rattle.abc_sections.specs.PlayedSection.{size_in, longest}
-use Rattle.abc_sections.specs.Stage.{content, stage_of, stage_size}
+use Rattle.abc_voices_sections.specs.declared.section.Section.{Section}
+use Rattle.abc_voices_sections.specs.declared.stage.Stage.{Stage}
+use Rattle.abc_voices_sections.specs.declared.stage.StageFault.{StageFault}
+use Rattle.abc_voices_sections.specs.PlayedSection.{size_in, longest}
+use Rattle.abc_voices_sections.specs.Stage.{content, stage_of, stage_size}
 use Rattle.abc_voices.specs.Stages.{stage_at, stage_for, number_of, size_for, longest_for, IsStageAt, AreStages, IsNew, IsPut, ArePut, sections_at}
 
 past_end : {A : Type 0} (xs : List A) (k : ℕ) → slice_get xs k ≡ None → length xs ≤ k

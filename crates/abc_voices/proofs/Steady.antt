@@ -3,21 +3,21 @@ use Rattle.std.proofs.Common.{◌≡◌, ℕ, zero, suc, ◌+◌, Bool, true, fa
 use Rattle.std.specs.Prelude.{ℤ, pos, is_some, unwrap_or, not, ◌&&◌, bytes_eq, All, IfSome, slice_get}
 use Rattle.std.specs.List.{cons_option, flat_map, list_all}
 use Rattle.std.proofs.lemmas.List.Elements.{All-nil, All-cons, All-head, All-tail}
-use Rattle.abc_items.specs.declared.item.Item.{Item}
-use Rattle.abc_items.specs.declared.item.Item.TheVariants as items
+use Rattle.abc_bars_items.specs.declared.item.Item.{Item}
+use Rattle.abc_bars_items.specs.declared.item.Item.TheVariants as items
 use Rattle.abc_fields.specs.declared.meter.Meter.{Meter}
 use Rattle.abc_fields.specs.declared.meter.Meter.TheVariants as meters
-use Rattle.abc_sections.specs.declared.stage.Part.{Part}
-use Rattle.abc_sections.specs.declared.stage.Stage.{Stage}
+use Rattle.abc_voices_sections.specs.declared.stage.Part.{Part}
+use Rattle.abc_voices_sections.specs.declared.stage.Stage.{Stage}
 use Rattle.abc_voices.specs.Turns.{IsSteady, PlaysNone, steps_of, set_by_all, set_by_one, changes_along, programs_by, programs_along}
 use Rattle.abc_voices.specs.Arrange.{played_sections, or_else, usual_tempo}
 use Rattle.abc_voices.specs.Change.{tempo_of, meter_of, key_of, program_of, at_moment, set_from, behind}
 use Rattle.abc_voices.specs.ScoreChanges.{changes_that_stand, programs_that_stand}
 use Rattle.abc_voices.specs.Fields.{is_music, is_change, is_steady, sets_program, keeps_programs, without_music}
 use Rattle.abc_voices.specs.Opening.{tempo_past, meter_past, key_past, past_all}
-use Rattle.abc_sections.specs.Section.{is_step, voice_past, part_from}
-use Rattle.abc_sections.specs.Stage.{part_of, stage_of}
-use Rattle.abc_sections.specs.Step.{is_field, length_of}
+use Rattle.abc_voices_sections.specs.Section.{is_step, voice_past, part_from}
+use Rattle.abc_voices_sections.specs.Stage.{part_of, stage_of}
+use Rattle.abc_voices_sections.specs.Step.{is_field, length_of}
 use Rattle.abc_voices.specs.Track.{everyone}
 use Rattle.abc_voices.proofs.Fitting.Kept.{got, part_played, played_kept}
 use Rattle.abc_voices.proofs.Given.{of_music}

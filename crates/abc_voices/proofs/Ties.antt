@@ -3,13 +3,13 @@ use Rattle.std.proofs.Common.{◌≡◌, ℕ, suc, ◌+◌, ◌≤◌, nat_lt, B
 use Rattle.std.proofs.lemmas.Bool.{eqb-true, eqb-false, eq-eqb, ne_eqb, lt-ltb, le-ltb, cases_lt, cases_Bool, and_right}
 use Rattle.std.specs.Prelude.{◌==◌, ◌&&◌, position, remove, slice_index_or, option_map}
 use Rattle.std.specs.List.{prefix_len}
-use Rattle.abc_items.specs.declared.item.Item.{Item}
-use Rattle.abc_items.specs.declared.item.Tone.{Tone}
-use Rattle.abc_score.specs.declared.score.Sounding.{Sounding}
+use Rattle.abc_bars_items.specs.declared.item.Item.{Item}
+use Rattle.abc_bars_items.specs.declared.item.Tone.{Tone}
+use Rattle.abc_voices_score.specs.declared.score.Sounding.{Sounding}
 use Rattle.abc_voices.specs.Arrange.{all_notes, played_sections, voice_notes}
-use Rattle.abc_sections.specs.PlayedSection.{longest, play_in}
+use Rattle.abc_voices_sections.specs.PlayedSection.{longest, play_in}
 use Rattle.abc_voices.specs.TiedNotes.{TokenNotes, Notes, own_note, with_note, with_key, with_tones, next_place, before, before_all, notes_from}
-use Rattle.abc_sections.specs.Step.{length_of, tones_of}
+use Rattle.abc_voices_sections.specs.Step.{length_of, tones_of}
 use Rattle.abc_voices.specs.Track.{everyone, tracks}
 use Rattle.abc_voices.specs.Ties.{TimeToken, with_token, tokens_from, tokens_in, has_key, tones_with, tied_with, tone_at, end_by, chain_end, begun_by, begun_at, chains, heard, PlaysChains, VoicesPlayChains}
 

@@ -4,9 +4,9 @@ use Rattle.std.specs.Prelude.{◌==◌, not, Any}
 use Rattle.std.specs.List.{list_any}
 use Rattle.std.proofs.lemmas.Bool.{and_parts, eqb-false, ne_eqb}
 use Rattle.std.proofs.lemmas.List.Folds.{Any-from_list_any, list_any-from_Any}
-use Rattle.abc_items.specs.declared.item.Item.{Item}
-use Rattle.abc_items.specs.declared.item.Item.TheVariants as items
-use Rattle.abc_sections.specs.PlayedSection.{length_in, play_in}
+use Rattle.abc_bars_items.specs.declared.item.Item.{Item}
+use Rattle.abc_bars_items.specs.declared.item.Item.TheVariants as items
+use Rattle.abc_voices_sections.specs.PlayedSection.{length_in, play_in}
 use Rattle.abc_voices.specs.Arrange.{arranged_of, differ, is_uneven, played_sections, plays_time, takes_time}
 use Rattle.abc_voices.specs.Track.{everyone}
 use Rattle.abc_voices.specs.Uneven.{TakesTime, by_tones, by_rest, AreUneven, TellsUneven}

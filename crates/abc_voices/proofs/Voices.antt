@@ -1,9 +1,9 @@
 -- The walk over a tune finds the voice of each item that looking back finds.
 use Rattle.std.proofs.Common.{◌≡◌, ℕ, Bool, true, false, cond, List, [], ◌∷◌, ◌++◌, map, refl, sym, ap, ◌∙◌, append-nil, append_assoc}
 use Rattle.std.specs.Prelude.{◌&&◌, bytes_eq, unwrap_or, filter}
-use Rattle.abc_items.specs.declared.item.Item.{Item}
-use Rattle.abc_items.specs.declared.item.Item.TheVariants as items
-use Rattle.abc_sections.specs.Section.{is_section, is_step, opening_voice, part, part_from, sections_from, voice_past}
+use Rattle.abc_bars_items.specs.declared.item.Item.{Item}
+use Rattle.abc_bars_items.specs.declared.item.Item.TheVariants as items
+use Rattle.abc_voices_sections.specs.Section.{is_section, is_step, opening_voice, part, part_from, sections_from, voice_past}
 use Rattle.abc_voices.specs.Voices.{named_by, declared_by, first_said, voice_behind, with_voices, put_in_front, between, of_voice, AreOfVoices}
 
 abbrev is_letter : List ℕ × Item → Bool

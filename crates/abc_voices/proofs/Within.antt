@@ -6,18 +6,18 @@ use Rattle.std.proofs.lemmas.List.Sums.{sum_by_from}
 use Rattle.std.specs.Prelude.{All, IfSome, slice_get}
 use Rattle.std.specs.List.{cons_option, flat_map}
 use Rattle.std.specs.Option.{ForSome}
-use Rattle.abc_items.specs.declared.item.Item.{Item}
-use Rattle.abc_items.specs.declared.item.Item.TheVariants as items
-use Rattle.abc_items.specs.Item.{IsItem}
+use Rattle.abc_bars_items.specs.declared.item.Item.{Item}
+use Rattle.abc_bars_items.specs.declared.item.Item.TheVariants as items
+use Rattle.abc_bars_items.specs.Item.{IsItem}
 use Rattle.abc_fields.specs.Parts.{parts_of}
 use Rattle.abc_time.specs.declared.grains.Grains.{Grains}
-use Rattle.abc_sections.specs.declared.stage.Part.{Part}
-use Rattle.abc_sections.specs.declared.stage.Stage.{Stage}
+use Rattle.abc_voices_sections.specs.declared.stage.Part.{Part}
+use Rattle.abc_voices_sections.specs.declared.stage.Stage.{Stage}
 use Rattle.abc_voices.specs.Turns.{IsPart, IsStage, length_along, steps_of, set_by_all, set_by_one}
 use Rattle.abc_voices.specs.Change.{at_moment, set_from, behind}
 use Rattle.abc_voices.specs.Opening.{order_past, past_all}
-use Rattle.abc_sections.specs.Play.{duration}
-use Rattle.abc_sections.specs.Step.{length_of}
+use Rattle.abc_voices_sections.specs.Play.{duration}
+use Rattle.abc_voices_sections.specs.Step.{length_of}
 use Rattle.abc_voices.proofs.Fitting.Kept.{got}
 
 -- a value that is set no later than this

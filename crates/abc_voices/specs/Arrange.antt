@@ -1,10 +1,10 @@
 -- A tune laid out in time: its sections one after another, in each its voices beside one another. Our own.
 use Rattle.std.specs.Prelude.{ℕ, pos, ◌+◌, max, nat_lt, Bool, true, false, not, ◌&&◌, ◌||◌, ◌==◌, List, [], ◌∷◌, ◌++◌, length, map, filter_map, slice_get, sum_by, Option, Some, None}
 use Rattle.std.specs.List.{list_any, flat_map}
-use Rattle.abc_items.specs.declared.item.Item.{Item}
-use Rattle.abc_items.specs.declared.item.Item.TheVariants as items
-use Rattle.abc_items.specs.declared.item.TheConstants.{MOST_VOICES}
-use Rattle.abc_items.specs.Item.{Items}
+use Rattle.abc_bars_items.specs.declared.item.Item.{Item}
+use Rattle.abc_bars_items.specs.declared.item.Item.TheVariants as items
+use Rattle.abc_bars_items.specs.declared.item.TheConstants.{MOST_VOICES}
+use Rattle.abc_bars_items.specs.Item.{Items}
 use Rattle.abc_fields.specs.declared.meter.Meter.TheVariants as meters
 use Rattle.abc_repeat.specs.declared.order.TheConstants.{MOST_SECTIONS}
 use Rattle.abc_repeat.specs.declared.play.TheConstants.{MOST_PLACES}
@@ -12,16 +12,16 @@ use Rattle.abc_repeat.specs.Order.{sections_of, has_unknown}
 use Rattle.abc_time.specs.declared.grains.Grains.{Grains}
 use Rattle.abc_time.specs.Grains.{grains_of_the_latest_end}
 use Rattle.abc_voices.specs.declared.arranged.Arranged.{Arranged}
-use Rattle.abc_score.specs.declared.limits.TheConstants.{LONGEST_TITLE}
-use Rattle.abc_score.specs.declared.score.ProgramChange.{ProgramChange}
-use Rattle.abc_score.specs.declared.score.Score.{Score}
-use Rattle.abc_score.specs.declared.score.Sounding.{Sounding}
+use Rattle.abc_voices_score.specs.declared.limits.TheConstants.{LONGEST_TITLE}
+use Rattle.abc_voices_score.specs.declared.score.ProgramChange.{ProgramChange}
+use Rattle.abc_voices_score.specs.declared.score.Score.{Score}
+use Rattle.abc_voices_score.specs.declared.score.Sounding.{Sounding}
 use Rattle.abc_voices.specs.Change.{tempo_of, meter_of, key_of, program_of, set_from, behind}
 use Rattle.abc_voices.specs.ScoreChanges.{changes_that_stand, programs_that_stand}
 use Rattle.abc_voices.specs.TiedNotes.{Notes, notes_from}
 use Rattle.abc_voices.specs.Opening.{tempo_past, meter_past, key_past, program_past, order_past, past_all, title_of}
-use Rattle.abc_sections.specs.PlayedSection.{play_in, size_in, length_in, longest}
-use Rattle.abc_sections.specs.Section.{letters, sections}
+use Rattle.abc_voices_sections.specs.PlayedSection.{play_in, size_in, length_in, longest}
+use Rattle.abc_voices_sections.specs.Section.{letters, sections}
 use Rattle.abc_voices.specs.Track.{everyone, tracks}
 
 -- The sections of a tune in the order of their play.
@@ -96,7 +96,7 @@ abbrev pub end_of : List Item → ℕ
 end_of tune = last_off (total tune) (flat_map (λ notes. notes) (voices_notes tune))
 
 -- The tempos of all voices and the meters and keys of the first, behind those with which the tune opens.
-abbrev pub changes_of : List Item → List Rattle.abc_score.specs.declared.score.Change.Change
+abbrev pub changes_of : List Item → List Rattle.abc_voices_score.specs.declared.score.Change.Change
 changes_of tune =
     let voices = everyone tune in
     let first = first_of (tracks tune) in

@@ -1,7 +1,7 @@
 -- The chains of tied tones in a play, as a relation. ABC 2.1 section 4.11; which tones are joined is our own.
 use Rattle.std.specs.Prelude.{◌≡◌, ℕ, suc, ◌+◌, true, List, [], ◌∷◌, ◌++◌, Option, Some, None, slice_get, take}
-use Rattle.abc_items.specs.declared.item.Tone.{Tone}
-use Rattle.abc_score.specs.declared.score.Sounding.{Sounding}
+use Rattle.abc_bars_items.specs.declared.item.Tone.{Tone}
+use Rattle.abc_voices_score.specs.declared.score.Sounding.{Sounding}
 use Rattle.abc_voices.specs.Ties.{TimeToken, heard, tied_with, tones_with}
 
 -- The tones of the first of some time tokens, if there is one.

@@ -1,11 +1,11 @@
 -- The changes of tempo, meter, key and program that are played, at their moments.
 use Rattle.std.specs.Prelude.{ℕ, ℤ, ◌+◌, Bool, List, [], ◌∷◌, Option, Some, None}
 use Rattle.std.specs.List.{cons_option}
-use Rattle.abc_items.specs.declared.item.Item.{Item}
-use Rattle.abc_items.specs.declared.item.Item.TheVariants as items
+use Rattle.abc_bars_items.specs.declared.item.Item.{Item}
+use Rattle.abc_bars_items.specs.declared.item.Item.TheVariants as items
 use Rattle.abc_fields.specs.declared.meter.Meter.{Meter}
 use Rattle.abc_time.specs.declared.grains.Grains.{Grains}
-use Rattle.abc_sections.specs.Step.{length_of}
+use Rattle.abc_voices_sections.specs.Step.{length_of}
 
 -- The tempo, meter and key that a field sets, if it sets one.
 abbrev pub tempo_of : Item → Option ℕ

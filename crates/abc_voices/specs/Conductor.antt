@@ -1,17 +1,17 @@
 -- The tempo, the meter and the key on each tick, by what is played there. Our own.
 use Rattle.std.specs.Prelude.{◌≡◌, ℕ, ℤ, pos, ◌+◌, ◌*◌, ◌/◌, ◌^◌, ◌==◌, Bool, true, false, ◌&&◌, List, [], ◌∷◌, take, filter, Option, Some, None, option_map, option_and_then, unwrap_or}
 use Rattle.std.specs.Option.{option_to_list}
-use Rattle.abc_items.specs.declared.item.Item.{Item}
-use Rattle.abc_items.specs.declared.item.Item.TheVariants as items
+use Rattle.abc_bars_items.specs.declared.item.Item.{Item}
+use Rattle.abc_bars_items.specs.declared.item.Item.TheVariants as items
 use Rattle.abc_fields.specs.declared.meter.Meter.{Meter}
 use Rattle.abc_fields.specs.declared.meter.Meter.TheVariants as meters
 use Rattle.abc_time.specs.declared.grains.Grains.{Grains}
 use Rattle.abc_time.specs.Grains.{tick_at}
-use Rattle.abc_score.specs.declared.score.Change.{Change}
-use Rattle.abc_score.specs.declared.score.ChangeKind.{ChangeKind}
-use Rattle.abc_score.specs.declared.score.ChangeKind.TheVariants as kinds
+use Rattle.abc_voices_score.specs.declared.score.Change.{Change}
+use Rattle.abc_voices_score.specs.declared.score.ChangeKind.{ChangeKind}
+use Rattle.abc_voices_score.specs.declared.score.ChangeKind.TheVariants as kinds
 use Rattle.abc_voices.specs.Arrange.{played_sections, score_of}
-use Rattle.abc_sections.specs.PlayedSection.{longest, play_in}
+use Rattle.abc_voices_sections.specs.PlayedSection.{longest, play_in}
 use Rattle.abc_voices.specs.Change.{tempo_of, meter_of, key_of}
 use Rattle.abc_voices.specs.OnTicks.{at_moments, last_said, set_by, set_on}
 use Rattle.abc_voices.specs.Track.{everyone, tracks}

@@ -1,13 +1,13 @@
 -- Which fields are played with the ending behind them, said by the strains. ABC 2.1 section 4.9; that fields are is our own.
 use Rattle.std.specs.Prelude.{◌≡◌, Bool, true, false, not, ◌&&◌, ◌||◌, if◌then◌else◌, List, [], ◌∷◌, ◌++◌, map, filter, drop, get_or}
 use Rattle.std.specs.List.{flat_map}
-use Rattle.abc_items.specs.declared.item.Item.{Item}
+use Rattle.abc_bars_items.specs.declared.item.Item.{Item}
 use Rattle.abc_repeat.specs.declared.mark.Mark.{Mark}
 use Rattle.abc_repeat.specs.Mark.{is_ending, closes_ending}
 use Rattle.abc_repeat.specs.Strain.{Ending, Strain, IsStrains}
-use Rattle.abc_sections.specs.EndingFields.{with_fields_in_endings}
-use Rattle.abc_sections.specs.Play.{marks_of}
-use Rattle.abc_sections.specs.Step.{is_field, mark_of}
+use Rattle.abc_voices_sections.specs.EndingFields.{with_fields_in_endings}
+use Rattle.abc_voices_sections.specs.Play.{marks_of}
+use Rattle.abc_voices_sections.specs.Step.{is_field, mark_of}
 
 -- The items that are no fields: their marks are what strains are made of.
 abbrev pub without_fields : List Item → List Item

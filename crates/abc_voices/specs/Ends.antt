@@ -1,9 +1,9 @@
 -- When a tune ends: with its sections, or with a note that lasts longer. Our own.
 use Rattle.std.specs.Prelude.{◌≡◌, ◌≤◌, ◌⊎◌, ℕ, List, sum_by, All, Any}
 use Rattle.std.specs.List.{flat_map}
-use Rattle.abc_items.specs.declared.item.Item.{Item}
-use Rattle.abc_score.specs.declared.score.Sounding.{Sounding}
-use Rattle.abc_sections.specs.PlayedSection.{longest}
+use Rattle.abc_bars_items.specs.declared.item.Item.{Item}
+use Rattle.abc_voices_score.specs.declared.score.Sounding.{Sounding}
+use Rattle.abc_voices_sections.specs.PlayedSection.{longest}
 use Rattle.abc_voices.specs.Arrange.{played_sections, score_of}
 use Rattle.abc_voices.specs.Track.{everyone}
 

@@ -1,15 +1,15 @@
 -- The program of a voice on each tick, by what is played there. Our own.
 use Rattle.std.specs.Prelude.{◌≡◌, ℕ, ◌+◌, ◌==◌, true, if◌then◌else◌, List, [], ◌∷◌, ◌++◌, map, filter, Option, None, option_map}
 use Rattle.std.specs.Option.{option_to_list}
-use Rattle.abc_items.specs.declared.item.Item.{Item}
-use Rattle.abc_items.specs.declared.item.Item.TheVariants as items
+use Rattle.abc_bars_items.specs.declared.item.Item.{Item}
+use Rattle.abc_bars_items.specs.declared.item.Item.TheVariants as items
 use Rattle.abc_time.specs.declared.grains.Grains.{Grains}
 use Rattle.abc_time.specs.Grains.{tick_at}
-use Rattle.abc_score.specs.declared.score.ProgramChange.{ProgramChange}
+use Rattle.abc_voices_score.specs.declared.score.ProgramChange.{ProgramChange}
 use Rattle.abc_voices.specs.Arrange.{played_sections, score_of}
-use Rattle.abc_sections.specs.PlayedSection.{longest, play_in}
+use Rattle.abc_voices_sections.specs.PlayedSection.{longest, play_in}
 use Rattle.abc_voices.specs.Change.{at_moment, program_of}
-use Rattle.abc_sections.specs.Step.{length_of}
+use Rattle.abc_voices_sections.specs.Step.{length_of}
 use Rattle.abc_voices.specs.Track.{everyone, tracks}
 use Rattle.abc_voices.specs.Voices.{or_said}
 

@@ -3,9 +3,9 @@ use Rattle.std.specs.Prelude.{ℕ, ℤ, Bool, List, ◌++◌, Option, Some, None
 use Rattle.abc_fields.specs.declared.meter.Meter.{Meter}
 use Rattle.abc_fields.specs.declared.meter.Meter.TheVariants as meters
 use Rattle.abc_time.specs.declared.grains.Grains.{Grains}
-use Rattle.abc_score.specs.declared.score.Change.{Change}
-use Rattle.abc_score.specs.declared.score.ChangeKind.TheVariants as kinds
-use Rattle.abc_score.specs.declared.score.ProgramChange.{ProgramChange}
+use Rattle.abc_voices_score.specs.declared.score.Change.{Change}
+use Rattle.abc_voices_score.specs.declared.score.ChangeKind.TheVariants as kinds
+use Rattle.abc_voices_score.specs.declared.score.ProgramChange.{ProgramChange}
 use Rattle.abc_voices.specs.Ticks.{last_of_each_tick}
 
 -- A tempo at a moment.

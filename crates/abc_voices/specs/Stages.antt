@@ -1,11 +1,11 @@
 -- The stages of a tune in a table: at a section's place what the voices play of it, or none. Our own.
 use Rattle.std.specs.Prelude.{◌≡◌, ℕ, ◌+◌, ◌≤◌, List, Option, Some, None, All, length, map, sum_by, filter_map, slice_get, slice_index_or, slice_set, option_map}
-use Rattle.abc_items.specs.declared.item.Item.{Item}
+use Rattle.abc_bars_items.specs.declared.item.Item.{Item}
 use Rattle.abc_repeat.specs.declared.play.TheConstants.{MOST_PLACES}
-use Rattle.abc_sections.specs.declared.section.Section.{Section}
-use Rattle.abc_sections.specs.declared.stage.Stage.{Stage}
-use Rattle.abc_sections.specs.PlayedSection.{size_in, longest}
-use Rattle.abc_sections.specs.Stage.{content, stage_of, stage_size}
+use Rattle.abc_voices_sections.specs.declared.section.Section.{Section}
+use Rattle.abc_voices_sections.specs.declared.stage.Stage.{Stage}
+use Rattle.abc_voices_sections.specs.PlayedSection.{size_in, longest}
+use Rattle.abc_voices_sections.specs.Stage.{content, stage_of, stage_size}
 
 -- The stage at a place of a table, if one stands there.
 abbrev pub stage_at : List (Option Stage) → ℕ → Option Stage

@@ -1,10 +1,10 @@
 -- The notes of time tokens: a tied tone is joined with one of its key in the next time token. ABC 2.1
 -- section 4.11; which one, where there are several, is our own.
 use Rattle.std.specs.Prelude.{ℕ, ◌+◌, ◌==◌, Bool, if◌then◌else◌, List, [], ◌∷◌, ◌++◌, Option, Some, None, slice_index_or, position, remove}
-use Rattle.abc_items.specs.declared.item.Item.{Item}
-use Rattle.abc_items.specs.declared.item.Tone.{Tone}
-use Rattle.abc_score.specs.declared.score.Sounding.{Sounding}
-use Rattle.abc_sections.specs.Step.{length_of, tones_of}
+use Rattle.abc_bars_items.specs.declared.item.Item.{Item}
+use Rattle.abc_bars_items.specs.declared.item.Tone.{Tone}
+use Rattle.abc_voices_score.specs.declared.score.Sounding.{Sounding}
+use Rattle.abc_voices_sections.specs.Step.{length_of, tones_of}
 
 -- Notes that begin at a time token, and of those that begin at the next one what none of them is tied to.
 pub record TokenNotes : Type 0 where

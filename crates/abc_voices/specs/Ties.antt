@@ -1,12 +1,12 @@
 -- The notes that are heard, as chains of tied tones. ABC 2.1 section 4.11; which tones are joined is our own.
 use Rattle.std.specs.Prelude.{◌≡◌, ℕ, suc, ◌+◌, ◌==◌, nat_lt, Bool, false, ◌&&◌, if◌then◌else◌, List, [], ◌∷◌, ◌++◌, map, Option, Some, None}
-use Rattle.abc_items.specs.declared.item.Item.{Item}
-use Rattle.abc_items.specs.declared.item.Tone.{Tone}
-use Rattle.abc_score.specs.declared.score.Sounding.{Sounding}
+use Rattle.abc_bars_items.specs.declared.item.Item.{Item}
+use Rattle.abc_bars_items.specs.declared.item.Tone.{Tone}
+use Rattle.abc_voices_score.specs.declared.score.Sounding.{Sounding}
 use Rattle.abc_voices.specs.Arrange.{all_notes, played_sections, score_of}
-use Rattle.abc_sections.specs.PlayedSection.{longest, play_in}
+use Rattle.abc_voices_sections.specs.PlayedSection.{longest, play_in}
 use Rattle.abc_voices.specs.TiedNotes.{notes_from}
-use Rattle.abc_sections.specs.Step.{length_of, tones_of}
+use Rattle.abc_voices_sections.specs.Step.{length_of, tones_of}
 use Rattle.abc_voices.specs.Track.{everyone, tracks}
 
 -- A time token that is played: the moment at which it begins, and its tones.

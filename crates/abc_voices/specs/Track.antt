@@ -1,9 +1,9 @@
 -- The voices of a tune, in the order of their first mention.
 use Rattle.std.specs.Prelude.{ℕ, Bool, true, false, ◌&&◌, if◌then◌else◌, bytes_eq, List, [], ◌∷◌, ◌++◌, drop}
 use Rattle.std.specs.List.{list_any}
-use Rattle.abc_items.specs.declared.item.Item.{Item}
-use Rattle.abc_items.specs.declared.item.Item.TheVariants as items
-use Rattle.abc_sections.specs.Section.{opening_voice}
+use Rattle.abc_bars_items.specs.declared.item.Item.{Item}
+use Rattle.abc_bars_items.specs.declared.item.Item.TheVariants as items
+use Rattle.abc_voices_sections.specs.Section.{opening_voice}
 
 -- A name behind those that are known, unless it is one of them.
 abbrev pub with_name : List (List ℕ) → List ℕ → List (List ℕ)

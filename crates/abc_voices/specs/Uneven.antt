@@ -1,10 +1,10 @@
 -- When the voices of a tune are uneven. Our own.
 use Rattle.std.specs.Prelude.{◌≡◌, ◌≢◌, ◌↔◌, ℕ, Bool, true, List, Any}
-use Rattle.abc_items.specs.declared.item.Item.{Item}
-use Rattle.abc_items.specs.declared.item.Item.TheVariants as items
-use Rattle.abc_items.specs.declared.item.Tone.{Tone}
+use Rattle.abc_bars_items.specs.declared.item.Item.{Item}
+use Rattle.abc_bars_items.specs.declared.item.Item.TheVariants as items
+use Rattle.abc_bars_items.specs.declared.item.Tone.{Tone}
 use Rattle.abc_time.specs.declared.grains.Grains.{Grains}
-use Rattle.abc_sections.specs.PlayedSection.{length_in, play_in}
+use Rattle.abc_voices_sections.specs.PlayedSection.{length_in, play_in}
 use Rattle.abc_voices.specs.Arrange.{arranged_of, played_sections}
 use Rattle.abc_voices.specs.Track.{everyone}
 

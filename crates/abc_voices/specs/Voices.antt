@@ -1,8 +1,8 @@
 -- The voice of an item, by looking back. ABC 2.1 section 7.
 use Rattle.std.specs.Prelude.{◌≡◌, ℕ, Bool, true, false, ◌&&◌, if◌then◌else◌, bytes_eq, unwrap_or, List, [], ◌∷◌, map, filter, Option, Some, None}
-use Rattle.abc_items.specs.declared.item.Item.{Item}
-use Rattle.abc_items.specs.declared.item.Item.TheVariants as items
-use Rattle.abc_sections.specs.Section.{is_section, is_step, part, sections}
+use Rattle.abc_bars_items.specs.declared.item.Item.{Item}
+use Rattle.abc_bars_items.specs.declared.item.Item.TheVariants as items
+use Rattle.abc_voices_sections.specs.Section.{is_section, is_step, part, sections}
 
 -- The voice that a V: of the body makes the current one.
 abbrev pub named_by : Item → Option (List ℕ)

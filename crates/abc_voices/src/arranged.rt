@@ -3,7 +3,7 @@
 ghost use Rattle.std.specs.Prelude.{◌≡◌};
 ghost use Rattle.abc_voices.specs.declared.arranged.BuildFault.TheVariants.{OutOfMemory};
 
-use abc_score::Score;
+use abc_voices_score::Score;
 use std::alloc::AllocError;
 use thiserror::Error;
 

@@ -1,16 +1,16 @@
 //! Changes of tempo, meter, key and program, at their moments.
 
 ghost use Rattle.std.specs.Prelude.{◌≡◌, ◌+◌, ◌++◌, ◌≤◌, Option, OnOk};
-ghost use Rattle.abc_items.specs.declared.item.Item.{Item};
+ghost use Rattle.abc_bars_items.specs.declared.item.Item.{Item};
 ghost use Rattle.abc_time.specs.Grains.{grains_of_the_latest_end};
-ghost use Rattle.abc_sections.specs.Items.{items_of};
+ghost use Rattle.abc_voices_sections.specs.Items.{items_of};
 ghost use Rattle.abc_voices.specs.Change.{tempo_of, meter_of, key_of, program_of, set_from};
-ghost use Rattle.abc_sections.specs.Play.{duration};
+ghost use Rattle.abc_voices_sections.specs.Play.{duration};
 
+use abc_bars_items::Item;
 use abc_fields::Meter;
-use abc_items::Item;
-use abc_sections::length_of;
 use abc_time::Grains;
+use abc_voices_sections::length_of;
 use std::alloc::AllocError;
 
 /// A sort of changes: tempos, meters, keys or programs.

@@ -2,22 +2,22 @@
 
 ghost use Rattle.std.specs.Prelude.{◌≡◌, ◌≢◌, ◌<◌, ◌≤◌, ◌++◌, ◌-◌, ◌^◌, ◌&&◌, nat_le, Bool, true, false, min, length, map, All, None, IfOk, OnOk};
 ghost use Rattle.std.specs.List.{list_any};
-ghost use Rattle.abc_items.specs.Item.{IsItem};
-ghost use Rattle.abc_items.specs.declared.item.TheConstants.{MOST_VOICES};
+ghost use Rattle.abc_bars_items.specs.Item.{IsItem};
+ghost use Rattle.abc_bars_items.specs.declared.item.TheConstants.{MOST_VOICES};
 ghost use Rattle.abc_repeat.specs.Order.{sections_of, has_unknown};
 ghost use Rattle.abc_time.specs.Grains.{grains_of_the_latest_end};
-ghost use Rattle.abc_sections.specs.Items.{items_of};
-ghost use Rattle.abc_sections.specs.declared.stage.StageFault.TheVariants.{TooMany, TooLate};
+ghost use Rattle.abc_voices_sections.specs.Items.{items_of};
+ghost use Rattle.abc_voices_sections.specs.declared.stage.StageFault.TheVariants.{TooMany, TooLate};
 ghost use Rattle.abc_repeat.specs.declared.order.TheConstants.{MOST_SECTIONS};
 ghost use Rattle.abc_repeat.specs.declared.play.TheConstants.{MOST_PLACES};
 ghost use Rattle.abc_voices.specs.Turns.{first_place, stages_in};
 ghost use Rattle.abc_voices.specs.Arrange.{played_sections, is_uneven, end_of, score_of, arranged_of, sections_played, places_played, is_too_long, items_in};
 ghost use Rattle.abc_voices.specs.Fields.{without_music};
-ghost use Rattle.abc_score.specs.Limits.{IsWithinLimits};
-ghost use Rattle.abc_score.specs.declared.limits.TheConstants.{LONGEST_TITLE};
+ghost use Rattle.abc_voices_score.specs.Limits.{IsWithinLimits};
+ghost use Rattle.abc_voices_score.specs.declared.limits.TheConstants.{LONGEST_TITLE};
 ghost use Rattle.abc_voices.specs.Opening.{order_past, past_all};
-ghost use Rattle.abc_sections.specs.Section.{letters};
-ghost use Rattle.abc_sections.specs.Stage.{stage_of};
+ghost use Rattle.abc_voices_sections.specs.Section.{letters};
+ghost use Rattle.abc_voices_sections.specs.Stage.{stage_of};
 ghost use Rattle.abc_voices.specs.Stages.{at_places};
 ghost use Rattle.abc_voices.specs.Track.{everyone};
 
@@ -28,10 +28,10 @@ use crate::stages::{in_order, stages};
 use crate::track::{everyone, nameless_plays};
 use crate::tune_score::score_along;
 use crate::turns::{Turn, is_uneven, length_along};
-use abc_items::{Item, Items, MOST_VOICES};
+use abc_bars_items::{Item, Items, MOST_VOICES};
 use abc_repeat::{OrderFault, Played, play_order};
-use abc_score::{LONGEST_TITLE, Score};
-use abc_sections::{Stage, StageFault, letters, opening_voice, sections};
+use abc_voices_score::{LONGEST_TITLE, Score};
+use abc_voices_sections::{Stage, StageFault, letters, opening_voice, sections};
 use std::alloc::{AllocError, Global};
 
 /// Puts items behind those of a tune.

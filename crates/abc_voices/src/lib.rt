@@ -21,13 +21,13 @@ mod tune_score;
 mod turns;
 mod voice;
 
-pub use abc_items::{HIGHEST_KEY, Items, MOST_CHORD_NOTES, MOST_VOICES};
-pub use abc_score::{
+pub use abc_bars_items::{HIGHEST_KEY, Items, MOST_CHORD_NOTES, MOST_VOICES};
+pub use abc_text::Sequence;
+pub use abc_time::Grains;
+pub use abc_voices_score::{
     Change, ChangeKind, LONGEST_TITLE, MOST_CHANGES, MOST_NOTES, MOST_PROGRAMS, ProgramChange,
     Score, Sounding, score_limits,
 };
-pub use abc_text::Sequence;
-pub use abc_time::Grains;
 pub use arranged::{Arranged, BuildFault};
 pub use laws::{
     conductor_on_ticks, ends_of_tunes, fields_before_endings, programs_on_ticks,

@@ -1,15 +1,15 @@
 //! The notes of what a voice plays.
 
 ghost use Rattle.std.specs.Prelude.{◌≡◌, ◌-◌, ◌≤◌, All, Some, IfOk, OnOk};
-ghost use Rattle.abc_items.specs.Item.{IsItem, IsTone};
+ghost use Rattle.abc_bars_items.specs.Item.{IsItem, IsTone};
 ghost use Rattle.abc_time.specs.Grains.{grains_of_the_latest_end};
-ghost use Rattle.abc_sections.specs.Items.{items_of};
+ghost use Rattle.abc_voices_sections.specs.Items.{items_of};
 ghost use Rattle.abc_voices.specs.TiedNotes.{before, notes_from, notes_in};
-ghost use Rattle.abc_sections.specs.Play.{duration};
-ghost use Rattle.abc_sections.specs.Step.{length_of, tones_of};
+ghost use Rattle.abc_voices_sections.specs.Play.{duration};
+ghost use Rattle.abc_voices_sections.specs.Step.{length_of, tones_of};
 
 use crate::tied_notes::NotesInOne;
-use abc_items::{Item, LentTones, Tones};
+use abc_bars_items::{Item, LentTones, Tones};
 use abc_time::Grains;
 use std::alloc::AllocError;
 

@@ -1,11 +1,11 @@
 //! What a tune opens with, its title and the order of its parts.
 
 ghost use Rattle.std.specs.Prelude.{◌≡◌, None, option_copied};
-ghost use Rattle.abc_sections.specs.Items.{items_of};
+ghost use Rattle.abc_voices_sections.specs.Items.{items_of};
 ghost use Rattle.abc_voices.specs.Opening.{tempo_past, meter_past, key_past, program_past, order_past, past_all, title_of};
 
+use abc_bars_items::Item;
 use abc_fields::Meter;
-use abc_items::Item;
 
 /// The microseconds of a quarter note with which a tune opens, where its header sets a tempo.
 pub(crate) fn opening_tempo(tune: &[&Item]) -> Option<u32>

@@ -2,7 +2,7 @@
 
 ghost use Rattle.std.specs.Prelude.{◌≡◌, true, ◌-◌, ◌≤◌, All, None, IfOk};
 ghost use Rattle.abc_time.specs.Grains.{grains_of_the_latest_end};
-ghost use Rattle.abc_sections.specs.Items.{items_of};
+ghost use Rattle.abc_voices_sections.specs.Items.{items_of};
 ghost use Rattle.abc_voices.specs.Fields.{sets_program, keeps_programs};
 ghost use Rattle.abc_voices.specs.Opening.{program_past, past_all};
 ghost use Rattle.abc_voices.specs.Turns.{IsStage, PlaysNone, stages_in, length_along, programs_by, programs_along};
@@ -13,9 +13,9 @@ use crate::opening::opening_program;
 use crate::score_changes::programs_that_stand;
 use crate::setting::one_along;
 use crate::turns::Turn;
-use abc_items::Item;
-use abc_score::ProgramChange;
+use abc_bars_items::Item;
 use abc_text::Sequence;
+use abc_voices_score::ProgramChange;
 use std::alloc::{AllocError, Global};
 
 /// The programs of a voice in the stages that are played, behind the one with which the tune opens, if it opens with one.

@@ -6,8 +6,8 @@ ghost use Rattle.abc_voices.specs.ScoreChanges.{tempo_change, meter_change, key_
 
 use crate::ticks::last_of_each_tick;
 use abc_fields::Meter;
-use abc_score::{Change, ChangeKind, ProgramChange};
 use abc_time::Grains;
+use abc_voices_score::{Change, ChangeKind, ProgramChange};
 use std::alloc::{AllocError, Global};
 
 /// Puts tempos as changes.

@@ -7,8 +7,8 @@ ghost use Rattle.abc_voices.specs.Change.{tempo_of, set_from, behind};
 
 use crate::change::{Setting, Tempos, put_set};
 use crate::turns::Turn;
-use abc_sections::{Part, Stage};
 use abc_time::Grains;
+use abc_voices_sections::{Part, Stage};
 use std::alloc::{AllocError, Global};
 
 /// Puts the tempos of all voices in a stage that is played from a moment on.

@@ -4,13 +4,13 @@ ghost use Rattle.std.specs.Prelude.{◌≡◌, ◌+◌, ◌<◌, ◌≤◌, ◌^
 ghost use Rattle.abc_repeat.specs.declared.play.TheConstants.{MOST_PLACES};
 ghost use Rattle.abc_time.specs.Grains.{grains_of_the_latest_end};
 ghost use Rattle.abc_voices.specs.Turns.{stages_in};
-ghost use Rattle.abc_sections.specs.PlayedSection.{size_in, longest};
-ghost use Rattle.abc_sections.specs.Stage.{content, stage_of, stage_size};
+ghost use Rattle.abc_voices_sections.specs.PlayedSection.{size_in, longest};
+ghost use Rattle.abc_voices_sections.specs.Stage.{content, stage_of, stage_size};
 ghost use Rattle.abc_voices.specs.Stages.{stage_at, at_places, sections_at, size_for, longest_for, AreStages, IsNew, IsPut};
 
 use crate::turns::Turn;
 use abc_repeat::MOST_PLACES;
-use abc_sections::{Section, Stage, StageFault};
+use abc_voices_sections::{Section, Stage, StageFault};
 use std::alloc::{AllocError, Global};
 
 /// The stage at a place of a table, if one stands there.

@@ -1,14 +1,14 @@
 //! Notes of time tokens, tied ones joined, from the last token to the first.
 
 ghost use Rattle.std.specs.Prelude.{◌≡◌, ◌==◌, ◌≤◌, ◌<◌, ◌++◌, [], ◌∷◌, length, position, remove, slice_index_or, All, Some, IfSome, OnOk};
-ghost use Rattle.abc_items.specs.Item.{IsTone};
+ghost use Rattle.abc_bars_items.specs.Item.{IsTone};
 ghost use Rattle.abc_time.specs.Grains.{grains_of_the_latest_end};
 ghost use Rattle.abc_voices.specs.Arrange.{all_notes};
 ghost use Rattle.abc_voices.specs.TiedNotes.{before, next_place, notes_in, with_key, with_token_begun};
 
-use abc_items::Tone;
-use abc_score::Sounding;
+use abc_bars_items::Tone;
 use abc_time::Grains;
+use abc_voices_score::Sounding;
 use std::alloc::{AllocError, Global};
 use std::marker::Model;
 

@@ -2,12 +2,12 @@
 
 ghost use Rattle.std.specs.Prelude.{◌≡◌};
 ghost use Rattle.std.specs.List.{list_any};
-ghost use Rattle.abc_sections.specs.Items.{items_of};
+ghost use Rattle.abc_voices_sections.specs.Items.{items_of};
 ghost use Rattle.abc_voices.specs.Arrange.{takes_time, last_off};
 
-use abc_items::Item;
-use abc_score::Sounding;
+use abc_bars_items::Item;
 use abc_time::Grains;
+use abc_voices_score::Sounding;
 
 /// The later of a moment and the last end of some notes.
 pub(crate) fn last_off(at: Grains, notes: &[Sounding]) -> Grains

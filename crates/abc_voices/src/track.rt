@@ -1,11 +1,11 @@
 //! The voices of a tune.
 
 ghost use Rattle.std.specs.Prelude.{◌≡◌, IfOk, OnOk, map};
-ghost use Rattle.abc_sections.specs.Items.{items_of};
-ghost use Rattle.abc_sections.specs.Section.{opening_voice};
+ghost use Rattle.abc_voices_sections.specs.Items.{items_of};
+ghost use Rattle.abc_voices_sections.specs.Section.{opening_voice};
 ghost use Rattle.abc_voices.specs.Track.{with_name, everyone, plays_first, nameless_plays};
 
-use abc_items::Item;
+use abc_bars_items::Item;
 use indexmap::IndexSet;
 use std::alloc::{AllocError, Global};
 

@@ -3,8 +3,8 @@
 ghost use Rattle.std.specs.Prelude.{true, ◌≡◌, ◌≢◌, ◌<◌, ◌≤◌, ◌-◌, All, IfOk};
 ghost use Rattle.std.specs.List.{flat_map};
 ghost use Rattle.abc_time.specs.Grains.{grains_of_the_latest_end};
-ghost use Rattle.abc_sections.specs.Items.{items_of};
-ghost use Rattle.abc_sections.specs.declared.stage.StageFault.TheVariants.{TooMany, TooLate};
+ghost use Rattle.abc_voices_sections.specs.Items.{items_of};
+ghost use Rattle.abc_voices_sections.specs.declared.stage.StageFault.TheVariants.{TooMany, TooLate};
 ghost use Rattle.abc_voices.specs.Turns.{IsStage, IsSteady, PlaysNone, stages_in, length_along, voices_along, changes_along, end_along, score_along};
 ghost use Rattle.abc_voices.specs.Arrange.{last_off};
 ghost use Rattle.abc_voices.specs.Fields.{is_steady, sets_program, keeps_programs};
@@ -18,12 +18,12 @@ use crate::setting::{one_along, tempos_along};
 use crate::timing::last_off;
 use crate::turns::Turn;
 use crate::voice::voices_notes;
+use abc_bars_items::Item;
 use abc_fields::Meter;
-use abc_items::Item;
-use abc_score::{Change, Score, Sounding};
-use abc_sections::StageFault;
 use abc_text::Sequence;
 use abc_time::{Grains, LATEST_END};
+use abc_voices_score::{Change, Score, Sounding};
+use abc_voices_sections::StageFault;
 use std::alloc::{AllocError, Global};
 
 /// The microseconds of a quarter note where no tempo is set: 120 quarters a minute.

@@ -6,8 +6,8 @@ ghost use Rattle.abc_time.specs.Grains.{grains_of_the_latest_end};
 ghost use Rattle.abc_voices.specs.Turns.{stages_in, length_along, parts_differ, is_stage_uneven};
 
 use crate::timing::plays_time;
-use abc_sections::{Part, Stage};
 use abc_time::{Grains, LATEST_END};
+use abc_voices_sections::{Part, Stage};
 
 /// One playing of a section: its stage, which the playings of one section share.
 #[derive(Clone, Copy)]

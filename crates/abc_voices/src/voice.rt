@@ -9,10 +9,10 @@ ghost use Rattle.abc_voices.specs.TiedNotes.{notes_from, notes_in};
 use crate::notes::put_notes;
 use crate::tied_notes::NotesInOne;
 use crate::turns::Turn;
-use abc_score::Sounding;
-use abc_sections::{Part, Stage};
 use abc_text::Sequence;
 use abc_time::Grains;
+use abc_voices_score::Sounding;
+use abc_voices_sections::{Part, Stage};
 use std::alloc::{AllocError, Global};
 
 /// Puts a part that is played from a moment on before the notes of what comes behind it.

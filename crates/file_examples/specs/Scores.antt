@@ -1,9 +1,9 @@
 -- The scores, and the changes and the notes of a track, of the worked examples of files. Our own.
 use Rattle.std.specs.Prelude.{ℕ, pos, negsuc, true, false, List, [], ◌∷◌, codes, replicate}
-use Rattle.abc_score.specs.declared.score.Change.{Change}
-use Rattle.abc_score.specs.declared.score.ChangeKind.TheVariants.{Tempo, Meter, Key}
-use Rattle.abc_score.specs.declared.score.Score.{Score}
-use Rattle.abc_score.specs.declared.score.Sounding.{Sounding}
+use Rattle.abc_voices_score.specs.declared.score.Change.{Change}
+use Rattle.abc_voices_score.specs.declared.score.ChangeKind.TheVariants.{Tempo, Meter, Key}
+use Rattle.abc_voices_score.specs.declared.score.Score.{Score}
+use Rattle.abc_voices_score.specs.declared.score.Sounding.{Sounding}
 use Rattle.smf_bytes.specs.Event.{end_event, note_off, note_on}
 use Rattle.smf_bytes.specs.declared.event.Event.{Event}
 use Rattle.file_examples.specs.Values.{at_tick, change_at, program_at, seventh, sounding, sounding_with}

@@ -6,8 +6,8 @@ ghost use Rattle.std.specs.Prelude.{◌≡◌, pos, negsuc, true, false, [], ◌
 ghost use Rattle.std.specs.List.{concat, list_all, list_any};
 ghost use Rattle.hex.specs.Hex.{encode_upper};
 ghost use Rattle.smf_bytes.specs.declared.number.NumberFault.TheVariants.{Padded, TooLong, Truncated};
-ghost use Rattle.abc_score.specs.Limits.{IsWritable};
-ghost use Rattle.abc_score.specs.declared.score.ChangeKind.TheVariants.{Tempo, Meter, Key};
+ghost use Rattle.abc_voices_score.specs.Limits.{IsWritable};
+ghost use Rattle.abc_voices_score.specs.declared.score.ChangeKind.TheVariants.{Tempo, Meter, Key};
 ghost use Rattle.smf_bytes.specs.Event.{change_bytes, end_event, note_events, note_off, note_on, title_events};
 ghost use Rattle.smf_bytes.specs.File.{file_bytes};
 ghost use Rattle.abc_text.specs.Power.{is_power_up_to};

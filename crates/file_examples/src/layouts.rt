@@ -4,14 +4,14 @@
 
 ghost use Rattle.std.specs.Prelude.{◌≡◌, true, false, [], ◌∷◌, Some, None};
 ghost use Rattle.std.specs.List.{list_any};
-ghost use Rattle.abc_items.specs.declared.item.Item.TheVariants as items;
+ghost use Rattle.abc_bars_items.specs.declared.item.Item.TheVariants as items;
 ghost use Rattle.abc_repeat.specs.Strain.{strains_of};
 ghost use Rattle.abc_voices.specs.Arrange.{changes_of, end_of, is_uneven, places_played, played_sections, programs_of, set_in, voices_notes};
 ghost use Rattle.abc_voices.specs.Change.{program_of, tempo_of};
 ghost use Rattle.abc_voices.specs.Endings.{between_endings_in, without_fields};
-ghost use Rattle.abc_sections.specs.EndingFields.{with_fields_in_endings};
-ghost use Rattle.abc_sections.specs.Play.{marks_of, played};
-ghost use Rattle.abc_sections.specs.Section.{part, sections};
+ghost use Rattle.abc_voices_sections.specs.EndingFields.{with_fields_in_endings};
+ghost use Rattle.abc_voices_sections.specs.Play.{marks_of, played};
+ghost use Rattle.abc_voices_sections.specs.Section.{part, sections};
 ghost use Rattle.abc_voices.specs.Ties.{heard, tokens_from};
 ghost use Rattle.abc_voices.specs.Track.{tracks};
 ghost use Rattle.file_examples.specs.Tunes.{tone, chord, note, tied, rest, bar_rest, single, opening, closing, between, double, first, second, part_a, part_b, voice_1, voice_2, declared_1, opening_tempo, tempo, opening_meter, refused_meter, opening_key, properties, sounding, tempo_change, key_change, note_with, tied_with, held, opening_program, program, refused_opening, refused, sounding_with, program_change, ordered_parts, tempo_between_endings, tempo_in_a_strain};

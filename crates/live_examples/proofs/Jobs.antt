@@ -5,7 +5,7 @@ use Rattle.std.proofs.lemmas.Bool.{and_parts, false≢true}
 use Rattle.std.proofs.lemmas.Bool.Decides.{nat_tests}
 use Rattle.abc_publish.specs.Publisher.{Publishing, begun, ended, is_pending, IsNext}
 use Rattle.abc_publish.specs.declared.slot.Stored.{Stored}
-use Rattle.abc_tunebook.specs.Files.{Files}
+use Rattle.abc_tune_compiler.specs.Files.{Files}
 
 apart : (n k : ℕ) → n ≢ k → (n == k) ≡ false
 apart n k other = grind (arith, nat_tests)

@@ -2,10 +2,10 @@
 use Rattle.std.specs.Prelude.{ℕ, ◌+◌, ◌-◌, ◌^◌, Bool, ◌==◌, List, min, refl, unwrap_or}
 use Rattle.std.proofs.Common.{sym, ap, ◌∙◌}
 use Rattle.std.proofs.lemmas.Bool.{eqb-true, eq-eqb}
-use Rattle.abc_compiler.specs.Lawful.{AreLawful}
+use Rattle.abc_tune_compiler.specs.Lawful.{AreLawful}
 use Rattle.abc_fold.specs.Steps.{Steps, IsResumable}
 use Rattle.abc_scan.specs.Class.{class_of}
-use Rattle.abc_tunebook.specs.Rules.{Rules}
+use Rattle.abc_tune_compiler.specs.Rules.{Rules}
 use Rattle.live_examples.specs.declared.marked.Marked.{Marked}
 use Rattle.live_examples.specs.declared.toy.Played.{Played}
 use Rattle.live_examples.specs.Toy.{cells_of, next_byte, no_byte, played, number_of, title_of, faults_of, file_of, tune_faults_of}

@@ -10,8 +10,8 @@ use Rattle.abc_lines.specs.Text.{Text}
 use Rattle.abc_scan.specs.Class.{class_of}
 use Rattle.abc_scan.specs.declared.class.LineClass.{LineClass}
 use Rattle.abc_scan.specs.declared.class.LineClass.TheVariants.{Blank, Comment, Field, Directive, Music}
-use Rattle.abc_tunebook.specs.Book.{Book, book_of}
-use Rattle.abc_tunebook.specs.Rules.{Rules}
+use Rattle.abc_tune_compiler.specs.Book.{Book, book_of}
+use Rattle.abc_tune_compiler.specs.Rules.{Rules}
 use Rattle.live_examples.specs.declared.toy.Played.{Played}
 
 -- Whether a line begins with this byte.

@@ -2,7 +2,7 @@
 use Rattle.std.specs.Prelude.{◌≡◌, ◌↔◌, ◌⊎◌, ℕ, ◌==◌, IsTrue, List, [], refl}
 use Rattle.std.proofs.Common.{inl, inr}
 use Rattle.std.proofs.lemmas.Bool.{eqb-true, eq-eqb}
-use Rattle.abc_compiler.specs.Lawful.{AreLawful}
+use Rattle.abc_tune_compiler.specs.Lawful.{AreLawful}
 use Rattle.abc_fold.specs.Steps.{IsResumable, resumable_where_equal}
 use Rattle.abc_scan.specs.Class.{class_of}
 use Rattle.abc_scan.specs.declared.class.LineClass.{LineClass}

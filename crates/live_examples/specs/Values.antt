@@ -2,8 +2,8 @@
 use Rattle.std.specs.Prelude.{List, [], ◌∷◌, codes}
 use Rattle.abc_fields.specs.declared.fault.FaultCode.TheVariants.{BadByte, BadReference}
 use Rattle.abc_lines.specs.Text.{Text}
-use Rattle.abc_tunebook.specs.Tune.{fault_in}
-use Rattle.abc_tunebook.specs.declared.fault.Fault.{Fault}
+use Rattle.abc_tune_compiler.specs.Tune.{fault_in}
+use Rattle.abc_tune_compiler.specs.declared.fault.Fault.{Fault}
 
 -- a text of four lines
 abbrev pub four_lines : Text

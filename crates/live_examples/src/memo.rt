@@ -21,9 +21,9 @@ pub struct ToyMemo {
 
 impl Model for ToyMemo {
     ghost use Rattle.std.specs.Prelude.{ℕ, List};
-    ghost use Rattle.abc_compiler.specs.declared.built.Built.{Built};
-    ghost use Rattle.abc_memo.specs.declared.key.TuneKey.{TuneKey};
-    ghost use Rattle.abc_memo.specs.Memo.{Remembers};
+    ghost use Rattle.abc_tune_compiler.specs.declared.built.Built.{Built};
+    ghost use Rattle.abc_tune_memo.specs.declared.key.TuneKey.{TuneKey};
+    ghost use Rattle.abc_tune_memo.specs.Memo.{Remembers};
     ghost use Rattle.live_examples.specs.Toy.{toy_rules, toy_steps};
 
     ghost Value = { List (TuneKey ℕ × Built) };

@@ -3,7 +3,7 @@
 ghost use Rattle.std.specs.Prelude.{◌≡◌, ◌++◌, ◌==◌, IfOk, OnOk, option_copied};
 ghost use Rattle.std.specs.List.{flat_map};
 ghost use Rattle.abc_scan.specs.Class.{class_of};
-ghost use Rattle.abc_tunebook.specs.Files.{file_at};
+ghost use Rattle.abc_tune_compiler.specs.Files.{file_at};
 ghost use Rattle.live_examples.specs.Toy.{begins_with, bytes_of_class, cells_of, first_of_value, is_long, next_byte, played, toy_book, toy_rules, toy_steps, value_of};
 ghost use Rattle.live_examples.specs.ToyLaws.{toy_lawful, toy_resumable, toy_told_apart};
 

@@ -42,7 +42,7 @@ pub fn faults_of(built: &Built) -> &[FaultCode] {
 }
 
 /// Returns the cells of a line of ABC.
-pub fn abc_cells(alloc: Global, line: &[u8], work: &mut Work) -> Result<Vec<Cell>, AllocError> {
+pub fn abc_bars_body(alloc: Global, line: &[u8], work: &mut Work) -> Result<Vec<Cell>, AllocError> {
     Abc.cells(alloc, line, work)
 }
 

@@ -5,7 +5,7 @@ use Rattle.std.proofs.lemmas.List.{append_assoc}
 use Rattle.byteorder.specs.Endian.{big_bytes}
 use Rattle.abc_time.specs.Grains.{tick_at}
 use Rattle.smf_bytes.specs.declared.event.Event.{Event}
-use Rattle.abc_score.specs.declared.score.Score.{Score}
+use Rattle.abc_voices_score.specs.declared.score.Score.{Score}
 use Rattle.smf_bytes.specs.File.{header, voice_tracks, file_bytes}
 use Rattle.smf_bytes.specs.Track.{track, conductor_events}
 

@@ -8,15 +8,15 @@ use Rattle.std.proofs.lemmas.List.Elements.{All-nil, All-cons, All-head, All-tai
 use Rattle.abc_time.specs.declared.grains.Grains.{Grains}
 use Rattle.abc_time.specs.Grains.{tick_at, tick_at-le}
 use Rattle.smf_bytes.specs.declared.event.Event.{Event}
-use Rattle.abc_score.specs.declared.score.Change.{Change}
-use Rattle.abc_score.specs.declared.score.ChangeKind.{ChangeKind}
-use Rattle.abc_score.specs.declared.score.ChangeKind.TheVariants.{Tempo, Meter, Key}
-use Rattle.abc_score.specs.declared.score.ProgramChange.{ProgramChange}
-use Rattle.abc_score.specs.declared.score.Sounding.{Sounding}
+use Rattle.abc_voices_score.specs.declared.score.Change.{Change}
+use Rattle.abc_voices_score.specs.declared.score.ChangeKind.{ChangeKind}
+use Rattle.abc_voices_score.specs.declared.score.ChangeKind.TheVariants.{Tempo, Meter, Key}
+use Rattle.abc_voices_score.specs.declared.score.ProgramChange.{ProgramChange}
+use Rattle.abc_voices_score.specs.declared.score.Sounding.{Sounding}
 use Rattle.smf_bytes.specs.Number.{leading_bytes, number_text}
 use Rattle.smf_bytes.specs.Order.{insert_event, in_order}
 use Rattle.smf_bytes.specs.Event.{meta_event, title_events, change_bytes, change_event, note_events, note_off, note_on, program_event, end_event}
-use Rattle.abc_score.specs.Limits.{IsChangeWithin, IsProgramWithin, IsSoundingWithin}
+use Rattle.abc_voices_score.specs.Limits.{IsChangeWithin, IsProgramWithin, IsSoundingWithin}
 use Rattle.smf_bytes.specs.Track.{timed, track_body, conductor_events, voice_events}
 use Rattle.smf_bytes.proofs.Ordered.{less, past, here}
 

@@ -4,11 +4,11 @@ use Rattle.std.specs.Int.{w8, trailing_zeros, cast_unsigned}
 use Rattle.byteorder.specs.Endian.{big_bytes}
 use Rattle.abc_time.specs.Grains.{tick_at}
 use Rattle.smf_bytes.specs.declared.event.Event.{Event}
-use Rattle.abc_score.specs.declared.score.Change.{Change}
-use Rattle.abc_score.specs.declared.score.ChangeKind.{ChangeKind}
-use Rattle.abc_score.specs.declared.score.ChangeKind.TheVariants.{Tempo, Meter, Key}
-use Rattle.abc_score.specs.declared.score.ProgramChange.{ProgramChange}
-use Rattle.abc_score.specs.declared.score.Sounding.{Sounding}
+use Rattle.abc_voices_score.specs.declared.score.Change.{Change}
+use Rattle.abc_voices_score.specs.declared.score.ChangeKind.{ChangeKind}
+use Rattle.abc_voices_score.specs.declared.score.ChangeKind.TheVariants.{Tempo, Meter, Key}
+use Rattle.abc_voices_score.specs.declared.score.ProgramChange.{ProgramChange}
+use Rattle.abc_voices_score.specs.declared.score.Sounding.{Sounding}
 use Rattle.smf_bytes.specs.Number.{number_text}
 
 -- A meta event: FF, its type, the length of what it holds as a quantity, what it holds (SMF 1.0).

@@ -1,15 +1,15 @@
 //! The events of the first track: the title, and the changes of tempo, meter and key.
 ghost use Rattle.std.specs.Prelude.{◌≡◌, ◌≤◌, ◌<◌, ◌∷◌, [], length, All, IfOk};
 ghost use Rattle.abc_time.specs.Grains.{grains_of_the_latest_end};
-ghost use Rattle.abc_score.specs.declared.limits.TheConstants.{LONGEST_TITLE};
+ghost use Rattle.abc_voices_score.specs.declared.limits.TheConstants.{LONGEST_TITLE};
 ghost use Rattle.smf_bytes.specs.Event.{title_events, class_of, change_bytes, change_event};
-ghost use Rattle.abc_score.specs.Limits.{IsWritable, IsChangeWithin};
+ghost use Rattle.abc_voices_score.specs.Limits.{IsWritable, IsChangeWithin};
 ghost use Rattle.smf_bytes.specs.Track.{conductor_events};
 
 use crate::event::{Event, meta};
 use crate::event_bytes::EventBytes;
-use abc_score::{Change, ChangeKind};
 use abc_time::{Grains, tick_of};
+use abc_voices_score::{Change, ChangeKind};
 use byteorder::{BigEndian, ByteOrder};
 use std::alloc::{AllocError, Global};
 

@@ -3,7 +3,7 @@ ghost use Rattle.std.specs.Prelude.{◌≡◌, ◌≤◌, ℕ, length, Some, IsO
 ghost use Rattle.std.specs.Cmp.{partial_equiv_from_equiv};
 ghost use Rattle.std.specs.Cmp.Lexicographic.{pointwise, slice_cmp, nat_list_eq_equiv, nat_list_cmp_total, texts_po, texts_ties};
 ghost use Rattle.std.specs.Ordering.{nat_cmp};
-ghost use Rattle.abc_score.specs.declared.score.ChangeKind.{ChangeKind};
+ghost use Rattle.abc_voices_score.specs.declared.score.ChangeKind.{ChangeKind};
 ghost use Rattle.smf_bytes.specs.declared.event_bytes.TheConstants.{ROOM_IN_PLACE};
 ghost use Rattle.smf_bytes.specs.Event.{change_bytes, note_off, note_on, program_change};
 

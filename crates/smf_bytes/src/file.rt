@@ -1,18 +1,18 @@
 //! The file of a score.
 ghost use Rattle.std.specs.Prelude.{◌≡◌, ◌≤◌, ◌<◌, ◌+◌, ◌++◌, IfOk, OnOk};
 ghost use Rattle.abc_time.specs.Grains.{grains_of_the_latest_end, tick_at};
-ghost use Rattle.abc_items.specs.declared.item.TheConstants.{MOST_VOICES};
+ghost use Rattle.abc_bars_items.specs.declared.item.TheConstants.{MOST_VOICES};
 ghost use Rattle.smf_bytes.specs.File.{header, file_bytes};
-ghost use Rattle.abc_score.specs.Limits.{AreProgramsWithin, IsWithinLimits, IsVoiceWithin};
+ghost use Rattle.abc_voices_score.specs.Limits.{AreProgramsWithin, IsWithinLimits, IsVoiceWithin};
 ghost use Rattle.smf_bytes.specs.Track.{track, voice_events, channel_of};
 
 use crate::chunk::{put_u16, put_u32};
 use crate::conductor::conductor;
 use crate::track::{TrackEvents, put_track};
 use crate::voice::{channel, voice};
-use abc_score::{ProgramChange, Score, Sounding};
 use abc_text::Sequence;
 use abc_time::{Grains, tick_of};
+use abc_voices_score::{ProgramChange, Score, Sounding};
 use std::alloc::{AllocError, Global};
 
 /// About so many bytes come before the notes of the first voice: the header and the first track.

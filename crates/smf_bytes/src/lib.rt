@@ -13,9 +13,9 @@ mod track;
 mod voice;
 mod voice_event;
 
-pub use abc_score::{Change, ChangeKind, ProgramChange, Score, Sounding};
 pub use abc_text::Sequence;
 pub use abc_time::Grains;
+pub use abc_voices_score::{Change, ChangeKind, ProgramChange, Score, Sounding};
 pub use event::Event;
 pub use event_bytes::{EventBytes, ROOM_IN_PLACE, room_in_place};
 pub use file::file_of;

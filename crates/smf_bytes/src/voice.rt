@@ -1,14 +1,14 @@
 //! The events of a voice: its changes of program, its notes on and off.
 ghost use Rattle.std.specs.Prelude.{◌≡◌, ◌≤◌, ◌<◌, ◌++◌, [], ◌∷◌, length, map, All, IfOk, IsPermutation, OnOk};
 ghost use Rattle.abc_time.specs.Grains.{grains_of_the_latest_end};
-ghost use Rattle.abc_items.specs.declared.item.TheConstants.{MOST_VOICES};
-ghost use Rattle.abc_score.specs.Limits.{AreProgramsWithin, IsProgramWithin, IsSoundingWithin, IsVoiceWithin};
+ghost use Rattle.abc_bars_items.specs.declared.item.TheConstants.{MOST_VOICES};
+ghost use Rattle.abc_voices_score.specs.Limits.{AreProgramsWithin, IsProgramWithin, IsSoundingWithin, IsVoiceWithin};
 ghost use Rattle.smf_bytes.specs.Voice.{all_of, change_of, ends_of};
 ghost use Rattle.smf_bytes.specs.Track.{channel_of};
 
 use crate::voice_event::{VoiceEvent, VoiceEventKind};
-use abc_score::{ProgramChange, Sounding};
 use abc_time::{Grains, tick_of};
+use abc_voices_score::{ProgramChange, Sounding};
 use std::alloc::{AllocError, Global};
 
 /// How far an event is moved back at most: over the events of a chord with as many notes as one may have.

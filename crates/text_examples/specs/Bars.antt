@@ -1,28 +1,28 @@
 -- What holds in examples of music inside bars, and what lines give there. Our own.
 use Rattle.std.specs.Prelude.{ℕ, ℤ, true, false, List, [], ◌∷◌, ◌++◌, map, flat_map, Option, Some, None}
-use Rattle.abc_cells.specs.BodyOpening.{unshifted}
-use Rattle.abc_cells.specs.Step.{stepped}
-use Rattle.abc_cells.specs.declared.body.Current.TheVariants.{Unnamed, At}
-use Rattle.abc_cells.specs.declared.entry.Entry.{Entry}
-use Rattle.abc_cells.specs.declared.entry.Entry.TheVariants.{Body, FileHeader, Opening}
+use Rattle.abc_bars_body.specs.BodyOpening.{unshifted}
+use Rattle.abc_bars_body.specs.Step.{stepped}
+use Rattle.abc_bars_body.specs.declared.body.Current.TheVariants.{Unnamed, At}
+use Rattle.abc_bars_body.specs.declared.entry.Entry.{Entry}
+use Rattle.abc_bars_body.specs.declared.entry.Entry.TheVariants.{Body, FileHeader, Opening}
 use Rattle.abc_fields.specs.Signature.{natural}
 use Rattle.abc_fields.specs.declared.fault.FaultCode.{FaultCode}
 use Rattle.abc_fields.specs.declared.meter.Meter.{Meter}
 use Rattle.abc_fields.specs.declared.meter.Meter.TheVariants.{Free, Of}
-use Rattle.abc_header.specs.Defaults.{no_defaults}
-use Rattle.abc_items.specs.Item.{Items, nothing}
-use Rattle.abc_items.specs.declared.item.Item.{Item}
-use Rattle.abc_items.specs.declared.item.Item.TheVariants as items
-use Rattle.abc_items.specs.declared.item.Tone.{Tone}
+use Rattle.abc_bars_header.specs.Defaults.{no_defaults}
+use Rattle.abc_bars_items.specs.Item.{Items, nothing}
+use Rattle.abc_bars_items.specs.declared.item.Item.{Item}
+use Rattle.abc_bars_items.specs.declared.item.Item.TheVariants as items
+use Rattle.abc_bars_items.specs.declared.item.Tone.{Tone}
 use Rattle.abc_scan.specs.Cell.{cells_of}
 use Rattle.abc_scan.specs.Line.{tokens_of}
 use Rattle.abc_scan.specs.declared.directive.Reach.{Reach}
 use Rattle.abc_scan.specs.declared.directive.Reach.TheVariants.{Pitch}
 use Rattle.abc_scan.specs.declared.spanned.Spanned.{Spanned}
 use Rattle.abc_scan.specs.declared.token.TokenKind.{TokenKind}
-use Rattle.abc_settings.specs.Accidentals.{no_accidentals}
-use Rattle.abc_settings.specs.declared.settings.Settings.{Settings}
-use Rattle.abc_settings.specs.declared.voice_shift.VoiceShift.{VoiceShift}
+use Rattle.abc_bars_voice.specs.Accidentals.{no_accidentals}
+use Rattle.abc_bars_voice.specs.declared.settings.Settings.{Settings}
+use Rattle.abc_bars_voice.specs.declared.voice_shift.VoiceShift.{VoiceShift}
 use Rattle.abc_time.specs.declared.grains.Grains.{Grains}
 use Rattle.abc_time.specs.declared.ratio.Ratio.{Ratio}
 use Rattle.text_examples.specs.Values.{at_tick, ratio}

@@ -1,18 +1,18 @@
 -- What is set in headers of the worked examples, and what holds where their bodies begin. Our own.
 use Rattle.std.specs.Prelude.{ℕ, pos, negsuc, List, [], ◌∷◌, codes, Option}
-use Rattle.abc_cells.specs.declared.body.Current.TheVariants.{At}
-use Rattle.abc_cells.specs.declared.entry.Entry.{Entry}
-use Rattle.abc_cells.specs.declared.entry.Entry.TheVariants.{Body}
+use Rattle.abc_bars_body.specs.declared.body.Current.TheVariants.{At}
+use Rattle.abc_bars_body.specs.declared.entry.Entry.{Entry}
+use Rattle.abc_bars_body.specs.declared.entry.Entry.TheVariants.{Body}
 use Rattle.abc_fields.specs.Signature.{natural}
 use Rattle.abc_fields.specs.declared.meter.Meter.{Meter}
 use Rattle.abc_fields.specs.declared.meter.Meter.TheVariants.{Free}
 use Rattle.abc_fields.specs.declared.signature.Signature.{Signature}
 use Rattle.abc_fields.specs.declared.tempo.Tempo.{Tempo}
-use Rattle.abc_header.specs.declared.defaults.Defaults.{Defaults}
+use Rattle.abc_bars_header.specs.declared.defaults.Defaults.{Defaults}
 use Rattle.abc_scan.specs.declared.directive.Reach.{Reach}
 use Rattle.abc_scan.specs.declared.directive.Reach.TheVariants.{Pitch}
-use Rattle.abc_settings.specs.declared.settings.Settings.{Settings}
-use Rattle.abc_settings.specs.declared.voice_shift.VoiceShift.{VoiceShift}
+use Rattle.abc_bars_voice.specs.declared.settings.Settings.{Settings}
+use Rattle.abc_bars_voice.specs.declared.voice_shift.VoiceShift.{VoiceShift}
 use Rattle.abc_time.specs.declared.ratio.Ratio.{Ratio}
 use Rattle.text_examples.specs.Bars.{settings_in}
 use Rattle.text_examples.specs.Values.{ratio}

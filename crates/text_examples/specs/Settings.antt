@@ -5,7 +5,7 @@ use Rattle.abc_fields.specs.declared.shift.Shift.{Shift}
 use Rattle.abc_scan.specs.declared.broken.BrokenRhythm.{BrokenRhythm}
 use Rattle.abc_scan.specs.declared.broken.Direction.{Direction}
 use Rattle.abc_scan.specs.declared.tuplet.Tuplet.{Tuplet}
-use Rattle.abc_settings.specs.Tuplet.{OpenTuplet}
+use Rattle.abc_bars_voice.specs.Tuplet.{OpenTuplet}
 
 -- A tuplet mark of these numbers, of which the last two may be left out.
 abbrev pub mark : ℕ → Option ℕ → Option ℕ → Tuplet

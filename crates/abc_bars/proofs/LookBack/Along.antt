@@ -1,16 +1,16 @@
 -- The steps along cells are the look back.
 use Rattle.std.proofs.Common.{◌≡◌, List, [], ◌∷◌, Option, Some, None, refl, sym, subst, ap, ◌∙◌}
-use Rattle.abc_cells.specs.declared.entry.Entry.{Entry}
-use Rattle.abc_cells.specs.declared.entry.Entry.TheVariants as entries
-use Rattle.abc_header.specs.Defaults.{no_defaults}
-use Rattle.abc_cells.specs.Entry.{opening_after}
-use Rattle.abc_header.specs.HeaderLine.{HeaderLine}
-use Rattle.abc_cells.specs.SameEntry.{bar_steps}
-use Rattle.abc_cells.specs.Step.{line_in, stepped}
+use Rattle.abc_bars_body.specs.declared.entry.Entry.{Entry}
+use Rattle.abc_bars_body.specs.declared.entry.Entry.TheVariants as entries
+use Rattle.abc_bars_header.specs.Defaults.{no_defaults}
+use Rattle.abc_bars_body.specs.Entry.{opening_after}
+use Rattle.abc_bars_header.specs.HeaderLine.{HeaderLine}
+use Rattle.abc_bars_body.specs.SameEntry.{bar_steps}
+use Rattle.abc_bars_body.specs.Step.{line_in, stepped}
 use Rattle.abc_bars.specs.LookBack.Along.{CellTokens, IsLookBack, file_header_begins, given_along, items_along, lines_behind, place_after, state_after, states_along, tune_begins, views_along, with_line}
 use Rattle.abc_bars.specs.LookBack.Place.{Place, InFileHeader, behind_file_header, place_behind, view}
 use Rattle.abc_bars.proofs.LookBack.Places.{stepped_back}
-use Rattle.abc_items.specs.Item.{Items}
+use Rattle.abc_bars_items.specs.Item.{Items}
 use Rattle.std.specs.Option.{option_map}
 
 -- What holds behind a cell.

@@ -8,13 +8,13 @@ use Rattle.std.specs.Cmp.Lexicographic.{nat_list_eq_equiv}
 use Rattle.std.specs.List.{AllByRecursion, IsDistinct, list_any, slice_get}
 use Rattle.std.specs.Option.{option_map}
 use Rattle.abc_fields.proofs.Readings.{named}
-use Rattle.abc_items.specs.declared.item.TheConstants.{MOST_VOICES}
-use Rattle.abc_settings.specs.declared.settings.Settings.{Settings}
+use Rattle.abc_bars_items.specs.declared.item.TheConstants.{MOST_VOICES}
+use Rattle.abc_bars_voice.specs.declared.settings.Settings.{Settings}
 use Rattle.abc_bars.specs.LookBack.ByName.{Owner, Named, Everyone, Current, Naming, is_owned_by, naming_behind}
 use Rattle.abc_bars.specs.LookBack.Header.{with_name}
 use Rattle.abc_bars.specs.LookBack.Held.{Roll}
 use Rattle.abc_bars.proofs.LookBack.ByPlace.{Each, Former, First, Hearing, Here, New, Nobody, first_or, is_current, roll_behind, voice_named, voice_named_by}
-use Rattle.abc_header.proofs.NamePlaces.{find_place, place_behind, place_here}
+use Rattle.abc_bars_header.proofs.NamePlaces.{find_place, place_behind, place_here}
 
 -- A name that is not among names is not that at a place.
 other-by : (name other : List ℕ) (names : List (List ℕ)) (at : ℕ) (b : Bool) → bytes_eq name other ≡ b

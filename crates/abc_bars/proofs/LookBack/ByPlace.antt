@@ -9,15 +9,15 @@ use Rattle.abc_fields.specs.Unit.{unit_of}
 use Rattle.abc_fields.specs.Voice.{voice_of}
 use Rattle.abc_scan.specs.declared.token.TokenKind.{TokenKind}
 use Rattle.abc_scan.specs.declared.token.TokenKind.TheVariants as kinds
-use Rattle.abc_cells.specs.declared.body.Body.{Body}
-use Rattle.abc_items.specs.declared.item.TheConstants.{MOST_VOICES}
-use Rattle.abc_header.specs.declared.field_kind.FieldKind.{FieldKind}
-use Rattle.abc_header.specs.declared.field_kind.FieldKind.TheVariants as fields
-use Rattle.abc_settings.specs.declared.settings.Settings.{Settings}
-use Rattle.abc_cells.specs.BodyFields.{part_of}
-use Rattle.abc_music.specs.TokenRole.{has_note}
-use Rattle.abc_header.specs.FieldKind.{kind_of}
-use Rattle.abc_header.specs.Voices.{voice_at}
+use Rattle.abc_bars_body.specs.declared.body.Body.{Body}
+use Rattle.abc_bars_items.specs.declared.item.TheConstants.{MOST_VOICES}
+use Rattle.abc_bars_header.specs.declared.field_kind.FieldKind.{FieldKind}
+use Rattle.abc_bars_header.specs.declared.field_kind.FieldKind.TheVariants as fields
+use Rattle.abc_bars_voice.specs.declared.settings.Settings.{Settings}
+use Rattle.abc_bars_body.specs.BodyFields.{part_of}
+use Rattle.abc_bars_notes.specs.TokenRole.{has_note}
+use Rattle.abc_bars_header.specs.FieldKind.{kind_of}
+use Rattle.abc_bars_header.specs.Voices.{voice_at}
 use Rattle.abc_bars.specs.LookBack.Element.{Element}
 use Rattle.abc_bars.specs.LookBack.Held.{Roll, current_by, roll_of}
 use Rattle.abc_bars.specs.LookBack.Voice.{settings_at}

@@ -12,21 +12,21 @@ use Rattle.abc_scan.specs.declared.spanned.Spanned.{Spanned}
 use Rattle.abc_scan.specs.declared.token.TokenKind.{TokenKind}
 use Rattle.abc_scan.specs.declared.token.TokenKind.TheVariants as kinds
 use Rattle.abc_time.specs.declared.grains.Grains.{Grains}
-use Rattle.abc_items.specs.Column.{column_of}
-use Rattle.abc_items.specs.Program.{program_of}
-use Rattle.abc_settings.specs.Tuplet.{OpenTuplet, opened, tuplet_opened}
-use Rattle.abc_music.specs.declared.broken.Behind.{Behind}
-use Rattle.abc_music.specs.declared.broken.Behind.TheVariants.{Nothing}
-use Rattle.abc_music.specs.BarRest.{bar_rest_length, bar_rest_of, bars_of, or_one_bar}
-use Rattle.abc_music.specs.Broken.{behind_after, behind_from, factors_of, is_bad_mark}
-use Rattle.abc_music.specs.Sound.{fault_if}
-use Rattle.abc_music.specs.TimeTokens.{chord_played, note_played, rest_played}
-use Rattle.abc_music.specs.TokenRole.{has_note}
-use Rattle.abc_cells.specs.declared.body.Body.{Body}
-use Rattle.abc_cells.specs.declared.cell.Given.{Given}
-use Rattle.abc_cells.specs.Body.{here, mentioned}
-use Rattle.abc_cells.specs.BodyFields.{field_given}
-use Rattle.abc_cells.specs.Cell.{is_tie_token, may_be_tied, mentioned_by_chord, nothing_given, tie_ahead, with_directive, with_ending, with_fault, with_fault_if, with_item, with_kind, with_some_fault, with_token}
+use Rattle.abc_bars_items.specs.Column.{column_of}
+use Rattle.abc_bars_items.specs.Program.{program_of}
+use Rattle.abc_bars_voice.specs.Tuplet.{OpenTuplet, opened, tuplet_opened}
+use Rattle.abc_bars_notes.specs.declared.broken.Behind.{Behind}
+use Rattle.abc_bars_notes.specs.declared.broken.Behind.TheVariants.{Nothing}
+use Rattle.abc_bars_notes.specs.BarRest.{bar_rest_length, bar_rest_of, bars_of, or_one_bar}
+use Rattle.abc_bars_notes.specs.Broken.{behind_after, behind_from, factors_of, is_bad_mark}
+use Rattle.abc_bars_notes.specs.Sound.{fault_if}
+use Rattle.abc_bars_notes.specs.TimeTokens.{chord_played, note_played, rest_played}
+use Rattle.abc_bars_notes.specs.TokenRole.{has_note}
+use Rattle.abc_bars_body.specs.declared.body.Body.{Body}
+use Rattle.abc_bars_body.specs.declared.cell.Given.{Given}
+use Rattle.abc_bars_body.specs.Body.{here, mentioned}
+use Rattle.abc_bars_body.specs.BodyFields.{field_given}
+use Rattle.abc_bars_body.specs.Cell.{is_tie_token, may_be_tied, mentioned_by_chord, nothing_given, tie_ahead, with_directive, with_ending, with_fault, with_fault_if, with_item, with_kind, with_some_fault, with_token}
 use Rattle.abc_bars.specs.LookBack.CellFaults.{AreFaultsAfter, AreFaultsOfCells, CellStart, Faults, ending_faults, place_in}
 use Rattle.abc_bars.specs.LookBack.CellPlace.{CellPlace, before_place}
 use Rattle.abc_bars.specs.LookBack.Cells.{behind_tokens, looked_back}

@@ -8,23 +8,23 @@ use Rattle.abc_scan.specs.declared.directive.Directive.TheVariants as directives
 use Rattle.abc_scan.specs.declared.spanned.Spanned.{Spanned}
 use Rattle.abc_scan.specs.declared.token.TokenKind.{TokenKind}
 use Rattle.abc_scan.specs.declared.token.TokenKind.TheVariants as kinds
-use Rattle.abc_cells.specs.declared.body.Body.{Body}
-use Rattle.abc_cells.specs.declared.body.Current.{Current}
-use Rattle.abc_cells.specs.declared.body.Current.TheVariants.{Unnamed, At}
-use Rattle.abc_cells.specs.declared.cell.Given.{Given}
-use Rattle.abc_music.specs.declared.broken.Behind.TheVariants.{Nothing}
-use Rattle.abc_items.specs.declared.item.Item.{Item}
-use Rattle.abc_items.specs.declared.item.Item.TheVariants as items
-use Rattle.abc_settings.specs.declared.settings.Settings.{Settings}
-use Rattle.abc_music.specs.declared.sound.Inside.{Inside}
-use Rattle.abc_music.specs.Broken.{factors_of, behind_from}
-use Rattle.abc_music.specs.Lasting.{factors_at}
-use Rattle.abc_items.specs.Program.{program_of}
-use Rattle.abc_music.specs.TimeTokens.{chord_by, first_length}
-use Rattle.abc_music.specs.TokenRole.{has_note}
-use Rattle.abc_cells.specs.Body.{here, mentioned}
-use Rattle.abc_cells.specs.BodyFields.{field_given}
-use Rattle.abc_cells.specs.Cell.{is_tie_token, mentioned_by_chord, nothing_given, tie_ahead, with_directive, with_ending, with_fault, with_fault_if, with_item, with_kind, with_some_fault, with_token}
+use Rattle.abc_bars_body.specs.declared.body.Body.{Body}
+use Rattle.abc_bars_body.specs.declared.body.Current.{Current}
+use Rattle.abc_bars_body.specs.declared.body.Current.TheVariants.{Unnamed, At}
+use Rattle.abc_bars_body.specs.declared.cell.Given.{Given}
+use Rattle.abc_bars_notes.specs.declared.broken.Behind.TheVariants.{Nothing}
+use Rattle.abc_bars_items.specs.declared.item.Item.{Item}
+use Rattle.abc_bars_items.specs.declared.item.Item.TheVariants as items
+use Rattle.abc_bars_voice.specs.declared.settings.Settings.{Settings}
+use Rattle.abc_bars_notes.specs.declared.sound.Inside.{Inside}
+use Rattle.abc_bars_notes.specs.Broken.{factors_of, behind_from}
+use Rattle.abc_bars_notes.specs.Lasting.{factors_at}
+use Rattle.abc_bars_items.specs.Program.{program_of}
+use Rattle.abc_bars_notes.specs.TimeTokens.{chord_by, first_length}
+use Rattle.abc_bars_notes.specs.TokenRole.{has_note}
+use Rattle.abc_bars_body.specs.Body.{here, mentioned}
+use Rattle.abc_bars_body.specs.BodyFields.{field_given}
+use Rattle.abc_bars_body.specs.Cell.{is_tie_token, mentioned_by_chord, nothing_given, tie_ahead, with_directive, with_ending, with_fault, with_fault_if, with_item, with_kind, with_some_fault, with_token}
 use Rattle.abc_bars.specs.LookBack.CellPlace.{CellPlace, GivesItem, before_place, cell_with, standing_at}
 use Rattle.abc_bars.specs.LookBack.Cells.{behind_tokens, looked_back}
 use Rattle.abc_bars.specs.LookBack.Element.{Element}

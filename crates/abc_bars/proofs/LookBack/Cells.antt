@@ -3,11 +3,11 @@ use Rattle.std.proofs.Common.{◌≡◌, List, [], ◌∷◌, refl, sym, ap, ◌
 use Rattle.abc_fields.specs.declared.key.Key.{Key}
 use Rattle.abc_scan.specs.declared.spanned.Spanned.{Spanned}
 use Rattle.abc_scan.specs.declared.token.TokenKind.{TokenKind}
-use Rattle.abc_header.specs.HeaderLine.{HeaderLine}
-use Rattle.abc_cells.specs.declared.body.Body.{Body}
-use Rattle.abc_cells.specs.declared.cell.Given.{Given}
-use Rattle.abc_header.specs.declared.defaults.Defaults.{Defaults}
-use Rattle.abc_cells.specs.Cell.{cell_given, given_from, nothing_given, tie_ahead, with_token}
+use Rattle.abc_bars_header.specs.HeaderLine.{HeaderLine}
+use Rattle.abc_bars_body.specs.declared.body.Body.{Body}
+use Rattle.abc_bars_body.specs.declared.cell.Given.{Given}
+use Rattle.abc_bars_header.specs.declared.defaults.Defaults.{Defaults}
+use Rattle.abc_bars_body.specs.Cell.{cell_given, given_from, nothing_given, tie_ahead, with_token}
 use Rattle.abc_bars.specs.LookBack.Held.{held_at}
 use Rattle.abc_bars.specs.LookBack.Cells.{behind_tokens, looked_back}
 use Rattle.abc_bars.specs.LookBack.Element.{Element}

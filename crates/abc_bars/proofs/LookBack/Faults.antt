@@ -17,32 +17,32 @@ use Rattle.abc_scan.specs.declared.token.TokenKind.{TokenKind}
 use Rattle.abc_scan.specs.declared.token.TokenKind.TheVariants as kinds
 use Rattle.abc_time.specs.declared.grains.Grains.{Grains}
 use Rattle.abc_time.specs.declared.ratio.Ratio.{Ratio}
-use Rattle.abc_header.specs.FieldKind.{kind_of}
-use Rattle.abc_header.specs.HeaderLine.{HeaderLine}
-use Rattle.abc_header.specs.declared.defaults.Defaults.{Defaults}
-use Rattle.abc_header.specs.declared.field_kind.FieldKind.{FieldKind}
-use Rattle.abc_items.specs.Column.{column_of}
-use Rattle.abc_items.specs.Program.{program_of}
-use Rattle.abc_items.specs.declared.item.Item.{Item}
-use Rattle.abc_items.specs.declared.item.Item.TheVariants as items
-use Rattle.abc_items.specs.declared.item.TheConstants.{MOST_CHORD_NOTES}
-use Rattle.abc_settings.specs.declared.accidentals.Accidentals.{Accidentals}
-use Rattle.abc_settings.specs.declared.settings.Settings.{Settings}
-use Rattle.abc_settings.specs.Alteration.{with_own}
-use Rattle.abc_settings.specs.Tuplet.{OpenTuplet, opened, tuplet_by}
-use Rattle.abc_music.specs.declared.chords.Outside.{Outside}
-use Rattle.abc_music.specs.declared.sound.Inside.{Inside}
-use Rattle.abc_music.specs.BarRest.{bar_rest_length, bars_of, or_one_bar}
-use Rattle.abc_music.specs.Broken.{factors_of, is_bad_mark}
-use Rattle.abc_music.specs.Chords.{around_part, inside_from, inside_of, tie_follows, with_dropped, with_fault as with_part_fault}
-use Rattle.abc_music.specs.Sound.{fault_if, no_notes, note_faults, with_note as with_sounding}
-use Rattle.abc_music.specs.TimeTokens.{chord_by, chord_played, note_played}
-use Rattle.abc_music.specs.TokenRole.{has_note, is_note_part}
-use Rattle.abc_cells.specs.declared.body.Body.{Body}
-use Rattle.abc_cells.specs.declared.cell.Given.{Given}
-use Rattle.abc_cells.specs.Body.{here, mentioned}
-use Rattle.abc_cells.specs.BodyFields.{kind_given}
-use Rattle.abc_cells.specs.Cell.{mentioned_by_chord, nothing_given, tie_ahead, with_directive, with_ending, with_fault, with_fault_if, with_item, with_kind, with_some_fault, with_token}
+use Rattle.abc_bars_header.specs.FieldKind.{kind_of}
+use Rattle.abc_bars_header.specs.HeaderLine.{HeaderLine}
+use Rattle.abc_bars_header.specs.declared.defaults.Defaults.{Defaults}
+use Rattle.abc_bars_header.specs.declared.field_kind.FieldKind.{FieldKind}
+use Rattle.abc_bars_items.specs.Column.{column_of}
+use Rattle.abc_bars_items.specs.Program.{program_of}
+use Rattle.abc_bars_items.specs.declared.item.Item.{Item}
+use Rattle.abc_bars_items.specs.declared.item.Item.TheVariants as items
+use Rattle.abc_bars_items.specs.declared.item.TheConstants.{MOST_CHORD_NOTES}
+use Rattle.abc_bars_voice.specs.declared.accidentals.Accidentals.{Accidentals}
+use Rattle.abc_bars_voice.specs.declared.settings.Settings.{Settings}
+use Rattle.abc_bars_voice.specs.Alteration.{with_own}
+use Rattle.abc_bars_voice.specs.Tuplet.{OpenTuplet, opened, tuplet_by}
+use Rattle.abc_bars_notes.specs.declared.chords.Outside.{Outside}
+use Rattle.abc_bars_notes.specs.declared.sound.Inside.{Inside}
+use Rattle.abc_bars_notes.specs.BarRest.{bar_rest_length, bars_of, or_one_bar}
+use Rattle.abc_bars_notes.specs.Broken.{factors_of, is_bad_mark}
+use Rattle.abc_bars_notes.specs.Chords.{around_part, inside_from, inside_of, tie_follows, with_dropped, with_fault as with_part_fault}
+use Rattle.abc_bars_notes.specs.Sound.{fault_if, no_notes, note_faults, with_note as with_sounding}
+use Rattle.abc_bars_notes.specs.TimeTokens.{chord_by, chord_played, note_played}
+use Rattle.abc_bars_notes.specs.TokenRole.{has_note, is_note_part}
+use Rattle.abc_bars_body.specs.declared.body.Body.{Body}
+use Rattle.abc_bars_body.specs.declared.cell.Given.{Given}
+use Rattle.abc_bars_body.specs.Body.{here, mentioned}
+use Rattle.abc_bars_body.specs.BodyFields.{kind_given}
+use Rattle.abc_bars_body.specs.Cell.{mentioned_by_chord, nothing_given, tie_ahead, with_directive, with_ending, with_fault, with_fault_if, with_item, with_kind, with_some_fault, with_token}
 use Rattle.abc_bars.specs.LookBack.CellPlace.{Standing, standing}
 use Rattle.abc_bars.specs.LookBack.Cells.{looked_back}
 use Rattle.abc_bars.specs.LookBack.Element.{Element}

@@ -37,25 +37,25 @@ use Rattle.abc_scan.specs.declared.token.TokenKind.TheVariants as kinds
 use Rattle.abc_time.specs.declared.ratio.Ratio.{Ratio}
 use Rattle.abc_time.specs.Tempo.{IsQuarter, in_tempo_event, quarter_micros_of, quarter_of}
 use Rattle.abc_time.proofs.Tempos.{laws}
-use Rattle.abc_header.proofs.NamePlaces.{find_place}
-use Rattle.abc_header.specs.FieldKind.{kind_of}
-use Rattle.abc_header.specs.declared.field_kind.FieldKind.{FieldKind}
-use Rattle.abc_header.specs.declared.field_kind.FieldKind.TheVariants as fields
-use Rattle.abc_items.specs.Column.{column_of}
-use Rattle.abc_items.specs.declared.item.TheConstants.{MOST_CHORD_NOTES, MOST_VOICES}
-use Rattle.abc_settings.specs.declared.settings.Settings.{Settings}
-use Rattle.abc_settings.specs.TempoItem.{is_out, tempo_item}
-use Rattle.abc_settings.specs.Tuplet.{tuplet_by}
-use Rattle.abc_music.specs.declared.chords.Outside.{Outside}
-use Rattle.abc_music.specs.declared.sound.Around.{Around}
-use Rattle.abc_music.specs.declared.sound.Inside.{Inside}
-use Rattle.abc_music.specs.Chords.{around_part, inside_from, inside_of, tie_follows, with_dropped, with_fault as with_part_fault, with_kind as with_part_kind, with_part}
-use Rattle.abc_music.specs.Sound.{no_notes, with_note as with_sounding}
-use Rattle.abc_music.specs.TimeTokens.{chord_by, chord_played}
-use Rattle.abc_music.specs.TokenRole.{has_note}
-use Rattle.abc_cells.specs.declared.body.Body.{Body}
-use Rattle.abc_cells.specs.Body.{here, joined_by, made_current_at, mentioned}
-use Rattle.abc_cells.specs.BodyFields.{accepted, faulty, key_by, kind_given, meter_by, part_by, part_of, tempo_by, unit_by, voice_by, voice_made}
+use Rattle.abc_bars_header.proofs.NamePlaces.{find_place}
+use Rattle.abc_bars_header.specs.FieldKind.{kind_of}
+use Rattle.abc_bars_header.specs.declared.field_kind.FieldKind.{FieldKind}
+use Rattle.abc_bars_header.specs.declared.field_kind.FieldKind.TheVariants as fields
+use Rattle.abc_bars_items.specs.Column.{column_of}
+use Rattle.abc_bars_items.specs.declared.item.TheConstants.{MOST_CHORD_NOTES, MOST_VOICES}
+use Rattle.abc_bars_voice.specs.declared.settings.Settings.{Settings}
+use Rattle.abc_bars_voice.specs.TempoItem.{is_out, tempo_item}
+use Rattle.abc_bars_voice.specs.Tuplet.{tuplet_by}
+use Rattle.abc_bars_notes.specs.declared.chords.Outside.{Outside}
+use Rattle.abc_bars_notes.specs.declared.sound.Around.{Around}
+use Rattle.abc_bars_notes.specs.declared.sound.Inside.{Inside}
+use Rattle.abc_bars_notes.specs.Chords.{around_part, inside_from, inside_of, tie_follows, with_dropped, with_fault as with_part_fault, with_kind as with_part_kind, with_part}
+use Rattle.abc_bars_notes.specs.Sound.{no_notes, with_note as with_sounding}
+use Rattle.abc_bars_notes.specs.TimeTokens.{chord_by, chord_played}
+use Rattle.abc_bars_notes.specs.TokenRole.{has_note}
+use Rattle.abc_bars_body.specs.declared.body.Body.{Body}
+use Rattle.abc_bars_body.specs.Body.{here, joined_by, made_current_at, mentioned}
+use Rattle.abc_bars_body.specs.BodyFields.{accepted, faulty, key_by, kind_given, meter_by, part_by, part_of, tempo_by, unit_by, voice_by, voice_made}
 use Rattle.abc_bars.specs.LookBack.CellFaults.{AreFaultsOfCells, Faults, HasFieldFaults, IsFaultOfField, IsOneTooMany, IsOnlyFault, IsOutOfRange, NamesPart, is_of_field, names_there, unit_there}
 use Rattle.abc_bars.specs.LookBack.CellPlace.{CellPlace, before_place}
 use Rattle.abc_bars.specs.LookBack.Element.{Element}

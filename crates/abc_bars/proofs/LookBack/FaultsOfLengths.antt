@@ -15,29 +15,29 @@ use Rattle.abc_scan.specs.declared.spanned.Spanned.{Spanned}
 use Rattle.abc_scan.specs.declared.token.TokenKind.{TokenKind}
 use Rattle.abc_scan.specs.declared.token.TokenKind.TheVariants as kinds
 use Rattle.abc_time.specs.declared.ratio.Ratio.{Ratio}
-use Rattle.abc_header.specs.FieldKind.{kind_of}
-use Rattle.abc_items.specs.Column.{column_of}
-use Rattle.abc_items.specs.declared.item.Item.{Item}
-use Rattle.abc_settings.specs.declared.settings.Settings.{Settings}
-use Rattle.abc_settings.specs.Tuplet.{tuplet_by}
-use Rattle.abc_music.specs.declared.broken.Behind.TheVariants.{Nothing}
-use Rattle.abc_music.specs.declared.chords.Outside.{Outside}
-use Rattle.abc_music.specs.declared.sound.Inside.{Inside}
-use Rattle.abc_music.specs.BarRest.{bar_rest_of}
-use Rattle.abc_music.specs.Broken.{behind_from, factors_of}
-use Rattle.abc_music.specs.ChordFaults.{AreFaultsOf}
-use Rattle.abc_music.specs.ChordNotes.{notes_of}
-use Rattle.abc_music.specs.Chords.{inside_from, inside_of, with_fault as with_part_fault}
-use Rattle.abc_music.specs.Lasting.{HasLengthFault, Lasts, RestsForBars, factors_at}
-use Rattle.abc_music.specs.Sound.{fault_if, key_in, length_in, no_notes}
-use Rattle.abc_music.specs.TimeTokens.{chord_by, chord_played, note_played, rest_played}
-use Rattle.abc_music.specs.TokenRole.{has_note, is_note_part}
-use Rattle.abc_music.proofs.ChordFaults.{bad_lengths_at_notes}
-use Rattle.abc_music.proofs.ChordNotes.{big_at_the_seventeenth}
-use Rattle.abc_music.proofs.Lasting.{bar_rests_last, notes_last, rests_last}
-use Rattle.abc_cells.specs.declared.body.Body.{Body}
-use Rattle.abc_cells.specs.Body.{here, mentioned}
-use Rattle.abc_cells.specs.Cell.{mentioned_by_chord, tie_ahead}
+use Rattle.abc_bars_header.specs.FieldKind.{kind_of}
+use Rattle.abc_bars_items.specs.Column.{column_of}
+use Rattle.abc_bars_items.specs.declared.item.Item.{Item}
+use Rattle.abc_bars_voice.specs.declared.settings.Settings.{Settings}
+use Rattle.abc_bars_voice.specs.Tuplet.{tuplet_by}
+use Rattle.abc_bars_notes.specs.declared.broken.Behind.TheVariants.{Nothing}
+use Rattle.abc_bars_notes.specs.declared.chords.Outside.{Outside}
+use Rattle.abc_bars_notes.specs.declared.sound.Inside.{Inside}
+use Rattle.abc_bars_notes.specs.BarRest.{bar_rest_of}
+use Rattle.abc_bars_notes.specs.Broken.{behind_from, factors_of}
+use Rattle.abc_bars_notes.specs.ChordFaults.{AreFaultsOf}
+use Rattle.abc_bars_notes.specs.ChordNotes.{notes_of}
+use Rattle.abc_bars_notes.specs.Chords.{inside_from, inside_of, with_fault as with_part_fault}
+use Rattle.abc_bars_notes.specs.Lasting.{HasLengthFault, Lasts, RestsForBars, factors_at}
+use Rattle.abc_bars_notes.specs.Sound.{fault_if, key_in, length_in, no_notes}
+use Rattle.abc_bars_notes.specs.TimeTokens.{chord_by, chord_played, note_played, rest_played}
+use Rattle.abc_bars_notes.specs.TokenRole.{has_note, is_note_part}
+use Rattle.abc_bars_notes.proofs.ChordFaults.{bad_lengths_at_notes}
+use Rattle.abc_bars_notes.proofs.ChordNotes.{big_at_the_seventeenth}
+use Rattle.abc_bars_notes.proofs.Lasting.{bar_rests_last, notes_last, rests_last}
+use Rattle.abc_bars_body.specs.declared.body.Body.{Body}
+use Rattle.abc_bars_body.specs.Body.{here, mentioned}
+use Rattle.abc_bars_body.specs.Cell.{mentioned_by_chord, tie_ahead}
 use Rattle.abc_bars.specs.LookBack.CellFaults.{AreFaultsOfCells, Faults, HasBigChord, HasLengthFaults, IsBarsFault, IsLengthFault, is_bad_length_code, is_big_chord}
 use Rattle.abc_bars.specs.LookBack.CellPlace.{CellPlace, before_place, cell_with, standing_at}
 use Rattle.abc_bars.specs.LookBack.Element.{Element}

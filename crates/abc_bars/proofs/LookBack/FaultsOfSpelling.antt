@@ -11,18 +11,18 @@ use Rattle.abc_scan.specs.declared.parts.ChordPartKind.TheVariants as parts
 use Rattle.abc_scan.specs.declared.spanned.Spanned.{Spanned}
 use Rattle.abc_scan.specs.declared.token.TokenKind.TheVariants as kinds
 use Rattle.abc_time.specs.declared.ratio.Ratio.{Ratio}
-use Rattle.abc_header.specs.FieldKind.{kind_of}
-use Rattle.abc_items.specs.Column.{column_of}
-use Rattle.abc_settings.specs.declared.settings.Settings.{Settings}
-use Rattle.abc_settings.specs.Tuplet.{tuplet_by}
-use Rattle.abc_music.specs.declared.chords.Outside.{Outside}
-use Rattle.abc_music.specs.declared.sound.Inside.{Inside}
-use Rattle.abc_music.specs.Chords.{around_part, inside_from, inside_of, tie_follows, with_fault as with_part_fault}
-use Rattle.abc_music.specs.Sound.{fault_if, no_notes, note_faults, with_note as with_sounding}
-use Rattle.abc_music.specs.TimeTokens.{chord_by, chord_played}
-use Rattle.abc_music.specs.TokenRole.{has_note}
-use Rattle.abc_cells.specs.declared.body.Body.{Body}
-use Rattle.abc_cells.specs.Body.{here, mentioned}
+use Rattle.abc_bars_header.specs.FieldKind.{kind_of}
+use Rattle.abc_bars_items.specs.Column.{column_of}
+use Rattle.abc_bars_voice.specs.declared.settings.Settings.{Settings}
+use Rattle.abc_bars_voice.specs.Tuplet.{tuplet_by}
+use Rattle.abc_bars_notes.specs.declared.chords.Outside.{Outside}
+use Rattle.abc_bars_notes.specs.declared.sound.Inside.{Inside}
+use Rattle.abc_bars_notes.specs.Chords.{around_part, inside_from, inside_of, tie_follows, with_fault as with_part_fault}
+use Rattle.abc_bars_notes.specs.Sound.{fault_if, no_notes, note_faults, with_note as with_sounding}
+use Rattle.abc_bars_notes.specs.TimeTokens.{chord_by, chord_played}
+use Rattle.abc_bars_notes.specs.TokenRole.{has_note}
+use Rattle.abc_bars_body.specs.declared.body.Body.{Body}
+use Rattle.abc_bars_body.specs.Body.{here, mentioned}
 use Rattle.abc_bars.specs.LookBack.CellFaults.{AreFaultsOfCells, Faults, HasSpellingFaults, IsProgramFault, byte_faults, is_of_spelling}
 use Rattle.abc_bars.specs.LookBack.Held.{held_at}
 use Rattle.abc_bars.proofs.LookBack.CellFaults.{EachHas, directive_faults, faults_of_cells, none-bars, none-if, none-note, none-tie, none-tuplet, opening}

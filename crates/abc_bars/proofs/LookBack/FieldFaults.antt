@@ -15,13 +15,13 @@ use Rattle.abc_fields.specs.Tempo.{tempo_in, tempo_of}
 use Rattle.abc_fields.specs.Unit.{unit_in}
 use Rattle.abc_fields.specs.Voice.{voice_in, voice_of}
 use Rattle.abc_time.specs.declared.ratio.Ratio.{Ratio}
-use Rattle.abc_cells.specs.declared.body.Body.{Body}
-use Rattle.abc_header.specs.declared.field_kind.FieldKind.{FieldKind}
-use Rattle.abc_header.specs.declared.field_kind.FieldKind.TheVariants as fields
-use Rattle.abc_items.specs.declared.item.Item.{Item}
-use Rattle.abc_settings.specs.TempoItem.{is_out}
-use Rattle.abc_cells.specs.Body.{here, made_current}
-use Rattle.abc_cells.specs.BodyFields.{accepted, faulty, kind_given, meter_by, key_by, part_by, part_of, tempo_by, unit_by, voice_by, voice_made}
+use Rattle.abc_bars_body.specs.declared.body.Body.{Body}
+use Rattle.abc_bars_header.specs.declared.field_kind.FieldKind.{FieldKind}
+use Rattle.abc_bars_header.specs.declared.field_kind.FieldKind.TheVariants as fields
+use Rattle.abc_bars_items.specs.declared.item.Item.{Item}
+use Rattle.abc_bars_voice.specs.TempoItem.{is_out}
+use Rattle.abc_bars_body.specs.Body.{here, made_current}
+use Rattle.abc_bars_body.specs.BodyFields.{accepted, faulty, kind_given, meter_by, key_by, part_by, part_of, tempo_by, unit_by, voice_by, voice_made}
 
 -- The faults that pass a test of their code.
 abbrev pub Told : (FaultCode → Bool) → List (ℕ × FaultCode) → List (ℕ × FaultCode)

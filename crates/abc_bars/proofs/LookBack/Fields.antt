@@ -3,10 +3,10 @@ use Rattle.std.proofs.Common.{◌≡◌, ◌∙◌, ◌≤◌, ℕ, Bool, true, 
 use Rattle.std.proofs.lemmas.Bool.{and_from, and_parts, cond-true, le-leb, leb-true}
 use Rattle.std.specs.Char.{is_ascii_uppercase}
 use Rattle.std.specs.Prelude.{nat_le}
-use Rattle.abc_header.specs.declared.field_kind.FieldKind.TheVariants as fields
-use Rattle.abc_header.specs.FieldKind.{kind_of}
+use Rattle.abc_bars_header.specs.declared.field_kind.FieldKind.TheVariants as fields
+use Rattle.abc_bars_header.specs.FieldKind.{kind_of}
 use Rattle.abc_scan.specs.declared.field.Field.{Field}
-use Rattle.abc_cells.specs.BodyFields.{part_of}
+use Rattle.abc_bars_body.specs.BodyFields.{part_of}
 use Rattle.abc_bars.specs.LookBack.Fields.{BeginsPart}
 
 -- A capital letter is known by its code.

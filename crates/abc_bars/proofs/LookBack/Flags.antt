@@ -21,32 +21,32 @@ use Rattle.abc_scan.specs.declared.spanned.Spanned.{Spanned}
 use Rattle.abc_scan.specs.declared.token.TokenKind.{TokenKind}
 use Rattle.abc_scan.specs.declared.token.TokenKind.TheVariants as kinds
 use Rattle.abc_time.specs.declared.ratio.Ratio.{Ratio}
-use Rattle.abc_header.specs.Defaults.{unit_in}
-use Rattle.abc_header.specs.FieldKind.{kind_of}
-use Rattle.abc_header.specs.Header.{and_program, declared, declared_given, directive_item, header_key_by, header_voice_by, items_with, line_own, line_program, order_by, own_given, reference_by}
-use Rattle.abc_header.specs.HeaderLine.{HeaderLine, FieldLine, DirectiveLine}
-use Rattle.abc_header.specs.Opening.{opening_meter, opening_tempo, opening_tempo_by}
-use Rattle.abc_header.specs.Reference.{reference_of}
-use Rattle.abc_header.specs.declared.defaults.Defaults.{Defaults}
-use Rattle.abc_header.specs.declared.field_kind.FieldKind.{FieldKind}
-use Rattle.abc_header.specs.declared.field_kind.FieldKind.TheVariants as fields
-use Rattle.abc_header.specs.declared.header.Header.{Header}
-use Rattle.abc_items.specs.Program.{program_of}
-use Rattle.abc_items.specs.declared.item.Item.{Item}
-use Rattle.abc_items.specs.declared.item.Item.TheVariants as items
-use Rattle.abc_settings.specs.declared.settings.Settings.{Settings}
-use Rattle.abc_settings.specs.TempoItem.{is_out, tempo_item}
-use Rattle.abc_settings.specs.Tuplet.{tuplet_opened}
-use Rattle.abc_music.specs.declared.sound.Inside.{Inside}
-use Rattle.abc_music.specs.BarRest.{bar_rest_of}
-use Rattle.abc_music.specs.Broken.{is_bad_mark}
-use Rattle.abc_music.specs.TimeTokens.{chord_by}
-use Rattle.abc_music.specs.TokenRole.{has_note}
-use Rattle.abc_cells.specs.declared.body.Body.{Body}
-use Rattle.abc_cells.specs.declared.cell.Given.{Given}
-use Rattle.abc_cells.specs.Body.{here, made_current, mentioned, with_here}
-use Rattle.abc_cells.specs.BodyFields.{accepted, faulty, kind_given, meter_by, key_by, part_by, part_of, tempo_by, unit_by, voice_by, voice_made}
-use Rattle.abc_cells.specs.Cell.{nothing_given, tie_ahead, with_directive, with_ending, with_item, with_kind, with_some_fault, with_token}
+use Rattle.abc_bars_header.specs.Defaults.{unit_in}
+use Rattle.abc_bars_header.specs.FieldKind.{kind_of}
+use Rattle.abc_bars_header.specs.Header.{and_program, declared, declared_given, directive_item, header_key_by, header_voice_by, items_with, line_own, line_program, order_by, own_given, reference_by}
+use Rattle.abc_bars_header.specs.HeaderLine.{HeaderLine, FieldLine, DirectiveLine}
+use Rattle.abc_bars_header.specs.Opening.{opening_meter, opening_tempo, opening_tempo_by}
+use Rattle.abc_bars_header.specs.Reference.{reference_of}
+use Rattle.abc_bars_header.specs.declared.defaults.Defaults.{Defaults}
+use Rattle.abc_bars_header.specs.declared.field_kind.FieldKind.{FieldKind}
+use Rattle.abc_bars_header.specs.declared.field_kind.FieldKind.TheVariants as fields
+use Rattle.abc_bars_header.specs.declared.header.Header.{Header}
+use Rattle.abc_bars_items.specs.Program.{program_of}
+use Rattle.abc_bars_items.specs.declared.item.Item.{Item}
+use Rattle.abc_bars_items.specs.declared.item.Item.TheVariants as items
+use Rattle.abc_bars_voice.specs.declared.settings.Settings.{Settings}
+use Rattle.abc_bars_voice.specs.TempoItem.{is_out, tempo_item}
+use Rattle.abc_bars_voice.specs.Tuplet.{tuplet_opened}
+use Rattle.abc_bars_notes.specs.declared.sound.Inside.{Inside}
+use Rattle.abc_bars_notes.specs.BarRest.{bar_rest_of}
+use Rattle.abc_bars_notes.specs.Broken.{is_bad_mark}
+use Rattle.abc_bars_notes.specs.TimeTokens.{chord_by}
+use Rattle.abc_bars_notes.specs.TokenRole.{has_note}
+use Rattle.abc_bars_body.specs.declared.body.Body.{Body}
+use Rattle.abc_bars_body.specs.declared.cell.Given.{Given}
+use Rattle.abc_bars_body.specs.Body.{here, made_current, mentioned, with_here}
+use Rattle.abc_bars_body.specs.BodyFields.{accepted, faulty, kind_given, meter_by, key_by, part_by, part_of, tempo_by, unit_by, voice_by, voice_made}
+use Rattle.abc_bars_body.specs.Cell.{nothing_given, tie_ahead, with_directive, with_ending, with_item, with_kind, with_some_fault, with_token}
 use Rattle.abc_bars.specs.LookBack.Cells.{looked_back}
 use Rattle.abc_bars.specs.LookBack.Element.{Element}
 use Rattle.abc_bars.specs.LookBack.Flags.{BodiesSaySo, HeadersSaySo, is_of_body, is_of_header}

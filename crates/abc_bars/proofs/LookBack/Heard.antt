@@ -6,8 +6,8 @@ use Rattle.std.specs.Result.{result_ok}
 use Rattle.std.specs.List.{position_or_len}
 use Rattle.abc_fields.specs.declared.fault.FaultCode.{FaultCode}
 use Rattle.abc_fields.specs.declared.fault.FaultCode.TheVariants.{TempoRange}
-use Rattle.abc_items.specs.declared.item.Item.{Item}
-use Rattle.abc_settings.specs.TempoItem.{is_out, tempo_item}
+use Rattle.abc_bars_items.specs.declared.item.Item.{Item}
+use Rattle.abc_bars_voice.specs.TempoItem.{is_out, tempo_item}
 use Rattle.abc_fields.specs.declared.key.Key.{Key}
 use Rattle.abc_fields.specs.declared.meter.Meter.{Meter}
 use Rattle.abc_fields.specs.declared.shift.Shift.{Shift}
@@ -19,17 +19,17 @@ use Rattle.abc_fields.specs.Tempo.{tempo_of}
 use Rattle.abc_fields.specs.Unit.{unit_of}
 use Rattle.abc_fields.specs.Voice.{voice_of}
 use Rattle.abc_time.specs.declared.ratio.Ratio.{Ratio}
-use Rattle.abc_cells.specs.declared.body.Body.{Body}
-use Rattle.abc_cells.specs.declared.body.Current.TheVariants.{Unnamed, At}
-use Rattle.abc_items.specs.declared.item.TheConstants.{MOST_VOICES}
-use Rattle.abc_header.specs.declared.field_kind.FieldKind.{FieldKind}
-use Rattle.abc_header.specs.declared.field_kind.FieldKind.TheVariants as fields
-use Rattle.abc_settings.specs.declared.settings.Settings.{Settings}
-use Rattle.abc_cells.specs.Body.{after_part, current_without_accidentals, here, joined_by, made_current_at, mentioned, moved_to, with_here}
-use Rattle.abc_cells.specs.BodyFields.{accepted, faulty, in_key, key_by, kind_given, meter_by, part_by, part_of, tempo_by, unit_by, voice_by, voice_made}
-use Rattle.abc_settings.specs.Settings.{without_accidentals}
-use Rattle.abc_settings.specs.VoiceShift.{with_properties}
-use Rattle.abc_header.specs.Voices.{with_voice_at}
+use Rattle.abc_bars_body.specs.declared.body.Body.{Body}
+use Rattle.abc_bars_body.specs.declared.body.Current.TheVariants.{Unnamed, At}
+use Rattle.abc_bars_items.specs.declared.item.TheConstants.{MOST_VOICES}
+use Rattle.abc_bars_header.specs.declared.field_kind.FieldKind.{FieldKind}
+use Rattle.abc_bars_header.specs.declared.field_kind.FieldKind.TheVariants as fields
+use Rattle.abc_bars_voice.specs.declared.settings.Settings.{Settings}
+use Rattle.abc_bars_body.specs.Body.{after_part, current_without_accidentals, here, joined_by, made_current_at, mentioned, moved_to, with_here}
+use Rattle.abc_bars_body.specs.BodyFields.{accepted, faulty, in_key, key_by, kind_given, meter_by, part_by, part_of, tempo_by, unit_by, voice_by, voice_made}
+use Rattle.abc_bars_voice.specs.Settings.{without_accidentals}
+use Rattle.abc_bars_voice.specs.VoiceShift.{with_properties}
+use Rattle.abc_bars_header.specs.Voices.{with_voice_at}
 use Rattle.abc_bars.specs.LookBack.After.{after_field, in_meter, in_part, in_unit, in_voice}
 use Rattle.abc_bars.specs.LookBack.Held.{IsPlaced, Roll, current_by, roll_of}
 use Rattle.abc_bars.proofs.LookBack.ByPlace.{Hearing, Nobody, Here, Each, Former, New, Music, here_if, each_if, field_hearing, first_or, hearing_of, is_current, music_at, music_behind, roll_at, roll_behind, settings_in, unnamed_behind, unnamed_music, voice_named_by, voice_said, voices_by, with_heard, placed_at}

@@ -3,14 +3,14 @@ use Rattle.std.proofs.Common.{◌≡◌, ◌≤◌, ℕ, zero, suc, List, [], �
 use Rattle.std.specs.List.{IsDistinct, slice_get}
 use Rattle.std.specs.Map.{keys_of}
 use Rattle.abc_fields.specs.declared.key.Key.{Key}
-use Rattle.abc_header.specs.HeaderLine.{HeaderLine}
-use Rattle.abc_cells.specs.declared.body.Body.{Body}
-use Rattle.abc_cells.specs.declared.body.Current.TheVariants.{Unnamed}
-use Rattle.abc_header.specs.declared.defaults.Defaults.{Defaults}
-use Rattle.abc_items.specs.declared.item.TheConstants.{MOST_VOICES}
-use Rattle.abc_settings.specs.declared.settings.Settings.{Settings}
-use Rattle.abc_cells.specs.Body.{here}
-use Rattle.abc_header.specs.Voices.{voice_at}
+use Rattle.abc_bars_header.specs.HeaderLine.{HeaderLine}
+use Rattle.abc_bars_body.specs.declared.body.Body.{Body}
+use Rattle.abc_bars_body.specs.declared.body.Current.TheVariants.{Unnamed}
+use Rattle.abc_bars_header.specs.declared.defaults.Defaults.{Defaults}
+use Rattle.abc_bars_items.specs.declared.item.TheConstants.{MOST_VOICES}
+use Rattle.abc_bars_voice.specs.declared.settings.Settings.{Settings}
+use Rattle.abc_bars_body.specs.Body.{here}
+use Rattle.abc_bars_header.specs.Voices.{voice_at}
 use Rattle.abc_bars.specs.LookBack.AfterBody.{body_after}
 use Rattle.abc_bars.specs.LookBack.ByName.{Naming, naming_at, settings_named}
 use Rattle.abc_bars.specs.LookBack.Element.{Element}

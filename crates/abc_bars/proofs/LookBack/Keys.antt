@@ -14,26 +14,26 @@ use Rattle.abc_scan.specs.declared.parts.ChordPartKind.TheVariants as parts
 use Rattle.abc_scan.specs.declared.spanned.Spanned.{Spanned}
 use Rattle.abc_scan.specs.declared.token.TokenKind.TheVariants as kinds
 use Rattle.abc_time.specs.declared.ratio.Ratio.{Ratio}
-use Rattle.abc_cells.specs.declared.body.Body.{Body}
-use Rattle.abc_settings.specs.declared.accidentals.Accidentals.{Accidentals}
-use Rattle.abc_music.specs.declared.chords.Outside.{Outside}
-use Rattle.abc_items.specs.declared.item.TheConstants.{MOST_CHORD_NOTES}
-use Rattle.abc_settings.specs.declared.settings.Settings.{Settings}
-use Rattle.abc_music.specs.declared.sound.Inside.{Inside}
-use Rattle.abc_settings.specs.declared.tied.TiedNote.{TiedNote}
-use Rattle.abc_settings.specs.Accidentals.{reach_of, written_on}
-use Rattle.abc_settings.specs.Alteration.{alteration_of, with_own}
-use Rattle.abc_music.specs.Broken.{factors_of, is_time_token}
-use Rattle.abc_music.specs.Chords.{around_part, inside_from, inside_of, tie_follows, with_dropped, with_fault as with_part_fault}
-use Rattle.abc_items.specs.Column.{column_of}
-use Rattle.abc_music.specs.NoteKeys.{IsAltered, IsSame}
-use Rattle.abc_music.specs.Pitch.{midi_key, pitch_of}
-use Rattle.abc_music.specs.Sound.{no_notes, with_note as with_sounding}
-use Rattle.abc_music.specs.TimeTokens.{first_length}
-use Rattle.abc_music.specs.TokenRole.{has_note}
-use Rattle.abc_music.proofs.NoteKeys.{altered_by}
-use Rattle.abc_cells.specs.Body.{here}
-use Rattle.abc_cells.specs.Cell.{mentioned_by_chord, tie_ahead}
+use Rattle.abc_bars_body.specs.declared.body.Body.{Body}
+use Rattle.abc_bars_voice.specs.declared.accidentals.Accidentals.{Accidentals}
+use Rattle.abc_bars_notes.specs.declared.chords.Outside.{Outside}
+use Rattle.abc_bars_items.specs.declared.item.TheConstants.{MOST_CHORD_NOTES}
+use Rattle.abc_bars_voice.specs.declared.settings.Settings.{Settings}
+use Rattle.abc_bars_notes.specs.declared.sound.Inside.{Inside}
+use Rattle.abc_bars_voice.specs.declared.tied.TiedNote.{TiedNote}
+use Rattle.abc_bars_voice.specs.Accidentals.{reach_of, written_on}
+use Rattle.abc_bars_voice.specs.Alteration.{alteration_of, with_own}
+use Rattle.abc_bars_notes.specs.Broken.{factors_of, is_time_token}
+use Rattle.abc_bars_notes.specs.Chords.{around_part, inside_from, inside_of, tie_follows, with_dropped, with_fault as with_part_fault}
+use Rattle.abc_bars_items.specs.Column.{column_of}
+use Rattle.abc_bars_notes.specs.NoteKeys.{IsAltered, IsSame}
+use Rattle.abc_bars_notes.specs.Pitch.{midi_key, pitch_of}
+use Rattle.abc_bars_notes.specs.Sound.{no_notes, with_note as with_sounding}
+use Rattle.abc_bars_notes.specs.TimeTokens.{first_length}
+use Rattle.abc_bars_notes.specs.TokenRole.{has_note}
+use Rattle.abc_bars_notes.proofs.NoteKeys.{altered_by}
+use Rattle.abc_bars_body.specs.Body.{here}
+use Rattle.abc_bars_body.specs.Cell.{mentioned_by_chord, tie_ahead}
 use Rattle.abc_bars.specs.LookBack.CellPlace.{Standing, standing_at}
 use Rattle.abc_bars.specs.LookBack.Element.{Element}
 use Rattle.abc_bars.specs.LookBack.Keys.{AreWrittenAlike, ChordsHaveKeys, IsAlteredAt, IsLastAmong, IsNoneAmong, NotesHaveKeys, SoundsKeys, heard_of, key_at, keys_from}

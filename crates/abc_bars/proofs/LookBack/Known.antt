@@ -2,10 +2,10 @@
 use Rattle.std.proofs.Common.{◌≡◌, ℕ, zero, suc, ◌<◌, ◌==◌, cond, List, [], ◌∷◌, ◌++◌, length, Some, refl, ap, ◌∙◌, arith}
 use Rattle.std.proofs.Math.Dec.{eqb-suc-suc, eqb-suc-zero, eqb-zero-suc}
 use Rattle.std.specs.Map.{keys_of}
-use Rattle.abc_settings.specs.declared.settings.Settings.{Settings}
-use Rattle.abc_cells.specs.Body.{all_without_accidentals}
-use Rattle.abc_settings.specs.Settings.{without_accidentals}
-use Rattle.abc_header.specs.Voices.{voice_at, with_voice_at}
+use Rattle.abc_bars_voice.specs.declared.settings.Settings.{Settings}
+use Rattle.abc_bars_body.specs.Body.{all_without_accidentals}
+use Rattle.abc_bars_voice.specs.Settings.{without_accidentals}
+use Rattle.abc_bars_header.specs.Voices.{voice_at, with_voice_at}
 use Rattle.abc_bars.proofs.LookBack.ByPlace.{voices_by}
 
 -- The names are those of the voices.

@@ -3,14 +3,14 @@ use Rattle.std.proofs.Common.{◌≡◌, ◌∙◌, List, [], ◌∷◌, ◌++�
 use Rattle.abc_scan.specs.declared.spanned.Spanned.{Spanned}
 use Rattle.abc_scan.specs.declared.token.TokenKind.{TokenKind}
 use Rattle.abc_scan.specs.declared.token.TokenKind.TheVariants as kinds
-use Rattle.abc_settings.specs.declared.settings.Settings.{Settings}
-use Rattle.abc_music.specs.BarRest.{bar_rest_of}
-use Rattle.abc_music.specs.TimeTokens.{chord_played, note_played, rest_played}
-use Rattle.abc_music.specs.TokenRole.{has_note}
-use Rattle.abc_music.proofs.ChordNotes.{chords_sound}
-use Rattle.abc_music.proofs.Lasting.{notes_last, rests_last}
-use Rattle.abc_cells.specs.Body.{here}
-use Rattle.abc_cells.specs.Cell.{mentioned_by_chord, tie_ahead}
+use Rattle.abc_bars_voice.specs.declared.settings.Settings.{Settings}
+use Rattle.abc_bars_notes.specs.BarRest.{bar_rest_of}
+use Rattle.abc_bars_notes.specs.TimeTokens.{chord_played, note_played, rest_played}
+use Rattle.abc_bars_notes.specs.TokenRole.{has_note}
+use Rattle.abc_bars_notes.proofs.ChordNotes.{chords_sound}
+use Rattle.abc_bars_notes.proofs.Lasting.{notes_last, rests_last}
+use Rattle.abc_bars_body.specs.Body.{here}
+use Rattle.abc_bars_body.specs.Cell.{mentioned_by_chord, tie_ahead}
 use Rattle.abc_bars.specs.LookBack.CellPlace.{cell_with}
 use Rattle.abc_bars.specs.LookBack.Lengths.{BarRestsLastThere, ChordsLastThere, LastsAsNote, LastsAsRest, NotesLastThere, RestsLastThere, SoundsAsChord, held_there}
 use Rattle.abc_bars.proofs.LookBack.CellPlace.{between, body-at, fault-items, here-in-chord, here-is}

@@ -36,17 +36,17 @@ use Rattle.abc_scan.specs.Token.{Spells, alone_of, line_kinds, opens}
 use Rattle.abc_scan.proofs.Cuttings.{cut-all}
 use Rattle.abc_scan.proofs.Laws.{cuts_each}
 use Rattle.abc_text.specs.LineEnd.{without_return}
-use Rattle.abc_header.specs.declared.defaults.Defaults.{Defaults}
-use Rattle.abc_header.specs.declared.field_kind.FieldKind.{FieldKind}
-use Rattle.abc_header.specs.declared.field_kind.FieldKind.TheVariants as fields
-use Rattle.abc_header.specs.FieldKind.{kind_of}
-use Rattle.abc_header.specs.HeaderLine.{HeaderLine, FieldLine, DirectiveLine}
-use Rattle.abc_music.specs.Acting.{IsMarkAt, IsTimeAt}
-use Rattle.abc_music.specs.Broken.{is_time_token}
-use Rattle.abc_music.specs.Lasting.{IsPlace}
-use Rattle.abc_settings.specs.declared.settings.Settings.{Settings}
-use Rattle.abc_settings.specs.Unit.{IsUnitPart, unit_by}
-use Rattle.abc_settings.proofs.WholeParts.{eighth, read_part, sixteenth}
+use Rattle.abc_bars_header.specs.declared.defaults.Defaults.{Defaults}
+use Rattle.abc_bars_header.specs.declared.field_kind.FieldKind.{FieldKind}
+use Rattle.abc_bars_header.specs.declared.field_kind.FieldKind.TheVariants as fields
+use Rattle.abc_bars_header.specs.FieldKind.{kind_of}
+use Rattle.abc_bars_header.specs.HeaderLine.{HeaderLine, FieldLine, DirectiveLine}
+use Rattle.abc_bars_notes.specs.Acting.{IsMarkAt, IsTimeAt}
+use Rattle.abc_bars_notes.specs.Broken.{is_time_token}
+use Rattle.abc_bars_notes.specs.Lasting.{IsPlace}
+use Rattle.abc_bars_voice.specs.declared.settings.Settings.{Settings}
+use Rattle.abc_bars_voice.specs.Unit.{IsUnitPart, unit_by}
+use Rattle.abc_bars_voice.proofs.WholeParts.{eighth, read_part, sixteenth}
 use Rattle.abc_bars.specs.LookBack.Along.{CellTokens, lines_behind, values_set}
 use Rattle.abc_bars.specs.LookBack.ByName.{naming_at, opening_of}
 use Rattle.abc_bars.specs.LookBack.CellPlace.{CellPlace, before_place, cell_with, standing_at}

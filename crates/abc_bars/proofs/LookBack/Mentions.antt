@@ -13,12 +13,12 @@ use Rattle.abc_scan.specs.declared.parts.ChordPartKind.{ChordPartKind}
 use Rattle.abc_scan.specs.declared.spanned.Spanned.{Spanned}
 use Rattle.abc_scan.specs.declared.token.TokenKind.{TokenKind}
 use Rattle.abc_scan.specs.declared.token.TokenKind.TheVariants as kinds
-use Rattle.abc_header.specs.FieldKind.{kind_of}
-use Rattle.abc_header.specs.declared.field_kind.FieldKind.{FieldKind}
-use Rattle.abc_header.specs.declared.field_kind.FieldKind.TheVariants as fields
-use Rattle.abc_items.specs.declared.item.TheConstants.{MOST_VOICES}
-use Rattle.abc_music.specs.TokenRole.{has_note, is_note_part}
-use Rattle.abc_cells.specs.BodyFields.{part_of}
+use Rattle.abc_bars_header.specs.FieldKind.{kind_of}
+use Rattle.abc_bars_header.specs.declared.field_kind.FieldKind.{FieldKind}
+use Rattle.abc_bars_header.specs.declared.field_kind.FieldKind.TheVariants as fields
+use Rattle.abc_bars_items.specs.declared.item.TheConstants.{MOST_VOICES}
+use Rattle.abc_bars_notes.specs.TokenRole.{has_note, is_note_part}
+use Rattle.abc_bars_body.specs.BodyFields.{part_of}
 use Rattle.abc_bars.specs.LookBack.AfterBody.{mentions}
 use Rattle.abc_bars.specs.LookBack.ByName.{Current, Named, Naming, names_behind, naming_at, owner_by, owner_of, owner_of_field, owner_of_part, owner_of_voice}
 use Rattle.abc_bars.specs.LookBack.Element.{field_of}
@@ -31,7 +31,7 @@ use Rattle.abc_bars.proofs.LookBack.ByPlace.{roll_at}
 use Rattle.abc_bars.proofs.LookBack.FaultsOfFields.{apart, got, name_there}
 use Rattle.abc_bars.proofs.LookBack.Held.{names_found}
 use Rattle.abc_bars.proofs.LookBack.Named.{found}
-use Rattle.abc_header.proofs.NamePlaces.{find_place}
+use Rattle.abc_bars_header.proofs.NamePlaces.{find_place}
 
 -- One name more.
 among : (names : List (List ℕ)) (name : List ℕ) → list_any (bytes_eq name) names ≡ true → Contains names name

@@ -19,24 +19,24 @@ use Rattle.abc_fields.specs.Meter.{meter_of}
 use Rattle.abc_fields.specs.Spelling.Voice.{IsVoice}
 use Rattle.abc_fields.specs.Unit.{unit_of}
 use Rattle.abc_fields.specs.Voice.{voice_of}
-use Rattle.abc_settings.specs.declared.accidentals.Accidentals.{Accidentals}
-use Rattle.abc_settings.specs.declared.settings.Settings.{Settings}
-use Rattle.abc_settings.specs.Accidentals.{no_accidentals, reach_of}
-use Rattle.abc_settings.specs.Settings.{without_accidentals}
+use Rattle.abc_bars_voice.specs.declared.accidentals.Accidentals.{Accidentals}
+use Rattle.abc_bars_voice.specs.declared.settings.Settings.{Settings}
+use Rattle.abc_bars_voice.specs.Accidentals.{no_accidentals, reach_of}
+use Rattle.abc_bars_voice.specs.Settings.{without_accidentals}
 use Rattle.abc_scan.specs.declared.token.TokenKind.{TokenKind}
 use Rattle.abc_scan.specs.declared.token.TokenKind.TheVariants as kinds
 use Rattle.abc_time.specs.declared.ratio.Ratio.{Ratio}
-use Rattle.abc_header.specs.HeaderLine.{HeaderLine}
-use Rattle.abc_cells.specs.declared.body.Body.{Body}
-use Rattle.abc_header.specs.declared.defaults.Defaults.{Defaults}
-use Rattle.abc_header.specs.declared.field_kind.FieldKind.{FieldKind}
-use Rattle.abc_header.specs.declared.field_kind.FieldKind.TheVariants as fields
-use Rattle.abc_header.specs.declared.header.Header.{Header}
-use Rattle.abc_cells.specs.Body.{here}
-use Rattle.abc_cells.specs.BodyFields.{part_of}
-use Rattle.abc_cells.specs.BodyOpening.{body_from, current_in, opening_voice}
-use Rattle.abc_header.specs.FieldKind.{kind_of}
-use Rattle.abc_header.specs.Voices.{voice_at}
+use Rattle.abc_bars_header.specs.HeaderLine.{HeaderLine}
+use Rattle.abc_bars_body.specs.declared.body.Body.{Body}
+use Rattle.abc_bars_header.specs.declared.defaults.Defaults.{Defaults}
+use Rattle.abc_bars_header.specs.declared.field_kind.FieldKind.{FieldKind}
+use Rattle.abc_bars_header.specs.declared.field_kind.FieldKind.TheVariants as fields
+use Rattle.abc_bars_header.specs.declared.header.Header.{Header}
+use Rattle.abc_bars_body.specs.Body.{here}
+use Rattle.abc_bars_body.specs.BodyFields.{part_of}
+use Rattle.abc_bars_body.specs.BodyOpening.{body_from, current_in, opening_voice}
+use Rattle.abc_bars_header.specs.FieldKind.{kind_of}
+use Rattle.abc_bars_header.specs.Voices.{voice_at}
 use Rattle.abc_bars.specs.LookBack.After.{after, after_field, in_meter, in_part, in_unit, in_voice}
 use Rattle.abc_bars.specs.LookBack.AfterBody.{mentions}
 use Rattle.abc_bars.specs.LookBack.ByName.{Owner, Current, Naming, first_name, is_owned_by, naming_at, naming_behind, opening_of, owner_of, owner_of_field, owner_of_part, owner_of_voice, settings_named, tokens_of}
@@ -46,7 +46,7 @@ use Rattle.abc_bars.specs.LookBack.Held.{Roll, place_of_current, roll_of}
 use Rattle.abc_bars.proofs.LookBack.ByPlace.{Each, Former, First, Hearing, Here, Music, New, Nobody, each_if, field_hearing, hearing_of, here_if, is_current, music_at, music_behind, roll_at, roll_behind, settings_in, unnamed_behind, unnamed_music, voice_said, with_heard, placed_at}
 use Rattle.abc_bars.specs.LookBack.Place.{opening_at}
 use Rattle.abc_bars.specs.LookBack.Voice.{accidentals_at, settings_at}
-use Rattle.abc_cells.proofs.BodyOpenings.{opening_names}
+use Rattle.abc_bars_body.proofs.BodyOpenings.{opening_names}
 use Rattle.abc_bars.proofs.DeclaredVoices.{declared_keys, distinct_names}
 use Rattle.abc_bars.proofs.LookBack.Accidentals.{reach_kept}
 use Rattle.abc_bars.proofs.LookBack.ByName.{Agrees, Fits, IsNamed, behind, finds, hearing_by, known_behind, place-name, unnamed_after}
@@ -55,7 +55,7 @@ use Rattle.abc_bars.proofs.LookBack.Known.{at-by}
 use Rattle.abc_bars.proofs.LookBack.Placed.{fresh-another}
 use Rattle.abc_bars.proofs.LookBack.Voice.{settings_behind}
 use Rattle.abc_bars.proofs.LookBack.Voices.{distinct-at}
-use Rattle.abc_header.proofs.NamePlaces.{find_place}
+use Rattle.abc_bars_header.proofs.NamePlaces.{find_place}
 
 -- Whether a token that is the current voice's can change what holds for it.
 abbrev acts-field : FieldKind → List ℕ → Bool

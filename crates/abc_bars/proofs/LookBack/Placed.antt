@@ -8,33 +8,33 @@ use Rattle.abc_fields.specs.declared.fault.FaultCode.{FaultCode}
 use Rattle.abc_fields.specs.declared.key.Key.{Key}
 use Rattle.abc_fields.specs.declared.shift.Shift.{Shift}
 use Rattle.abc_fields.specs.declared.voice.Voice.{Voice}
-use Rattle.abc_cells.specs.declared.body.Current.TheVariants.{Unnamed}
+use Rattle.abc_bars_body.specs.declared.body.Current.TheVariants.{Unnamed}
 use Rattle.abc_fields.specs.Shift.{no_shift}
 use Rattle.abc_fields.specs.Meter.{meter_of}
 use Rattle.abc_fields.specs.Unit.{unit_of}
 use Rattle.abc_fields.specs.Voice.{voice_of}
 use Rattle.abc_scan.specs.declared.token.TokenKind.{TokenKind}
 use Rattle.abc_scan.specs.declared.token.TokenKind.TheVariants as kinds
-use Rattle.abc_header.specs.declared.defaults.Defaults.{Defaults}
-use Rattle.abc_header.specs.declared.field_kind.FieldKind.{FieldKind}
-use Rattle.abc_header.specs.declared.field_kind.FieldKind.TheVariants as fields
-use Rattle.abc_header.specs.declared.header.Header.{Header}
-use Rattle.abc_settings.specs.declared.accidentals.Accidentals.{Accidentals}
-use Rattle.abc_settings.specs.declared.settings.Settings.{Settings}
-use Rattle.abc_settings.specs.Accidentals.{no_accidentals}
-use Rattle.abc_music.specs.TokenRole.{has_note}
-use Rattle.abc_items.specs.declared.item.TheConstants.{MOST_VOICES}
-use Rattle.abc_cells.specs.BodyFields.{part_of}
-use Rattle.abc_cells.specs.BodyOpening.{body_from, current_in, opening_another, opening_settings, opening_voice}
-use Rattle.abc_header.specs.FieldKind.{kind_of}
-use Rattle.abc_header.specs.Voices.{voice_at}
+use Rattle.abc_bars_header.specs.declared.defaults.Defaults.{Defaults}
+use Rattle.abc_bars_header.specs.declared.field_kind.FieldKind.{FieldKind}
+use Rattle.abc_bars_header.specs.declared.field_kind.FieldKind.TheVariants as fields
+use Rattle.abc_bars_header.specs.declared.header.Header.{Header}
+use Rattle.abc_bars_voice.specs.declared.accidentals.Accidentals.{Accidentals}
+use Rattle.abc_bars_voice.specs.declared.settings.Settings.{Settings}
+use Rattle.abc_bars_voice.specs.Accidentals.{no_accidentals}
+use Rattle.abc_bars_notes.specs.TokenRole.{has_note}
+use Rattle.abc_bars_items.specs.declared.item.TheConstants.{MOST_VOICES}
+use Rattle.abc_bars_body.specs.BodyFields.{part_of}
+use Rattle.abc_bars_body.specs.BodyOpening.{body_from, current_in, opening_another, opening_settings, opening_voice}
+use Rattle.abc_bars_header.specs.FieldKind.{kind_of}
+use Rattle.abc_bars_header.specs.Voices.{voice_at}
 use Rattle.abc_bars.specs.LookBack.Held.{IsPlaced, Roll, current_by, roll_of, place_of_current}
 use Rattle.abc_bars.proofs.LookBack.ByPlace.{Former, Hearing, Here, New, Nobody, Each, First, each_if, field_hearing, first_or, here_if, hearing_of, roll_at, roll_behind, voice_named_by, voice_said, voices_by, placed_at}
 use Rattle.abc_bars.specs.LookBack.Element.{Element}
 use Rattle.abc_bars.specs.LookBack.Voice.{accidentals_at, dynamic_at, meter_at, settings_at, shift_at, signature_at, tuplet_at, unit_at}
 use Rattle.abc_bars.proofs.LookBack.Accidentals.{reach_kept}
 use Rattle.abc_bars.proofs.LookBack.Heard.{below-found}
-use Rattle.abc_header.proofs.NamePlaces.{find_place}
+use Rattle.abc_bars_header.proofs.NamePlaces.{find_place}
 
 -- A voice that is not among those that are mentioned, and is not one too many.
 pub record IsNew (names : List (List ℕ)) (name : List ℕ) : Type 0 where

@@ -3,13 +3,13 @@ use Rattle.std.proofs.Common.{◌≡◌, ℕ, ◌==◌, nat_lt, Bool, true, fals
 use Rattle.abc_fields.specs.declared.key.Key.{Key}
 use Rattle.abc_scan.specs.declared.token.TokenKind.{TokenKind}
 use Rattle.abc_scan.specs.declared.token.TokenKind.TheVariants as kinds
-use Rattle.abc_cells.specs.declared.body.Body.{Body}
-use Rattle.abc_header.specs.declared.header.Header.{Header}
-use Rattle.abc_settings.specs.declared.settings.Settings.{Settings}
-use Rattle.abc_cells.specs.Body.{here, mentioned, with_here}
-use Rattle.abc_cells.specs.BodyOpening.{body_from}
-use Rattle.abc_music.specs.TokenRole.{has_note}
-use Rattle.abc_header.specs.FieldKind.{kind_of}
+use Rattle.abc_bars_body.specs.declared.body.Body.{Body}
+use Rattle.abc_bars_header.specs.declared.header.Header.{Header}
+use Rattle.abc_bars_voice.specs.declared.settings.Settings.{Settings}
+use Rattle.abc_bars_body.specs.Body.{here, mentioned, with_here}
+use Rattle.abc_bars_body.specs.BodyOpening.{body_from}
+use Rattle.abc_bars_notes.specs.TokenRole.{has_note}
+use Rattle.abc_bars_header.specs.FieldKind.{kind_of}
 use Rattle.abc_bars.specs.LookBack.Held.{IsPlaced, Roll, roll_of}
 use Rattle.abc_bars.proofs.LookBack.ByPlace.{Here, Music, Nobody, first_or, hearing_of, roll_at, settings_in, voices_by, with_heard, placed_at}
 use Rattle.abc_bars.specs.LookBack.Element.{Element}
@@ -17,14 +17,14 @@ use Rattle.abc_bars.specs.LookBack.Voice.{settings_at}
 use Rattle.abc_bars.proofs.LookBack.Heard.{at-kind, behind-bar-rest, behind-here, behind-last, behind-mention, held_behind}
 use Rattle.abc_bars.proofs.LookBack.Voice.{settings_behind}
 use Rattle.std.proofs.lemmas.Bool.{cond-true}
-use Rattle.abc_header.specs.Voices.{with_voice_at}
+use Rattle.abc_bars_header.specs.Voices.{with_voice_at}
 use Rattle.abc_bars.specs.LookBack.After.{after}
 use Rattle.abc_bars.specs.LookBack.AfterBody.{body_after, mentioned_if}
 use Rattle.abc_bars.proofs.LookBack.ByPlace.{music_at, unnamed_music}
 use Rattle.abc_bars.proofs.LookBack.Heard.{held, lt-true}
 use Rattle.abc_bars.proofs.LookBack.Known.{at-by, length-by, same-by, set-by}
 use Rattle.abc_bars.proofs.LookBack.Placed.{fresh-another, placed-at, placed-opening}
-use Rattle.abc_cells.specs.declared.body.Current.TheVariants.{At}
+use Rattle.abc_bars_body.specs.declared.body.Current.TheVariants.{At}
 
 -- What holds is written where it holds.
 if-same : (b : Bool) (settings : Settings) → settings ≡ cond b settings settings

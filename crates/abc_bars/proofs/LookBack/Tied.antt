@@ -9,18 +9,18 @@ use Rattle.abc_scan.specs.declared.parts.ChordPartKind.{ChordPartKind}
 use Rattle.abc_scan.specs.declared.parts.ChordPartKind.TheVariants as parts
 use Rattle.abc_scan.specs.declared.spanned.Spanned.{Spanned}
 use Rattle.abc_time.specs.declared.ratio.Ratio.{Ratio}
-use Rattle.abc_settings.specs.declared.accidentals.Accidentals.{Accidentals}
-use Rattle.abc_music.specs.declared.chords.Outside.{Outside}
-use Rattle.abc_items.specs.declared.item.Tone.{Tone}
-use Rattle.abc_items.specs.declared.item.TheConstants.{MOST_CHORD_NOTES}
-use Rattle.abc_settings.specs.declared.settings.Settings.{Settings}
-use Rattle.abc_music.specs.declared.sound.Inside.{Inside}
-use Rattle.abc_settings.specs.declared.tied.TiedNote.{TiedNote}
-use Rattle.abc_settings.specs.Accidentals.{reach_of, written_on}
-use Rattle.abc_settings.specs.Alteration.{alteration_of, own_alteration, tied_alteration, with_own}
-use Rattle.abc_music.specs.Chords.{around_part, inside_from, inside_of, tie_follows, with_fault, with_dropped}
-use Rattle.abc_items.specs.Column.{column_of}
-use Rattle.abc_music.specs.Sound.{no_notes, with_note}
+use Rattle.abc_bars_voice.specs.declared.accidentals.Accidentals.{Accidentals}
+use Rattle.abc_bars_notes.specs.declared.chords.Outside.{Outside}
+use Rattle.abc_bars_items.specs.declared.item.Tone.{Tone}
+use Rattle.abc_bars_items.specs.declared.item.TheConstants.{MOST_CHORD_NOTES}
+use Rattle.abc_bars_voice.specs.declared.settings.Settings.{Settings}
+use Rattle.abc_bars_notes.specs.declared.sound.Inside.{Inside}
+use Rattle.abc_bars_voice.specs.declared.tied.TiedNote.{TiedNote}
+use Rattle.abc_bars_voice.specs.Accidentals.{reach_of, written_on}
+use Rattle.abc_bars_voice.specs.Alteration.{alteration_of, own_alteration, tied_alteration, with_own}
+use Rattle.abc_bars_notes.specs.Chords.{around_part, inside_from, inside_of, tie_follows, with_fault, with_dropped}
+use Rattle.abc_bars_items.specs.Column.{column_of}
+use Rattle.abc_bars_notes.specs.Sound.{no_notes, with_note}
 use Rattle.abc_bars.specs.LookBack.Element.{Element}
 use Rattle.abc_bars.specs.LookBack.Voice.{accidentals_at, accidentals_of, alteration_at, as_tied, counted_notes, notes_among, notes_of_bar, settings_at, signature_at, tied_among, tied_at}
 use Rattle.abc_bars.proofs.LookBack.Accidentals.{newest_heard, with_each}

@@ -15,28 +15,28 @@ use Rattle.abc_scan.specs.declared.spanned.Spanned.{Spanned}
 use Rattle.abc_scan.specs.declared.token.TokenKind.{TokenKind}
 use Rattle.abc_scan.specs.declared.token.TokenKind.TheVariants as kinds
 use Rattle.abc_time.specs.declared.grains.Grains.{Grains}
-use Rattle.abc_header.specs.HeaderLine.{HeaderLine}
-use Rattle.abc_cells.specs.declared.body.Body.{Body}
-use Rattle.abc_cells.specs.declared.cell.Given.{Given}
-use Rattle.abc_header.specs.declared.defaults.Defaults.{Defaults}
-use Rattle.abc_header.specs.declared.field_kind.FieldKind.{FieldKind}
-use Rattle.abc_items.specs.declared.item.Item.{Item}
-use Rattle.abc_items.specs.declared.item.Item.TheVariants as items
-use Rattle.abc_settings.specs.declared.settings.Settings.{Settings}
-use Rattle.abc_settings.specs.declared.tied.TiedNote.{TiedNote}
-use Rattle.abc_music.specs.BarRest.{bar_rest_length, bars_of, or_one_bar}
-use Rattle.abc_music.specs.Broken.{factors_of, is_bad_mark, is_time_token}
-use Rattle.abc_music.specs.LooseTies.{is_loose_tie}
-use Rattle.abc_music.specs.Sound.{fault_if}
-use Rattle.abc_music.specs.TokenRole.{has_note}
-use Rattle.abc_settings.specs.Tuplet.{OpenTuplet, opened, tuplet_by}
-use Rattle.abc_music.proofs.LooseTies.{ties_behind_notes}
-use Rattle.abc_cells.specs.Body.{here, mentioned}
-use Rattle.abc_cells.specs.BodyFields.{kind_given}
-use Rattle.abc_cells.specs.Cell.{mentioned_by_chord, nothing_given, tie_ahead, with_directive, with_ending, with_fault, with_fault_if, with_item, with_kind, with_some_fault, with_token}
-use Rattle.abc_items.specs.Column.{column_of}
-use Rattle.abc_items.specs.Program.{program_of}
-use Rattle.abc_header.specs.FieldKind.{kind_of}
+use Rattle.abc_bars_header.specs.HeaderLine.{HeaderLine}
+use Rattle.abc_bars_body.specs.declared.body.Body.{Body}
+use Rattle.abc_bars_body.specs.declared.cell.Given.{Given}
+use Rattle.abc_bars_header.specs.declared.defaults.Defaults.{Defaults}
+use Rattle.abc_bars_header.specs.declared.field_kind.FieldKind.{FieldKind}
+use Rattle.abc_bars_items.specs.declared.item.Item.{Item}
+use Rattle.abc_bars_items.specs.declared.item.Item.TheVariants as items
+use Rattle.abc_bars_voice.specs.declared.settings.Settings.{Settings}
+use Rattle.abc_bars_voice.specs.declared.tied.TiedNote.{TiedNote}
+use Rattle.abc_bars_notes.specs.BarRest.{bar_rest_length, bars_of, or_one_bar}
+use Rattle.abc_bars_notes.specs.Broken.{factors_of, is_bad_mark, is_time_token}
+use Rattle.abc_bars_notes.specs.LooseTies.{is_loose_tie}
+use Rattle.abc_bars_notes.specs.Sound.{fault_if}
+use Rattle.abc_bars_notes.specs.TokenRole.{has_note}
+use Rattle.abc_bars_voice.specs.Tuplet.{OpenTuplet, opened, tuplet_by}
+use Rattle.abc_bars_notes.proofs.LooseTies.{ties_behind_notes}
+use Rattle.abc_bars_body.specs.Body.{here, mentioned}
+use Rattle.abc_bars_body.specs.BodyFields.{kind_given}
+use Rattle.abc_bars_body.specs.Cell.{mentioned_by_chord, nothing_given, tie_ahead, with_directive, with_ending, with_fault, with_fault_if, with_item, with_kind, with_some_fault, with_token}
+use Rattle.abc_bars_items.specs.Column.{column_of}
+use Rattle.abc_bars_items.specs.Program.{program_of}
+use Rattle.abc_bars_header.specs.FieldKind.{kind_of}
 use Rattle.abc_bars.specs.LookBack.Cells.{looked_back}
 use Rattle.abc_bars.specs.LookBack.Element.{Element}
 use Rattle.abc_bars.specs.LookBack.Held.{held_at}

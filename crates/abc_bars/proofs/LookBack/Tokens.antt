@@ -23,34 +23,34 @@ use Rattle.abc_scan.specs.declared.spanned.Spanned.{Spanned}
 use Rattle.abc_scan.specs.declared.token.TokenKind.{TokenKind}
 use Rattle.abc_scan.specs.declared.token.TokenKind.TheVariants as kinds
 use Rattle.abc_time.specs.declared.ratio.Ratio.{Ratio}
-use Rattle.abc_cells.specs.declared.body.Body.{Body}
-use Rattle.abc_cells.specs.declared.cell.Given.{Given}
-use Rattle.abc_music.specs.declared.chords.Outside.{Outside}
-use Rattle.abc_header.specs.declared.field_kind.FieldKind.{FieldKind}
-use Rattle.abc_header.specs.declared.field_kind.FieldKind.TheVariants as fields
-use Rattle.abc_items.specs.declared.item.Item.{Item}
-use Rattle.abc_items.specs.declared.item.Item.TheVariants as items
-use Rattle.abc_items.specs.declared.item.TheConstants.{MOST_CHORD_NOTES}
-use Rattle.abc_items.specs.declared.item.Tone.{Tone}
-use Rattle.abc_settings.specs.declared.settings.Settings.{Settings}
-use Rattle.abc_music.specs.declared.sound.Inside.{Inside}
-use Rattle.abc_settings.specs.Alteration.{with_own}
-use Rattle.abc_music.specs.BarRest.{bar_rest_of}
-use Rattle.abc_cells.specs.Body.{here, made_current, mentioned, with_here}
-use Rattle.abc_cells.specs.BodyFields.{accepted, faulty, key_by, kind_given, meter_by, part_by, part_of, tempo_by, unit_by, voice_by, voice_made}
-use Rattle.abc_music.specs.Broken.{factors_of, is_bad_mark}
-use Rattle.abc_cells.specs.Cell.{mentioned_by_chord, tie_ahead, with_directive, with_ending, with_fault, with_fault_if, with_item, with_kind, with_some_fault}
-use Rattle.abc_music.specs.Chords.{around_part, inside_from, tie_follows, with_kind as with_part_kind}
-use Rattle.abc_items.specs.Column.{column_of}
-use Rattle.abc_items.specs.Program.{program_of}
-use Rattle.abc_header.specs.FieldKind.{kind_of}
-use Rattle.abc_music.specs.Sound.{no_notes, tied_note_in, with_note}
-use Rattle.abc_settings.specs.TempoItem.{is_out}
-use Rattle.abc_music.specs.TimeTokens.{chord_by, chord_played}
-use Rattle.abc_music.specs.TokenRole.{has_note}
-use Rattle.abc_settings.specs.Tuplet.{counted_down, tuplet_opened}
+use Rattle.abc_bars_body.specs.declared.body.Body.{Body}
+use Rattle.abc_bars_body.specs.declared.cell.Given.{Given}
+use Rattle.abc_bars_notes.specs.declared.chords.Outside.{Outside}
+use Rattle.abc_bars_header.specs.declared.field_kind.FieldKind.{FieldKind}
+use Rattle.abc_bars_header.specs.declared.field_kind.FieldKind.TheVariants as fields
+use Rattle.abc_bars_items.specs.declared.item.Item.{Item}
+use Rattle.abc_bars_items.specs.declared.item.Item.TheVariants as items
+use Rattle.abc_bars_items.specs.declared.item.TheConstants.{MOST_CHORD_NOTES}
+use Rattle.abc_bars_items.specs.declared.item.Tone.{Tone}
+use Rattle.abc_bars_voice.specs.declared.settings.Settings.{Settings}
+use Rattle.abc_bars_notes.specs.declared.sound.Inside.{Inside}
+use Rattle.abc_bars_voice.specs.Alteration.{with_own}
+use Rattle.abc_bars_notes.specs.BarRest.{bar_rest_of}
+use Rattle.abc_bars_body.specs.Body.{here, made_current, mentioned, with_here}
+use Rattle.abc_bars_body.specs.BodyFields.{accepted, faulty, key_by, kind_given, meter_by, part_by, part_of, tempo_by, unit_by, voice_by, voice_made}
+use Rattle.abc_bars_notes.specs.Broken.{factors_of, is_bad_mark}
+use Rattle.abc_bars_body.specs.Cell.{mentioned_by_chord, tie_ahead, with_directive, with_ending, with_fault, with_fault_if, with_item, with_kind, with_some_fault}
+use Rattle.abc_bars_notes.specs.Chords.{around_part, inside_from, tie_follows, with_kind as with_part_kind}
+use Rattle.abc_bars_items.specs.Column.{column_of}
+use Rattle.abc_bars_items.specs.Program.{program_of}
+use Rattle.abc_bars_header.specs.FieldKind.{kind_of}
+use Rattle.abc_bars_notes.specs.Sound.{no_notes, tied_note_in, with_note}
+use Rattle.abc_bars_voice.specs.TempoItem.{is_out}
+use Rattle.abc_bars_notes.specs.TimeTokens.{chord_by, chord_played}
+use Rattle.abc_bars_notes.specs.TokenRole.{has_note}
+use Rattle.abc_bars_voice.specs.Tuplet.{counted_down, tuplet_opened}
 use Rattle.abc_bars.specs.LookBack.AfterBody.{body_after, mentioned_if}
-use Rattle.abc_cells.proofs.HereLaws.{same_here}
+use Rattle.abc_bars_body.proofs.HereLaws.{same_here}
 
 -- The same notes leave the same of two chords, whatever else is known of them.
 abbrev Agree : Inside → Inside → Type 0

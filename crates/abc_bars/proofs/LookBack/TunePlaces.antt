@@ -4,12 +4,12 @@ use Rattle.std.specs.Option.{option_or}
 use Rattle.abc_fields.specs.declared.key.Key.{Key}
 use Rattle.abc_fields.specs.Key.{empty_key}
 use Rattle.abc_scan.specs.declared.field.Field.{Field}
-use Rattle.abc_header.specs.declared.defaults.Defaults.{Defaults}
-use Rattle.abc_header.specs.declared.field_kind.FieldKind.{FieldKind}
-use Rattle.abc_header.specs.declared.field_kind.FieldKind.TheVariants as fields
-use Rattle.abc_header.specs.FieldKind.{kind_of}
-use Rattle.abc_header.specs.HeaderLine.{HeaderLine, FieldLine, DirectiveLine}
-use Rattle.abc_cells.specs.Step.{line_in}
+use Rattle.abc_bars_header.specs.declared.defaults.Defaults.{Defaults}
+use Rattle.abc_bars_header.specs.declared.field_kind.FieldKind.{FieldKind}
+use Rattle.abc_bars_header.specs.declared.field_kind.FieldKind.TheVariants as fields
+use Rattle.abc_bars_header.specs.FieldKind.{kind_of}
+use Rattle.abc_bars_header.specs.HeaderLine.{HeaderLine, FieldLine, DirectiveLine}
+use Rattle.abc_bars_body.specs.Step.{line_in}
 use Rattle.abc_bars.specs.LookBack.Along.{CellTokens, place_after, tune_begins, values_set}
 use Rattle.abc_bars.specs.LookBack.Place.{Place, InFileHeader, InHeader, InBody, behind_field, behind_header, behind_header_line, place_behind}
 use Rattle.abc_bars.specs.LookBack.TunePlaces.{IsOfTune, key_among, key_said}

@@ -8,10 +8,10 @@ use Rattle.abc_fields.specs.declared.meter.Meter.TheVariants.{Free, Of}
 use Rattle.abc_scan.specs.declared.token.TokenKind.{TokenKind}
 use Rattle.abc_scan.specs.declared.token.TokenKind.TheVariants as kinds
 use Rattle.abc_scan.specs.declared.tuplet.Tuplet.{Tuplet}
-use Rattle.abc_music.specs.Broken.{is_time_token}
-use Rattle.abc_settings.specs.declared.settings.Settings.{Settings}
-use Rattle.abc_settings.specs.declared.tuplet.TheConstants.{LARGEST_TUPLET_NUMBER}
-use Rattle.abc_settings.specs.Tuplet.{IsOpen, IsTupletNumber, OpenTuplet, default_q, is_compound, is_tuplet_number}
+use Rattle.abc_bars_notes.specs.Broken.{is_time_token}
+use Rattle.abc_bars_voice.specs.declared.settings.Settings.{Settings}
+use Rattle.abc_bars_voice.specs.declared.tuplet.TheConstants.{LARGEST_TUPLET_NUMBER}
+use Rattle.abc_bars_voice.specs.Tuplet.{IsOpen, IsTupletNumber, OpenTuplet, default_q, is_compound, is_tuplet_number}
 use Rattle.abc_bars.specs.LookBack.Element.{Element}
 use Rattle.abc_bars.specs.LookBack.TupletPlaces.{IsAccepted, IsAcceptedMark, IsCompound, IsLastMark, IsSizeOf, IsTimeOf, IsTupletAt, IsUsualTime, TupletsByMarks, inside, is_time, no_mark, past, time_count}
 use Rattle.abc_bars.specs.LookBack.Voice.{left_after, meter_at, passing, settings_at, tuplet_at, tuplet_from, tuplet_or, tuplet_said}

@@ -3,8 +3,8 @@ use Rattle.std.proofs.Common.{◌≡◌, ◌≤◌, ◌&&◌, ℕ, suc, Bool, tr
 use Rattle.std.proofs.lemmas.Bool.Decides.{nat_tests}
 use Rattle.abc_fields.specs.declared.meter.Meter.{Meter}
 use Rattle.abc_scan.specs.declared.tuplet.Tuplet.{Tuplet}
-use Rattle.abc_music.specs.Broken.{is_time_token}
-use Rattle.abc_settings.specs.Tuplet.{OpenTuplet, tuplet_by, tuplet_opened, opened, is_tuplet_number, counted_down, default_q}
+use Rattle.abc_bars_notes.specs.Broken.{is_time_token}
+use Rattle.abc_bars_voice.specs.Tuplet.{OpenTuplet, tuplet_by, tuplet_opened, opened, is_tuplet_number, counted_down, default_q}
 use Rattle.abc_bars.specs.LookBack.Element.{Element}
 use Rattle.abc_bars.specs.LookBack.Voice.{meter_at, left_after, passing, tuplet_from, tuplet_or, tuplet_said}
 

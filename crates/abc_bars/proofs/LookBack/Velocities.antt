@@ -9,20 +9,20 @@ use Rattle.abc_scan.specs.declared.parts.ChordPartKind.TheVariants as parts
 use Rattle.abc_scan.specs.declared.spanned.Spanned.{Spanned}
 use Rattle.abc_scan.specs.declared.token.TokenKind.TheVariants as kinds
 use Rattle.abc_time.specs.declared.ratio.Ratio.{Ratio}
-use Rattle.abc_music.specs.declared.chords.Outside.{Outside}
-use Rattle.abc_items.specs.declared.item.TheConstants.{MOST_CHORD_NOTES}
-use Rattle.abc_items.specs.declared.item.Tone.{Tone}
-use Rattle.abc_settings.specs.declared.settings.Settings.{Settings}
-use Rattle.abc_music.specs.declared.sound.Around.{Around}
-use Rattle.abc_music.specs.declared.sound.Inside.{Inside}
-use Rattle.abc_music.specs.Broken.{factors_of}
-use Rattle.abc_music.specs.Chords.{around_part, inside_from, inside_of, tie_follows, with_dropped, with_fault as with_part_fault, with_kind as with_part_kind, with_part}
-use Rattle.abc_music.specs.Sound.{no_notes, tone_in, with_note}
-use Rattle.abc_music.specs.TimeTokens.{first_length}
-use Rattle.abc_music.specs.TokenRole.{has_note}
-use Rattle.abc_items.specs.Velocity.{velocity_of}
-use Rattle.abc_cells.specs.Body.{here, mentioned}
-use Rattle.abc_cells.specs.Cell.{mentioned_by_chord, tie_ahead}
+use Rattle.abc_bars_notes.specs.declared.chords.Outside.{Outside}
+use Rattle.abc_bars_items.specs.declared.item.TheConstants.{MOST_CHORD_NOTES}
+use Rattle.abc_bars_items.specs.declared.item.Tone.{Tone}
+use Rattle.abc_bars_voice.specs.declared.settings.Settings.{Settings}
+use Rattle.abc_bars_notes.specs.declared.sound.Around.{Around}
+use Rattle.abc_bars_notes.specs.declared.sound.Inside.{Inside}
+use Rattle.abc_bars_notes.specs.Broken.{factors_of}
+use Rattle.abc_bars_notes.specs.Chords.{around_part, inside_from, inside_of, tie_follows, with_dropped, with_fault as with_part_fault, with_kind as with_part_kind, with_part}
+use Rattle.abc_bars_notes.specs.Sound.{no_notes, tone_in, with_note}
+use Rattle.abc_bars_notes.specs.TimeTokens.{first_length}
+use Rattle.abc_bars_notes.specs.TokenRole.{has_note}
+use Rattle.abc_bars_items.specs.Velocity.{velocity_of}
+use Rattle.abc_bars_body.specs.Body.{here, mentioned}
+use Rattle.abc_bars_body.specs.Cell.{mentioned_by_chord, tie_ahead}
 use Rattle.abc_bars.specs.LookBack.Element.{Element}
 use Rattle.abc_bars.specs.LookBack.CellPlace.{Standing, standing_at}
 use Rattle.abc_bars.specs.LookBack.Velocities.{ChordsHaveVelocities, IsVelocityAt, NotesHaveVelocities, SoundsWith}

@@ -7,12 +7,12 @@ use Rattle.abc_fields.specs.declared.voice.Voice.{Voice}
 use Rattle.abc_fields.specs.Meter.{meter_of}
 use Rattle.abc_fields.specs.Unit.{unit_of}
 use Rattle.abc_fields.specs.Voice.{voice_of}
-use Rattle.abc_header.specs.declared.field_kind.FieldKind.{FieldKind}
-use Rattle.abc_header.specs.declared.field_kind.FieldKind.TheVariants as fields
-use Rattle.abc_cells.specs.BodyFields.{part_of}
-use Rattle.abc_header.specs.FieldKind.{kind_of}
-use Rattle.abc_music.specs.TokenRole.{has_note, is_note_part}
-use Rattle.abc_settings.specs.VoiceShift.{with_properties}
+use Rattle.abc_bars_header.specs.declared.field_kind.FieldKind.{FieldKind}
+use Rattle.abc_bars_header.specs.declared.field_kind.FieldKind.TheVariants as fields
+use Rattle.abc_bars_body.specs.BodyFields.{part_of}
+use Rattle.abc_bars_header.specs.FieldKind.{kind_of}
+use Rattle.abc_bars_notes.specs.TokenRole.{has_note, is_note_part}
+use Rattle.abc_bars_voice.specs.VoiceShift.{with_properties}
 use Rattle.abc_bars.specs.LookBack.After.{after, after_field, after_kind, in_meter, in_part, in_unit, in_voice}
 use Rattle.abc_bars.specs.LookBack.Defaults.{meter_said, unit_said}
 use Rattle.abc_scan.specs.declared.chord.Chord.{Chord}
@@ -26,16 +26,16 @@ use Rattle.abc_scan.specs.declared.tuplet.Tuplet.{Tuplet}
 use Rattle.abc_scan.specs.declared.token.TokenKind.{TokenKind}
 use Rattle.abc_scan.specs.declared.token.TokenKind.TheVariants as kinds
 use Rattle.abc_time.specs.declared.ratio.Ratio.{Ratio}
-use Rattle.abc_settings.specs.declared.accidentals.Accidentals.{Accidentals}
-use Rattle.abc_settings.specs.declared.settings.Settings.{Settings}
-use Rattle.abc_settings.specs.Accidentals.{no_accidentals, reach_of}
-use Rattle.abc_settings.specs.Alteration.{alteration_of}
-use Rattle.abc_music.specs.declared.chords.Outside.{Outside}
-use Rattle.abc_music.specs.declared.sound.Inside.{Inside}
-use Rattle.abc_items.specs.declared.item.TheConstants.{MOST_CHORD_NOTES}
-use Rattle.abc_settings.specs.Tuplet.{counted_down, tuplet_opened}
-use Rattle.abc_music.specs.Chords.{inside_of, tie_follows}
-use Rattle.abc_music.specs.TimeTokens.{chord_by, chord_played, note_played, rest_played}
+use Rattle.abc_bars_voice.specs.declared.accidentals.Accidentals.{Accidentals}
+use Rattle.abc_bars_voice.specs.declared.settings.Settings.{Settings}
+use Rattle.abc_bars_voice.specs.Accidentals.{no_accidentals, reach_of}
+use Rattle.abc_bars_voice.specs.Alteration.{alteration_of}
+use Rattle.abc_bars_notes.specs.declared.chords.Outside.{Outside}
+use Rattle.abc_bars_notes.specs.declared.sound.Inside.{Inside}
+use Rattle.abc_bars_items.specs.declared.item.TheConstants.{MOST_CHORD_NOTES}
+use Rattle.abc_bars_voice.specs.Tuplet.{counted_down, tuplet_opened}
+use Rattle.abc_bars_notes.specs.Chords.{inside_of, tie_follows}
+use Rattle.abc_bars_notes.specs.TimeTokens.{chord_by, chord_played, note_played, rest_played}
 use Rattle.abc_bars.specs.LookBack.Element.{Element}
 use Rattle.abc_bars.specs.LookBack.Voice.{accidentals_at, accidentals_of, as_tied, counted_notes, dynamic_at, ends_accidentals, meter_at, note_before, notes_among, notes_of_bar, passing, put_before, unless_ended, tied_among, tuplet_from, settings_at, shift_at, shift_in_voice, shift_said, signature_at, signature_said, tied_at, tied_said, tuplet_at, unit_at}
 use Rattle.abc_bars.proofs.LookBack.Accidentals.{each_put, reach_kept}

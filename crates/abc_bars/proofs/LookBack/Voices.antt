@@ -5,17 +5,17 @@ use Rattle.std.specs.Cmp.Lexicographic.{nat_list_eq_equiv}
 use Rattle.std.specs.List.{IsDistinct}
 use Rattle.std.specs.Map.{keys_of}
 use Rattle.abc_fields.specs.declared.key.Key.{Key}
-use Rattle.abc_header.specs.HeaderLine.{HeaderLine}
-use Rattle.abc_cells.specs.declared.body.Body.{Body}
-use Rattle.abc_header.specs.declared.defaults.Defaults.{Defaults}
-use Rattle.abc_settings.specs.declared.settings.Settings.{Settings}
-use Rattle.abc_items.specs.declared.item.TheConstants.{MOST_VOICES}
+use Rattle.abc_bars_header.specs.HeaderLine.{HeaderLine}
+use Rattle.abc_bars_body.specs.declared.body.Body.{Body}
+use Rattle.abc_bars_header.specs.declared.defaults.Defaults.{Defaults}
+use Rattle.abc_bars_voice.specs.declared.settings.Settings.{Settings}
+use Rattle.abc_bars_items.specs.declared.item.TheConstants.{MOST_VOICES}
 use Rattle.abc_bars.specs.LookBack.Element.{Element}
 use Rattle.abc_bars.specs.LookBack.Header.{header_at}
 use Rattle.abc_bars.specs.LookBack.Held.{IsPlaced, Roll, current_by, place_of_current, roll_of}
 use Rattle.abc_bars.proofs.LookBack.ByPlace.{Each, Former, First, Hearing, Here, New, Nobody, hearing_of, music_at, roll_at, roll_behind, settings_in, unnamed_music, placed_at}
 use Rattle.abc_bars.specs.LookBack.Place.{opening_at}
-use Rattle.abc_cells.proofs.BodyOpenings.{opening_names}
+use Rattle.abc_bars_body.proofs.BodyOpenings.{opening_names}
 use Rattle.abc_bars.proofs.DeclaredVoices.{declared_keys, distinct_names, few_names}
 use Rattle.abc_bars.proofs.LookBack.Known.{keys-by}
 use Rattle.abc_bars.proofs.LookBack.Placed.{IsAmong, among, placed-at, placed-opening}

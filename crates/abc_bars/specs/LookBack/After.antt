@@ -10,15 +10,15 @@ use Rattle.abc_fields.specs.Voice.{voice_of}
 use Rattle.abc_scan.specs.declared.token.TokenKind.{TokenKind}
 use Rattle.abc_scan.specs.declared.token.TokenKind.TheVariants as kinds
 use Rattle.abc_time.specs.declared.ratio.Ratio.{Ratio}
-use Rattle.abc_header.specs.declared.field_kind.FieldKind.{FieldKind}
-use Rattle.abc_header.specs.declared.field_kind.FieldKind.TheVariants as fields
-use Rattle.abc_settings.specs.declared.settings.Settings.{Settings}
-use Rattle.abc_cells.specs.BodyFields.{in_key, part_of}
-use Rattle.abc_header.specs.FieldKind.{kind_of}
-use Rattle.abc_settings.specs.Settings.{without_accidentals}
-use Rattle.abc_music.specs.TimeTokens.{chord_played, note_played, rest_played}
-use Rattle.abc_settings.specs.Tuplet.{tuplet_opened}
-use Rattle.abc_settings.specs.VoiceShift.{with_properties}
+use Rattle.abc_bars_header.specs.declared.field_kind.FieldKind.{FieldKind}
+use Rattle.abc_bars_header.specs.declared.field_kind.FieldKind.TheVariants as fields
+use Rattle.abc_bars_voice.specs.declared.settings.Settings.{Settings}
+use Rattle.abc_bars_body.specs.BodyFields.{in_key, part_of}
+use Rattle.abc_bars_header.specs.FieldKind.{kind_of}
+use Rattle.abc_bars_voice.specs.Settings.{without_accidentals}
+use Rattle.abc_bars_notes.specs.TimeTokens.{chord_played, note_played, rest_played}
+use Rattle.abc_bars_voice.specs.Tuplet.{tuplet_opened}
+use Rattle.abc_bars_voice.specs.VoiceShift.{with_properties}
 use Rattle.abc_bars.specs.LookBack.Element.{Element}
 
 -- Behind an M: that says this meter, or is refused.

@@ -3,10 +3,10 @@ use Rattle.std.specs.Prelude.{Bool, true, false, Option, Some, None}
 use Rattle.abc_scan.specs.declared.field.Field.{Field}
 use Rattle.abc_scan.specs.declared.token.TokenKind.{TokenKind}
 use Rattle.abc_scan.specs.declared.token.TokenKind.TheVariants as kinds
-use Rattle.abc_cells.specs.declared.body.Body.{Body}
-use Rattle.abc_music.specs.TokenRole.{has_note}
-use Rattle.abc_cells.specs.Body.{here, mentioned, with_here}
-use Rattle.abc_cells.specs.BodyFields.{field_given}
+use Rattle.abc_bars_body.specs.declared.body.Body.{Body}
+use Rattle.abc_bars_notes.specs.TokenRole.{has_note}
+use Rattle.abc_bars_body.specs.Body.{here, mentioned, with_here}
+use Rattle.abc_bars_body.specs.BodyFields.{field_given}
 use Rattle.abc_bars.specs.LookBack.After.{after}
 use Rattle.abc_bars.specs.LookBack.Element.{Element, field_of}
 

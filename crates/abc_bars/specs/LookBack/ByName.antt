@@ -11,13 +11,13 @@ use Rattle.abc_fields.specs.declared.voice.Voice.{Voice}
 use Rattle.abc_fields.specs.Voice.{voice_of}
 use Rattle.abc_scan.specs.declared.field.Field.{Field}
 use Rattle.abc_scan.specs.declared.token.TokenKind.{TokenKind}
-use Rattle.abc_cells.specs.declared.body.Body.{Body}
-use Rattle.abc_header.specs.declared.field_kind.FieldKind.{FieldKind}
-use Rattle.abc_header.specs.declared.field_kind.FieldKind.TheVariants as fields
-use Rattle.abc_settings.specs.declared.settings.Settings.{Settings}
-use Rattle.abc_cells.specs.BodyFields.{part_of}
-use Rattle.abc_header.specs.FieldKind.{kind_of}
-use Rattle.abc_header.specs.Voices.{place_of, voice_at}
+use Rattle.abc_bars_body.specs.declared.body.Body.{Body}
+use Rattle.abc_bars_header.specs.declared.field_kind.FieldKind.{FieldKind}
+use Rattle.abc_bars_header.specs.declared.field_kind.FieldKind.TheVariants as fields
+use Rattle.abc_bars_voice.specs.declared.settings.Settings.{Settings}
+use Rattle.abc_bars_body.specs.BodyFields.{part_of}
+use Rattle.abc_bars_header.specs.FieldKind.{kind_of}
+use Rattle.abc_bars_header.specs.Voices.{place_of, voice_at}
 use Rattle.abc_bars.specs.LookBack.AfterBody.{mentions}
 use Rattle.abc_bars.specs.LookBack.Element.{Element, field_of}
 use Rattle.abc_bars.specs.LookBack.Header.{with_name}

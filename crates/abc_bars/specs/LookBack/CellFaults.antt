@@ -28,16 +28,16 @@ use Rattle.abc_scan.specs.declared.token.TokenKind.{TokenKind}
 use Rattle.abc_scan.specs.declared.token.TokenKind.TheVariants as kinds
 use Rattle.abc_time.specs.declared.ratio.Ratio.{Ratio}
 use Rattle.abc_time.specs.Tempo.{IsQuarter}
-use Rattle.abc_header.specs.FieldKind.{kind_of}
-use Rattle.abc_header.specs.HeaderLine.{HeaderLine}
-use Rattle.abc_header.specs.declared.defaults.Defaults.{Defaults}
-use Rattle.abc_header.specs.declared.field_kind.FieldKind.{FieldKind}
-use Rattle.abc_header.specs.declared.field_kind.FieldKind.TheVariants as fields
-use Rattle.abc_items.specs.Column.{column_of}
-use Rattle.abc_music.specs.BarRest.{AreBars}
-use Rattle.abc_music.specs.ChordFaults.{AreFaultsOf}
-use Rattle.abc_music.specs.ChordNotes.{big_at, notes_of}
-use Rattle.abc_music.specs.Lasting.{IsPlace, Lasts}
+use Rattle.abc_bars_header.specs.FieldKind.{kind_of}
+use Rattle.abc_bars_header.specs.HeaderLine.{HeaderLine}
+use Rattle.abc_bars_header.specs.declared.defaults.Defaults.{Defaults}
+use Rattle.abc_bars_header.specs.declared.field_kind.FieldKind.{FieldKind}
+use Rattle.abc_bars_header.specs.declared.field_kind.FieldKind.TheVariants as fields
+use Rattle.abc_bars_items.specs.Column.{column_of}
+use Rattle.abc_bars_notes.specs.BarRest.{AreBars}
+use Rattle.abc_bars_notes.specs.ChordFaults.{AreFaultsOf}
+use Rattle.abc_bars_notes.specs.ChordNotes.{big_at, notes_of}
+use Rattle.abc_bars_notes.specs.Lasting.{IsPlace, Lasts}
 use Rattle.abc_bars.specs.LookBack.ByName.{naming_at}
 use Rattle.abc_bars.specs.LookBack.CellPlace.{CellPlace, before_place, cell_with, standing_at}
 use Rattle.abc_bars.specs.LookBack.Element.{Element, field_of}

@@ -3,10 +3,10 @@ use Rattle.std.specs.Prelude.{◌≡◌, ℕ, ◌+◌, List, [], ◌∷◌, ◌+
 use Rattle.abc_fields.specs.declared.key.Key.{Key}
 use Rattle.abc_scan.specs.declared.spanned.Spanned.{Spanned}
 use Rattle.abc_scan.specs.declared.token.TokenKind.{TokenKind}
-use Rattle.abc_header.specs.HeaderLine.{HeaderLine}
-use Rattle.abc_header.specs.declared.defaults.Defaults.{Defaults}
-use Rattle.abc_items.specs.declared.item.Item.{Item}
-use Rattle.abc_settings.specs.declared.settings.Settings.{Settings}
+use Rattle.abc_bars_header.specs.HeaderLine.{HeaderLine}
+use Rattle.abc_bars_header.specs.declared.defaults.Defaults.{Defaults}
+use Rattle.abc_bars_items.specs.declared.item.Item.{Item}
+use Rattle.abc_bars_voice.specs.declared.settings.Settings.{Settings}
 use Rattle.abc_bars.specs.LookBack.ByName.{naming_at, opening_of, tokens_of}
 use Rattle.abc_bars.specs.LookBack.Cells.{behind_tokens}
 use Rattle.abc_bars.specs.LookBack.Element.{Element}

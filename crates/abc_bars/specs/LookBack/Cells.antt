@@ -2,9 +2,9 @@
 use Rattle.std.specs.Prelude.{List, [], ◌∷◌}
 use Rattle.abc_scan.specs.declared.spanned.Spanned.{Spanned}
 use Rattle.abc_scan.specs.declared.token.TokenKind.{TokenKind}
-use Rattle.abc_cells.specs.declared.body.Body.{Body}
-use Rattle.abc_cells.specs.declared.cell.Given.{Given}
-use Rattle.abc_cells.specs.Cell.{tie_ahead, with_token}
+use Rattle.abc_bars_body.specs.declared.body.Body.{Body}
+use Rattle.abc_bars_body.specs.declared.cell.Given.{Given}
+use Rattle.abc_bars_body.specs.Cell.{tie_ahead, with_token}
 use Rattle.abc_bars.specs.LookBack.Held.{held_at}
 use Rattle.abc_bars.specs.LookBack.Element.{Element}
 

@@ -15,16 +15,16 @@ use Rattle.abc_scan.specs.declared.parts.ChordPartKind.TheVariants as parts
 use Rattle.abc_scan.specs.declared.spanned.Spanned.{Spanned}
 use Rattle.abc_scan.specs.declared.token.TokenKind.{TokenKind}
 use Rattle.abc_scan.specs.declared.token.TokenKind.TheVariants as kinds
-use Rattle.abc_header.specs.HeaderLine.{HeaderLine}
-use Rattle.abc_header.specs.declared.defaults.Defaults.{Defaults}
-use Rattle.abc_items.specs.Column.{column_of}
-use Rattle.abc_items.specs.declared.item.TheConstants.{MOST_CHORD_NOTES}
-use Rattle.abc_settings.specs.Tuplet.{OpenTuplet, tuplet_by}
-use Rattle.abc_music.specs.Acting.{Acts}
-use Rattle.abc_music.specs.ChordNotes.{notes_of}
-use Rattle.abc_music.specs.Sound.{fault_if}
-use Rattle.abc_music.specs.TokenRole.{has_note}
-use Rattle.abc_cells.specs.Cell.{tie_ahead}
+use Rattle.abc_bars_header.specs.HeaderLine.{HeaderLine}
+use Rattle.abc_bars_header.specs.declared.defaults.Defaults.{Defaults}
+use Rattle.abc_bars_items.specs.Column.{column_of}
+use Rattle.abc_bars_items.specs.declared.item.TheConstants.{MOST_CHORD_NOTES}
+use Rattle.abc_bars_voice.specs.Tuplet.{OpenTuplet, tuplet_by}
+use Rattle.abc_bars_notes.specs.Acting.{Acts}
+use Rattle.abc_bars_notes.specs.ChordNotes.{notes_of}
+use Rattle.abc_bars_notes.specs.Sound.{fault_if}
+use Rattle.abc_bars_notes.specs.TokenRole.{has_note}
+use Rattle.abc_bars_body.specs.Cell.{tie_ahead}
 use Rattle.abc_bars.specs.LookBack.CellPlace.{CellPlace, Standing, cell_of, items_of, standing}
 use Rattle.abc_bars.specs.LookBack.Element.{Element}
 use Rattle.abc_bars.specs.LookBack.Held.{held_at}

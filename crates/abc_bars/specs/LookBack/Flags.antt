@@ -2,10 +2,10 @@
 -- makes it current, and what a header sets holds from the tune's beginning on. ABC 2.1 sections 3.1 and 7.1.
 use Rattle.std.specs.Prelude.{◌≡◌, Bool, false, not, List, [], filter, Some}
 use Rattle.abc_fields.specs.declared.key.Key.{Key}
-use Rattle.abc_header.specs.HeaderLine.{HeaderLine}
-use Rattle.abc_header.specs.declared.defaults.Defaults.{Defaults}
-use Rattle.abc_items.specs.declared.item.Item.{Item}
-use Rattle.abc_items.specs.declared.item.Item.TheVariants as items
+use Rattle.abc_bars_header.specs.HeaderLine.{HeaderLine}
+use Rattle.abc_bars_header.specs.declared.defaults.Defaults.{Defaults}
+use Rattle.abc_bars_items.specs.declared.item.Item.{Item}
+use Rattle.abc_bars_items.specs.declared.item.Item.TheVariants as items
 use Rattle.abc_scan.specs.declared.spanned.Spanned.{Spanned}
 use Rattle.abc_scan.specs.declared.token.TokenKind.{TokenKind}
 use Rattle.abc_bars.specs.LookBack.Element.{Element}

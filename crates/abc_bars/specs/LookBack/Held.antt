@@ -2,10 +2,10 @@
 -- names. Voices stand in the order of their mention.
 use Rattle.std.specs.Prelude.{ℕ, ◌≡◌, ◌<◌, List, [], length, map, position, bytes_eq, Option, Some, None}
 use Rattle.std.specs.Map.{keys_of}
-use Rattle.abc_cells.specs.declared.body.Body.{Body}
-use Rattle.abc_cells.specs.declared.body.Current.{Current}
-use Rattle.abc_cells.specs.declared.body.Current.TheVariants.{Unnamed, At}
-use Rattle.abc_settings.specs.declared.settings.Settings.{Settings}
+use Rattle.abc_bars_body.specs.declared.body.Body.{Body}
+use Rattle.abc_bars_body.specs.declared.body.Current.{Current}
+use Rattle.abc_bars_body.specs.declared.body.Current.TheVariants.{Unnamed, At}
+use Rattle.abc_bars_voice.specs.declared.settings.Settings.{Settings}
 use Rattle.abc_bars.specs.LookBack.ByName.{Naming, naming_at, settings_named}
 use Rattle.abc_bars.specs.LookBack.Element.{Element}
 

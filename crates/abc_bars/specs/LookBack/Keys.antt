@@ -10,13 +10,13 @@ use Rattle.abc_text.specs.declared.accidental.Accidental.{Accidental}
 use Rattle.abc_text.specs.Accidental.{alteration as accidental_alteration}
 use Rattle.abc_text.specs.Letter.{capital}
 use Rattle.abc_time.specs.declared.grains.Grains.{Grains}
-use Rattle.abc_items.specs.declared.item.Item.{Item}
-use Rattle.abc_items.specs.declared.item.Item.TheVariants as items
-use Rattle.abc_items.specs.declared.item.Tone.{Tone}
-use Rattle.abc_settings.specs.Accidentals.{reach_of}
-use Rattle.abc_music.specs.Pitch.{midi_key, pitch_of}
-use Rattle.abc_music.specs.TokenRole.{has_note}
-use Rattle.abc_cells.specs.Cell.{tie_ahead}
+use Rattle.abc_bars_items.specs.declared.item.Item.{Item}
+use Rattle.abc_bars_items.specs.declared.item.Item.TheVariants as items
+use Rattle.abc_bars_items.specs.declared.item.Tone.{Tone}
+use Rattle.abc_bars_voice.specs.Accidentals.{reach_of}
+use Rattle.abc_bars_notes.specs.Pitch.{midi_key, pitch_of}
+use Rattle.abc_bars_notes.specs.TokenRole.{has_note}
+use Rattle.abc_bars_body.specs.Cell.{tie_ahead}
 use Rattle.abc_bars.specs.LookBack.CellPlace.{CellPlace, GivesItem, Standing, standing_at}
 use Rattle.abc_bars.specs.LookBack.Element.{Element}
 use Rattle.abc_bars.specs.LookBack.Since.{IsSince, notes_of_tokens}

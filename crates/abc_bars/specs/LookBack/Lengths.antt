@@ -8,14 +8,14 @@ use Rattle.abc_scan.specs.declared.spanned.Spanned.{Spanned}
 use Rattle.abc_scan.specs.declared.token.TokenKind.{TokenKind}
 use Rattle.abc_scan.specs.declared.token.TokenKind.TheVariants as kinds
 use Rattle.abc_time.specs.declared.grains.Grains.{Grains}
-use Rattle.abc_items.specs.declared.item.Item.{Item}
-use Rattle.abc_items.specs.declared.item.Item.TheVariants as items
-use Rattle.abc_items.specs.declared.item.Tone.{Tone}
-use Rattle.abc_settings.specs.declared.settings.Settings.{Settings}
-use Rattle.abc_music.specs.BarRest.{bar_rest_of}
-use Rattle.abc_music.specs.ChordNotes.{SoundsTogether}
-use Rattle.abc_music.specs.Lasting.{IsGiven, IsOneTone, IsPlace, Lasts}
-use Rattle.abc_music.specs.TokenRole.{has_note}
+use Rattle.abc_bars_items.specs.declared.item.Item.{Item}
+use Rattle.abc_bars_items.specs.declared.item.Item.TheVariants as items
+use Rattle.abc_bars_items.specs.declared.item.Tone.{Tone}
+use Rattle.abc_bars_voice.specs.declared.settings.Settings.{Settings}
+use Rattle.abc_bars_notes.specs.BarRest.{bar_rest_of}
+use Rattle.abc_bars_notes.specs.ChordNotes.{SoundsTogether}
+use Rattle.abc_bars_notes.specs.Lasting.{IsGiven, IsOneTone, IsPlace, Lasts}
+use Rattle.abc_bars_notes.specs.TokenRole.{has_note}
 use Rattle.abc_bars.specs.LookBack.CellPlace.{CellPlace, GivesItem, cell_with, standing_at}
 use Rattle.abc_bars.specs.LookBack.Voice.{settings_at}
 

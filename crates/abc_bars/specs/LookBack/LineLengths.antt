@@ -8,7 +8,7 @@ use Rattle.abc_scan.specs.declared.token.TokenKind.{TokenKind}
 use Rattle.abc_scan.specs.declared.token.TokenKind.TheVariants as kinds
 use Rattle.abc_scan.specs.Cell.{cells_of}
 use Rattle.abc_scan.specs.Line.{tokens_of}
-use Rattle.abc_music.specs.TokenRole.{has_note}
+use Rattle.abc_bars_notes.specs.TokenRole.{has_note}
 use Rattle.abc_bars.specs.LookBack.Along.{CellTokens, values_set}
 use Rattle.abc_bars.specs.LookBack.CellPlace.{CellPlace, GivesItem, cell_with}
 use Rattle.abc_bars.specs.LookBack.Lengths.{LastsAsNote, LastsAsRest, SoundsAsChord, held_there}

@@ -8,11 +8,11 @@ use Rattle.abc_fields.specs.Spelling.Voice.{IsVoice}
 use Rattle.abc_scan.specs.declared.field.Field.{Field}
 use Rattle.abc_scan.specs.declared.token.TokenKind.{TokenKind}
 use Rattle.abc_scan.specs.declared.token.TokenKind.TheVariants as kinds
-use Rattle.abc_header.specs.FieldKind.{kind_of}
-use Rattle.abc_header.specs.HeaderLine.{HeaderLine}
-use Rattle.abc_header.specs.declared.defaults.Defaults.{Defaults}
-use Rattle.abc_header.specs.declared.field_kind.FieldKind.TheVariants as fields
-use Rattle.abc_music.specs.ChordNotes.{notes_of}
+use Rattle.abc_bars_header.specs.FieldKind.{kind_of}
+use Rattle.abc_bars_header.specs.HeaderLine.{HeaderLine}
+use Rattle.abc_bars_header.specs.declared.defaults.Defaults.{Defaults}
+use Rattle.abc_bars_header.specs.declared.field_kind.FieldKind.TheVariants as fields
+use Rattle.abc_bars_notes.specs.ChordNotes.{notes_of}
 use Rattle.abc_bars.specs.LookBack.Element.{Element, field_of}
 use Rattle.abc_bars.specs.LookBack.Held.{held_at, roll_of}
 use Rattle.abc_bars.specs.LookBack.Place.{opening_at}

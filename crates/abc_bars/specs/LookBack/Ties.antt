@@ -7,14 +7,14 @@ use Rattle.abc_scan.specs.declared.note.Note.{Note}
 use Rattle.abc_scan.specs.declared.spanned.Spanned.{Spanned}
 use Rattle.abc_scan.specs.declared.token.TokenKind.{TokenKind}
 use Rattle.abc_scan.specs.declared.token.TokenKind.TheVariants as kinds
-use Rattle.abc_music.specs.Broken.{is_time_token}
-use Rattle.abc_items.specs.Column.{column_of}
-use Rattle.abc_music.specs.LooseTies.{is_loose, with_before}
-use Rattle.abc_cells.specs.Cell.{may_be_tied}
+use Rattle.abc_bars_notes.specs.Broken.{is_time_token}
+use Rattle.abc_bars_items.specs.Column.{column_of}
+use Rattle.abc_bars_notes.specs.LooseTies.{is_loose, with_before}
+use Rattle.abc_bars_body.specs.Cell.{may_be_tied}
 use Rattle.abc_bars.specs.LookBack.Element.{Element}
 use Rattle.abc_bars.specs.LookBack.Voice.{alteration_at, as_tied, counted_notes, tied_at}
-use Rattle.abc_settings.specs.declared.settings.Settings.{Settings}
-use Rattle.abc_settings.specs.declared.tied.TiedNote.{TiedNote}
+use Rattle.abc_bars_voice.specs.declared.settings.Settings.{Settings}
+use Rattle.abc_bars_voice.specs.declared.tied.TiedNote.{TiedNote}
 
 -- Whether what stands directly before a token in its cell, if anything does, is a note or a chord.
 abbrev pub is_behind_note : Option TokenKind → Bool

@@ -8,10 +8,10 @@ use Rattle.abc_scan.specs.declared.token.TokenKind.{TokenKind}
 use Rattle.abc_scan.specs.declared.token.TokenKind.TheVariants as kinds
 use Rattle.abc_scan.specs.Dynamic.{velocity_of as dynamic_velocity}
 use Rattle.abc_time.specs.declared.grains.Grains.{Grains}
-use Rattle.abc_items.specs.declared.item.Item.{Item}
-use Rattle.abc_items.specs.declared.item.Item.TheVariants as items
-use Rattle.abc_items.specs.declared.item.Tone.{Tone}
-use Rattle.abc_music.specs.TokenRole.{has_note}
+use Rattle.abc_bars_items.specs.declared.item.Item.{Item}
+use Rattle.abc_bars_items.specs.declared.item.Item.TheVariants as items
+use Rattle.abc_bars_items.specs.declared.item.Tone.{Tone}
+use Rattle.abc_bars_notes.specs.TokenRole.{has_note}
 use Rattle.abc_bars.specs.LookBack.CellPlace.{CellPlace, GivesItem, standing_at}
 use Rattle.abc_bars.specs.LookBack.Element.{Element}
 use Rattle.abc_bars.specs.LookBack.Voice.{dynamic_said}

@@ -25,21 +25,21 @@ use Rattle.abc_scan.specs.declared.directive.Reach.TheVariants.{Not, Octave, Pit
 use Rattle.abc_scan.specs.declared.dynamic.Dynamic.{Dynamic}
 use Rattle.abc_text.specs.Letter.{capital}
 use Rattle.abc_time.specs.declared.ratio.Ratio.{Ratio}
-use Rattle.abc_settings.specs.declared.accidentals.Accidentals.{Accidentals}
-use Rattle.abc_header.specs.declared.field_kind.FieldKind.{FieldKind}
-use Rattle.abc_header.specs.declared.field_kind.FieldKind.TheVariants as fields
-use Rattle.abc_items.specs.declared.item.TheConstants.{MOST_CHORD_NOTES}
-use Rattle.abc_settings.specs.declared.settings.Settings.{Settings}
-use Rattle.abc_settings.specs.declared.tied.TiedNote.{TiedNote}
-use Rattle.abc_settings.specs.declared.voice_shift.VoiceShift.{VoiceShift}
-use Rattle.abc_settings.specs.Accidentals.{no_accidentals, reach_of}
-use Rattle.abc_settings.specs.Alteration.{own_alteration, tied_alteration, with_own}
-use Rattle.abc_cells.specs.BodyFields.{part_of}
-use Rattle.abc_music.specs.Broken.{is_time_token}
-use Rattle.abc_music.specs.Chords.{tie_follows}
-use Rattle.abc_header.specs.FieldKind.{kind_of}
-use Rattle.abc_music.specs.TokenRole.{has_note}
-use Rattle.abc_settings.specs.Tuplet.{OpenTuplet, tuplet_by}
+use Rattle.abc_bars_voice.specs.declared.accidentals.Accidentals.{Accidentals}
+use Rattle.abc_bars_header.specs.declared.field_kind.FieldKind.{FieldKind}
+use Rattle.abc_bars_header.specs.declared.field_kind.FieldKind.TheVariants as fields
+use Rattle.abc_bars_items.specs.declared.item.TheConstants.{MOST_CHORD_NOTES}
+use Rattle.abc_bars_voice.specs.declared.settings.Settings.{Settings}
+use Rattle.abc_bars_voice.specs.declared.tied.TiedNote.{TiedNote}
+use Rattle.abc_bars_voice.specs.declared.voice_shift.VoiceShift.{VoiceShift}
+use Rattle.abc_bars_voice.specs.Accidentals.{no_accidentals, reach_of}
+use Rattle.abc_bars_voice.specs.Alteration.{own_alteration, tied_alteration, with_own}
+use Rattle.abc_bars_body.specs.BodyFields.{part_of}
+use Rattle.abc_bars_notes.specs.Broken.{is_time_token}
+use Rattle.abc_bars_notes.specs.Chords.{tie_follows}
+use Rattle.abc_bars_header.specs.FieldKind.{kind_of}
+use Rattle.abc_bars_notes.specs.TokenRole.{has_note}
+use Rattle.abc_bars_voice.specs.Tuplet.{OpenTuplet, tuplet_by}
 use Rattle.abc_bars.specs.LookBack.Defaults.{meter_said, unit_said}
 use Rattle.abc_bars.specs.LookBack.Element.{Element, field_of}
 

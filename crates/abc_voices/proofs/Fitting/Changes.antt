@@ -4,16 +4,16 @@ use Rattle.std.specs.Prelude.{All, IfSome, sum_by}
 use Rattle.std.specs.List.{cons_option, flat_map}
 use Rattle.std.proofs.lemmas.List.Elements.{All-nil, All-cons, All-head, All-tail, All-append, All-push}
 use Rattle.std.proofs.lemmas.List.Sums.{sum_by-cons}
-use Rattle.abc_items.specs.Item.{IsItem}
-use Rattle.abc_items.specs.declared.item.Item.{Item}
+use Rattle.abc_bars_items.specs.Item.{IsItem}
+use Rattle.abc_bars_items.specs.declared.item.Item.{Item}
 use Rattle.abc_time.specs.declared.grains.Grains.{Grains}
 use Rattle.abc_time.specs.Grains.{tick_at}
 use Rattle.abc_voices.specs.Arrange.{set_in}
-use Rattle.abc_sections.specs.PlayedSection.{play_in, longest}
+use Rattle.abc_voices_sections.specs.PlayedSection.{play_in, longest}
 use Rattle.abc_voices.specs.Change.{at_moment, set_from}
 use Rattle.abc_voices.specs.Opening.{past_all}
 use Rattle.abc_voices.specs.Ticks.{has_tick, last_of_each_tick}
-use Rattle.abc_sections.specs.Step.{length_of}
+use Rattle.abc_voices_sections.specs.Step.{length_of}
 use Rattle.abc_voices.proofs.Fitting.Kept.{either, play_kept}
 use Rattle.abc_voices.proofs.Fitting.Notes.{lasting}
 use Rattle.abc_voices.proofs.Fitting.Voices.{IsHeard, ItemsIn, lasts}

@@ -3,16 +3,16 @@ use Rattle.std.proofs.Common.{ℕ, Bool, true, false, zero, suc, cond, List, [],
 use Rattle.std.specs.Prelude.{All, IfSome, slice_get, filter_map, bytes_eq, ◌&&◌}
 use Rattle.std.specs.List.{cons_option}
 use Rattle.std.proofs.lemmas.List.Elements.{All-nil, All-cons, All-head, All-tail, All-append, All-push}
-use Rattle.abc_items.specs.declared.item.Item.{Item}
+use Rattle.abc_bars_items.specs.declared.item.Item.{Item}
 use Rattle.abc_repeat.specs.Mark.{is_ending}
-use Rattle.abc_sections.specs.declared.ending_fields.Region.{Region}
-use Rattle.abc_sections.specs.declared.ending_fields.Region.TheVariants.{Common}
+use Rattle.abc_voices_sections.specs.declared.ending_fields.Region.{Region}
+use Rattle.abc_voices_sections.specs.declared.ending_fields.Region.TheVariants.{Common}
 use Rattle.abc_voices.specs.Arrange.{played_sections}
-use Rattle.abc_sections.specs.PlayedSection.{play_in}
-use Rattle.abc_sections.specs.EndingFields.{waits, set_down, region_past, with_fields_in_endings_from, with_fields_in_endings}
-use Rattle.abc_sections.specs.Play.{places_of}
-use Rattle.abc_sections.specs.Section.{is_step, is_section, voice_past, opening_voice, sections_from, sections, part_from}
-use Rattle.abc_sections.specs.Step.{mark_of}
+use Rattle.abc_voices_sections.specs.PlayedSection.{play_in}
+use Rattle.abc_voices_sections.specs.EndingFields.{waits, set_down, region_past, with_fields_in_endings_from, with_fields_in_endings}
+use Rattle.abc_voices_sections.specs.Play.{places_of}
+use Rattle.abc_voices_sections.specs.Section.{is_step, is_section, voice_past, opening_voice, sections_from, sections, part_from}
+use Rattle.abc_voices_sections.specs.Step.{mark_of}
 
 -- what stands at a place, if there is one
 pub got : {X : Type 0} (P : X → Type 0) (xs : List X) (place : ℕ) → All P xs → IfSome (slice_get xs place) P

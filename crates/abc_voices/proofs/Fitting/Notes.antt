@@ -2,14 +2,14 @@
 use Rattle.std.proofs.Common.{◌≡◌, ℕ, ◌+◌, ◌≤◌, false, List, [], ◌∷◌, length, Option, Some, None, arith, refl, subst, zero, suc, take, drop}
 use Rattle.std.specs.Prelude.{All, IfSome, slice_index_or, remove}
 use Rattle.std.proofs.lemmas.List.Elements.{All-nil, All-head, All-tail, All-append, All-push, All-take, All-drop, All-weaker}
-use Rattle.abc_items.specs.Item.{IsItem, IsTone}
-use Rattle.abc_items.specs.Velocity.{IsVelocity}
-use Rattle.abc_items.specs.declared.item.Item.{Item}
-use Rattle.abc_items.specs.declared.item.Item.TheVariants as items
-use Rattle.abc_items.specs.declared.item.Tone.{Tone}
-use Rattle.abc_score.specs.declared.score.Sounding.{Sounding}
+use Rattle.abc_bars_items.specs.Item.{IsItem, IsTone}
+use Rattle.abc_bars_items.specs.Velocity.{IsVelocity}
+use Rattle.abc_bars_items.specs.declared.item.Item.{Item}
+use Rattle.abc_bars_items.specs.declared.item.Item.TheVariants as items
+use Rattle.abc_bars_items.specs.declared.item.Tone.{Tone}
+use Rattle.abc_voices_score.specs.declared.score.Sounding.{Sounding}
 use Rattle.abc_voices.specs.TiedNotes.{TokenNotes, Notes, own_note, lengthened, with_note, next_place, with_key, with_tones, before, notes_from}
-use Rattle.abc_sections.specs.Step.{length_of, tones_of}
+use Rattle.abc_voices_sections.specs.Step.{length_of, tones_of}
 
 -- a note that begins then or later, ends no sooner than it begins, and has a key and a velocity of MIDI
 pub record Fits (at : ℕ) (note : Sounding) : Type 0 where

@@ -4,16 +4,16 @@ use Rattle.std.specs.Prelude.{All, sum_by}
 use Rattle.std.specs.List.{flat_map}
 use Rattle.std.proofs.lemmas.List.Elements.{All-nil, All-cons, All-head, All-tail, All-drop, All-weaker}
 use Rattle.std.proofs.lemmas.List.Sums.{sum_by-cons}
-use Rattle.abc_items.specs.Item.{IsItem}
-use Rattle.abc_items.specs.declared.item.Item.{Item}
-use Rattle.abc_score.specs.declared.score.Sounding.{Sounding}
+use Rattle.abc_bars_items.specs.Item.{IsItem}
+use Rattle.abc_bars_items.specs.declared.item.Item.{Item}
+use Rattle.abc_voices_score.specs.declared.score.Sounding.{Sounding}
 use Rattle.abc_voices.specs.Arrange.{voice_notes, last_off}
-use Rattle.abc_sections.specs.PlayedSection.{play_in, size_in, length_in, longest}
+use Rattle.abc_voices_sections.specs.PlayedSection.{play_in, size_in, length_in, longest}
 use Rattle.abc_voices.specs.TiedNotes.{Notes}
-use Rattle.abc_sections.specs.EndingFields.{with_fields_in_endings}
-use Rattle.abc_sections.specs.Play.{places_of, duration}
-use Rattle.abc_sections.specs.Section.{part}
-use Rattle.abc_sections.specs.Step.{length_of}
+use Rattle.abc_voices_sections.specs.EndingFields.{with_fields_in_endings}
+use Rattle.abc_voices_sections.specs.Play.{places_of, duration}
+use Rattle.abc_voices_sections.specs.Section.{part}
+use Rattle.abc_voices_sections.specs.Step.{length_of}
 use Rattle.abc_voices.specs.Track.{everyone, tracks, nameless_plays}
 use Rattle.abc_voices.proofs.Fitting.Count.{notes_of, notes_few, picked_few}
 use Rattle.abc_voices.proofs.Fitting.Kept.{either, play_kept}

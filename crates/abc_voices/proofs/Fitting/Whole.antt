@@ -4,9 +4,9 @@ use Rattle.std.specs.Prelude.{All, IfSome, sum_by, slice_index_or}
 use Rattle.std.specs.List.{flat_map}
 use Rattle.std.proofs.lemmas.List.{length-map}
 use Rattle.std.proofs.lemmas.List.Elements.{All-nil, All-cons, All-head, All-tail, All-append, All-map, All-weaker}
-use Rattle.abc_items.specs.Item.{IsItem}
-use Rattle.abc_items.specs.declared.item.Item.{Item}
-use Rattle.abc_items.specs.declared.item.Item.TheVariants as items
+use Rattle.abc_bars_items.specs.Item.{IsItem}
+use Rattle.abc_bars_items.specs.declared.item.Item.{Item}
+use Rattle.abc_bars_items.specs.declared.item.Item.TheVariants as items
 use Rattle.abc_fields.specs.Meter.{IsMeterInRange}
 use Rattle.abc_fields.specs.Signature.{IsSharps}
 use Rattle.abc_fields.specs.declared.meter.Meter.{Meter}
@@ -15,21 +15,21 @@ use Rattle.abc_repeat.specs.declared.play.TheConstants.{MOST_PLACES}
 use Rattle.abc_time.specs.declared.grains.Grains.{Grains}
 use Rattle.abc_time.specs.Grains.{grains_of_the_latest_end}
 use Rattle.abc_time.specs.Tempo.{FitsInTempoEvent}
-use Rattle.abc_items.specs.declared.item.TheConstants.{MOST_VOICES}
-use Rattle.abc_items.specs.declared.program.TheConstants.{HIGHEST_PROGRAM}
-use Rattle.abc_score.specs.declared.limits.TheConstants.{LONGEST_TITLE, MOST_CHANGES, MOST_NOTES, MOST_PROGRAMS}
-use Rattle.abc_score.specs.declared.score.Change.{Change}
-use Rattle.abc_score.specs.declared.score.Sounding.{Sounding}
+use Rattle.abc_bars_items.specs.declared.item.TheConstants.{MOST_VOICES}
+use Rattle.abc_bars_items.specs.declared.program.TheConstants.{HIGHEST_PROGRAM}
+use Rattle.abc_voices_score.specs.declared.limits.TheConstants.{LONGEST_TITLE, MOST_CHANGES, MOST_NOTES, MOST_PROGRAMS}
+use Rattle.abc_voices_score.specs.declared.score.Change.{Change}
+use Rattle.abc_voices_score.specs.declared.score.Sounding.{Sounding}
 use Rattle.abc_voices.specs.Arrange.{played_sections, voice_notes, all_notes, set_in, or_else, usual_tempo, first_of, total, voices_notes, end_of, changes_of, programs_in, programs_of, score_of, places_played}
-use Rattle.abc_sections.specs.PlayedSection.{longest}
+use Rattle.abc_voices_sections.specs.PlayedSection.{longest}
 use Rattle.abc_voices.specs.Change.{tempo_of, meter_of, key_of, program_of, behind}
 use Rattle.abc_voices.specs.ScoreChanges.{tempo_change, meter_at, meter_change, key_change, program_change, changes_that_stand, programs_that_stand}
 use Rattle.abc_voices.specs.TiedNotes.{Notes}
-use Rattle.abc_score.specs.Limits.{IsChangeWithin, IsSoundingWithin, IsVoiceWithin, IsProgramWithin, AreProgramsWithin, AreCountsWithin, IsWithinLimits}
+use Rattle.abc_voices_score.specs.Limits.{IsChangeWithin, IsSoundingWithin, IsVoiceWithin, IsProgramWithin, AreProgramsWithin, AreCountsWithin, IsWithinLimits}
 use Rattle.abc_voices.specs.Opening.{tempo_past, meter_past, key_past, program_past, past_all, title_of}
 use Rattle.abc_voices.specs.Ticks.{last_of_each_tick}
 use Rattle.abc_voices.specs.Track.{everyone, tracks}
-use Rattle.abc_sections.proofs.Items.{of_map}
+use Rattle.abc_voices_sections.proofs.Items.{of_map}
 use Rattle.abc_voices.proofs.Fitting.Changes.{IsSetBy, settled_kept, settled_few, sections_set, past_kept}
 use Rattle.abc_voices.proofs.Fitting.Kept.{one_more, played_kept}
 use Rattle.abc_voices.proofs.Fitting.Notes.{Fits, AllFit}

@@ -1,12 +1,12 @@
 //! Books of texts in the toy language.
-#![tactic(auto, unfolding(abc_book::specs::Block::blocks_of, abc_tunebook::specs::Book::book_of, abc_tunebook::specs::Tune::tune_of))]
+#![tactic(auto, unfolding(abc_book::specs::Block::blocks_of, abc_tune_compiler::specs::Book::book_of, abc_tune_compiler::specs::Tune::tune_of))]
 
 ghost use Rattle.std.specs.Prelude.{◌≡◌, [], ◌∷◌, codes};
 ghost use Rattle.abc_fields.specs.declared.fault.FaultCode.TheVariants.{BadByte, BadReference, TuneTooLong};
-ghost use Rattle.abc_tunebook.specs.Book.{empty_book};
-ghost use Rattle.abc_tunebook.specs.Fault.{fault_cmp};
-ghost use Rattle.abc_tunebook.specs.Sorted.{sorted_once};
-ghost use Rattle.abc_tunebook.specs.Tune.{fault_in};
+ghost use Rattle.abc_tune_compiler.specs.Book.{empty_book};
+ghost use Rattle.abc_tune_compiler.specs.Fault.{fault_cmp};
+ghost use Rattle.abc_tune_compiler.specs.Sorted.{sorted_once};
+ghost use Rattle.abc_tune_compiler.specs.Tune.{fault_in};
 ghost use Rattle.live_examples.specs.Toy.{toy_book};
 ghost use Rattle.live_examples.specs.Values.{faulty_blocks, faults_in_no_order};
 

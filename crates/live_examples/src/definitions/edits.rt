@@ -1,5 +1,5 @@
 //! Edits of a text, and the differences of two books. How a text is edited is our own.
-#![tactic(auto, unfolding(abc_lines::specs::Edits::edited, abc_lines::specs::Edits::replaced, abc_lines::specs::Text::spliced, abc_tunebook::specs::Files::removed, abc_tunebook::specs::Files::written))]
+#![tactic(auto, unfolding(abc_lines::specs::Edits::edited, abc_lines::specs::Edits::replaced, abc_lines::specs::Text::spliced, abc_tune_compiler::specs::Files::removed, abc_tune_compiler::specs::Files::written))]
 
 ghost use Rattle.std.specs.Prelude.{◌≡◌, ℕ, true, false, [], ◌∷◌, ◌++◌, length, codes, replicate};
 ghost use Rattle.std.specs.Global.{Vec};
@@ -9,7 +9,7 @@ ghost use Rattle.abc_lines.specs.Text.{Text, is_line};
 ghost use Rattle.abc_lines.specs.declared.edit_error.EditError.TheVariants.{BadLine, BadRange, TooLarge};
 ghost use Rattle.abc_live.specs.Edit.{line_at, splice_of};
 ghost use Rattle.abc_live.specs.declared.edit.Edit.TheVariants.{Delete, Insert, Replace};
-ghost use Rattle.abc_tunebook.specs.Files.{file_at, removed, written};
+ghost use Rattle.abc_tune_compiler.specs.Files.{file_at, removed, written};
 ghost use Rattle.live_examples.specs.Values.{four_lines};
 
 /// Lines are counted from 1.

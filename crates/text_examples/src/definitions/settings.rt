@@ -1,31 +1,31 @@
 //! What holds for a voice, what notes are and what a header begins with, value by value: by the definitions of
-//! `abc_items`, `abc_settings`, `abc_music`, `abc_header` and `abc_cells`.
-#![tactic(auto, unfolding(abc_music::specs::BarRest::bar_grains, abc_text::specs::Number::number_of, abc_time::specs::Grains::grains_of_a_whole_note, abc_time::specs::Grains::grains_of_the_longest_length, abc_time::specs::Length::length_of, abc_time::specs::Length::quotient_of, abc_time::specs::Tempo::quarter_of))]
+//! `abc_bars_items`, `abc_bars_voice`, `abc_bars_notes`, `abc_bars_header` and `abc_bars_body`.
+#![tactic(auto, unfolding(abc_bars_notes::specs::BarRest::bar_grains, abc_text::specs::Number::number_of, abc_time::specs::Grains::grains_of_a_whole_note, abc_time::specs::Grains::grains_of_the_longest_length, abc_time::specs::Length::length_of, abc_time::specs::Length::quotient_of, abc_time::specs::Tempo::quarter_of))]
 
 ghost use Rattle.std.specs.Prelude.{◌≡◌, ◌^◌, ◌-◌, pos, negsuc, true, false, [], ◌∷◌, codes, map, replicate, Some, None, Ok, Err};
-ghost use Rattle.abc_cells.specs.BodyFields.{part_of};
-ghost use Rattle.abc_cells.specs.BodyOpening.{unshifted};
+ghost use Rattle.abc_bars_body.specs.BodyFields.{part_of};
+ghost use Rattle.abc_bars_body.specs.BodyOpening.{unshifted};
 ghost use Rattle.abc_fields.specs.Shift.{no_shift};
 ghost use Rattle.abc_fields.specs.declared.fault.FaultCode.TheVariants.{BadLength, BadReference, BadTuplet, FreeBarRest, NestedTuplet, TooManyVoices};
 ghost use Rattle.abc_fields.specs.declared.meter.Meter.TheVariants.{Free, Of};
 ghost use Rattle.abc_fields.specs.declared.tempo.Tempo.TheVariants.{Beat, Units, Unset};
-ghost use Rattle.abc_header.specs.FieldKind.{kind_of};
-ghost use Rattle.abc_header.specs.Header.{declared};
-ghost use Rattle.abc_header.specs.Reference.{reference_of};
-ghost use Rattle.abc_header.specs.declared.field_kind.FieldKind.TheVariants.{Reference, Title, Meter, UnitLength, Tempo, Parts, Voice, Key, Other};
-ghost use Rattle.abc_items.specs.Column.{column_of};
-ghost use Rattle.abc_items.specs.Program.{program_of};
-ghost use Rattle.abc_items.specs.Velocity.{velocity_of};
-ghost use Rattle.abc_items.specs.declared.item.Item.TheVariants as items;
-ghost use Rattle.abc_music.specs.BarRest.{bar_rest_of};
-ghost use Rattle.abc_music.specs.Broken.{first_factor, second_factor};
+ghost use Rattle.abc_bars_header.specs.FieldKind.{kind_of};
+ghost use Rattle.abc_bars_header.specs.Header.{declared};
+ghost use Rattle.abc_bars_header.specs.Reference.{reference_of};
+ghost use Rattle.abc_bars_header.specs.declared.field_kind.FieldKind.TheVariants.{Reference, Title, Meter, UnitLength, Tempo, Parts, Voice, Key, Other};
+ghost use Rattle.abc_bars_items.specs.Column.{column_of};
+ghost use Rattle.abc_bars_items.specs.Program.{program_of};
+ghost use Rattle.abc_bars_items.specs.Velocity.{velocity_of};
+ghost use Rattle.abc_bars_items.specs.declared.item.Item.TheVariants as items;
+ghost use Rattle.abc_bars_notes.specs.BarRest.{bar_rest_of};
+ghost use Rattle.abc_bars_notes.specs.Broken.{first_factor, second_factor};
 ghost use Rattle.abc_scan.specs.declared.broken.Direction.TheVariants.{Left, Right};
 ghost use Rattle.abc_scan.specs.declared.dynamic.Dynamic.TheVariants.{Ppp, Pp, P, Mp, Mf, F, Ff, Fff};
-ghost use Rattle.abc_settings.specs.TempoItem.{tempo_item};
-ghost use Rattle.abc_settings.specs.Tempo.{micros_by};
-ghost use Rattle.abc_settings.specs.Tuplet.{counted_down, default_q, tuplet_by, tuplet_opened};
-ghost use Rattle.abc_settings.specs.Unit.{unit_by};
-ghost use Rattle.abc_settings.specs.VoiceShift.{with_properties};
+ghost use Rattle.abc_bars_voice.specs.TempoItem.{tempo_item};
+ghost use Rattle.abc_bars_voice.specs.Tempo.{micros_by};
+ghost use Rattle.abc_bars_voice.specs.Tuplet.{counted_down, default_q, tuplet_by, tuplet_opened};
+ghost use Rattle.abc_bars_voice.specs.Unit.{unit_by};
+ghost use Rattle.abc_bars_voice.specs.VoiceShift.{with_properties};
 ghost use Rattle.text_examples.specs.Bars.{bar_rest, shifted};
 ghost use Rattle.text_examples.specs.Settings.{broken, fifteen_voices, mark, open_tuplet, voice_a};
 ghost use Rattle.text_examples.specs.Values.{ratio, shift};

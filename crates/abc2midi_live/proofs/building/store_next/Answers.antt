@@ -1,6 +1,6 @@
 use Rattle.std.proofs.Common.{◌≡◌, ℕ, ◌<◌, ◌^◌, Some, sym, subst}
 use Rattle.abc_publish.specs.Publisher.{IsNext, HasNone, Slots, begun, maps_of}
-use Rattle.abc_tunebook.specs.Files.{file_at}
+use Rattle.abc_tune_compiler.specs.Files.{file_at}
 use Rattle.abc2midi_live.specs.Book.{files_of}
 use Rattle.abc2midi_live.specs.Building.{stage, IsIdle}
 use Rattle.abc2midi_live.proofs.Pending.{IsBehind, at_none, at_some, next_none, next_done, next_fault, idle_again, under_way, onward, stops_uncalled, stops_once}

@@ -6,12 +6,12 @@ use Rattle.abc_lines.specs.declared.limits.TheConstants.{MOST_LINES}
 use Rattle.abc_live.specs.Prepared.{IsBook, header_faults_there, splice_in}
 use Rattle.abc_live.proofs.Outcomes.{behind_inside, book_now, cells_there, faults_now, few_came, few_faults, few_lines, good_lines, header_there, lines_inside, ok_both, outputs_after, own_lines, taken_over}
 use Rattle.abc_live.proofs.Stretches.{made_tunes, rows_count, stretch_inside}
-use Rattle.abc_outputs.specs.Output.{output_in}
-use Rattle.abc_outputs.specs.Tunes.{faults_by}
-use Rattle.abc_outputs.specs.declared.output.Output.{Output}
-use Rattle.abc_outputs.proofs.Building.{built_none}
-use Rattle.abc_outputs.proofs.Lists.{ok_more}
-use Rattle.abc_tunebook.specs.Book.{book_of}
+use Rattle.abc_live_index.specs.Output.{output_in}
+use Rattle.abc_live_index.specs.Tunes.{faults_by}
+use Rattle.abc_live_index.specs.declared.output.Output.{Output}
+use Rattle.abc_live_index.proofs.OutputBuilding.{built_none}
+use Rattle.abc_live_index.proofs.OutputLists.{ok_more}
+use Rattle.abc_tune_compiler.specs.Book.{book_of}
 use Rattle.abc_live.proofs.outcome.book_after.Goals as goal
 
 pub lines_of-requires-clause-inside : goal.lines_of-requires-clause-inside

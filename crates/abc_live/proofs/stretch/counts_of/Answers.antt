@@ -1,8 +1,8 @@
 use Rattle.std.proofs.Common.{◌≡◌, ◌+◌, ◌<◌, ap, ◌∙◌, sym, drop, length, map, take, arith}
-use Rattle.abc_chains.specs.declared.stretch.Stretch.{Stretch}
+use Rattle.abc_live_text.specs.declared.stretch.Stretch.{Stretch}
 use Rattle.abc_live.specs.Prepared.{count_in}
 use Rattle.abc_live.proofs.Lined.{dropped_at, mapped_more}
-use Rattle.abc_outputs.proofs.Lists.{never_none}
+use Rattle.abc_live_index.proofs.OutputLists.{never_none}
 use Rattle.abc_live.proofs.stretch.counts_of.Goals as goal
 use Rattle.abc_live.proofs.stretch.counts_of.Goals.{in-Some+in_ok-push, in_default}
 

@@ -3,7 +3,7 @@ use Rattle.abc_lines.specs.Text.{spliced}
 use Rattle.abc_lines.proofs.Splices.{seen_more}
 use Rattle.abc_live.specs.Prepared.{splice_in}
 use Rattle.abc_live.proofs.Lined.{dropped_at}
-use Rattle.abc_outputs.proofs.Lists.{never_none}
+use Rattle.abc_live_index.proofs.OutputLists.{never_none}
 use Rattle.abc_live.proofs.stretch.lines_of.Goals as goal
 use Rattle.abc_live.proofs.stretch.lines_of.Goals.{in-Some+in_ok-push, in_default}
 

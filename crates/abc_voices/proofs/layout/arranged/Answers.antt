@@ -1,7 +1,7 @@
 use Rattle.std.proofs.Common.{◌≡◌, ◌≤◌, ◌<◌, ℕ, Err, length, ap, sym, subst, ◌∙◌}
-use Rattle.abc_items.specs.Item.{IsItem}
+use Rattle.abc_bars_items.specs.Item.{IsItem}
 use Rattle.abc_repeat.specs.declared.order.TheConstants.{MOST_SECTIONS}
-use Rattle.abc_sections.specs.Items.{items_of}
+use Rattle.abc_voices_sections.specs.Items.{items_of}
 use Rattle.abc_voices.specs.declared.arranged.BuildFault.TheVariants.{TooLong}
 use Rattle.abc_voices.proofs.Given.{items_given, played_given, unknown_given}
 use Rattle.abc_voices.specs.TooLong.{of_sections}

@@ -1,5 +1,5 @@
 use Rattle.std.proofs.Common.{◌∙◌}
-use Rattle.abc_sections.specs.Items.{items_of}
+use Rattle.abc_voices_sections.specs.Items.{items_of}
 use Rattle.abc_voices.proofs.Given.{opening_given}
 use Rattle.abc_voices.proofs.layout.first_track.Goals as goal
 

@@ -1,7 +1,7 @@
 use Rattle.std.proofs.Common.{List, ℕ, map, ap, length, sym, ◌∙◌}
 use Rattle.std.proofs.lemmas.List.{length-map}
 use Rattle.std.specs.Borrow.{Bor}
-use Rattle.abc_sections.specs.Items.{items_of}
+use Rattle.abc_voices_sections.specs.Items.{items_of}
 use Rattle.abc_voices.proofs.Given.{everyone_given}
 use Rattle.abc_voices.proofs.layout.laid_out.Goals as goal
 

@@ -2,7 +2,7 @@ use Rattle.std.proofs.Common.{◌≡◌, ◌<◌, ◌≤◌, ℕ, None, Err, len
 use Rattle.std.specs.Prelude.{option_copied}
 use Rattle.abc_repeat.specs.Order.{sections_of, has_unknown}
 use Rattle.abc_repeat.specs.declared.order.TheConstants.{MOST_SECTIONS}
-use Rattle.abc_sections.specs.Items.{items_of}
+use Rattle.abc_voices_sections.specs.Items.{items_of}
 use Rattle.abc_voices.proofs.Within.{IsAccepted, order_accepted, same_length, same_unknown, not_above}
 use Rattle.abc_voices.proofs.layout.order_played.Goals as goal
 

@@ -1,5 +1,5 @@
 use Rattle.std.proofs.Common.{◌≡◌, None, drop}
-use Rattle.abc_sections.specs.Items.{items_of}
+use Rattle.abc_voices_sections.specs.Items.{items_of}
 use Rattle.abc_voices.specs.Opening.{key_past, past_all}
 use Rattle.abc_voices.proofs.opening.opening_key.Given as goal
 

@@ -2,8 +2,8 @@ use Rattle.std.proofs.Common.{◌≡◌, List, false, Some, sym, subst, ◌∙�
 use Rattle.std.specs.Prelude.{pos, IfOk}
 use Rattle.abc_fields.specs.declared.meter.Meter.TheVariants as meters
 use Rattle.abc_time.specs.Grains.{grains_of_the_latest_end}
-use Rattle.abc_score.specs.declared.score.Change.{Change}
-use Rattle.abc_sections.specs.Items.{items_of}
+use Rattle.abc_voices_score.specs.declared.score.Change.{Change}
+use Rattle.abc_voices_sections.specs.Items.{items_of}
 use Rattle.abc_voices.specs.Turns.{stages_in, IsStage}
 use Rattle.abc_voices.specs.Arrange.{usual_tempo}
 use Rattle.abc_voices.specs.Change.{tempo_of, meter_of, key_of}

@@ -3,8 +3,8 @@ use Rattle.std.specs.Prelude.{IsPermutation, OnOk}
 use Rattle.std.proofs.lemmas.Grind.{common_steps}
 use Rattle.std.proofs.lemmas.List.Sorted.{All-permutation}
 use Rattle.abc_time.specs.Grains.{tick_at}
-use Rattle.abc_score.specs.declared.score.ProgramChange.{ProgramChange}
-use Rattle.abc_score.specs.declared.score.Sounding.{Sounding}
+use Rattle.abc_voices_score.specs.declared.score.ProgramChange.{ProgramChange}
+use Rattle.abc_voices_score.specs.declared.score.Sounding.{Sounding}
 use Rattle.smf_bytes.specs.Voice.{all_of, event_at}
 use Rattle.smf_bytes.specs.Track.{channel_of, track, voice_events}
 use Rattle.smf_bytes.proofs.Lengths.{EndBy, voice_length, voice_ticks}

@@ -2,8 +2,8 @@ use Rattle.std.proofs.Common.{◌≡◌, List, [], ◌++◌, map, sym, ap, subst
 use Rattle.std.specs.Prelude.{All, IsPermutation}
 use Rattle.std.proofs.lemmas.List.{append-nil, nil_from_length}
 use Rattle.std.proofs.lemmas.List.Sorted.{IsPermutation-refl}
-use Rattle.abc_score.specs.Limits.{IsSoundingWithin}
-use Rattle.abc_score.specs.declared.score.Sounding.{Sounding}
+use Rattle.abc_voices_score.specs.Limits.{IsSoundingWithin}
+use Rattle.abc_voices_score.specs.declared.score.Sounding.{Sounding}
 use Rattle.smf_bytes.specs.Voice.{all_ends, all_of, change_of}
 use Rattle.smf_bytes.proofs.Turned.{last_within, one_back}
 use Rattle.smf_bytes.proofs.voice.voice.Goals as goal

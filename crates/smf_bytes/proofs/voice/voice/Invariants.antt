@@ -1,6 +1,6 @@
 use Rattle.std.proofs.Common.{◌++◌}
 use Rattle.std.specs.Prelude.{All, IsPermutation}
-use Rattle.abc_score.specs.Limits.{IsSoundingWithin}
+use Rattle.abc_voices_score.specs.Limits.{IsSoundingWithin}
 use Rattle.smf_bytes.specs.Voice.{all_ends, all_of}
 use Rattle.smf_bytes.proofs.voice.voice.Given as goal
 

@@ -1,6 +1,6 @@
 use Rattle.std.proofs.Common.{rules, ◌≡◌, Some, length, subst, sym}
 use Rattle.std.proofs.lemmas.List.{length-map}
-use Rattle.abc_chains.specs.Standing.{all_taken}
+use Rattle.abc_live_text.specs.Standing.{all_taken}
 use Rattle.abc_live.specs.Counting.{MayCost, cost_of}
 use Rattle.abc_live.specs.Prepared.{splice_in}
 use Rattle.abc_live.specs.Session.{live}

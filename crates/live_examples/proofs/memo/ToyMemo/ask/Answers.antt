@@ -1,5 +1,5 @@
 use Rattle.std.proofs.Common.{ap, ◌∙◌, ◌++◌}
-use Rattle.abc_memo.specs.Bytes.{line_bytes}
+use Rattle.abc_tune_memo.specs.Bytes.{line_bytes}
 use Rattle.live_examples.proofs.Asked.{asked}
 use Rattle.live_examples.proofs.memo.ToyMemo.ask.Goals as goal
 

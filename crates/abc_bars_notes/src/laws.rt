@@ -1,0 +1,46 @@
+//! What holds of the music of every voice. Each function has no body: its contract is the law.
+
+ghost use Rattle.abc_bars_notes.specs.ChordKeys.{ChordsSoundTheirKeys, NotesAreAsLoud, ChordsAreAsLoud};
+ghost use Rattle.abc_bars_notes.specs.ChordNotes.{ChordsSound, BigAtTheSeventeenth};
+ghost use Rattle.abc_bars_notes.specs.Lasting.{NotesLast, RestsLast, BarRestsLast, FreeBarRests};
+ghost use Rattle.abc_bars_notes.specs.LooseTies.{TiesBehindNotes};
+ghost use Rattle.abc_bars_notes.specs.NoteKeys.{NotesSoundTheirKeys};
+
+/// A note or a rest lasts the unit times what is written, what its tuplet says and what the marks of broken
+/// rhythm say that act on it, exactly; where that is no length it lasts one unit, and that is a fault.
+pub fn lengths_of_notes()
+    ensures notes { NotesLast }
+    ensures rests { RestsLast }
+{}
+
+/// A rest of bars lasts as many bars as it says; in free meter, and where that is no length, it is a fault.
+pub fn lengths_of_bar_rests()
+    ensures bars { BarRestsLast }
+    ensures free { FreeBarRests }
+{}
+
+/// Of a chord its first sixteen notes sound, each for its own length, and it lasts as long as its first note; a
+/// seventeenth is a fault, and no other note is.
+pub fn notes_of_chords()
+    ensures sound { ChordsSound }
+    ensures big { BigAtTheSeventeenth }
+{}
+
+/// A tie inside a chord is loose exactly where no note stands directly before it.
+pub fn loose_ties_of_chords()
+    ensures { TiesBehindNotes }
+{}
+
+/// A note sounds the key of its pitch, altered by its own accidental, else by the last one that reaches it, else as
+/// the last tied note of its letter and octave before it, else by the signature. The notes of a chord hear the
+/// accidentals of those before them in the chord as they hear others.
+pub fn keys_of_notes()
+    ensures alone { NotesSoundTheirKeys }
+    ensures chords { ChordsSoundTheirKeys }
+{}
+
+/// The notes of a voice, alone and in chords, are as loud as its last dynamic says.
+pub fn velocities_of_notes()
+    ensures alone { NotesAreAsLoud }
+    ensures chords { ChordsAreAsLoud }
+{}

@@ -1,0 +1,12 @@
+-- How the notes of a voice are shifted. ABC 2.1 sections 4.6 and 7.1.
+use Rattle.std.specs.Prelude.{unwrap_or}
+use Rattle.abc_fields.specs.declared.shift.Shift.{Shift}
+use Rattle.abc_bars_voice.specs.declared.voice_shift.VoiceShift.{VoiceShift}
+
+-- The shift behind properties: each part that they say takes the place of the one before. Our own.
+abbrev pub with_properties : VoiceShift → Shift → VoiceShift
+with_properties shift said = record {
+  clef = unwrap_or said.clef shift.clef;
+  octave = unwrap_or said.octave shift.octave;
+  transpose = unwrap_or said.transpose shift.transpose;
+}

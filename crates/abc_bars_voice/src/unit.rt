@@ -1,0 +1,81 @@
+//! The unit note length that holds.
+
+ghost use Rattle.std.specs.Prelude.{◌≡◌, ◌≤◌, []};
+ghost use Rattle.abc_fields.specs.Unit.{unit_of};
+ghost use Rattle.abc_time.specs.Grains.{grains_of_the_longest_length};
+ghost use Rattle.abc_time.specs.Length.{IsLength};
+ghost use Rattle.abc_time.specs.Ratio.{IsRatio};
+ghost use Rattle.abc_bars_voice.specs.Unit.{unit_by, unit_grains, IsUnitPart};
+
+use crate::meter::TuneMeter;
+use abc_fields::{FaultCode, Meter, read_unit};
+use abc_time::{Grains, Ratio, WHOLE_NOTE};
+use std::marker::Model;
+
+/// Into how many units a whole note is cut at most.
+const MOST_PARTS: u32 = 512;
+
+/// The shortest unit in grains. Each unit is so many of it: to divide 512 is cheaper than to divide a whole
+/// note's grains, which take 64 bits.
+const SHORTEST_UNIT: u64 = WHOLE_NOTE.0 / 512;
+
+/// A unit note length, as a part of a whole note (ABC 2.1 section 3.1.7). Contracts see the part.
+#[derive(Clone, Copy)]
+pub struct UnitLength {
+    part: Ratio,
+}
+
+impl Model for UnitLength {
+    ghost use Rattle.abc_time.specs.declared.ratio.Ratio.{Ratio};
+    ghost use Rattle.abc_bars_voice.specs.Unit.{IsUnitPart};
+
+    ghost Value = { Ratio };
+
+    ghost view = { λ u. u.part };
+
+    ghost invariant = { λ u. IsUnitPart u.part };
+
+    ghost inverse = { λ part. record { part = part } };
+}
+
+impl UnitLength {
+    /// The unit that a value of L: says.
+    pub fn read(value: &[u8]) -> Result<UnitLength, FaultCode>
+        ensures { result ≡ unit_of value.now }
+    {
+        let part = read_unit(value)?;
+        Ok(UnitLength { part })
+    }
+
+    /// The unit in a meter where no L: says one (ABC 2.1 section 3.1.7): a sixteenth below 3/4, otherwise,
+    /// and in free meter, an eighth.
+    pub fn by(meter: TuneMeter) -> UnitLength
+        ensures { result ≡ unit_by meter }
+    {
+        let part = match meter.get() {
+            Meter::Of { num, den } if 4 * u32::from(num) < 3 * u32::from(den) => {
+                Ratio { num: 1, den: 16 }
+            }
+            Meter::Of { .. } | Meter::Free => Ratio { num: 1, den: 8 },
+        };
+        UnitLength { part }
+    }
+
+    /// The part of a whole note.
+    pub fn get(self) -> Ratio
+        ensures value { result ≡ self }
+        ensures range { IsRatio result }
+        ensures part { IsUnitPart result }
+    {
+        self.part
+    }
+
+    /// The length of one unit, exactly.
+    pub fn grains(self) -> Grains
+        ensures value { result ≡ unit_grains self }
+        ensures exact { IsLength self [] result.0 }
+        ensures range { result.0 ≤ grains_of_the_longest_length }
+    {
+        Grains(SHORTEST_UNIT * u64::from(MOST_PARTS / self.part.den))
+    }
+}

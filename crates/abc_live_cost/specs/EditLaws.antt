@@ -1,0 +1,50 @@
+-- What an edit may take over, and the steps where the states of the old chains are kept. Our own.
+use Rattle.std.specs.Prelude.{◌≡◌, ℕ, ◌+◌, ◌≤◌, true, List, length, Option}
+use Rattle.std.specs.List.{Any}
+use Rattle.abc_lines.specs.Text.{Splice, Text, spliced}
+use Rattle.abc_tune_compiler.specs.Placed.{cells_from, things}
+use Rattle.abc_tune_compiler.specs.Tune.{lines_in}
+use Rattle.abc_live_cost.specs.Entered.{entered_of}
+use Rattle.abc_live_cost.specs.Fresh.{are_carried_from, is_untouched}
+use Rattle.abc_live_cost.specs.Kept.{AreKept, Held, StandFor, cells_of, held_over, items_of, steps_over}
+use Rattle.abc_live_cost.specs.Laid.{Chain, Laid, LiesInOrder, tune_chains}
+use Rattle.abc_live_cost.specs.Pasts.{Past, fresh_of, pasts}
+use Rattle.abc_live_cost.specs.Pieces.{pieces_of}
+use Rattle.abc_fold.specs.Steps.{IsAlike, IsResumable, Steps}
+
+-- The cells of a chain are those that its lines have in the book.
+abbrev pub CellsAreThings : Type 0 → Type 0 → Type 0
+CellsAreThings State Cell =
+    (read : List ℕ → List Cell) (text : Text) (chain : Chain State)
+    → things (cells_from read (chain.block.from + 1) (lines_in text chain.block)) ≡ cells_of read text chain
+
+-- A chain whose cells are carried, in order, from all those of an old one has the same cells.
+abbrev pub CarriedCells : Type 0 → Type 0 → Type 0 → Type 0
+CarriedCells State Cell Items =
+    (steps : Steps State Cell Items) (read : List ℕ → List Cell) (old : Text) (s : Splice) (chain was : Chain State)
+    → s.at + s.removed ≤ length old
+    → are_carried_from s (entered_of steps read (spliced old s) chain) (entered_of steps read old was) ≡ true
+    → cells_of read (spliced old s) chain ≡ cells_of read old was
+
+-- The cells of an untouched tune give the items of an old one.
+abbrev pub UntouchedItems : Type 0 → Type 0 → Type 0 → Type 0
+UntouchedItems State Cell Items =
+    (steps : Steps State Cell Items) (read : List ℕ → List Cell) (old : Laid State) (s : Splice) (chain : Chain State)
+    → LiesInOrder old → s.at + s.removed ≤ length old.text → IsResumable steps
+    → is_untouched steps read old s (entered_of steps read (spliced old.text s) chain) ≡ true
+    → Any (λ was. things (items_of steps read (spliced old.text s) chain) ≡ things (items_of steps read old.text was)) (tune_chains 1 old.opening old.tunes)
+
+-- Where what is held stands for the pasts of a chain's cells, the steps along it are its fresh cells.
+abbrev pub StepsAreFresh : Type 0 → Type 0 → Type 0 → Type 0
+StepsAreFresh State Cell Items =
+    (steps : Steps State Cell Items) (read : List ℕ → List Cell) (text : Text) (rows : List (List (Option (Past State)))) (chain : Chain State) (state : State) (helds : List (Option (Held State)))
+    → IsResumable steps → IsAlike steps state chain.opening
+    → StandFor steps (cells_of read text chain) helds (pieces_of read text rows chain)
+    → steps_over steps state (cells_of read text chain) helds ≡ fresh_of steps read text rows chain
+
+-- What is held of a new chain's cells by the places that they had stands for their pasts.
+abbrev pub HeldsStand : Type 0 → Type 0 → Type 0 → Type 0
+HeldsStand State Cell Items =
+    (steps : Steps State Cell Items) (read : List ℕ → List Cell) (old : Laid State) (s : Splice) (chain : Chain State) (kept : ℕ → List State)
+    → LiesInOrder old → s.at + s.removed ≤ length old.text → AreKept steps read old kept
+    → StandFor steps (cells_of read (spliced old.text s) chain) (held_over kept (pieces_of read (spliced old.text s) (pasts steps read old s) chain)) (pieces_of read (spliced old.text s) (pasts steps read old s) chain)

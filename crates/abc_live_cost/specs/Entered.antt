@@ -1,0 +1,48 @@
+-- In which state each cell of a text is entered. Our own.
+use Rattle.std.specs.Prelude.{ℕ, ◌+◌, ◌==◌, ◌&&◌, Bool, List, [], ◌∷◌, ◌++◌, Option}
+use Rattle.std.specs.List.{flat_map, find}
+use Rattle.std.specs.Option.{option_map}
+use Rattle.abc_lines.specs.Text.{Text}
+use Rattle.abc_tune_compiler.specs.Tune.{lines_in}
+use Rattle.abc_live_cost.specs.Laid.{Chain, Laid, chains_of}
+use Rattle.abc_fold.specs.Steps.{Steps}
+
+-- A cell: its line and its place in the line, both counted from 0, and the state in which it is entered.
+pub record Spot (State : Type 0) : Type 0 where
+  pub line : ℕ
+  pub nth : ℕ
+  pub entered : State
+
+abbrev pub spot_at : {State : Type 0} → ℕ → ℕ → State → Spot State
+spot_at line nth entered = record { line = line; nth = nth; entered = entered }
+
+-- The state behind the cells of a line, of which the first is entered in this state.
+abbrev pub state_behind : {State Cell : Type 0} → (State → Cell → State) → State → List Cell → State
+state_behind next state [] = state
+state_behind next state (cell ∷ cells) = state_behind next (next state cell) cells
+
+-- The cells of a line from the nth on, the first of which is entered in this state.
+abbrev pub entered_in_line : {State Cell : Type 0} → (State → Cell → State) → ℕ → ℕ → State → List Cell → List (Spot State)
+entered_in_line next line nth state [] = []
+entered_in_line next line nth state (cell ∷ cells) = spot_at line nth state ∷ entered_in_line next line (nth + 1) (next state cell) cells
+
+-- The cells of lines, of which the first has this number; each line is read into its cells.
+abbrev pub entered_along : {State Cell Items : Type 0} → Steps State Cell Items → (List ℕ → List Cell) → ℕ → State → Text → List (Spot State)
+entered_along steps read line state [] = []
+entered_along steps read line state (bytes ∷ lines) =
+    entered_in_line steps.next line 0 state (read bytes) ++ entered_along steps read (line + 1) (state_behind steps.next state (read bytes)) lines
+
+-- The cells of a chain.
+abbrev pub entered_of : {State Cell Items : Type 0} → Steps State Cell Items → (List ℕ → List Cell) → Text → Chain State → List (Spot State)
+entered_of steps read text chain = entered_along steps read chain.block.from chain.opening (lines_in text chain.block)
+
+-- The cells of a text: those of its file header and those of its tunes. Free text has none.
+abbrev pub entered_in : {State Cell Items : Type 0} → Steps State Cell Items → (List ℕ → List Cell) → Laid State → List (Spot State)
+entered_in steps read laid = flat_map (entered_of steps read laid.text) (chains_of laid)
+
+abbrev pub stands_at : {State : Type 0} → ℕ → ℕ → Spot State → Bool
+stands_at line nth spot = (spot.line == line) && (spot.nth == nth)
+
+-- The state in which the nth cell of a line is entered, if the file header or a tune has such a cell.
+abbrev pub entered_at : {State Cell Items : Type 0} → Steps State Cell Items → (List ℕ → List Cell) → Laid State → ℕ → ℕ → Option State
+entered_at steps read laid line nth = option_map (λ spot. spot.entered) (find (stands_at line nth) (entered_in steps read laid))

@@ -1,0 +1,27 @@
+-- Chains that are folds over the cells of blocks of a text, and which of them have the items of old ones. Our own.
+use Rattle.std.specs.Prelude.{◌≡◌, ℕ, true, List, Option, Some, IfSome, IsSome, slice_get}
+use Rattle.std.specs.List.{AllZip, flat_map}
+use Rattle.abc_book.specs.declared.block.Block.{Block}
+use Rattle.abc_fold.specs.Chain.{Chained, Folds}
+use Rattle.abc_fold.specs.Steps.{Steps}
+use Rattle.abc_lines.specs.Text.{Splice, Text, spliced}
+use Rattle.abc_tune_compiler.specs.Rules.{Rules}
+use Rattle.abc_tune_compiler.specs.Tune.{lines_in}
+use Rattle.abc_live_cost.specs.Entered.{entered_of}
+use Rattle.abc_live_cost.specs.Fresh.{is_untouched}
+use Rattle.abc_live_cost.specs.Laid.{laid_in, tune_chains}
+
+-- A chain is the fold over the cells of the lines of a block, from an opening.
+pub record IsChainOf {State Cell Items : Type 0} (steps : Steps State Cell Items) (read : List ℕ → List Cell) (opening : State) (text : Text) (chain : Chained State Cell Items) (block : Block) : Type 0 where
+  pub folds : Folds steps opening chain
+  pub cells : chain.cells ≡ flat_map read (lines_in text block)
+
+-- Where an old chain is named by its number, it has the items of a chain.
+abbrev pub HasItemsOf : {State Cell Items : Type 0} → List (Chained State Cell Items) → Chained State Cell Items → Option ℕ → Type 0
+HasItemsOf {State = State} {Cell = Cell} {Items = Items} olds chain taken = IfSome taken (λ old. (was : Chained State Cell Items) × (slice_get olds old ≡ Some was) × (was.items ≡ chain.items))
+
+-- Each untouched tune of the text behind a splice has the items of an old one.
+abbrev pub TakesUntouched : {State Cell Items Defaults : Type 0} → Steps State Cell Items → Rules State Cell Items Defaults → Text → Splice → List (Option ℕ) → Type 0
+TakesUntouched steps rules text s taken =
+    AllZip (λ tune old. is_untouched steps rules.cells (laid_in steps rules text) s (entered_of steps rules.cells (spliced text s) tune) ≡ true → IsSome old)
+    (tune_chains 1 (laid_in steps rules (spliced text s)).opening (laid_in steps rules (spliced text s)).tunes) taken

@@ -1,0 +1,15 @@
+pub mod Built
+pub mod Change
+pub mod Differences
+pub mod Faults
+pub mod Front
+pub mod Kept
+pub mod Key
+pub mod Laws
+pub mod Output
+pub mod Outputs
+pub mod Owners
+pub mod Report
+pub mod Taken
+pub mod Titles
+pub mod Tunes

@@ -1,0 +1,44 @@
+-- Which tune gives the file of each number. Our own.
+use Rattle.std.specs.Prelude.{ℕ, ◌+◌, ◌==◌, if◌then◌else◌, List, [], ◌∷◌, map, is_some, Option, option_and_then, slice_get}
+use Rattle.std.specs.BTreeMap.{insert_entry}
+use Rattle.std.specs.Map.{lookup}
+use Rattle.std.specs.Ordering.{nat_cmp}
+use Rattle.abc_live_index.specs.declared.owners.Claim.{Claim}
+use Rattle.abc_live_index.specs.declared.output.Output.{Output}
+
+-- The numbers that have a file, rising, each with the place of the tune that gives it, counted from 0.
+abbrev pub Owners : Type 0
+Owners = List (ℕ × ℕ)
+
+-- The place of the tune that gives the file of a number, if it has one.
+abbrev pub owner_at : Owners → ℕ → Option ℕ
+owner_at owners number = lookup (λ n. n == number) owners
+
+-- What a tune claims: its number, if it has a file.
+abbrev pub claim_of : Output → Claim
+claim_of output = record { number = output.number; has_file = is_some output.built.bytes }
+
+-- What tunes claim, one by one.
+abbrev pub claims_of : List Output → List Claim
+claims_of outputs = map claim_of outputs
+
+-- A number that has an owner keeps it.
+abbrev pub owned_by : Owners → ℕ → ℕ → Owners
+owned_by owners number place = if is_some (owner_at owners number) then owners else insert_entry nat_cmp owners number place
+
+-- The owners behind the claim of a tune.
+abbrev pub claimed : Owners → Claim → ℕ → Owners
+claimed owners claim place = if claim.has_file then owned_by owners claim.number place else owners
+
+-- The owners behind the claims of tunes, of which the first stands at a place.
+abbrev pub owners_behind : Owners → ℕ → List Claim → Owners
+owners_behind owners place [] = owners
+owners_behind owners place (claim ∷ claims) = owners_behind (claimed owners claim place) (place + 1) claims
+
+-- The owners among tunes.
+abbrev pub owners_of : List Output → Owners
+owners_of outputs = owners_behind [] 0 (claims_of outputs)
+
+-- The file that the tune at a place gives, if it gives one.
+abbrev pub bytes_at : List Output → ℕ → Option (List ℕ)
+bytes_at outputs place = option_and_then (λ output. output.built.bytes) (slice_get outputs place)
