@@ -1,4 +1,4 @@
--- Bringing the directory up to date with the text. Our own.
+-- Bringing the directory up to date with the text. Not in ABC 2.1.
 use Rattle.std.specs.Prelude.{◌≡◌, ℕ, ◌≤◌, zero, suc, ◌+◌, ◌-◌, ◌^◌, Bool, true, false, List, [], ◌∷◌, ◌++◌, filter, length, Option, Some, None, ◌⊎◌}
 use Rattle.abc_lines.specs.Text.{Text}
 use Rattle.abc_publish.specs.Publisher.{Directory, Publishing, Slots, is_pending, maps_of, stored_as, with_entry}

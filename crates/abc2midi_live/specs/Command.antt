@@ -1,4 +1,4 @@
--- The commands of the program, one on a line of its input. Our own.
+-- The commands of the program, one on a line of its input. Not in ABC 2.1.
 use Rattle.std.specs.Prelude.{ℕ, ◌<◌, ◌==◌, nat_le, if◌then◌else◌, List, [], ◌∷◌, length, codes, Option, Some, None}
 use Rattle.std.specs.Borrow.{Bor}
 use Rattle.std.specs.List.{slice_split}

@@ -1,4 +1,4 @@
--- A text cut at a byte. Our own.
+-- A text cut at a byte. Not in ABC 2.1.
 use Rattle.std.specs.Prelude.{◌≡◌, ℕ, ◌==◌, false, List, ◌∷◌, ◌++◌, All, Option, MatchOption}
 
 -- The text is a front without the byte; where there is a rest, it stands behind the byte.

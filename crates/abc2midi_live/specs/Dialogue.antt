@@ -1,4 +1,4 @@
--- Commands that come line by line, and what is answered to the lines that still come. Our own.
+-- Commands that come line by line, and what is answered to the lines that still come. Not in ABC 2.1.
 use Rattle.std.specs.Prelude.{◌≡◌, ℕ, ◌-◌, Bool, true, false, is_ok, List, [], ◌∷◌, ◌++◌, length, Option, Some, None}
 use Rattle.abc_lines.specs.Text.{Text}
 use Rattle.abc_lines.specs.Edits.{edited}

@@ -1,4 +1,4 @@
--- What contracts see of a dialogue, without where it lies in memory. Our own.
+-- What contracts see of a dialogue, without where it lies in memory. Not in ABC 2.1.
 use Rattle.std.specs.Prelude.{ℕ, List, Option, MatchResult, Result}
 use Rattle.std.specs.Io.KnownBytes.{Appends}
 use Rattle.abc_publish.specs.Publisher.{maps_of}

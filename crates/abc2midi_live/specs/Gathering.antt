@@ -1,4 +1,4 @@
--- What contracts see of a command whose lines have not all come. Our own.
+-- What contracts see of a command whose lines have not all come. Not in ABC 2.1.
 use Rattle.std.specs.Prelude.{Option, option_map}
 use Rattle.abc_lines.specs.Text.{text_of}
 use Rattle.abc2midi_live.specs.Dialogue.{Begun}

@@ -1,4 +1,4 @@
--- How a listener stands towards the bytes that still come. Our own.
+-- How a listener stands towards the bytes that still come. Not in ABC 2.1.
 use Rattle.std.specs.Prelude.{ℕ, List}
 use Rattle.abc2midi_live.specs.Machine.{Standing, hearing}
 use Rattle.abc2midi_live.specs.declared.listener.Listener.{Listener}

@@ -1,4 +1,4 @@
--- What a machine that takes lines answers. Our own.
+-- What a machine that takes lines answers. Not in ABC 2.1.
 use Rattle.std.specs.Prelude.{◌≡◌, ◌⊎◌, ℕ, Bool, true, false, if◌then◌else◌, List, [], ◌∷◌, ◌++◌, ◌==◌, All, Option, Some}
 use Rattle.abc_publish.specs.Publisher.{Directory}
 use Rattle.abc_text.specs.Byte.{line_feed}

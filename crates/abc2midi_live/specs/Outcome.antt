@@ -1,4 +1,4 @@
--- How a run ends, and what it leaves. Our own.
+-- How a run ends, and what it leaves. Not in ABC 2.1.
 use Rattle.std.specs.Prelude.{◌≡◌, ℕ, ◌<◌, ◌≤◌, Bool, true, false, List, [], ◌∷◌, ◌++◌, length, Option, Some, Result, Ok, Err, ⊤, ◌⊎◌, IfSome, IsSome, MatchResult}
 use Rattle.std.specs.Io.KnownBytes.{Appends, Consumes, IsAtEnd, Keeps}
 use Rattle.abc_publish.specs.Publisher.{Directory}

@@ -1,4 +1,4 @@
--- Why lines are no text. Our own.
+-- Why lines are no text. Not in ABC 2.1.
 use Rattle.std.specs.Prelude.{ℕ, Bool, not, if◌then◌else◌, nat_le, Option, Some, None}
 use Rattle.abc_lines.specs.declared.limits.TheConstants.{MOST_LINES}
 use Rattle.abc_lines.specs.declared.edit_error.EditError.{EditError}

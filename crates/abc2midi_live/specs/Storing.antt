@@ -1,4 +1,4 @@
--- The answers of a store, and what it then contains. Our own.
+-- The answers of a store, and what it then contains. Not in ABC 2.1.
 use Rattle.std.specs.Prelude.{◌≡◌, ◌≢◌, ℕ, ◌+◌, ◌<◌, ◌^◌, List, [], ◌∷◌, ◌++◌, length, codes, decimal, Option, Some, None, ⊤}
 use Rattle.std.specs.FinMap.{get}
 use Rattle.abc_fold.specs.Work.{raised}

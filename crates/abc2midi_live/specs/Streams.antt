@@ -1,4 +1,4 @@
--- What streams and stores do, as far as contracts see it: their faults, and what a store contains. Our own.
+-- What streams and stores do, as far as contracts see it: their faults, and what a store contains. Not in ABC 2.1.
 use Rattle.std.specs.Prelude.{◌≡◌, ◌≢◌, ℕ, List, Option, Some, None, Result, Ok, Err, ⊤}
 use Rattle.std.specs.Cmp.Lexicographic.{slice_cmp}
 use Rattle.std.specs.Ordering.{nat_cmp}

@@ -1,4 +1,4 @@
--- What a run tells. Our own.
+-- What a run tells. Not in ABC 2.1.
 use Rattle.std.specs.Prelude.{ℕ, Bool, true, false, List, [], ◌∷◌, ◌++◌, Option, Some, None, option_map}
 use Rattle.abc_lines.specs.Text.{Text}
 use Rattle.abc_publish.specs.Publisher.{Directory}

@@ -1,4 +1,4 @@
--- What the program writes for an input: the answers to its commands, in order. Our own.
+-- What the program writes for an input: the answers to its commands, in order. Not in ABC 2.1.
 use Rattle.std.specs.Prelude.{ℕ, zero, suc, ◌+◌, ◌&&◌, ◌==◌, nat_le, Bool, true, false, if◌then◌else◌, List, [], ◌∷◌, ◌++◌, length, take, drop, map, Option, Some, None, option_and_then, Result, Ok, Err}
 use Rattle.std.specs.List.{slice_split}
 use Rattle.std.specs.Result.{result_unwrap_or}

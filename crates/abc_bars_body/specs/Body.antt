@@ -67,7 +67,7 @@ made_current_at body name said None =
     if nat_lt (length body.voices) MOST_VOICES then Some (joined_by body name said) else None
 
 -- What holds where the voice of this name becomes the current one, with these properties; none where it
--- would be one too many. ABC 2.1 section 7.1; the limit is our own.
+-- would be one too many. ABC 2.1 section 7.1; the limit is not in ABC 2.1.
 abbrev pub made_current : Body → List ℕ → Shift → Option Body
 made_current body name said = made_current_at body name said (place_of name body.voices)
 
@@ -80,7 +80,7 @@ abbrev pub current_without_accidentals : Current → Current
 current_without_accidentals (Unnamed settings) = Unnamed (without_accidentals settings)
 current_without_accidentals (At at) = At at
 
--- What holds where a part begins: no accidentals in any voice. Our own.
+-- What holds where a part begins: no accidentals in any voice. Not in ABC 2.1.
 abbrev pub after_part : Body → Body
 after_part body = record body {
   voices = all_without_accidentals body.voices;

@@ -55,7 +55,7 @@ abbrev pub faulty : Body → ℕ → Item → FaultCode → FieldGiven
 faulty body place item fault = record { body = body; items = item ∷ []; faults = (column_of place, fault) ∷ [] }
 
 -- The part that a value names: its first byte, a capital letter. ABC 2.1 section 3.1.9; that the rest is
--- ignored is our own.
+-- ignored is not in ABC 2.1.
 abbrev pub part_of : List ℕ → Option ℕ
 part_of [] = None
 part_of (byte ∷ rest) = if is_ascii_uppercase byte then Some byte else None

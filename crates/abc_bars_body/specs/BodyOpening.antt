@@ -21,7 +21,7 @@ unshifted = record { clef = pos 0; octave = pos 0; transpose = pos 0 }
 
 -- What holds for a voice where a body begins, by the header's values, the key that ended the header, and
 -- what was said of the voice's shift: its own parts go before those of the key. A key without a signature
--- has an empty one there. Our own.
+-- has an empty one there. Not in ABC 2.1.
 abbrev pub opening_settings : Defaults → Key → Shift → Settings
 opening_settings defaults key said = record {
   meter = meter_in defaults;

@@ -34,7 +34,7 @@ use Rattle.abc_bars_voice.specs.Tuplet.{tuplet_opened}
 abbrev pub is_tie_token : TokenKind → Bool
 is_tie_token kind = is_tie_role (token_role kind)
 
--- Whether a tie comes first. ABC 2.1 section 4.11; that nothing may stand between is our own.
+-- Whether a tie comes first. ABC 2.1 section 4.11; that nothing may stand between is not in ABC 2.1.
 abbrev pub tie_ahead : List (Spanned TokenKind) → Bool
 tie_ahead [] = false
 tie_ahead (token ∷ rest) = is_tie_token token.kind
@@ -92,7 +92,7 @@ with_rest given place length ahead =
     let body = mentioned given.body in
     with_played_in given body (rest_played (here body) (factors_of given.behind ahead) place length)
 
--- A chord that has a note mentions its voice. Our own.
+-- A chord that has a note mentions its voice. Not in ABC 2.1.
 abbrev pub mentioned_by_chord : Bool → Body → Body
 mentioned_by_chord true body = mentioned body
 mentioned_by_chord false body = body
@@ -141,7 +141,7 @@ with_dynamic given dynamic = record given { body = with_here given.body (record 
 abbrev pub with_program : Given → ℕ → Option ℕ → Given
 with_program given place number = with_fault_if (with_item given (items.Program false number)) (is_none number) place BadProgram
 
--- Behind a directive: how far accidentals reach is settled where the body begins. Our own.
+-- Behind a directive: how far accidentals reach is settled where the body begins. Not in ABC 2.1.
 abbrev pub with_directive : Given → ℕ → Directive → Given
 with_directive given place (directives.Program written) = with_program given place (program_of written)
 with_directive given place (directives.Reach reach) = given

@@ -1,4 +1,4 @@
--- What holds at a place of a file header or of a tune. Our own.
+-- What holds at a place of a file header or of a tune. Not in ABC 2.1.
 use Rattle.std.specs.Prelude.{Option, Some, None}
 use Rattle.abc_bars_header.specs.Defaults.{no_defaults}
 use Rattle.abc_bars_header.specs.declared.defaults.Defaults.{Defaults}

@@ -1,4 +1,4 @@
--- What the voices of a body keep behind a cell. Our own.
+-- What the voices of a body keep behind a cell. Not in ABC 2.1.
 use Rattle.std.specs.Prelude.{◌≡◌, length}
 use Rattle.std.specs.Map.{keys_of}
 use Rattle.abc_bars_body.specs.declared.body.Body.{Body}

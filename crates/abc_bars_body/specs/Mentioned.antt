@@ -19,7 +19,7 @@ Mentioned = List (List ℕ) × Bool
 abbrev pub behind_name : List (List ℕ) → List ℕ → List (List ℕ)
 behind_name names name = if list_any (bytes_eq name) names then names else names ++ name ∷ []
 
--- Behind a note, chord or rest: it mentions the voice without a name where none is mentioned. Our own.
+-- Behind a note, chord or rest: it mentions the voice without a name where none is mentioned. Not in ABC 2.1.
 abbrev pub behind_time : Mentioned → Mentioned
 behind_time (names, true) = (names, true)
 behind_time (names, false) = ([] ∷ [], true)

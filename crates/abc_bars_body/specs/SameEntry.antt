@@ -1,4 +1,4 @@
--- Whether the same holds at two places, component by component. Our own.
+-- Whether the same holds at two places, component by component. Not in ABC 2.1.
 use Rattle.std.specs.Prelude.{◌≡◌, ◌⊎◌, ℕ, zero, suc, ℤ, Bool, true, List, Option, Some, None, unwrap_or, refl}
 use Rattle.std.proofs.Common.{inl, inr}
 use Rattle.abc_fields.specs.declared.signature.Signature.{Signature}

@@ -93,7 +93,7 @@ abbrev pub body_stepped : Body → List (Spanned TokenKind) → Entry × Items
 body_stepped body cell = stepped_to (cell_given body cell)
 
 -- What holds behind a field of this kind in a header: a K: ends it, even one that is refused, which sets
--- an empty signature. ABC 2.1 section 3.1.14; the refused one is our own.
+-- an empty signature. ABC 2.1 section 3.1.14; the refused one is not in ABC 2.1.
 abbrev pub behind_kind : Header → FieldKind → List ℕ → Entry
 behind_kind header fields.Reference value = entries.Header header
 behind_kind header fields.Title value = entries.Header header
@@ -115,7 +115,7 @@ abbrev pub line_stepped : HeaderGiven → HeaderLine → Entry × Items
 line_stepped given line = (behind_line given.header line, record { items = given.items; faults = given.faults })
 
 -- A cell of a header, which is this line or music: a line of music ends the header as an empty K: would, and
--- is a cell of the body. The latter is our own.
+-- is a cell of the body. The latter is not in ABC 2.1.
 abbrev pub header_stepped : Header → List (Spanned TokenKind) → Option HeaderLine → Entry × Items
 header_stepped header cell (Some line) = line_stepped (header_given header line) line
 header_stepped header cell None = body_stepped (body_from header empty_key) cell

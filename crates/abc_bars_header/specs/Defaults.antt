@@ -20,7 +20,7 @@ use Rattle.abc_bars_header.specs.declared.defaults.SettingGiven.{SettingGiven}
 use Rattle.abc_bars_header.specs.declared.field_kind.FieldKind.{FieldKind}
 use Rattle.abc_bars_header.specs.declared.field_kind.FieldKind.TheVariants as kinds
 
--- No values, as at the beginning of a file header. That accidentals reach all octaves then is our own.
+-- No values, as at the beginning of a file header. That accidentals reach all octaves then is not in ABC 2.1.
 abbrev pub no_defaults : Defaults
 no_defaults = record { meter = None; unit = None; tempo = None; program = None; reach = Pitch }
 
@@ -37,7 +37,7 @@ meter_set defaults value = set_or_refused defaults (λ meter. record defaults { 
 abbrev pub unit_set : Defaults → List ℕ → SettingGiven
 unit_set defaults value = set_or_refused defaults (λ unit. record defaults { unit = Some unit }) (unit_of value)
 
--- The tempo behind an accepted Q:. One that is empty or a text alone counts as none. Our own.
+-- The tempo behind an accepted Q:. One that is empty or a text alone counts as none. Not in ABC 2.1.
 abbrev pub tempo_or : Option Tempo → Tempo → Option Tempo
 tempo_or before Unset = before
 tempo_or before (Units n) = Some (Units n)

@@ -1,4 +1,4 @@
--- The fault of a field line. Our own.
+-- The fault of a field line. Not in ABC 2.1.
 use Rattle.std.specs.Prelude.{ℕ, List, [], ◌∷◌, Option, Some, None}
 use Rattle.abc_fields.specs.declared.fault.FaultCode.{FaultCode}
 use Rattle.abc_bars_items.specs.declared.column.TheConstants.{FIRST_COLUMN}

@@ -13,7 +13,7 @@ line_given defaults (FieldLine field) = setting_given defaults (kind_of field.le
 line_given defaults (DirectiveLine directive) = directive_given defaults directive
 
 -- What a line of the file header gives: M:, L:, Q: and directives set defaults for all tunes. That no other field
--- has an effect or a fault is our own.
+-- has an effect or a fault is not in ABC 2.1.
 abbrev pub file_header_given : Defaults → HeaderLine → FileHeaderGiven
 file_header_given defaults line =
     let given = line_given defaults line in

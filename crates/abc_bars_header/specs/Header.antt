@@ -52,7 +52,7 @@ abbrev pub said_at : List (List ℕ × Shift) → ℕ → Shift → List (List �
 said_at voices at shift = said_of voices at shift (voice_at voices at)
 
 -- The voices after one with a shift is declared that has this place among them or none, and the fault
--- where there are too many. That a tune has at most so many is our own.
+-- where there are too many. That a tune has at most so many is not in ABC 2.1.
 abbrev pub declared_by : List (List ℕ × Shift) → List ℕ → Shift → Option ℕ → List (List ℕ × Shift) × Option FaultCode
 declared_by voices name shift (Some at) = (said_at voices at shift, None)
 declared_by voices name shift None =
@@ -66,7 +66,7 @@ declared voices name shift = declared_by voices name shift (place_of name voices
 abbrev pub unchanged : Header → Option Item → Option FaultCode → OwnGiven
 unchanged header item fault = record { header = header; item = item; fault = fault }
 
--- What an X: gives, by its reading: one that is refused gives the number 0. Our own.
+-- What an X: gives, by its reading: one that is refused gives the number 0. Not in ABC 2.1.
 abbrev pub reference_by : Header → Result ℕ FaultCode → OwnGiven
 reference_by header (Ok number) = unchanged header (Some (items.Number number)) None
 reference_by header (Err fault) = unchanged header (Some (items.Number 0)) (Some fault)
@@ -97,7 +97,7 @@ header_voice_by header value (Ok voice) =
 abbrev pub header_key_item : Key → Item
 header_key_item key = items.Key true (Some (key.sharps, key.minor))
 
--- What a K: gives, by its reading: one that is refused has an empty signature. Our own.
+-- What a K: gives, by its reading: one that is refused has an empty signature. Not in ABC 2.1.
 abbrev pub header_key_by : Header → Result Key FaultCode → OwnGiven
 header_key_by header (Ok key) = unchanged header (Some (header_key_item key)) None
 header_key_by header (Err fault) = unchanged header (Some (header_key_item empty_key)) (Some fault)
@@ -167,6 +167,6 @@ header_line_given own program = record {
 }
 
 -- What a line gives: its own item, and then the tempo and meter with which the tune begins if its header
--- ends behind it; an X: also the program of the file header. Our own.
+-- ends behind it; an X: also the program of the file header. Not in ABC 2.1.
 abbrev pub header_given : Header → HeaderLine → HeaderGiven
 header_given header line = header_line_given (line_own header line) (line_program line header.defaults)

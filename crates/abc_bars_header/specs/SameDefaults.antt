@@ -1,4 +1,4 @@
--- Equality of the values that a file header sets. Our own.
+-- Equality of the values that a file header sets. Not in ABC 2.1.
 use Rattle.std.specs.Prelude.{◌≡◌, Bool, true, false, refl, IsTrue, ◌↔◌}
 use Rattle.std.proofs.Common.{sym, ◌∙◌}
 use Rattle.std.specs.Cmp.{IsEquivalence, IsPartialEquivalence, partial_equiv_from_equiv}

@@ -1,4 +1,4 @@
--- Whether the same holds in two headers, component by component. Our own.
+-- Whether the same holds in two headers, component by component. Not in ABC 2.1.
 use Rattle.std.specs.Prelude.{◌≡◌, ◌⊎◌, ℕ, zero, suc, List, Option, Some, None, refl}
 use Rattle.std.proofs.Common.{inl, inr}
 use Rattle.abc_fields.specs.declared.meter.Meter.{Meter}

@@ -32,7 +32,7 @@ and_item given item = record given { items = given.items ++ item ∷ [] }
 abbrev pub and_faults : Items → List (ℕ × FaultCode) → Items
 and_faults given more = record given { faults = given.faults ++ more }
 
--- A length of at most 1,024 whole notes. Our own.
+-- A length of at most 1,024 whole notes. Not in ABC 2.1.
 abbrev pub IsWithinLongest : Grains → Type 0
 IsWithinLongest length = length.0 ≤ grains_of_the_longest_length
 

@@ -9,7 +9,7 @@ pub record IsVelocity (velocity : ℕ) : Type 0 where
   pub least : 1 ≤ velocity
   pub most : velocity ≤ HIGHEST_VELOCITY
 
--- The velocity of a note behind its voice's last dynamic, or where none stands before it. Our own.
+-- The velocity of a note behind its voice's last dynamic, or where none stands before it. Not in ABC 2.1.
 abbrev pub velocity_of : Option Dynamic → ℕ
 velocity_of None = USUAL_VELOCITY
 velocity_of (Some dynamic) = dynamic_velocity dynamic

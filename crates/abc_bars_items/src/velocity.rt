@@ -8,11 +8,11 @@ use abc_scan::Dynamic;
 /// The highest velocity of MIDI (SMF 1.0).
 pub const HIGHEST_VELOCITY: u8 = 127;
 
-/// The velocity of notes before which no dynamic stands. Our own.
+/// The velocity of notes before which no dynamic stands. Not in ABC 2.1.
 pub const USUAL_VELOCITY: u8 = 80;
 
 /// The MIDI velocity of notes, 1 to 127, by the last dynamic that stands before them in their voice (ABC 2.1
-/// section 4.14). The numbers are our own.
+/// section 4.14). The numbers are not in ABC 2.1.
 pub fn velocity_of(dynamic: Option<Dynamic>) -> u8
     ensures value { result ≡ velocity_of dynamic }
     ensures range { IsVelocity result }

@@ -17,7 +17,7 @@ unfoldable pub bar_grains : ℕ → ℕ → Grains
 bar_grains num den = record { 0 = grains_of_a_whole_note / den * num }
 
 -- The length of several bars, if there is one bar at least and they are not above 1,024 whole notes
--- together. Our own.
+-- together. Not in ABC 2.1.
 abbrev pub bars_of : ℕ → ℕ → ℕ → Option Grains
 bars_of num den n =
     option_and_then (λ factor. result_ok (length_of (record { num = num; den = den }) (factor ∷ []))) (ratio_of n 1)
@@ -34,7 +34,7 @@ or_one_bar num den None = (bar_grains num den, Some BadLength)
 or_one_bar num den (Some length) = (length, None)
 
 -- How long a rest of so many bars is, one bar where no number is written, and its fault. In free meter it
--- takes no time, whatever the number is, which is our own.
+-- takes no time, whatever the number is, which is not in ABC 2.1.
 abbrev pub bar_rest_length : Meter → Option ℕ → Grains × Option FaultCode
 bar_rest_length Free bars = (record { 0 = 0 }, Some FreeBarRest)
 bar_rest_length (Of num den) None = (bar_grains num den, None)

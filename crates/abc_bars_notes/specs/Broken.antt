@@ -15,7 +15,7 @@ use Rattle.abc_bars_notes.specs.declared.role.TokenRole.{TokenRole}
 use Rattle.abc_bars_notes.specs.declared.role.TokenRole.TheVariants as tokens
 use Rattle.abc_bars_notes.specs.TokenRole.{takes_time, token_role}
 
--- What broken rhythm sees of a token. A chord without notes is as if it were not there. Our own.
+-- What broken rhythm sees of a token. A chord without notes is as if it were not there. Not in ABC 2.1.
 abbrev pub broken_role : TokenRole → BrokenRole
 broken_role (tokens.Sound noted) = if noted then roles.Time else roles.Silent
 broken_role tokens.Rest = roles.Time
@@ -125,6 +125,6 @@ is_behind_time behinds.Nothing = false
 is_behind_time behinds.TimeToken = true
 is_behind_time (behinds.Mark mark) = false
 
--- Whether a mark has no two time tokens to act on. Our own.
+-- Whether a mark has no two time tokens to act on. Not in ABC 2.1.
 abbrev pub is_bad_mark : Behind → List (Spanned TokenKind) → Bool
 is_bad_mark behind ahead = not (is_behind_time behind && time_follows ahead)

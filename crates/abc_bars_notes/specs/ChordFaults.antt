@@ -33,7 +33,7 @@ AreFaultsOf Lasting from (part ∷ rest) faults =
     (others : List (ℕ × FaultCode)) × AreFaultsOf Lasting from rest others × IsFaultOf Lasting (column_of (from + part.from)) part.kind faults others
 
 -- BadLength stands at those of the first sixteen notes of a chord that have no length, and nowhere else, whether or not
--- what is written behind the chord is what is refused. Our own.
+-- what is written behind the chord is what is refused. Not in ABC 2.1.
 abbrev pub BadLengthsAtNotes : Type 0
 BadLengthsAtNotes =
     (settings : Settings) (cell : List (Spanned TokenKind)) (place from : ℕ) (chord : Chord) (tied : Bool) → IsPlace settings cell place

@@ -38,7 +38,7 @@ pub record SoundsKey (settings : Settings) (accidentals : Accidentals) (note : N
   pub key : tone.key ≡ midi_key (pitch_of settings.shift note by)
 
 -- Each of the first sixteen notes of a chord sounds its key, which hears the accidentals of the notes before it in the chord as
--- it hears others. That it is sixteen is our own.
+-- it hears others. That it is sixteen is not in ABC 2.1.
 abbrev pub ChordsSoundTheirKeys : Type 0
 ChordsSoundTheirKeys =
     (settings : Settings) (broken : List Ratio) (from : ℕ) (chord : Chord) (tied : Bool) → has_note chord.parts ≡ true
@@ -58,7 +58,7 @@ NotesAreAsLoud =
     → (tones : List Tone) × (lasting : Grains)
     × ((note_played settings broken tied from note).items ≡ items.Tone tones lasting ∷ []) × AreAsLoud settings tones
 
--- So is each note of a chord, inside which no dynamic is heard. Our own.
+-- So is each note of a chord, inside which no dynamic is heard. Not in ABC 2.1.
 abbrev pub ChordsAreAsLoud : Type 0
 ChordsAreAsLoud =
     (settings : Settings) (broken : List Ratio) (from : ℕ) (chord : Chord) (tied : Bool) → has_note chord.parts ≡ true

@@ -33,7 +33,7 @@ IsLengthOf settings cell place chord note length =
     IsGiven (Lasts settings cell place note.length (Some chord.length)) settings.unit length
 
 -- What sounds of a chord: its first sixteen notes, each for its own length, and it lasts as long as its first note. That it
--- is sixteen is our own.
+-- is sixteen is not in ABC 2.1.
 pub record SoundsTogether (settings : Settings) (cell : List (Spanned TokenKind)) (place : ℕ) (chord : Chord) (tones : List Tone) (lasting : Grains) : Type 0 where
   pub count : length tones ≡ min MOST_CHORD_NOTES (length (notes_of chord))
   pub each : (k : ℕ) (note : Note) → IsNoteOf chord k note → k < MOST_CHORD_NOTES → IsSomeAnd (slice_get tones k) (λ tone. IsLengthOf settings cell place chord note tone.length)
@@ -52,7 +52,7 @@ ChordsSound =
 abbrev pub is_big : ℕ × FaultCode → Bool
 is_big fault = number_of fault.1 == number_of BigChord
 
--- Where a chord at a place of its line has too many notes: at its seventeenth. Our own.
+-- Where a chord at a place of its line has too many notes: at its seventeenth. Not in ABC 2.1.
 abbrev pub big_at : ℕ → Chord → Option (ℕ × FaultCode)
 big_at from chord = option_map (λ part. (column_of (from + part.from), BigChord)) (slice_get (notes_of chord) MOST_CHORD_NOTES)
 

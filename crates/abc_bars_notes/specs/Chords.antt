@@ -22,7 +22,7 @@ use Rattle.abc_bars_notes.specs.TokenRole.{is_note_part}
 abbrev pub with_fault : ℕ → FaultCode → Inside → Inside
 with_fault column code inside = record inside { faults = inside.faults ++ (column, code) ∷ [] }
 
--- What there is after a note too many: the first one is a fault, and none leaves anything else. Our own.
+-- What there is after a note too many: the first one is a fault, and none leaves anything else. Not in ABC 2.1.
 abbrev pub with_dropped : ℕ → Inside → Inside
 with_dropped column inside = if inside.big then inside else record (with_fault column BigChord inside) { big = true }
 

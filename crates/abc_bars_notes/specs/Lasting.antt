@@ -36,7 +36,7 @@ abbrev pub once : Ratio
 once = record { num = 1; den = 1 }
 
 -- A length text says a factor of two numbers, each from 1 and of nine digits at most. ABC 2.1 section 4.3;
--- the bounds are our own.
+-- the bounds are not in ABC 2.1.
 pub record SaysFactor (written : WrittenLength) (factor : Ratio) : Type 0 where
   pub says : written ≡ Factor factor.num factor.den
   pub range : IsRatio factor
@@ -85,7 +85,7 @@ IsFactorBehind cell place factor =
 
 -- What is written so, and so behind its chord, at a place of a cell is g grains long: the unit times what is written,
 -- what is written behind the chord, and what the tuplet and the marks of broken rhythm say that act there, exactly,
--- and not above 1,024 whole notes. The bound is our own.
+-- and not above 1,024 whole notes. The bound is not in ABC 2.1.
 pub record Lasts (settings : Settings) (cell : List (Spanned TokenKind)) (place : ℕ) (own : WrittenLength) (outer : Option WrittenLength) (g : ℕ) : Type 0 where
   pub own_factor : Ratio
   pub outer_factor : Ratio
@@ -100,12 +100,12 @@ pub record Lasts (settings : Settings) (cell : List (Spanned TokenKind)) (place 
   pub exact : IsLength settings.unit (own_factor ∷ outer_factor ∷ tuplet_factor ∷ before_factor ∷ behind_factor ∷ []) g
   pub short : g ≤ grains_of_the_longest_length
 
--- A length as it is given: the one that the rule says, else that of one unit, which is our own.
+-- A length as it is given: the one that the rule says, else that of one unit, which is not in ABC 2.1.
 pub record IsGiven (Lasting : ℕ → Type 0) (unit : Ratio) (length : Grains) : Type 0 where
   pub accepted : (g : ℕ) → Lasting g → length.0 ≡ g
   pub refused : ((g : ℕ) → ¬ Lasting g) → IsLength unit [] length.0
 
--- BadLength stands at the column exactly where the rule says no length. Our own.
+-- BadLength stands at the column exactly where the rule says no length. Not in ABC 2.1.
 abbrev pub HasLengthFault : (ℕ → Type 0) → ℕ → List (ℕ × FaultCode) → Type 0
 HasLengthFault Lasting column faults = Contains faults (column, BadLength) ↔ ((g : ℕ) → ¬ Lasting g)
 
@@ -146,7 +146,7 @@ RestsLast =
     × HasLengthFault (Lasts settings cell place written None) (column_of from) (rest_played settings (factors_at cell place) from written).faults
 
 -- What a rest of bars gives in a meter: the item of one bar where no number is written, the item of so many bars, which
--- take so many times as long, and where that is no length that of one bar and BadLength. What is refused is our own.
+-- take so many times as long, and where that is no length that of one bar and BadLength. What is refused is not in ABC 2.1.
 pub record RestsForBars (num den : ℕ) : Type 0 where
   pub bar : ℕ
   pub bar_is : AreBars num den 1 bar
@@ -158,6 +158,6 @@ pub record RestsForBars (num den : ℕ) : Type 0 where
 abbrev pub BarRestsLast : Type 0
 BarRestsLast = (num den : ℕ) → HasMeterRange num den → RestsForBars num den
 
--- In free meter a rest of bars takes no time, whatever its number is. Our own.
+-- In free meter a rest of bars takes no time, whatever its number is. Not in ABC 2.1.
 abbrev pub FreeBarRests : Type 0
 FreeBarRests = (bars : Option ℕ) → bar_rest_of Free bars ≡ (items.Rest (record { 0 = 0 }) true, Some FreeBarRest)

@@ -35,7 +35,7 @@ all_ratios (None ∷ rest) = None
 all_ratios (Some ratio ∷ rest) = option_map (λ ratios. ratio ∷ ratios) (all_ratios rest)
 
 -- The unit times the factors of texts and those of its place, where no text is refused and the product is
--- a whole number of grains and not above 1,024 whole notes. Our own.
+-- a whole number of grains and not above 1,024 whole notes. Not in ABC 2.1.
 abbrev pub length_by : Ratio → List (Option Ratio) → List Ratio → Option Grains
 length_by unit texts factors = option_and_then (λ written. result_ok (length_of unit (written ++ factors))) (all_ratios texts)
 
@@ -50,6 +50,6 @@ abbrev pub or_unit : Ratio → Option Grains → Grains × Bool
 or_unit unit None = (unit_grains unit, true)
 or_unit unit (Some length) = (length, false)
 
--- The length of a note or rest, and whether what is written is refused: then it is one unit long. Our own.
+-- The length of a note or rest, and whether what is written is refused: then it is one unit long. Not in ABC 2.1.
 abbrev pub length_or_unit : Ratio → List (Option Ratio) → List Ratio → Grains × Bool
 length_or_unit unit texts factors = or_unit unit (length_by unit texts factors)

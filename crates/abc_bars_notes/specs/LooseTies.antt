@@ -31,7 +31,7 @@ abbrev pub is_loose_tie : ℕ × FaultCode → Bool
 is_loose_tie fault = number_of fault.1 == number_of LooseTie
 
 -- The loose ties inside a chord are those that have no note directly before them, in order, whatever stands behind the
--- chord. Our own.
+-- chord. Not in ABC 2.1.
 abbrev pub TiesBehindNotes : Type 0
 TiesBehindNotes =
     (settings : Settings) (broken : List Ratio) (from : ℕ) (chord : Chord) (tied : Bool)

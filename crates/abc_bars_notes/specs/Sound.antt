@@ -50,7 +50,7 @@ tied_note_in settings accidentals note = record {
   alteration = alteration_of settings accidentals note;
 }
 
--- The faults of a note at a column. That it is silent where MIDI has no key for it is our own.
+-- The faults of a note at a column. That it is silent where MIDI has no key for it is not in ABC 2.1.
 abbrev pub note_faults : Settings → Accidentals → List Ratio → Option WrittenLength → ℕ → Note → List (ℕ × FaultCode)
 note_faults settings accidentals broken outer column note =
     fault_if (length_in settings broken note.length outer).1 column BadLength

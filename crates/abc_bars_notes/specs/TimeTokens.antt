@@ -53,7 +53,7 @@ abbrev pub note_played : Settings → List Ratio → Bool → ℕ → Note → P
 note_played settings broken tied from note =
     sounded settings (with_note settings broken (around_note from tied) note (no_notes settings))
 
--- A chord that has a note sounds, one that has none takes no time. Our own.
+-- A chord that has a note sounds, one that has none takes no time. Not in ABC 2.1.
 abbrev pub chord_by : Bool → Settings → ℕ → Inside → Played
 chord_by true settings from inside = sounded settings inside
 chord_by false settings from inside =

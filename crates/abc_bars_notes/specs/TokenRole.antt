@@ -38,7 +38,7 @@ token_role (kinds.Field field) = roles.Barrier
 token_role kinds.Unclosed = roles.Other
 token_role kinds.BadByte = roles.Other
 
--- Whether it is a time token: a note, a rest, or a chord with a note. Our own.
+-- Whether it is a time token: a note, a rest, or a chord with a note. Not in ABC 2.1.
 abbrev pub takes_time : TokenRole → Bool
 takes_time (roles.Sound noted) = noted
 takes_time roles.Rest = true
@@ -47,7 +47,7 @@ takes_time roles.Tie = false
 takes_time roles.Barrier = false
 takes_time roles.Other = false
 
--- Whether no mark of broken rhythm reaches over it: a field, a bar rest, another mark. Our own.
+-- Whether no mark of broken rhythm reaches over it: a field, a bar rest, another mark. Not in ABC 2.1.
 abbrev pub hinders_marks : TokenRole → Bool
 hinders_marks (roles.Sound noted) = false
 hinders_marks roles.Rest = false
@@ -65,7 +65,7 @@ is_tie_role roles.Tie = true
 is_tie_role roles.Barrier = false
 is_tie_role roles.Other = false
 
--- Whether a tie may stand directly behind it: behind a note or a chord, even one without notes. Our own.
+-- Whether a tie may stand directly behind it: behind a note or a chord, even one without notes. Not in ABC 2.1.
 abbrev pub is_tieable : TokenRole → Bool
 is_tieable (roles.Sound noted) = true
 is_tieable roles.Rest = false

@@ -18,7 +18,7 @@ pub fn key_numbers()
 {}
 
 /// The velocities and programs of MIDI end at 127 (SMF 1.0), and notes without a dynamic have the velocity 80,
-/// which is our own.
+/// which is not in ABC 2.1.
 pub fn sound_numbers()
     ensures highest { HIGHEST_VELOCITY ≡ 127 }
     ensures usual { USUAL_VELOCITY ≡ 80 }
@@ -26,7 +26,7 @@ pub fn sound_numbers()
 {}
 
 /// A tune has at most fifteen voices, a chord sixteen notes that count, a tuplet numbers up to 64, and broken
-/// rhythm three marks together (ABC 2.1 section 4.4); the other limits are our own. The first column of a line is 1.
+/// rhythm three marks together (ABC 2.1 section 4.4); the other limits are not in ABC 2.1. The first column of a line is 1.
 pub fn music_limits()
     ensures voices { MOST_VOICES ≡ 15 }
     ensures notes { MOST_CHORD_NOTES ≡ 16 }

@@ -19,7 +19,7 @@ own_alteration note = option_map accidental_alteration note.accidental
 abbrev pub goes_on_in : Note → TiedNote → Bool
 goes_on_in note tied = (capital tied.letter == capital note.letter) && int_eq tied.octave note.octave
 
--- The alteration of the last of the tied notes that has the letter and the octave of a note. Our own.
+-- The alteration of the last of the tied notes that has the letter and the octave of a note. Not in ABC 2.1.
 abbrev pub tied_alteration : List TiedNote → Note → Option ℤ
 tied_alteration tied note = option_map (λ t. t.alteration) (find (goes_on_in note) (reverse tied))
 

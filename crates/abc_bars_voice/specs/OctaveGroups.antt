@@ -1,4 +1,4 @@
--- How the accidentals of octaves are kept: in groups of octaves that lie side by side. Our own.
+-- How the accidentals of octaves are kept: in groups of octaves that lie side by side. Not in ABC 2.1.
 use Rattle.std.specs.Prelude.{◌≡◌, ℤ, pos, Bool, ◌&&◌, List, [], ◌∷◌, ◌++◌, Option, Some, None, unwrap_or}
 use Rattle.std.specs.BTreeMap.{BTreeMap, insert_entry, is_at}
 use Rattle.std.specs.Cmp.{IsPartialEquivalence, and_per, int_eq_equiv, on_per, partial_equiv_from_equiv}

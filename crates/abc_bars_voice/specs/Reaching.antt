@@ -11,7 +11,7 @@ use Rattle.abc_bars_voice.specs.Accidentals.{no_accidentals, written_on}
 use Rattle.abc_bars_voice.specs.Alteration.{with_own}
 
 -- Whether an accidental on one note reaches another: never, on its letter in its octave, as both are written, or on
--- its letter in any octave. What the three words mean is our own.
+-- its letter in any octave. What the three words mean is not in ABC 2.1.
 abbrev pub Reaches : Reach → Note → Note → Type 0
 Reaches Not earlier note = ⊥
 Reaches Octave earlier note = (capital earlier.letter ≡ capital note.letter) × (earlier.octave ≡ note.octave)

@@ -6,7 +6,7 @@ use Rattle.abc_time.specs.Tempo.{quarter_micros_of}
 use Rattle.abc_time.specs.declared.ratio.Ratio.{Ratio}
 
 -- The microseconds of a quarter note, where a tempo is set and they are in range (ABC 2.1 section
--- 3.1.8); that a number alone counts unit notes is our own.
+-- 3.1.8); that a number alone counts unit notes is not in ABC 2.1.
 abbrev pub micros_by : Ratio → Tempo → Option ℕ
 micros_by unit Unset = None
 micros_by unit (Units n) = quarter_micros_of unit n

@@ -8,7 +8,7 @@ use Rattle.abc_scan.specs.declared.tuplet.Tuplet.{Tuplet}
 use Rattle.abc_time.specs.declared.ratio.Ratio.{Ratio}
 use Rattle.abc_bars_voice.specs.declared.tuplet.TheConstants.{LARGEST_TUPLET_NUMBER}
 
--- A number that a tuplet may have. Our own.
+-- A number that a tuplet may have. Not in ABC 2.1.
 pub record IsTupletNumber (n : ℕ) : Type 0 where
   pub least : 1 ≤ n
   pub most : n ≤ LARGEST_TUPLET_NUMBER
@@ -52,7 +52,7 @@ abbrev pub tuplet_by : Meter → Tuplet → Option OpenTuplet
 tuplet_by meter mark = tuplet_with mark.p (unwrap_or mark.q (default_q meter mark.p)) (unwrap_or mark.r mark.p)
 
 -- The open tuplet behind a mark that makes this one, and the mark's fault: a refused mark leaves the open
--- tuplet going, another one takes its place. Our own.
+-- tuplet going, another one takes its place. Not in ABC 2.1.
 abbrev pub opened : Option OpenTuplet → Option OpenTuplet → Option OpenTuplet × Option FaultCode
 opened old None = (old, Some BadTuplet)
 opened None (Some new) = (Some new, None)

@@ -3,7 +3,7 @@ use Rattle.std.specs.Prelude.{unwrap_or}
 use Rattle.abc_fields.specs.declared.shift.Shift.{Shift}
 use Rattle.abc_bars_voice.specs.declared.voice_shift.VoiceShift.{VoiceShift}
 
--- The shift behind properties: each part that they say takes the place of the one before. Our own.
+-- The shift behind properties: each part that they say takes the place of the one before. Not in ABC 2.1.
 abbrev pub with_properties : VoiceShift → Shift → VoiceShift
 with_properties shift said = record {
   clef = unwrap_or said.clef shift.clef;

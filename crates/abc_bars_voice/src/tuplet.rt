@@ -10,7 +10,7 @@ use abc_scan::Tuplet;
 use abc_time::Ratio;
 use std::marker::Model;
 
-/// The largest of a tuplet's three numbers. Our own.
+/// The largest of a tuplet's three numbers. Not in ABC 2.1.
 pub const LARGEST_TUPLET_NUMBER: u32 = 64;
 
 /// A tuplet of a voice, with how many notes, chords and rests it still takes (ABC 2.1 section 4.13).

@@ -83,12 +83,12 @@ has_lines (line ∷ lines) = true
 abbrev pub runs_of : List LineClass → List (List Line)
 runs_of classes = filter has_lines (cut_at_blanks (without_comments (numbered 0 classes)))
 
--- The pieces of a run: an X: line begins a tune wherever it stands. Our own.
+-- The pieces of a run: an X: line begins a tune wherever it stands. Not in ABC 2.1.
 abbrev pub pieces_of : List Line → List (List Line)
 pieces_of run = filter has_lines (cut_before_x run)
 
 -- What a piece is by its first line, at the start of the first run. ABC 2.1 sections 2.2.2 and 11; that a field
--- or a directive has to begin the file header is our own.
+-- or a directive has to begin the file header is not in ABC 2.1.
 abbrev pub opening_kind : LineClass → BlockKind
 opening_kind Blank = Free
 opening_kind Comment = Free

@@ -32,7 +32,7 @@ NoBlankInABlock =
 abbrev pub moved : ℕ → Block → Block
 moved lines block = record { kind = block.kind; from = block.from + lines; to = block.to + lines }
 
--- The blocks of a text are those of what stands before an X: line, and those of the rest. Our own.
+-- The blocks of a text are those of what stands before an X: line, and those of the rest. Not in ABC 2.1.
 abbrev pub AnXLineCuts : Type 0
 AnXLineCuts =
     (before behind : List LineClass) (x : LineClass) → IsTrue (is_x_line x)

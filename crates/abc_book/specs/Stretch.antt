@@ -1,4 +1,4 @@
--- The stretch of a text that an edit changes, and the blocks that there are after it. Our own.
+-- The stretch of a text that an edit changes, and the blocks that there are after it. Not in ABC 2.1.
 use Rattle.std.specs.Prelude.{◌≡◌, ◌⊎◌, ℕ, ◌+◌, ◌-◌, IsTrue, nat_le, nat_lt, List, [], ◌∷◌, ◌++◌, filter, length, map}
 use Rattle.abc_scan.specs.declared.class.LineClass.{LineClass}
 use Rattle.abc_book.specs.declared.block.Block.{Block}

@@ -107,7 +107,7 @@ abbrev pub key_of : List ℕ → Result Key FaultCode
 key_of value = ok_or (key_in value) BadKey
 
 -- The key that a field K: sets, where reading it gives this: what it says, or an empty signature where
--- it is refused. Our own.
+-- it is refused. Not in ABC 2.1.
 abbrev pub key_or_empty : Result Key FaultCode → Key
 key_or_empty (Ok key) = key
 key_or_empty (Err fault) = empty_key

@@ -163,7 +163,7 @@ fn key_in(value: &[u8]) -> Option<Key>
 
 /// Reads the value of K: (ABC 2.1 section 3.1.14), without blanks at its ends: nothing or `none`; a tonic, its mode or `exp`
 /// if any, and words; listed accidentals; or properties alone. Anything else is `BadKey`, so are more than seven sharps or
-/// flats, and a malformed number of `octave` or `transpose`. The bound and the last two forms are our own.
+/// flats, and a malformed number of `octave` or `transpose`. The bound and the last two forms are not in ABC 2.1.
 pub fn read_key(value: &[u8]) -> Result<Key, FaultCode>
     ensures value { result ≡ key_of value.now }
     ensures ok { (key : Key) → (result ≡ Ok key) ↔ IsKey value.now key }

@@ -8,7 +8,7 @@ ghost use Rattle.abc_fields.specs.Spelling.Parts.{IsParts};
 use crate::fault::FaultCode;
 use abc_text::is_blank;
 
-/// How many groups of an order stand within one another at most. Our own.
+/// How many groups of an order stand within one another at most. Not in ABC 2.1.
 pub const DEEPEST_GROUP: u8 = 32;
 
 /// How many digits a count has at most.
@@ -144,7 +144,7 @@ fn is_order(text: &[u8]) -> bool
 
 /// Reads the value of P: in a header (ABC 2.1 section 3.1.9): one or more items, each a letter A to Z or a group of items in
 /// parentheses, with a count from 1 behind it or not. Dots and blanks are ignored; anything else is `BadOrder`, also groups
-/// deeper than `DEEPEST_GROUP`. That blanks are ignored, and how deep groups and how long counts may be, is our own.
+/// deeper than `DEEPEST_GROUP`. That blanks are ignored, and how deep groups and how long counts may be, is not in ABC 2.1.
 #[tactic(auto, using(crate::proofs::LetterLaws::parts_letters))]
 pub fn read_parts(value: &[u8]) -> Result<(), FaultCode>
     ensures value { result ≡ parts_of value.now }

@@ -1,4 +1,4 @@
--- What contracts see of a chain, and of one that has been prepared. Our own.
+-- What contracts see of a chain, and of one that has been prepared. Not in ABC 2.1.
 use Rattle.std.specs.Prelude.{◌≡◌, ℕ, ◌+◌, ◌-◌, List, [], length, Some, slice_get}
 use Rattle.abc_fold.specs.declared.piece.Piece.{Piece}
 use Rattle.abc_fold.specs.declared.piece.Piece.TheVariants.{New, Kept}

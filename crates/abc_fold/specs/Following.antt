@@ -1,4 +1,4 @@
--- Which pieces follow each other. Our own.
+-- Which pieces follow each other. Not in ABC 2.1.
 use Rattle.std.specs.Prelude.{◌≡◌, ℕ, ◌-◌, ◌<◌, Bool, true, List, length, Some, slice_get}
 use Rattle.abc_fold.specs.declared.piece.Piece.{Piece}
 use Rattle.abc_fold.specs.declared.piece.Piece.TheVariants.{New, Kept}

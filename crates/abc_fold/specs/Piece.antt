@@ -1,4 +1,4 @@
--- The pieces that a chain is made from. Our own.
+-- The pieces that a chain is made from. Not in ABC 2.1.
 use Rattle.std.specs.Prelude.{◌≡◌, ℕ, ◌+◌, Bool, false, if◌then◌else◌, List, [], ◌∷◌, map}
 use Rattle.abc_fold.specs.declared.piece.Piece.{Piece}
 use Rattle.abc_fold.specs.declared.piece.Piece.TheVariants.{New, Kept}

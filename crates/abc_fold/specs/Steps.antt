@@ -3,18 +3,18 @@ use Rattle.std.specs.Prelude.{◌≡◌, Bool, true, List, [], ◌∷◌, refl}
 use Rattle.std.specs.List.{AllZip}
 
 -- A fold's own definition: the state after a cell and the items that the cell gives, where it is entered in a state;
--- and which states nothing that follows can tell apart. Our own.
+-- and which states nothing that follows can tell apart. Not in ABC 2.1.
 pub record Steps (State Cell Items : Type 0) : Type 0 where
   pub next : State → Cell → State
   pub gives : State → Cell → Items
   pub alike : State → State → Bool
 
--- Nothing that follows can tell two states apart. Our own.
+-- Nothing that follows can tell two states apart. Not in ABC 2.1.
 abbrev pub IsAlike : {State Cell Items : Type 0} → Steps State Cell Items → State → State → Type 0
 IsAlike steps a b = steps.alike a b ≡ true
 
 -- States that are alike may stand for each other: from them equal cells give equal items and states that are alike
--- again. Our own.
+-- again. Not in ABC 2.1.
 pub record IsResumable {State Cell Items : Type 0} (steps : Steps State Cell Items) : Type 0 where
   pub reflexive : (a : State) → IsAlike steps a a
   pub symmetric : (a b : State) → IsAlike steps a b → IsAlike steps b a
@@ -28,12 +28,12 @@ abbrev pub states_from : {State Cell Items : Type 0} → Steps State Cell Items 
 states_from steps state [] = state ∷ []
 states_from steps state (cell ∷ cells) = state ∷ states_from steps (steps.next state cell) cells
 
--- The items of a fold over cells, cell by cell. Our own.
+-- The items of a fold over cells, cell by cell. Not in ABC 2.1.
 abbrev pub items_from : {State Cell Items : Type 0} → Steps State Cell Items → State → List Cell → List Items
 items_from steps state [] = []
 items_from steps state (cell ∷ cells) = steps.gives state cell ∷ items_from steps (steps.next state cell) cells
 
--- States are alike, place by place. Our own.
+-- States are alike, place by place. Not in ABC 2.1.
 abbrev pub AreAlike : {State Cell Items : Type 0} → Steps State Cell Items → List State → List State → Type 0
 AreAlike steps some others = AllZip (IsAlike steps) some others
 

@@ -1,4 +1,4 @@
--- What a list with a gap keeps its items in, as contracts see it. Our own.
+-- What a list with a gap keeps its items in, as contracts see it. Not in ABC 2.1.
 use Rattle.std.specs.Prelude.{ℕ, ◌-◌, List, [], Option, Some, None}
 use Rattle.abc_lines.specs.GapRow.{IsGapped, items_of}
 use Rattle.abc_lines.specs.declared.gap_row.GapRow.{GapRow}

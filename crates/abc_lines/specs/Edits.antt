@@ -1,4 +1,4 @@
--- The text after an edit, and when there is none. Our own.
+-- The text after an edit, and when there is none. Not in ABC 2.1.
 use Rattle.std.specs.Prelude.{◌≡◌, ◌⊎◌, ℕ, ◌+◌, ◌-◌, ◌&&◌, ◌==◌, not, if◌then◌else◌, [], length, nat_le, Option, Some, None, Result, Ok, Err, IsOk}
 use Rattle.std.specs.List.{list_all}
 use Rattle.abc_lines.specs.declared.limits.TheConstants.{MOST_LINES}

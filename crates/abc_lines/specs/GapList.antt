@@ -1,4 +1,4 @@
--- A list with a gap, as contracts see it. Our own.
+-- A list with a gap, as contracts see it. Not in ABC 2.1.
 use Rattle.std.specs.Prelude.{ℕ, ◌+◌, ◌-◌, ◌^◌, List, ◌++◌, take, drop, min}
 
 -- The items, how many of them stand before the gap, how many more fit, and how many places items have moved over.

@@ -1,4 +1,4 @@
--- What a list with a gap is once a `&mut` to one of its items has ended. Our own.
+-- What a list with a gap is once a `&mut` to one of its items has ended. Not in ABC 2.1.
 use Rattle.std.specs.Prelude.{ℕ, slice_set, Option}
 use Rattle.std.specs.Borrow.{Fml, RattleType, MutBor, LendsIf}
 use Rattle.abc_lines.specs.GapList.{Gapped, gapped}

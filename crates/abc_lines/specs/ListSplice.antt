@@ -1,4 +1,4 @@
--- A splice of a list with a gap that has been prepared. Our own.
+-- A splice of a list with a gap that has been prepared. Not in ABC 2.1.
 use Rattle.std.specs.Prelude.{◌≡◌, ℕ, ◌+◌, ◌-◌, ◌*◌, ◌<◌, ◌≤◌, if◌then◌else◌, List, [], length, nat_le, Option, Some, None}
 use Rattle.abc_lines.specs.GapList.{Gapped, gapped, distance, tallied, replaced_run}
 

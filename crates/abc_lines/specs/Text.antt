@@ -1,5 +1,5 @@
 -- A tune book's text. ABC 2.1 says what it means; that it is a list of lines within limits, of which a
--- splice replaces a run, is our own.
+-- splice replaces a run, is not in ABC 2.1.
 use Rattle.std.specs.Prelude.{◌≡◌, ℕ, ◌+◌, ◌≤◌, ◌&&◌, ◌==◌, Bool, true, not, List, ◌++◌, length, take, drop, map, nat_le}
 use Rattle.std.specs.Borrow.{Bor}
 use Rattle.std.specs.Global.{Vec}

@@ -1,4 +1,4 @@
-//! How large a text may be. Our own.
+//! How large a text may be. Not in ABC 2.1.
 
 ghost use Rattle.std.specs.Prelude.{◌≡◌, ◌-◌, ◌^◌};
 

@@ -1,4 +1,4 @@
--- How much work an edit may cost. Our own.
+-- How much work an edit may cost. Not in ABC 2.1.
 use Rattle.std.specs.Prelude.{◌≡◌, ℕ, ◌≤◌, length, Option, Some, None}
 use Rattle.abc_fold.specs.Steps.{Steps}
 use Rattle.abc_fold.specs.Work.{Counters, raised}

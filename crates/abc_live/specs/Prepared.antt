@@ -1,4 +1,4 @@
--- An edit that has been prepared, and what its stretch has. Our own.
+-- An edit that has been prepared, and what its stretch has. Not in ABC 2.1.
 use Rattle.std.specs.Prelude.{◌≡◌, ℕ, ◌<◌, ◌++◌, List, [], drop, if◌then◌else◌, length, map, nat_lt, Option, Some, None}
 use Rattle.std.specs.List.{AllZip}
 use Rattle.abc_book.specs.declared.block.Block.{Block}

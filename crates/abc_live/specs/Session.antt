@@ -1,4 +1,4 @@
--- What contracts see of a session: its compiler and its text, which say all else, and what is kept of the text. Our own.
+-- What contracts see of a session: its compiler and its text, which say all else, and what is kept of the text. Not in ABC 2.1.
 use Rattle.abc_live_text.specs.Standing.{Keeping}
 use Rattle.std.specs.Prelude.{List}
 use Rattle.abc_fold.specs.Steps.{Steps}

@@ -1,4 +1,4 @@
--- What an edit may take over, and the steps where the states of the old chains are kept. Our own.
+-- What an edit may take over, and the steps where the states of the old chains are kept. Not in ABC 2.1.
 use Rattle.std.specs.Prelude.{◌≡◌, ℕ, ◌+◌, ◌≤◌, true, List, length, Option}
 use Rattle.std.specs.List.{Any}
 use Rattle.abc_lines.specs.Text.{Splice, Text, spliced}

@@ -1,4 +1,4 @@
--- Chains that are folds over the cells of blocks of a text, and which of them have the items of old ones. Our own.
+-- Chains that are folds over the cells of blocks of a text, and which of them have the items of old ones. Not in ABC 2.1.
 use Rattle.std.specs.Prelude.{◌≡◌, ℕ, true, List, Option, Some, IfSome, IsSome, slice_get}
 use Rattle.std.specs.List.{AllZip, flat_map}
 use Rattle.abc_book.specs.declared.block.Block.{Block}

@@ -1,4 +1,4 @@
--- Which cells of an edited text are fresh, and which of its tunes are touched. Our own.
+-- Which cells of an edited text are fresh, and which of its tunes are touched. Not in ABC 2.1.
 use Rattle.std.specs.Prelude.{ℕ, ◌+◌, ◌-◌, ◌==◌, ◌&&◌, not, nat_lt, if◌then◌else◌, Bool, true, false, List, [], ◌∷◌, length, count_by, Option, Some, None}
 use Rattle.std.specs.List.{list_any}
 use Rattle.std.specs.Option.{option_and_then}

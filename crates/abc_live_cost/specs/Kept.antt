@@ -1,5 +1,5 @@
 -- What is held of the cells of a new chain where the states of the old chains are kept, and the steps that are taken
--- along it. Our own.
+-- along it. Not in ABC 2.1.
 use Rattle.std.specs.Prelude.{ℕ, ◌+◌, cond, List, [], ◌∷◌, map, slice_get, Contains, Option, Some, None}
 use Rattle.std.specs.List.{AllZip, flat_map}
 use Rattle.std.specs.Option.{option_map}

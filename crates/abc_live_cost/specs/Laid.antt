@@ -1,4 +1,4 @@
--- A text with its blocks: along which runs of lines a fold goes, and in which states it begins. Our own.
+-- A text with its blocks: along which runs of lines a fold goes, and in which states it begins. Not in ABC 2.1.
 use Rattle.std.specs.Prelude.{ℕ, ◌+◌, List, [], ◌∷◌, ◌++◌, map, length, Option, Some, None}
 use Rattle.abc_book.specs.Laws.{RiseFromTo}
 use Rattle.abc_book.specs.declared.block.Block.{Block}

@@ -1,4 +1,4 @@
--- What ties the rows along which code walks to the meaning of fresh cells and touched tunes. Our own.
+-- What ties the rows along which code walks to the meaning of fresh cells and touched tunes. Not in ABC 2.1.
 use Rattle.std.specs.Prelude.{◌≡◌, ℕ, ◌+◌, ◌≤◌, ◌==◌, List, map, filter, length, slice_get, Contains, Some}
 use Rattle.std.specs.List.{sum_by}
 use Rattle.std.specs.Option.{option_map}

@@ -1,5 +1,5 @@
 -- What may be kept beside the lines in place of the rows: for each line, of which chain and from which place on it
--- holds the cells. Our own.
+-- holds the cells. Not in ABC 2.1.
 use Rattle.std.specs.Prelude.{ℕ, ◌+◌, List, [], ◌∷◌, ◌++◌, take, drop, map, length, Option, Some, None}
 use Rattle.std.specs.Option.{option_map}
 use Rattle.abc_lines.specs.Text.{Splice, Text}

@@ -1,4 +1,4 @@
--- The rows along which code walks: for each line, for each of its cells, what it was in the old text. Our own.
+-- The rows along which code walks: for each line, for each of its cells, what it was in the old text. Not in ABC 2.1.
 use Rattle.std.specs.Prelude.{ℕ, zero, suc, ◌+◌, ◌-◌, cond, List, [], ◌∷◌, ◌++◌, take, drop, map, length, slice_get, Option, Some, None}
 use Rattle.std.specs.Option.{option_map}
 use Rattle.abc_lines.specs.Text.{Splice, Text}

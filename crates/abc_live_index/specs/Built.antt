@@ -1,4 +1,4 @@
--- How far the count of tunes built may rise. Our own.
+-- How far the count of tunes built may rise. Not in ABC 2.1.
 use Rattle.std.specs.Prelude.{◌≡◌, ℕ, ◌≤◌, List, Option, Some, None}
 use Rattle.std.specs.List.{sum_by}
 use Rattle.abc_fold.specs.Work.{Counters, raised}

@@ -1,4 +1,4 @@
--- The tunes of a book before and after a change. Our own.
+-- The tunes of a book before and after a change. Not in ABC 2.1.
 use Rattle.std.specs.Prelude.{◌≡◌, ◌+◌, ◌-◌, ◌≤◌, List, length, take, drop}
 use Rattle.abc_live_index.specs.declared.change.TuneChange.{TuneChange}
 use Rattle.abc_live_index.specs.declared.output.Output.{Output}

@@ -1,4 +1,4 @@
--- What a change of the tunes makes of the owners and the titles of a book. Our own.
+-- What a change of the tunes makes of the owners and the titles of a book. Not in ABC 2.1.
 use Rattle.std.specs.Prelude.{◌≡◌, List, Option, unwrap_or}
 use Rattle.abc_live_index.specs.Outputs.{titles_of}
 use Rattle.abc_live_index.specs.Owners.{Owners, owners_of}

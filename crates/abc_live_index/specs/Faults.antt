@@ -1,4 +1,4 @@
--- The faults of a text once a stretch of its lines has been replaced. Our own.
+-- The faults of a text once a stretch of its lines has been replaced. Not in ABC 2.1.
 use Rattle.std.specs.Prelude.{ℕ, ◌+◌, ◌-◌, Bool, List, ◌++◌, filter, map, nat_le, nat_lt}
 use Rattle.abc_tune_compiler.specs.Fault.{fault_cmp}
 use Rattle.abc_tune_compiler.specs.Sorted.{sorted_once}

@@ -1,4 +1,4 @@
--- A book that is kept, and a change of it that has been prepared, as contracts see them. Our own.
+-- A book that is kept, and a change of it that has been prepared, as contracts see them. Not in ABC 2.1.
 use Rattle.std.specs.Prelude.{List}
 use Rattle.abc_lines.specs.GapList.{Gapped}
 use Rattle.abc_live_index.specs.declared.output.Output.{Output}

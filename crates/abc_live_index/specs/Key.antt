@@ -1,4 +1,4 @@
--- What the tunes of a text are known by. Our own.
+-- What the tunes of a text are known by. Not in ABC 2.1.
 use Rattle.std.specs.Prelude.{Option, unwrap_or}
 use Rattle.abc_book.specs.declared.block.Block.{Block}
 use Rattle.abc_lines.specs.Text.{Text}

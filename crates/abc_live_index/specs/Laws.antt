@@ -1,4 +1,4 @@
--- What is kept by differences is what the whole text gives. Our own.
+-- What is kept by differences is what the whole text gives. Not in ABC 2.1.
 use Rattle.std.specs.Prelude.{◌≡◌, ℕ, ◌+◌, ◌<◌, ◌≤◌, List, [], ◌++◌, map, All}
 use Rattle.std.specs.List.{AllZip}
 use Rattle.abc_live_index.specs.Faults.{fault_shifted, faults_after}

@@ -1,4 +1,4 @@
--- What the items of a tune give, wherever its lines stand. Our own.
+-- What the items of a tune give, wherever its lines stand. Not in ABC 2.1.
 use Rattle.std.specs.Prelude.{◌≡◌, ℕ, ◌+◌, ◌==◌, if◌then◌else◌, Bool, true, false, List, [], ◌∷◌, ◌++◌, length, map, take, drop, Option, Some, IfSome, slice_get}
 use Rattle.abc_fold.specs.Chain.{Chained}
 use Rattle.abc_live_index.specs.declared.output.Output.{Output}

@@ -1,4 +1,4 @@
--- Which tune gives the file of each number. Our own.
+-- Which tune gives the file of each number. Not in ABC 2.1.
 use Rattle.std.specs.Prelude.{ℕ, ◌+◌, ◌==◌, if◌then◌else◌, List, [], ◌∷◌, map, is_some, Option, option_and_then, slice_get}
 use Rattle.std.specs.BTreeMap.{insert_entry}
 use Rattle.std.specs.Map.{lookup}

@@ -1,4 +1,4 @@
--- The number whose file changes with the tune at a place. Our own.
+-- The number whose file changes with the tune at a place. Not in ABC 2.1.
 use Rattle.std.specs.Prelude.{ℕ, ◌==◌, if◌then◌else◌, List, Option, Some, None, option_and_then, slice_get}
 use Rattle.std.specs.Option.{option_eq}
 use Rattle.std.specs.Str.{bytes_eq}

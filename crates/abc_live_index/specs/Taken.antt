@@ -1,4 +1,4 @@
--- Which tunes take over what an old one gives, and how many are built. Our own.
+-- Which tunes take over what an old one gives, and how many are built. Not in ABC 2.1.
 use Rattle.std.specs.Prelude.{ℕ, ◌≤◌, List, map, Option}
 use Rattle.std.specs.List.{AllZip}
 use Rattle.abc_fold.specs.Chain.{Chained}

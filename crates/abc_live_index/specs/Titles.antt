@@ -1,4 +1,4 @@
--- Titles that are put in the place of old ones. Our own.
+-- Titles that are put in the place of old ones. Not in ABC 2.1.
 use Rattle.std.specs.Prelude.{◌+◌, ◌≤◌, ⊤, List, ◌++◌, length, take, drop}
 use Rattle.abc_live_index.specs.declared.titles.NewTitles.{NewTitles}
 use Rattle.abc_live_index.specs.declared.titles.NewTitles.TheVariants.{Whole, Among}

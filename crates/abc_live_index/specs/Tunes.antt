@@ -1,4 +1,4 @@
--- The tunes that lie among some lines of a text, by their chains, and their faults. Our own.
+-- The tunes that lie among some lines of a text, by their chains, and their faults. Not in ABC 2.1.
 use Rattle.std.specs.Prelude.{◌≡◌, ℕ, ◌+◌, ◌-◌, ◌≤◌, List, [], ◌∷◌, ◌++◌, map, take, drop, length, All, Option, Some}
 use Rattle.std.specs.List.{AllZip, flat_map, sum_by}
 use Rattle.abc_book.specs.declared.block.Block.{Block}

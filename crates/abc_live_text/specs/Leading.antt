@@ -1,4 +1,4 @@
--- The first lines of a text, of which an edit changes some before any tune begins. Our own.
+-- The first lines of a text, of which an edit changes some before any tune begins. Not in ABC 2.1.
 use Rattle.std.specs.Prelude.{◌≡◌, ◌⊎◌, ℕ, ◌≤◌, List, ◌∷◌, get_or, length, map, take, Option}
 use Rattle.abc_book.specs.Block.{blocks_of}
 use Rattle.abc_book.specs.declared.block.Block.{Block}

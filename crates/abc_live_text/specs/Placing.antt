@@ -1,4 +1,4 @@
--- Which chains hold the cells of lines. Our own.
+-- Which chains hold the cells of lines. Not in ABC 2.1.
 use Rattle.std.specs.Prelude.{ℕ, ◌+◌, ◌-◌, ◌≤◌, List, [], ◌∷◌, ◌++◌, map, take, drop, length, Some, None}
 use Rattle.std.specs.List.{flat_map}
 use Rattle.abc_book.specs.declared.block.Block.{Block}

@@ -1,4 +1,4 @@
--- Tunes that are put where those of an edited text lie. Our own.
+-- Tunes that are put where those of an edited text lie. Not in ABC 2.1.
 use Rattle.std.specs.Prelude.{◌≡◌, ◌+◌, ◌≤◌, ⊤, All, List, ◌++◌, drop, length, map, take}
 use Rattle.abc_book.specs.declared.block.Block.{Block}
 use Rattle.abc_lines.specs.declared.limits.TheConstants.{MOST_LINES}

@@ -1,4 +1,4 @@
--- What an edit makes anew: the tunes of its stretch, and the file header where that may change. Our own.
+-- What an edit makes anew: the tunes of its stretch, and the file header where that may change. Not in ABC 2.1.
 use Rattle.std.specs.Prelude.{◌≡◌, ◌⊎◌, ℕ, ◌+◌, ◌-◌, ◌<◌, ◌≤◌, All, List, [], ◌∷◌, ◌++◌, drop, length, map, take, Option, Some, None, IsSome}
 use Rattle.std.specs.List.{AllZip}
 use Rattle.abc_book.specs.Laws.{moved}

@@ -1,4 +1,4 @@
--- What is kept of the lines of a text beside their bytes. Our own.
+-- What is kept of the lines of a text beside their bytes. Not in ABC 2.1.
 use Rattle.std.specs.Prelude.{◌≡◌, ℕ, ◌≤◌, List, Option, None}
 use Rattle.abc_fold.specs.Work.{Counters, raised}
 use Rattle.abc_live_cost.specs.Origins.{Origin}

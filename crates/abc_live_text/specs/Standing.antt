@@ -1,4 +1,4 @@
--- What contracts see of a text that is kept with its chains, and of an edit of it that has been prepared. Our own.
+-- What contracts see of a text that is kept with its chains, and of an edit of it that has been prepared. Not in ABC 2.1.
 use Rattle.std.specs.Prelude.{◌≡◌, ◌⊎◌, ℕ, zero, suc, ◌+◌, ◌-◌, ◌≤◌, All, List, [], ◌∷◌, ◌++◌, drop, length, map, take, Option, Some}
 use Rattle.abc_book.specs.Stretch.{shifted}
 use Rattle.abc_book.specs.declared.block.Block.{Block}

@@ -1,4 +1,4 @@
--- Which tunes of an edited text have the items of old ones. Our own.
+-- Which tunes of an edited text have the items of old ones. Not in ABC 2.1.
 use Rattle.std.specs.Prelude.{◌&&◌, ◌+◌, ◌==◌, ◌∷◌, ◌≡◌, Bool, IsSome, List, None, Option, Some, [], false, if◌then◌else◌, length, slice_get, suc, true, ℕ}
 use Rattle.std.specs.Option.{option_map}
 use Rattle.abc_fold.specs.Chain.{Chained}

@@ -1,4 +1,4 @@
--- What the words on a publisher say together. Our own.
+-- What the words on a publisher say together. Not in ABC 2.1.
 use Rattle.std.specs.Prelude.{◌≡◌, ℕ, ◌<◌, ◌^◌, false, List, Option, None}
 use Rattle.abc_publish.specs.Publisher.{Publishing, begun, is_pending, is_wanted, IsSettled}
 use Rattle.abc_tune_compiler.specs.Files.{Files}

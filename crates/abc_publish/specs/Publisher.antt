@@ -1,4 +1,4 @@
--- What a directory of files is known to hold, the jobs that are under way, and how both differ from a book. Our own.
+-- What a directory of files is known to hold, the jobs that are under way, and how both differ from a book. Not in ABC 2.1.
 use Rattle.std.specs.Prelude.{◌≡◌, ℕ, ◌<◌, ◌≤◌, ◌^◌, ◌==◌, ◌&&◌, Bool, true, false, not, if◌then◌else◌, List, Option, Some, None, MatchOption, is_none}
 use Rattle.std.specs.Str.{bytes_eq}
 use Rattle.std.specs.BTreeMap.{is_at}

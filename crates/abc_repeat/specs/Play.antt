@@ -32,7 +32,7 @@ abbrev pub run_start : ℕ → List Mark → ℕ
 run_start pass [] = 0
 run_start pass (m ∷ ms) = if is_for pass m then 1 else 1 + run_start pass ms
 
--- How often marks are passed: as often as the mark that asks for most passes says, once where none does. Our own.
+-- How often marks are passed: as often as the mark that asks for most passes says, once where none does. Not in ABC 2.1.
 abbrev pub most_passes : List Mark → ℕ
 most_passes [] = 1
 most_passes (m ∷ ms) = max (passes_of m) (most_passes ms)

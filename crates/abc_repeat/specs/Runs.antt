@@ -1,4 +1,4 @@
--- Runs: stretches of what takes its turn that stand in front of the next mark, played as one. Our own.
+-- Runs: stretches of what takes its turn that stand in front of the next mark, played as one. Not in ABC 2.1.
 use Rattle.std.specs.Prelude.{◌≡◌, ℕ, true, List, [], ◌∷◌, ◌++◌, map, slice_index_or}
 use Rattle.std.specs.List.{flat_map}
 use Rattle.abc_repeat.specs.declared.mark.Mark.{Mark}

@@ -1,5 +1,5 @@
 -- Strains: what repeat bars, double bars and endings make of the marks of a voice in a section. ABC 2.1
--- sections 4.8 and 4.9; where they begin and end is our own.
+-- sections 4.8 and 4.9; where they begin and end is not in ABC 2.1.
 use Rattle.std.specs.Prelude.{◌≡◌, ℕ, Bool, true, false, not, ◌&&◌, ◌||◌, if◌then◌else◌, List, [], ◌∷◌, ◌++◌, map, Option, Some, None}
 use Rattle.std.specs.List.{AllPass}
 use Rattle.abc_repeat.specs.declared.mark.Mark.{Mark}
@@ -29,11 +29,11 @@ endings_text (ending ∷ endings) = marks.Ending ending.numbers ∷ (ending.run 
 abbrev pub text_of : Strain → List Mark
 text_of strain = strain.common ++ endings_text strain.endings
 
--- What may stand in a common part in front of its end. Our own.
+-- What may stand in a common part in front of its end. Not in ABC 2.1.
 abbrev pub in_common : Bool → Mark → Bool
 in_common opened m = not (is_ending m) && not (closes_common opened m)
 
--- What may stand in an ending in front of its end. Our own.
+-- What may stand in an ending in front of its end. Not in ABC 2.1.
 abbrev pub in_ending : Mark → Bool
 in_ending m = is_play m || is_single m
 
@@ -42,18 +42,18 @@ abbrev pub leads_to_ending : List Mark → Bool
 leads_to_ending [] = false
 leads_to_ending (m ∷ rest) = is_ending m || (is_single m && leads_to_ending rest)
 
--- Behind a bar that ends an ending, another ending of the same strain comes. Our own.
+-- Behind a bar that ends an ending, another ending of the same strain comes. Not in ABC 2.1.
 abbrev pub goes_on : Mark → List Mark → Bool
 goes_on bar rest = not (opens_next bar) && leads_to_ending rest
 
 -- The run of an ending with another behind it: up to that one's sign, or up to a bar that opens nothing
--- and single bars behind it. Our own.
+-- and single bars behind it. Not in ABC 2.1.
 pub data IsInnerRun : List Mark → Type 0 where
   straight : (body : List Mark) → AllPass in_ending body → IsInnerRun body
   barred : (body gap : List Mark) (bar : Mark) → AllPass in_ending body → closes_ending bar ≡ true → opens_next bar ≡ false → AllPass is_single gap
       → IsInnerRun (body ++ bar ∷ gap)
 
--- The endings of a strain, and the bar that ends the last one, if the section does not. Our own.
+-- The endings of a strain, and the bar that ends the last one, if the section does not. Not in ABC 2.1.
 pub data AreEndings : List Ending → Option Mark → Type 0 where
   to_the_end : (numbers : ℕ) (body : List Mark) → AllPass in_ending body → AreEndings (record { numbers = numbers; run = body } ∷ []) None
   to_a_bar : (numbers : ℕ) (body : List Mark) (bar : Mark) → AllPass in_ending body → closes_ending bar ≡ true

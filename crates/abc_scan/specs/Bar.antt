@@ -21,7 +21,7 @@ strokes_text s =
 abbrev pub middle_text : List Strokes → List ℕ
 middle_text groups = flat_map strokes_text groups
 
--- Whether a middle is another one than a single `|`. Our own.
+-- Whether a middle is another one than a single `|`. Not in ABC 2.1.
 abbrev pub is_double : List ℕ → Bool
 is_double middle = not (bytes_eq middle (codes "|"))
 
@@ -32,7 +32,7 @@ pub record HasStrokes (text : List ℕ) (bar : BarLine) : Type 0 where
   pub spelling : text ≡ replicate bar.closes colon ++ (middle_text groups ++ replicate bar.opens colon)
   pub double_is : bar.double ≡ is_double (middle_text groups)
 
--- Two or more colons alone: each stands for a close and an open repeat, but for one. Our own.
+-- Two or more colons alone: each stands for a close and an open repeat, but for one. Not in ABC 2.1.
 pub record HasColons (text : List ℕ) (bar : BarLine) : Type 0 where
   pub count : ℕ
   pub several : 2 ≤ count

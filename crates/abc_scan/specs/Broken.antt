@@ -12,7 +12,7 @@ abbrev pub mark_of : Direction → ℕ
 mark_of Right = greater_sign
 mark_of Left = less_sign
 
--- One to three marks of one direction. ABC 2.1 section 4.4; that there are at most three is our own.
+-- One to three marks of one direction. ABC 2.1 section 4.4; that there are at most three is not in ABC 2.1.
 pub record IsBroken (text : List ℕ) (value : BrokenRhythm) : Type 0 where
   pub some : 1 ≤ value.marks
   pub few : value.marks ≤ 3

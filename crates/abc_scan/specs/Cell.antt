@@ -1,4 +1,4 @@
--- The cells of a line. Our own.
+-- The cells of a line. Not in ABC 2.1.
 use Rattle.std.specs.Prelude.{◌≡◌, ℕ, suc, ◌-◌, Bool, false, true, List, [], ◌∷◌, ◌++◌, length, take, flat_map, if◌then◌else◌, All}
 use Rattle.abc_scan.specs.declared.spanned.Spanned.{Spanned}
 use Rattle.abc_scan.specs.declared.token.TokenKind.{TokenKind}

@@ -16,7 +16,7 @@ use Rattle.abc_scan.specs.Note.{IsNote, note_at}
 use Rattle.abc_scan.specs.Single.{IsBlankToken, IsTie}
 use Rattle.abc_scan.specs.Start.{start_of}
 
--- The bytes spell a part of a chord of this kind. A bad byte is what spells none. Which parts there are is our own.
+-- The bytes spell a part of a chord of this kind. A bad byte is what spells none. Which parts there are is not in ABC 2.1.
 abbrev pub SpellsPart : Bool → List ℕ → ChordPartKind → Type 0
 SpellsPart after_bar text (kinds.Note note) = IsNote text note
 SpellsPart after_bar text kinds.Tie = IsTie text

@@ -49,7 +49,7 @@ pub record IsReachLine (text : List ℕ) (reach : Reach) : Type 0 where
   pub gap_is : IsGap gap
   pub end_is : IsEnd end
 
--- The text spells a directive. That it begins in the first column is our own.
+-- The text spells a directive. That it begins in the first column is not in ABC 2.1.
 abbrev pub IsDirective : List ℕ → Directive → Type 0
 IsDirective text (directives.Program number) = IsProgramLine text number
 IsDirective text (directives.Reach reach) = IsReachLine text reach

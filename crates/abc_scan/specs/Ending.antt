@@ -32,7 +32,7 @@ IsRanges text (range ∷ []) = IsRange text range
 IsRanges text (range ∷ next ∷ more) =
     (front : List ℕ) × (rest : List ℕ) × (text ≡ front ++ comma ∷ rest) × IsRange front range × IsRanges rest (next ∷ more)
 
--- Passes are counted from 1 up to a limit, and a range does not fall. Our own.
+-- Passes are counted from 1 up to a limit, and a range does not fall. Not in ABC 2.1.
 abbrev pub is_accepted : PassRange → Bool
 is_accepted range = nat_le 1 range.first && nat_le range.first range.last && nat_le range.last LAST_PASS
 
@@ -55,7 +55,7 @@ pub record AreBits (IsPass : ℕ → Type 0) (bits : ℕ) : Type 0 where
   pub set : (pass : ℕ) → 1 ≤ pass → (bit_at bits (pass - 1) ≡ 1) ↔ IsPass pass
 
 -- The passes that ranges name, as bits, where all are accepted. One bad range makes the whole mark
--- refused. Our own.
+-- refused. Not in ABC 2.1.
 abbrev pub ArePasses : List PassRange → Option ℕ → Type 0
 ArePasses ranges None = ¬ AreAccepted ranges
 ArePasses ranges (Some bits) = AreAccepted ranges × AreBits (AreNaming ranges) bits

@@ -17,7 +17,7 @@ begins_length [] = false
 begins_length (b ∷ bs) = is_digit b || is_slash b
 
 -- The number that digits write, or another where there are none. It is refused where it has more than
--- nine digits or is 0. Our own.
+-- nine digits or is 0. Not in ABC 2.1.
 abbrev pub number_or : List ℕ → ℕ → Option ℕ
 number_or [] other = Some other
 number_or (d ∷ ds) other =
@@ -31,7 +31,7 @@ factor (Some num) None = Refused
 factor (Some num) (Some den) = Factor num den
 
 -- The value of digits, slashes and digits. Without digits it is 1 over the slashes, and under them a
--- half for each. More than 29 slashes are refused, which is our own.
+-- half for each. More than 29 slashes are refused, which is not in ABC 2.1.
 abbrev pub written_length : List ℕ → ℕ → List ℕ → WrittenLength
 written_length over slashes under =
     if nat_lt 29 slashes then Refused else factor (number_or over 1) (number_or under (2 ^ slashes))
@@ -47,7 +47,7 @@ pub record IsLength (text : List ℕ) (value : WrittenLength) : Type 0 where
   pub one_slash : 0 < length under → slashes ≡ 1
   pub value_is : value ≡ written_length over slashes under
 
--- Both parts of an accepted length are from 1 to the largest number of nine digits. Our own.
+-- Both parts of an accepted length are from 1 to the largest number of nine digits. Not in ABC 2.1.
 pub record IsFactor (num den : ℕ) : Type 0 where
   pub num_least : 1 ≤ num
   pub num_most : num ≤ LARGEST_NUMBER

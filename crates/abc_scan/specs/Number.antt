@@ -10,7 +10,7 @@ abbrev pub IsOptionalNumber : List ℕ → Option ℕ → Type 0
 IsOptionalNumber text None = text ≡ []
 IsOptionalNumber text (Some n) = IsNumber text n
 
--- How many digits of a number stand at the front of a text: the tenth belongs to none. Our own.
+-- How many digits of a number stand at the front of a text: the tenth belongs to none. Not in ABC 2.1.
 abbrev pub number_size : List ℕ → ℕ
 number_size text = prefix_len is_digit (take LONGEST_NUMBER text)
 

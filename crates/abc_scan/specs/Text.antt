@@ -4,7 +4,7 @@ use Rattle.abc_text.specs.LineEnd.{without_return}
 use Rattle.abc_scan.specs.Byte.{space, percent, backslash}
 
 -- What stands before the comment in a text that follows this byte: a comment begins at a `%` that does not directly
--- follow a backslash. ABC 2.1 section 2.2; that backslashes do not pair up is our own.
+-- follow a backslash. ABC 2.1 section 2.2; that backslashes do not pair up is not in ABC 2.1.
 abbrev pub before_comment : ℕ → List ℕ → List ℕ
 before_comment before [] = []
 before_comment before (b ∷ bs) = if (b == percent) && not (before == backslash) then [] else b ∷ before_comment b bs
@@ -13,7 +13,7 @@ before_comment before (b ∷ bs) = if (b == percent) && not (before == backslash
 abbrev pub without_comment : List ℕ → List ℕ
 without_comment text = before_comment space text
 
--- The bytes of a line that are read: the carriage return is dropped first. ABC 2.1 section 2.2; the order is our own.
+-- The bytes of a line that are read: the carriage return is dropped first. ABC 2.1 section 2.2; the order is not in ABC 2.1.
 abbrev pub content : List ℕ → List ℕ
 content line = without_comment (without_return line)
 

@@ -47,7 +47,7 @@ Spells after_bar text kinds.BadByte = ⊥
 abbrev pub opens : ℕ → Bool
 opens b = (b == opening_bracket) || (b == quote) || (b == exclamation) || (b == opening_brace)
 
--- A byte of a line that begins no token is unclosed if it opens something. Our own.
+-- A byte of a line that begins no token is unclosed if it opens something. Not in ABC 2.1.
 abbrev pub alone_of : ℕ → TokenKind
 alone_of b = if opens b then kinds.Unclosed else kinds.BadByte
 

@@ -7,7 +7,7 @@ use crate::number::number_at;
 use abc_text::leading_blanks;
 
 /// How far the accidental of a note reaches, up to the end of its bar (ABC 2.1 section 11.3; what the
-/// three words mean here is our own).
+/// three words mean here is not in ABC 2.1).
 #[derive(Clone, Copy, PartialEq, Eq)]
 pub enum Reach {
     /// To its own note alone.

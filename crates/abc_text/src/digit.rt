@@ -4,7 +4,7 @@ ghost use Rattle.std.specs.Prelude.{◌≡◌, ◌+◌, ◌≤◌, ◌^◌, leng
 ghost use Rattle.std.specs.List.{prefix_len, AllPass};
 ghost use Rattle.abc_text.specs.Digit.{is_digit, decimal};
 
-/// How many digits a number has at most. Our own.
+/// How many digits a number has at most. Not in ABC 2.1.
 pub const LONGEST_NUMBER: usize = 9;
 
 /// The largest number of so many digits.

@@ -2,7 +2,7 @@
 
 ghost use Rattle.std.specs.Prelude.{◌≡◌};
 
-/// The last pass that an ending can be for: an ending has a bit for each. Our own.
+/// The last pass that an ending can be for: an ending has a bit for each. Not in ABC 2.1.
 pub const LAST_PASS: u32 = 32;
 
 /// An ending is for passes 1 to 32.

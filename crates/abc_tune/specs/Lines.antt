@@ -29,7 +29,7 @@ abbrev pub HasShortTitle : Type 0
 HasShortTitle = (opening : Defaults) (lines : List (List ℕ)) → list_all is_line lines ≡ true
     → length (title_of (items_of_lines opening lines)) ≤ LONGEST_TITLE
 
--- More sections or more places of a tune are played than may be, or it ends later than a tune may. Our own.
+-- More sections or more places of a tune are played than may be, or it ends later than a tune may. Not in ABC 2.1.
 pub data IsTooLarge (tune : List Item) : Type 0 where
   by_sections : MOST_SECTIONS < sections_played tune → IsTooLarge tune
   by_places : MOST_PLACES < places_played tune → IsTooLarge tune

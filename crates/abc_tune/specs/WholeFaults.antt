@@ -13,7 +13,7 @@ abbrev pub is_opening_key : Item → Bool
 is_opening_key (items.Key opening key) = opening
 is_opening_key _ = false
 
--- Whether the header of a tune has no K:. ABC 2.1 section 3.1.14; how it is read then is our own.
+-- Whether the header of a tune has no K:. ABC 2.1 section 3.1.14; how it is read then is not in ABC 2.1.
 abbrev pub lacks_key : List Item → Bool
 lacks_key tune = not (list_any is_opening_key tune)
 

@@ -1,4 +1,4 @@
--- The book of a text: the file of each reference number, the titles, the faults. Our own.
+-- The book of a text: the file of each reference number, the titles, the faults. Not in ABC 2.1.
 use Rattle.std.specs.Prelude.{Bool, true, false, if◌then◌else◌, List, [], ◌∷◌, ◌++◌, map, filter, Option, Some, None}
 use Rattle.std.specs.List.{flat_map}
 use Rattle.abc_book.specs.Block.{blocks_of}

@@ -1,4 +1,4 @@
--- The order of faults: by line, then by column, then by the number of the code. Our own.
+-- The order of faults: by line, then by column, then by the number of the code. Not in ABC 2.1.
 use Rattle.std.specs.declared.cmp.Ordering.{Ordering}
 use Rattle.std.specs.Ordering.{nat_cmp, on, then_cmp}
 use Rattle.abc_fields.specs.Fault.{number_of}

@@ -1,4 +1,4 @@
--- The MIDI files of a book by reference number, and how two books differ. Our own.
+-- The MIDI files of a book by reference number, and how two books differ. Not in ABC 2.1.
 use Rattle.std.specs.Prelude.{◌≡◌, ◌≢◌, ℕ, ◌==◌, ◌&&◌, not, if◌then◌else◌, List, [], ◌∷◌, filter, is_some, Option, Some, None, IsSome}
 use Rattle.std.specs.BTreeMap.{insert_entry}
 use Rattle.std.specs.Map.{keys_of, lookup}

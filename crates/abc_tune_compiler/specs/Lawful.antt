@@ -1,4 +1,4 @@
--- What a session relies on of a compiler's definitions. Our own.
+-- What a session relies on of a compiler's definitions. Not in ABC 2.1.
 use Rattle.std.specs.Prelude.{◌≡◌, ◌↔◌, ◌⊎◌, ℕ, List, [], Some, None}
 use Rattle.abc_fold.specs.Steps.{Steps, IsAlike}
 use Rattle.abc_scan.specs.declared.class.LineClass.TheVariants.{Blank, Comment}

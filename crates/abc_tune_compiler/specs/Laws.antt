@@ -1,4 +1,4 @@
--- What holds of every book. Our own.
+-- What holds of every book. Not in ABC 2.1.
 use Rattle.std.specs.Prelude.{◌≡◌, ◌↔◌, ◌≤◌, ℕ, ◌+◌, List, [], ◌∷◌, map, length, All, Contains}
 use Rattle.std.specs.List.Sorted.{IsStrictlySortedBy}
 use Rattle.abc_fields.specs.declared.fault.FaultCode.{FaultCode}

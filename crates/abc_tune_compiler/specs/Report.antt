@@ -1,4 +1,4 @@
--- What differs between the files of two books. Our own.
+-- What differs between the files of two books. Not in ABC 2.1.
 use Rattle.std.specs.Prelude.{◌≡◌, ◌↔◌, ℕ, Contains}
 use Rattle.std.specs.List.Sorted.{IsStrictlyIncreasing}
 use Rattle.abc_tune_compiler.specs.Files.{Files, written, removed, HasNewFile, HasLostFile}

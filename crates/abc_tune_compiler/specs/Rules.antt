@@ -1,4 +1,4 @@
--- What a compiler of tunes is by definition, whatever language its tunes are written in. Our own.
+-- What a compiler of tunes is by definition, whatever language its tunes are written in. Not in ABC 2.1.
 use Rattle.std.specs.Prelude.{ℕ, List, Option}
 use Rattle.abc_fields.specs.declared.fault.FaultCode.{FaultCode}
 use Rattle.abc_scan.specs.declared.class.LineClass.{LineClass}

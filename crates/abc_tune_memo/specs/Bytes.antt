@@ -1,4 +1,4 @@
--- The bytes by which a tune is known. Our own.
+-- The bytes by which a tune is known. Not in ABC 2.1.
 use Rattle.std.specs.Prelude.{ℕ, List, [], ◌∷◌, ◌++◌}
 use Rattle.std.specs.List.{flat_map}
 use Rattle.abc_lines.specs.Text.{Text}

@@ -1,4 +1,4 @@
--- Which items are those of a key, and what a memo remembers. Our own.
+-- Which items are those of a key, and what a memo remembers. Not in ABC 2.1.
 use Rattle.std.specs.Prelude.{◌≡◌, ◌⊎◌, Bool, true, if◌then◌else◌, List, Contains, Option, Some, is_some}
 use Rattle.std.specs.List.{list_all, flat_map}
 use Rattle.abc_tune_compiler.specs.declared.built.Built.{Built}

@@ -1,4 +1,4 @@
--- A tune laid out in time: its sections one after another, in each its voices beside one another. Our own.
+-- A tune laid out in time: its sections one after another, in each its voices beside one another. Not in ABC 2.1.
 use Rattle.std.specs.Prelude.{ℕ, pos, ◌+◌, max, nat_lt, Bool, true, false, not, ◌&&◌, ◌||◌, ◌==◌, List, [], ◌∷◌, ◌++◌, length, map, filter_map, slice_get, sum_by, Option, Some, None}
 use Rattle.std.specs.List.{list_any, flat_map}
 use Rattle.abc_bars_items.specs.declared.item.Item.{Item}
@@ -144,7 +144,7 @@ abbrev pub places_played : List Item → ℕ
 places_played tune =
     sum_by (λ section. sum_by (size_in section) (everyone tune)) (played_sections tune)
 
--- Whether a tune is too long: a limit is passed, of sections, of places, of time, of voices, or of a title. Our own.
+-- Whether a tune is too long: a limit is passed, of sections, of places, of time, of voices, or of a title. Not in ABC 2.1.
 unfoldable pub is_too_long : List Item → Bool
 is_too_long tune =
     nat_lt MOST_SECTIONS (sections_played tune) || nat_lt MOST_PLACES (places_played tune)

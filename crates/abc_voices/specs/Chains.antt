@@ -1,4 +1,4 @@
--- The chains of tied tones in a play, as a relation. ABC 2.1 section 4.11; which tones are joined is our own.
+-- The chains of tied tones in a play, as a relation. ABC 2.1 section 4.11; which tones are joined is not in ABC 2.1.
 use Rattle.std.specs.Prelude.{◌≡◌, ℕ, suc, ◌+◌, true, List, [], ◌∷◌, ◌++◌, Option, Some, None, slice_get, take}
 use Rattle.abc_bars_items.specs.declared.item.Tone.{Tone}
 use Rattle.abc_voices_score.specs.declared.score.Sounding.{Sounding}

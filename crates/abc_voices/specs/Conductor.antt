@@ -1,4 +1,4 @@
--- The tempo, the meter and the key on each tick, by what is played there. Our own.
+-- The tempo, the meter and the key on each tick, by what is played there. Not in ABC 2.1.
 use Rattle.std.specs.Prelude.{◌≡◌, ℕ, ℤ, pos, ◌+◌, ◌*◌, ◌/◌, ◌^◌, ◌==◌, Bool, true, false, ◌&&◌, List, [], ◌∷◌, take, filter, Option, Some, None, option_map, option_and_then, unwrap_or}
 use Rattle.std.specs.Option.{option_to_list}
 use Rattle.abc_bars_items.specs.declared.item.Item.{Item}

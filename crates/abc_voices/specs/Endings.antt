@@ -1,4 +1,4 @@
--- Which fields are played with the ending behind them, said by the strains. ABC 2.1 section 4.9; that fields are is our own.
+-- Which fields are played with the ending behind them, said by the strains. ABC 2.1 section 4.9; that fields are is not in ABC 2.1.
 use Rattle.std.specs.Prelude.{◌≡◌, Bool, true, false, not, ◌&&◌, ◌||◌, if◌then◌else◌, List, [], ◌∷◌, ◌++◌, map, filter, drop, get_or}
 use Rattle.std.specs.List.{flat_map}
 use Rattle.abc_bars_items.specs.declared.item.Item.{Item}

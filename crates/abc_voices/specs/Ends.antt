@@ -1,4 +1,4 @@
--- When a tune ends: with its sections, or with a note that lasts longer. Our own.
+-- When a tune ends: with its sections, or with a note that lasts longer. Not in ABC 2.1.
 use Rattle.std.specs.Prelude.{◌≡◌, ◌≤◌, ◌⊎◌, ℕ, List, sum_by, All, Any}
 use Rattle.std.specs.List.{flat_map}
 use Rattle.abc_bars_items.specs.declared.item.Item.{Item}

@@ -1,4 +1,4 @@
--- The program of a voice on each tick, by what is played there. Our own.
+-- The program of a voice on each tick, by what is played there. Not in ABC 2.1.
 use Rattle.std.specs.Prelude.{◌≡◌, ℕ, ◌+◌, ◌==◌, true, if◌then◌else◌, List, [], ◌∷◌, ◌++◌, map, filter, Option, None, option_map}
 use Rattle.std.specs.Option.{option_to_list}
 use Rattle.abc_bars_items.specs.declared.item.Item.{Item}

@@ -24,7 +24,7 @@ abbrev pub program_past : Option ℕ → Item → Option ℕ
 program_past program (items.Program true (Some number)) = Some number
 program_past program _ = program
 
--- The order of the parts behind an item: the last one counts. Our own.
+-- The order of the parts behind an item: the last one counts. Not in ABC 2.1.
 abbrev pub order_past : Option (List ℕ) → Item → Option (List ℕ)
 order_past order (items.Order text) = Some text
 order_past order _ = order

@@ -1,4 +1,4 @@
--- The changes of a score: of tempo, meter and key, and of the programs of voices. Our own.
+-- The changes of a score: of tempo, meter and key, and of the programs of voices. Not in ABC 2.1.
 use Rattle.std.specs.Prelude.{ℕ, ℤ, Bool, List, ◌++◌, Option, Some, None, map, filter_map}
 use Rattle.abc_fields.specs.declared.meter.Meter.{Meter}
 use Rattle.abc_fields.specs.declared.meter.Meter.TheVariants as meters

@@ -1,4 +1,4 @@
--- The stages of a tune in a table: at a section's place what the voices play of it, or none. Our own.
+-- The stages of a tune in a table: at a section's place what the voices play of it, or none. Not in ABC 2.1.
 use Rattle.std.specs.Prelude.{◌≡◌, ℕ, ◌+◌, ◌≤◌, List, Option, Some, None, All, length, map, sum_by, filter_map, slice_get, slice_index_or, slice_set, option_map}
 use Rattle.abc_bars_items.specs.declared.item.Item.{Item}
 use Rattle.abc_repeat.specs.declared.play.TheConstants.{MOST_PLACES}

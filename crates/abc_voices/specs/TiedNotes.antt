@@ -1,5 +1,5 @@
 -- The notes of time tokens: a tied tone is joined with one of its key in the next time token. ABC 2.1
--- section 4.11; which one, where there are several, is our own.
+-- section 4.11; which one, where there are several, is not in ABC 2.1.
 use Rattle.std.specs.Prelude.{ℕ, ◌+◌, ◌==◌, Bool, if◌then◌else◌, List, [], ◌∷◌, ◌++◌, Option, Some, None, slice_index_or, position, remove}
 use Rattle.abc_bars_items.specs.declared.item.Item.{Item}
 use Rattle.abc_bars_items.specs.declared.item.Tone.{Tone}

@@ -1,4 +1,4 @@
--- The notes that are heard, as chains of tied tones. ABC 2.1 section 4.11; which tones are joined is our own.
+-- The notes that are heard, as chains of tied tones. ABC 2.1 section 4.11; which tones are joined is not in ABC 2.1.
 use Rattle.std.specs.Prelude.{◌≡◌, ℕ, suc, ◌+◌, ◌==◌, nat_lt, Bool, false, ◌&&◌, if◌then◌else◌, List, [], ◌∷◌, ◌++◌, map, Option, Some, None}
 use Rattle.abc_bars_items.specs.declared.item.Item.{Item}
 use Rattle.abc_bars_items.specs.declared.item.Tone.{Tone}

@@ -19,7 +19,7 @@ abbrev pub names_from : List (List ℕ) → List Item → List (List ℕ)
 names_from known [] = known
 names_from known (step ∷ tune) = names_from (names_past known step) tune
 
--- The voices of a tune, that without a name before those that have one. Our own.
+-- The voices of a tune, that without a name before those that have one. Not in ABC 2.1.
 abbrev pub everyone : List Item → List (List ℕ)
 everyone tune = names_from ([] ∷ []) tune
 
@@ -35,7 +35,7 @@ abbrev pub plays_first : List Item → Bool
 plays_first [] = false
 plays_first (step ∷ tune) = plays_before (plays_first tune) step
 
--- Whether the voice without a name has a track: something of it takes time. Our own.
+-- Whether the voice without a name has a track: something of it takes time. Not in ABC 2.1.
 abbrev pub nameless_plays : List Item → Bool
 nameless_plays tune = bytes_eq (opening_voice tune) [] && plays_first tune
 

@@ -1,4 +1,4 @@
--- Which voices a tune has tracks for, by looking back. ABC 2.1 section 7; that the one without a name comes first is our own.
+-- Which voices a tune has tracks for, by looking back. ABC 2.1 section 7; that the one without a name comes first is not in ABC 2.1.
 use Rattle.std.specs.Prelude.{◌≡◌, ℕ, ◌&&◌, ◌||◌, Bool, if◌then◌else◌, bytes_eq, List, [], ◌∷◌, ◌++◌, filter_map, Option, Some, None, option_and_then}
 use Rattle.std.specs.List.{list_any}
 use Rattle.std.specs.Option.{is_none}

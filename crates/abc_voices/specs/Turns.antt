@@ -1,4 +1,4 @@
--- Stages played one after another. Our own.
+-- Stages played one after another. Not in ABC 2.1.
 use Rattle.std.specs.Prelude.{◌≡◌, ◌≤◌, ℕ, pos, ◌+◌, ◌-◌, Bool, false, not, if◌then◌else◌, ◌&&◌, ◌==◌, zero, suc, List, [], ◌∷◌, ◌++◌, map, sum_by, All, Option, Some, None, slice_get}
 use Rattle.std.specs.List.{list_any, flat_map}
 use Rattle.abc_bars_items.specs.declared.item.Item.{Item}

@@ -25,7 +25,7 @@ first_said says [] = None
 first_said says (item ∷ others) = or_said (says item) (first_said says others)
 
 -- The voice behind these items of a tune, the last of them first: that of the last V: of the body, else the first
--- voice that the header declares, else the one without a name. The one without a name is our own.
+-- voice that the header declares, else the one without a name. The one without a name is not in ABC 2.1.
 abbrev pub voice_behind : List Item → List Item → List ℕ
 voice_behind tune past = unwrap_or (first_said named_by past) (unwrap_or (first_said declared_by tune) [])
 

@@ -37,14 +37,14 @@ pub fn ties_in_play()
 {}
 
 /// Of the fields of tempo, meter and key and the directives of programs those that stand between a bar that ended an
-/// ending and the sign of the strain's next ending are played with that one, and nothing else is moved. Our own.
+/// ending and the sign of the strain's next ending are played with that one, and nothing else is moved. Not in ABC 2.1.
 #[tactic(auto, using(crate::proofs::Endings::moves_by_strains))]
 pub fn fields_before_endings()
     ensures { MovesByStrains }
 {}
 
 /// On each tick a voice has the last program that it plays there, in order of play; on the tick with which the tune
-/// begins, where it plays none, the last one that the header sets; and no other one. A repeat restores none. Our own.
+/// begins, where it plays none, the last one that the header sets; and no other one. A repeat restores none. Not in ABC 2.1.
 #[tactic(auto, using(crate::proofs::OnTicks::programs_on_ticks))]
 pub fn programs_on_ticks()
     ensures { HaveProgramsOnTicks }
@@ -53,25 +53,25 @@ pub fn programs_on_ticks()
 /// On each tick the conductor's track of a tune has the tempo, the meter and the key that are set there last, and no
 /// others; where none is set on the tick with which the tune begins, those with which it opens. All voices set the tempo,
 /// the first one with a track the meter and the key. The last section that sets one decides, in order of play, of its
-/// voices the last that does, in the order of the voices, and of what that plays the last. Our own.
+/// voices the last that does, in the order of the voices, and of what that plays the last. Not in ABC 2.1.
 pub fn conductor_on_ticks()
     ensures { IsConductedOnTicks }
 {}
 
 /// The sections of a tune are played in the order that its header says last, or all as they stand where it says none; as
-/// many are counted, and a letter without a section is told of that order alone. Our own.
+/// many are counted, and a letter without a section is told of that order alone. Not in ABC 2.1.
 pub fn sections_in_last_order()
     ensures { AreInLastOrder }
 {}
 
 /// The voices of a tune are uneven exactly where two of them differ in length in a section that is played, and both play
-/// a note, chord, rest or bar rest there. Our own.
+/// a note, chord, rest or bar rest there. Not in ABC 2.1.
 #[tactic(auto, using(crate::proofs::Uneven::tells_uneven))]
 pub fn uneven_voices()
     ensures { TellsUneven }
 {}
 
-/// A tune ends as soon as its sections, one after another, and all of its notes are over, and no sooner. Our own.
+/// A tune ends as soon as its sections, one after another, and all of its notes are over, and no sooner. Not in ABC 2.1.
 pub fn ends_of_tunes()
     ensures { EndsOnce }
 {}

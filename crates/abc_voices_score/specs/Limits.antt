@@ -1,4 +1,4 @@
--- What a file can hold, and the limits that are our own.
+-- What a file can hold, and the limits that are not in ABC 2.1.
 use Rattle.std.specs.Prelude.{◌^◌, ◌<◌, ◌≤◌, ◌≤ℤ◌, pos, negsuc, ◌≡◌, List, length, All}
 use Rattle.abc_text.specs.Power.{IsPowerUpTo}
 use Rattle.abc_time.specs.declared.grains.Grains.{Grains}
@@ -19,7 +19,7 @@ IsWritable (Tempo micros) = (1 ≤ micros) × (micros < 2 ^ 24)
 IsWritable (Meter num den) = IsPowerUpTo 6 den
 IsWritable (Key sharps minor) = (negsuc 6 ≤ℤ sharps) × (sharps ≤ℤ pos 7)
 
--- A change that comes before the end, or at it. Our own.
+-- A change that comes before the end, or at it. Not in ABC 2.1.
 pub record IsChangeWithin (end : Grains) (change : Change) : Type 0 where
   pub before_end : change.at.0 ≤ end.0
   pub writable : IsWritable change.what
@@ -32,7 +32,7 @@ pub record IsSoundingWithin (end : Grains) (note : Sounding) : Type 0 where
   pub softest : 1 ≤ note.velocity
   pub loudest : note.velocity ≤ 127
 
--- So many notes at most. Our own.
+-- So many notes at most. Not in ABC 2.1.
 pub record IsVoiceWithin (end : Grains) (notes : List Sounding) : Type 0 where
   pub count : length notes ≤ MOST_NOTES
   pub each : All (IsSoundingWithin end) notes
@@ -42,13 +42,13 @@ pub record IsProgramWithin (end : Grains) (change : ProgramChange) : Type 0 wher
   pub before_end : change.at.0 ≤ end.0
   pub number : change.number ≤ 127
 
--- So many changes of program at most. Our own.
+-- So many changes of program at most. Not in ABC 2.1.
 pub record AreProgramsWithin (end : Grains) (changes : List ProgramChange) : Type 0 where
   pub count : length changes ≤ MOST_PROGRAMS
   pub each : All (IsProgramWithin end) changes
 
 -- The end at most 131,072 whole notes, each voice with its programs, and counts that keep a track's length within 32 bits (SMF 1.0;
--- the counts are our own).
+-- the counts are not in ABC 2.1).
 pub record AreCountsWithin (score : Score) : Type 0 where
   pub end : score.end.0 ≤ grains_of_the_latest_end
   pub title : length score.title ≤ LONGEST_TITLE

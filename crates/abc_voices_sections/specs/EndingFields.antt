@@ -1,4 +1,4 @@
--- Fields between a bar that ended an ending and the next ending's sign are played with that ending. Our own.
+-- Fields between a bar that ended an ending and the next ending's sign are played with that ending. Not in ABC 2.1.
 use Rattle.std.specs.Prelude.{Bool, true, false, not, ◌&&◌, ◌||◌, if◌then◌else◌, List, [], ◌∷◌, ◌++◌}
 use Rattle.abc_bars_items.specs.declared.item.Item.{Item}
 use Rattle.abc_repeat.specs.declared.mark.Mark.{Mark}

@@ -1,4 +1,4 @@
--- A section as one voice plays it: what, how many places, and how long. Our own.
+-- A section as one voice plays it: what, how many places, and how long. Not in ABC 2.1.
 use Rattle.std.specs.Prelude.{ℕ, max, List, [], ◌∷◌, length}
 use Rattle.abc_bars_items.specs.declared.item.Item.{Item}
 use Rattle.abc_voices_sections.specs.EndingFields.{with_fields_in_endings}

@@ -39,7 +39,7 @@ abbrev pub declared_or : List ℕ → Item → List ℕ
 declared_or voice (items.Voice true name) = name
 declared_or voice _ = voice
 
--- The current voice before the first V: of the body: the first declared one, or the one without a name. Our own.
+-- The current voice before the first V: of the body: the first declared one, or the one without a name. Not in ABC 2.1.
 abbrev pub opening_voice : List Item → List ℕ
 opening_voice [] = []
 opening_voice (step ∷ tune) = declared_or (opening_voice tune) step

@@ -1,4 +1,4 @@
--- What the voices of a tune play of a section. Our own.
+-- What the voices of a tune play of a section. Not in ABC 2.1.
 use Rattle.std.specs.Prelude.{ℕ, List, length, map, sum_by}
 use Rattle.abc_bars_items.specs.declared.item.Item.{Item}
 use Rattle.abc_repeat.specs.declared.fault.RepeatFault.{RepeatFault}

@@ -6,7 +6,7 @@ use Rattle.abc_bars_items.specs.declared.item.Tone.{Tone}
 use Rattle.abc_repeat.specs.declared.mark.Mark.{Mark}
 use Rattle.abc_repeat.specs.declared.mark.Mark.TheVariants as marks
 
--- A field or a directive that is played with the notes: of tempo, meter, key or program. Our own.
+-- A field or a directive that is played with the notes: of tempo, meter, key or program. Not in ABC 2.1.
 abbrev pub is_field : Item → Bool
 is_field (items.Tempo opening micros out) = true
 is_field (items.Meter opening meter) = true

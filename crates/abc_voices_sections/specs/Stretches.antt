@@ -1,4 +1,4 @@
--- The stretches of a part: what takes its turn is one up to the next mark. Our own.
+-- The stretches of a part: what takes its turn is one up to the next mark. Not in ABC 2.1.
 use Rattle.std.specs.Prelude.{◌≡◌, List, [], ◌∷◌, map, All}
 use Rattle.std.specs.List.{AllPass, flat_map}
 use Rattle.abc_bars_items.specs.declared.item.Item.{Item}

@@ -1,4 +1,4 @@
--- The scores, and the changes and the notes of a track, of the worked examples of files. Our own.
+-- The scores, and the changes and the notes of a track, of the worked examples of files. Not in ABC 2.1.
 use Rattle.std.specs.Prelude.{ℕ, pos, negsuc, true, false, List, [], ◌∷◌, codes, replicate}
 use Rattle.abc_voices_score.specs.declared.score.Change.{Change}
 use Rattle.abc_voices_score.specs.declared.score.ChangeKind.TheVariants.{Tempo, Meter, Key}

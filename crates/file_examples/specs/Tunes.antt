@@ -1,4 +1,4 @@
--- Items of tunes as the worked examples write them: a note lasts one grain. Our own.
+-- Items of tunes as the worked examples write them: a note lasts one grain. Not in ABC 2.1.
 use Rattle.std.specs.Prelude.{ℕ, pos, Bool, true, false, List, [], ◌∷◌, Option, Some, None}
 use Rattle.abc_bars_items.specs.declared.item.Item.{Item}
 use Rattle.abc_bars_items.specs.declared.item.Item.TheVariants as items

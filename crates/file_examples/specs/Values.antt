@@ -1,4 +1,4 @@
--- Values as the worked examples write them: a tick is 484,323,840 grains. Our own.
+-- Values as the worked examples write them: a tick is 484,323,840 grains. Not in ABC 2.1.
 use Rattle.std.specs.Prelude.{ℕ, ◌+◌, ◌*◌}
 use Rattle.abc_time.specs.declared.grains.Grains.{Grains}
 use Rattle.abc_voices_score.specs.declared.score.Change.{Change}

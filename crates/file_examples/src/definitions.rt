@@ -41,7 +41,7 @@ pub fn readings()
     ensures greatest { reading (0xFF ∷ 0xFF ∷ 0xFF ∷ 0x7F ∷ []) ≡ Ok (268435455, 4) }
 {}
 
-/// What comes first of two refusals: padded before too long, too long before truncated. Our own.
+/// What comes first of two refusals: padded before too long, too long before truncated. Not in ABC 2.1.
 pub fn refusals_of_numbers()
     ensures padded { reading (0x80 ∷ 0x80 ∷ 0x80 ∷ 0x80 ∷ []) ≡ Err Padded }
     ensures too_long { reading (0x81 ∷ 0x80 ∷ 0x80 ∷ 0x80 ∷ 0 ∷ []) ≡ Err TooLong }
@@ -62,7 +62,7 @@ pub fn changes()
     ensures seven_flats { encode_upper (change_bytes (Key (negsuc 6) false)) ≡ codes "FF5902F900" }
 {}
 
-/// The denominators of meters: powers of two, from 1 to 64. SMF 1.0; the bound is our own.
+/// The denominators of meters: powers of two, from 1 to 64. SMF 1.0; the bound is not in ABC 2.1.
 pub fn denominators()
     ensures accepted { list_all (is_power_up_to 6) (1 ∷ 2 ∷ 4 ∷ 8 ∷ 16 ∷ 32 ∷ 64 ∷ []) ≡ true }
     ensures refused { list_any (is_power_up_to 6) (0 ∷ 3 ∷ 6 ∷ 12 ∷ 63 ∷ 65 ∷ 128 ∷ []) ≡ false }
@@ -79,14 +79,14 @@ pub fn changes_that_a_file_can_hold()
     ensures eight_sharps { ¬ (IsWritable (Key (pos 8) false)) }
 {}
 
-/// At one tick offs come before ons, and each by key; the end comes last. Our own.
+/// At one tick offs come before ons, and each by key; the end comes last. Not in ABC 2.1.
 pub fn the_order_at_a_tick()
     ensures { in_order events_in_no_order
         ≡ note_on 0 64 80 0 ∷ note_off 0 60 240 ∷ note_off 0 64 240 ∷ note_on 0 60 80 240 ∷ note_on 0 62 80 240 ∷ end_event 240 ∷ [] }
 {}
 
 /// At tick 0 the title comes before the tempo, and the tempo before the meter and the key, in whatever order they are
-/// given. Our own.
+/// given. Not in ABC 2.1.
 pub fn the_order_of_an_opening()
     ensures { encode_upper (track_body 0 (conductor_events (codes "A") opening_changes))
         ≡ codes "00FF03014100FF510307A12000FF58040302180800FF5902000000FF2F00" }
@@ -99,7 +99,7 @@ pub fn notes_in_turn()
         ≡ codes "00903C508170803C4000903E508170803E4000FF2F00" }
 {}
 
-/// A note whose on and off fall on one tick is not written, also where its moments differ. Our own.
+/// A note whose on and off fall on one tick is not written, also where its moments differ. Not in ABC 2.1.
 pub fn a_note_within_a_tick()
     ensures same_moment { note_events 0 (sounding 60 240 240) ≡ [] }
     ensures later_grain { note_events 0 (record { key = 60; on = record { 0 = 484323840 }; off = record { 0 = 968647679 }; velocity = 80 }) ≡ [] }
@@ -115,7 +115,7 @@ pub fn channels()
     ensures tenth_on { (note_on (channel_of 9) 60 80 0).bytes ≡ 0x9A ∷ 0x3C ∷ 0x50 ∷ [] }
 {}
 
-/// No title, no event. Our own.
+/// No title, no event. Not in ABC 2.1.
 pub fn an_empty_title()
     ensures { title_events [] ≡ [] }
 {}

@@ -42,7 +42,7 @@ pub fn plays()
         ≡ note 60 ∷ note 62 ∷ note 60 ∷ note 64 ∷ [] }
 {}
 
-/// A field between the endings is played with the one behind it: `|:A|1B:|[Q:]|2F||`. Our own.
+/// A field between the endings is played with the one behind it: `|:A|1B:|[Q:]|2F||`. Not in ABC 2.1.
 pub fn fields_before_an_ending()
     ensures played { played tempo_between_endings
         ≡ note 69 ∷ note 71 ∷ note 69 ∷ tempo 1000000 ∷ note 66 ∷ [] }
@@ -51,7 +51,7 @@ pub fn fields_before_an_ending()
 {}
 
 /// No field is moved behind a bar that opens a strain of its own, `|:A|1B::[Q:]|2F||`, nor behind the common part's own
-/// bar, `A:|[Q:]|1B||`. Our own.
+/// bar, `A:|[Q:]|1B||`. Not in ABC 2.1.
 pub fn fields_that_stay()
     ensures opened { with_fields_in_endings tempo_in_a_strain ≡ tempo_in_a_strain }
     ensures common { with_fields_in_endings (note 69 ∷ closing ∷ tempo 1000000 ∷ single ∷ first ∷ note 71 ∷ double ∷ [])
@@ -59,7 +59,7 @@ pub fn fields_that_stay()
 {}
 
 /// Ties go on in play: over a repeat, `|:C-|1C:|2C-||C`, and over sections, while another voice plays on, `P:A`, `V:1`
-/// with `C-`, `V:2` with `EE`, `P:B`, `V:1` with `C`. ABC 2.1 section 4.11; that they do is our own.
+/// with `C-`, `V:2` with `EE`, `P:B`, `V:1` with `C`. ABC 2.1 section 4.11; that they do is not in ABC 2.1.
 pub fn ties_over_repeats_and_sections()
     ensures repeated { voices_notes (opening ∷ tied 60 ∷ single ∷ first ∷ note 60 ∷ closing ∷ second ∷ tied 60 ∷ double ∷ note 60 ∷ [])
         ≡ (sounding 60 2 5 ∷ sounding 60 0 2 ∷ []) ∷ [] }
@@ -68,7 +68,7 @@ pub fn ties_over_repeats_and_sections()
 {}
 
 /// A rest ends a tie, a rest of bars does not; a tied tone is joined with one of its key alone; and of two tied tones of
-/// a key each is joined with its own. Our own.
+/// a key each is joined with its own. Not in ABC 2.1.
 pub fn ties_of_tones()
     ensures rest { heard (tokens_from 0 (tied 60 ∷ rest ∷ note 60 ∷ []) []) ≡ sounding 60 2 3 ∷ sounding 60 0 1 ∷ [] }
     ensures bar_rest { heard (tokens_from 0 (tied 60 ∷ bar_rest ∷ note 60 ∷ []) []) ≡ sounding 60 0 3 ∷ [] }
@@ -80,7 +80,7 @@ pub fn ties_of_tones()
 {}
 
 /// Rests and rests of bars take their time in the play, fields and directives of the body their turn, also where they set
-/// nothing, and those of the header neither. Our own.
+/// nothing, and those of the header neither. Not in ABC 2.1.
 pub fn what_is_played()
     ensures moments { voices_notes (opening_key ∷ note 60 ∷ rest ∷ bar_rest ∷ note 62 ∷ []) ≡ (sounding 62 3 4 ∷ sounding 60 0 1 ∷ []) ∷ [] }
     ensures places { places_played (opening_tempo 400000 ∷ opening_meter ∷ opening_program 5 ∷ opening_key
@@ -89,7 +89,7 @@ pub fn what_is_played()
 {}
 
 /// A tune ends with its sections, of which a rest is a part. A tone that lasts longer than its chord ends the tune, but a
-/// silent one does not. Our own.
+/// silent one does not. Not in ABC 2.1.
 pub fn the_end_of_a_tune()
     ensures rest { end_of (note 60 ∷ rest ∷ []) ≡ 2 }
     ensures heard { end_of (chord (tone (Some 60) 1 false ∷ tone (Some 62) 5 false ∷ []) ∷ []) ≡ 5 }
@@ -97,7 +97,7 @@ pub fn the_end_of_a_tune()
 {}
 
 /// Voices are uneven where they play time in a section and differ in length there, be it by rests of bars; one that plays
-/// none is not. Our own.
+/// none is not. Not in ABC 2.1.
 pub fn uneven_voices()
     ensures uneven { list_any (is_uneven ([] ∷ (49 ∷ []) ∷ (50 ∷ []) ∷ []))
         (played_sections (voice_1 ∷ note 60 ∷ voice_2 ∷ note 64 ∷ note 64 ∷ [])) ≡ true }
@@ -112,7 +112,7 @@ pub fn uneven_voices()
 {}
 
 /// Of tempos at one tick the last in order of play stands, here that of the second voice; and a field between two
-/// endings is heard with the second. Our own.
+/// endings is heard with the second. Not in ABC 2.1.
 pub fn tempos_at_a_tick()
     ensures last { changes_of (voice_1 ∷ tempo 400000 ∷ note 60 ∷ voice_2 ∷ tempo 300000 ∷ note 60 ∷ [])
         ≡ tempo_change 0 300000 ∷ key_change 0 ∷ [] }
@@ -122,7 +122,7 @@ pub fn tempos_at_a_tick()
 {}
 
 /// A note is as loud as its first tone, `!f!C-!p!C` and over a repeat `|:!p!C!f!C-:|`; notes that are not joined are each
-/// as loud as their own, `!f!C!p!C`. Our own.
+/// as loud as their own, `!f!C!p!C`. Not in ABC 2.1.
 pub fn velocities_of_notes()
     ensures joined { heard (tokens_from 0 (tied_with 105 60 ∷ note_with 45 60 ∷ []) []) ≡ sounding_with 105 60 0 2 ∷ [] }
     ensures repeated { voices_notes (opening ∷ note_with 45 60 ∷ tied_with 105 60 ∷ closing ∷ [])
@@ -131,7 +131,7 @@ pub fn velocities_of_notes()
 {}
 
 /// A voice has the last program of its header, or the last one that it plays on the first tick in its place; one that is
-/// refused sets none. Our own.
+/// refused sets none. Not in ABC 2.1.
 pub fn programs_at_the_beginning()
     ensures none { programs_of (note 60 ∷ []) ≡ [] ∷ [] }
     ensures played { programs_of (program 41 ∷ note 60 ∷ []) ≡ (program_change 0 41 ∷ []) ∷ [] }
@@ -142,7 +142,7 @@ pub fn programs_at_the_beginning()
 {}
 
 /// Each voice has the programs that it plays, and none is restored at a repeat: `|:C`, program 41, `D:|E` behind program 5.
-/// Our own.
+/// Not in ABC 2.1.
 pub fn programs_in_play()
     ensures own { programs_of (opening_program 5 ∷ voice_1 ∷ note 60 ∷ voice_2 ∷ program 6 ∷ note 62 ∷ [])
         ≡ (program_change 0 5 ∷ []) ∷ (program_change 0 6 ∷ []) ∷ [] }
@@ -154,7 +154,7 @@ pub fn programs_in_play()
 {}
 
 /// A program takes its turn in the play, also one that is refused, but no time: ties go on over it, and a voice that plays
-/// nothing else is not uneven. Our own.
+/// nothing else is not uneven. Not in ABC 2.1.
 pub fn programs_take_no_time()
     ensures places { places_played (note 60 ∷ refused ∷ program 41 ∷ []) ≡ 3 }
     ensures tied { heard (tokens_from 0 (tied 60 ∷ program 41 ∷ note 60 ∷ []) []) ≡ sounding 60 0 2 ∷ [] }

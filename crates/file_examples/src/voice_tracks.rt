@@ -17,7 +17,7 @@ pub fn a_program()
         ≡ codes "4D54726B0000001000C02900903C508170803C4000FF2F00" }
 {}
 
-/// A note without a dynamic before it, and two behind a forte. SMF 1.0; the velocities are our own.
+/// A note without a dynamic before it, and two behind a forte. SMF 1.0; the velocities are not in ABC 2.1.
 pub fn velocities()
     ensures { encode_upper (track_body 720 (voice_events 0 [] two_loud_notes))
         ≡ codes "00903C508170803C4000903E698170803E4000904069817080404000FF2F00" }
@@ -30,7 +30,7 @@ pub fn bounds()
     ensures last_program { (program_change 0 127 0).bytes ≡ 0xC0 ∷ 0x7F ∷ [] }
 {}
 
-/// At one tick a program comes behind the note that ends and before the one that begins, whatever their keys. Our own.
+/// At one tick a program comes behind the note that ends and before the one that begins, whatever their keys. Not in ABC 2.1.
 pub fn a_program_between_notes()
     ensures events { in_order (note_on 0 0 1 240 ∷ program_change 0 41 240 ∷ end_event 240 ∷ note_off 0 127 240 ∷ [])
         ≡ note_off 0 127 240 ∷ program_change 0 41 240 ∷ note_on 0 0 1 240 ∷ end_event 240 ∷ [] }
@@ -45,7 +45,7 @@ pub fn programs_in_no_order()
         ≡ codes "00C00500903C5078C00678803C4000C00700FF2F00" }
 {}
 
-/// Two notes of one key that begin at one tick: the softer one comes first. Our own.
+/// Two notes of one key that begin at one tick: the softer one comes first. Not in ABC 2.1.
 pub fn the_softer_note_first()
     ensures { in_order (note_on 0 60 80 0 ∷ note_on 0 60 30 0 ∷ []) ≡ note_on 0 60 30 0 ∷ note_on 0 60 80 0 ∷ [] }
 {}

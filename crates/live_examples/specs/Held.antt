@@ -1,4 +1,4 @@
--- Jobs that are held, and that they are under way. Our own.
+-- Jobs that are held, and that they are under way. Not in ABC 2.1.
 use Rattle.std.specs.Prelude.{◌≡◌, ◌≢◌, ⊤, Some}
 use Rattle.abc_publish.specs.Publisher.{Publishing}
 use Rattle.live_examples.specs.declared.held.Held.{Held}

@@ -1,6 +1,6 @@
 -- A toy language of tunes, small enough to be worked by hand. A field D: sets the byte that stands before each music
 -- line of a file, in a file header for all tunes; T: is a title; a line of music that begins with `!` is a fault; a
--- tune of more than four lines has no file. Our own.
+-- tune of more than four lines has no file. Not in ABC 2.1.
 use Rattle.std.specs.Prelude.{ℕ, ◌-◌, ◌==◌, Bool, false, if◌then◌else◌, List, [], ◌∷◌, length, drop, nat_le, Option, Some, None, unwrap_or, slice_index}
 use Rattle.std.specs.List.{flat_map}
 use Rattle.abc_fields.specs.declared.fault.FaultCode.{FaultCode}

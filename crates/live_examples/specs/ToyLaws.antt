@@ -1,4 +1,4 @@
--- What a session relies on of the toy. Our own.
+-- What a session relies on of the toy. Not in ABC 2.1.
 use Rattle.std.specs.Prelude.{◌≡◌, ◌↔◌, ◌⊎◌, ℕ, ◌==◌, IsTrue, List, [], refl}
 use Rattle.std.proofs.Common.{inl, inr}
 use Rattle.std.proofs.lemmas.Bool.{eqb-true, eq-eqb}

@@ -1,4 +1,4 @@
--- Values as the worked examples write them. Our own.
+-- Values as the worked examples write them. Not in ABC 2.1.
 use Rattle.std.specs.Prelude.{List, [], ◌∷◌, codes}
 use Rattle.abc_fields.specs.declared.fault.FaultCode.TheVariants.{BadByte, BadReference}
 use Rattle.abc_lines.specs.Text.{Text}

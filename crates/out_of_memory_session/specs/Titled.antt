@@ -1,4 +1,4 @@
--- The chains of one tune of the toy language, of a title and a line of music that is a fault. Our own.
+-- The chains of one tune of the toy language, of a title and a line of music that is a fault. Not in ABC 2.1.
 use Rattle.std.specs.Prelude.{◌≡◌, ℕ, List, [], ◌∷◌}
 use Rattle.abc_fold.specs.Chain.{Chained, Folds}
 use Rattle.live_examples.specs.declared.toy.Played.{Played}

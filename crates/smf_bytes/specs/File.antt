@@ -8,7 +8,7 @@ use Rattle.abc_voices_score.specs.declared.score.Sounding.{Sounding}
 use Rattle.smf_bytes.specs.Track.{chunk, track, conductor_events, voice_events, channel_of}
 
 -- The header, a chunk of the type MThd: format 1, the count of tracks, 480 ticks to a quarter note
--- (SMF 1.0; that each file is of format 1, with that division, is our own).
+-- (SMF 1.0; that each file is of format 1, with that division, is not in ABC 2.1).
 unfoldable pub header : ℕ → List ℕ
 header tracks = chunk (codes "MThd") (big_bytes 2 1 ++ big_bytes 2 tracks ++ big_bytes 2 480)
 

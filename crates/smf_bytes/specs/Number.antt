@@ -21,7 +21,7 @@ pub record StartsWithNumber (bytes : List ℕ) (n used : ℕ) : Type 0 where
   pub spelled : bytes ≡ number_text n ++ rest
   pub counted : used ≡ length (number_text n)
 
--- The first byte is 80, which no quantity's text begins with. Our own.
+-- The first byte is 80, which no quantity's text begins with. Not in ABC 2.1.
 abbrev pub IsPadded : List ℕ → Type 0
 IsPadded bytes = slice_get bytes 0 ≡ Some 128
 
@@ -32,7 +32,7 @@ pub record IsTooLong (bytes : List ℕ) : Type 0 where
   pub four : 4 ≤ length bytes
   pub top_bits : All (λ byte. 128 ≤ byte) (take 4 bytes)
 
--- The bytes end, before there are four of them, while each has the top bit set. Our own.
+-- The bytes end, before there are four of them, while each has the top bit set. Not in ABC 2.1.
 pub record IsTruncated (bytes : List ℕ) : Type 0 where
   pub not_padded : ¬ IsPadded bytes
   pub short : length bytes < 4
@@ -47,7 +47,7 @@ read_on (suc left) n used (byte ∷ bytes) =
     if nat_lt byte 128 then Ok (n * 128 + byte, used + 1) else read_on left (n * 128 + byte % 128) (used + 1) bytes
 
 -- The number at the front of the bytes and its count of bytes, or what is wrong. The refusals and their
--- order are our own.
+-- order are not in ABC 2.1.
 unfoldable pub reading : List ℕ → Result (ℕ × ℕ) NumberFault
 reading [] = Err Truncated
 reading (byte ∷ bytes) = if byte == 128 then Err Padded else read_on 4 0 0 (byte ∷ bytes)

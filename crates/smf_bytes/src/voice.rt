@@ -26,7 +26,7 @@ pub(crate) fn channel(place: usize) -> u8
     }
 }
 
-/// The velocity with which each note ends. Our own.
+/// The velocity with which each note ends. Not in ABC 2.1.
 const RELEASE_VELOCITY: u8 = 64;
 
 /// The events of a voice, of a tune that ends at `end`, in some order. A play's notes are found from its last

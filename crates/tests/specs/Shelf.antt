@@ -1,4 +1,4 @@
--- A store as what was put and removed. Our own.
+-- A store as what was put and removed. Not in ABC 2.1.
 use Rattle.std.specs.Prelude.{ℕ, List, [], ◌∷◌, Option, Some, None}
 use Rattle.std.specs.FinMap.{empty, insert, remove}
 use Rattle.abc2midi_live.specs.Streams.{Contents}

@@ -1,4 +1,4 @@
--- What holds in examples of music inside bars, and what lines give there. Our own.
+-- What holds in examples of music inside bars, and what lines give there. Not in ABC 2.1.
 use Rattle.std.specs.Prelude.{ℕ, ℤ, true, false, List, [], ◌∷◌, ◌++◌, map, flat_map, Option, Some, None}
 use Rattle.abc_bars_body.specs.BodyOpening.{unshifted}
 use Rattle.abc_bars_body.specs.Step.{stepped}

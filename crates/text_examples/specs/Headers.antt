@@ -1,4 +1,4 @@
--- What is set in headers of the worked examples, and what holds where their bodies begin. Our own.
+-- What is set in headers of the worked examples, and what holds where their bodies begin. Not in ABC 2.1.
 use Rattle.std.specs.Prelude.{ℕ, pos, negsuc, List, [], ◌∷◌, codes, Option}
 use Rattle.abc_bars_body.specs.declared.body.Current.TheVariants.{At}
 use Rattle.abc_bars_body.specs.declared.entry.Entry.{Entry}

@@ -1,4 +1,4 @@
--- Values of what holds for a voice, and of a header, as the worked examples write them. Our own.
+-- Values of what holds for a voice, and of a header, as the worked examples write them. Not in ABC 2.1.
 use Rattle.std.specs.Prelude.{ℕ, List, [], ◌∷◌, codes, map, Option}
 use Rattle.abc_fields.specs.Shift.{no_shift}
 use Rattle.abc_fields.specs.declared.shift.Shift.{Shift}

@@ -1,4 +1,4 @@
--- Values as the worked examples write them: a tick is 484,323,840 grains. Our own.
+-- Values as the worked examples write them: a tick is 484,323,840 grains. Not in ABC 2.1.
 use Rattle.std.specs.Prelude.{ℕ, ℤ, ◌*◌, List, pos, Option, Some, None, Result, Ok, Err}
 use Rattle.abc_fields.specs.declared.fault.FaultCode.{FaultCode}
 use Rattle.abc_fields.specs.declared.key.Key.{Key}

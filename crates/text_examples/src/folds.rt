@@ -103,7 +103,7 @@ pub fn numbers_of<W: Counts>(work: &W) -> (u64, u64, u64)
     (work.scanned(), work.folded(), work.built())
 }
 
-// Two numbers are added to 3, through the bounds alone. Our own.
+// Two numbers are added to 3, through the bounds alone. Not in ABC 2.1.
 pub fn two_numbers_are_added(
     alloc: Global,
     work: &mut Work,

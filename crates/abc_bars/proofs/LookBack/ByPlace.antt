@@ -37,7 +37,7 @@ pub data Hearing : Type 0 where
   -- To a new voice of this name, which becomes the current one.
   New : List ℕ → Hearing
 
--- A voice that is not yet mentioned is one too many behind fifteen. Our own.
+-- A voice that is not yet mentioned is one too many behind fifteen. Not in ABC 2.1.
 abbrev pub new_or_nobody : List (List ℕ) → List ℕ → Hearing
 new_or_nobody names name = if nat_lt (length names) MOST_VOICES then New name else Nobody
 
@@ -66,7 +66,7 @@ each_if true = Each
 each_if false = Nobody
 
 -- Which voices a field belongs to: an accepted P: to each, an accepted V: to its own. ABC 2.1 section 7.1;
--- the parts are our own.
+-- the parts are not in ABC 2.1.
 abbrev pub field_hearing : List (List ℕ) → FieldKind → List ℕ → Hearing
 field_hearing names fields.Meter value = here_if (is_some (result_ok (meter_of value)))
 field_hearing names fields.UnitLength value = here_if (is_some (result_ok (unit_of value)))

@@ -10,7 +10,7 @@ use Rattle.abc_bars_body.specs.BodyFields.{field_given}
 use Rattle.abc_bars.specs.LookBack.After.{after}
 use Rattle.abc_bars.specs.LookBack.Element.{Element, field_of}
 
--- Whether a token mentions its voice: a note, a chord that is not empty, a rest or a rest of bars. Our own.
+-- Whether a token mentions its voice: a note, a chord that is not empty, a rest or a rest of bars. Not in ABC 2.1.
 abbrev pub mentions : TokenKind → Bool
 mentions (kinds.Note note) = true
 mentions (kinds.Rest length) = true

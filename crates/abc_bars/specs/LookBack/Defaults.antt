@@ -44,7 +44,7 @@ unit_said kinds.Voice value = None
 unit_said kinds.Key value = None
 unit_said kinds.Other value = None
 
--- A Q: that is empty or a text alone counts as none. Our own.
+-- A Q: that is empty or a text alone counts as none. Not in ABC 2.1.
 abbrev pub if_set : Option Tempo → Option Tempo
 if_set None = None
 if_set (Some Unset) = None

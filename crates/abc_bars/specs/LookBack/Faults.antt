@@ -1,5 +1,5 @@
 -- The faults of the music of a cell that depend on what stands before it. ABC 2.1 sections 4.1, 4.4, 4.5, 4.13 and 4.17; the
--- faults are our own.
+-- faults are not in ABC 2.1.
 use Rattle.std.specs.Prelude.{◌≡◌, ◌==◌, ◌||◌, ℕ, ◌+◌, Bool, false, not, is_none, List, [], ◌∷◌, ◌++◌, length, take, filter, Option, Some, None}
 use Rattle.abc_fields.specs.declared.fault.FaultCode.{FaultCode}
 use Rattle.abc_fields.specs.declared.fault.FaultCode.TheVariants.{BadBroken, BadTuplet, EmptyChord, FreeBarRest, KeyRange, NestedTuplet}

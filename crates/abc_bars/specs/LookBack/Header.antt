@@ -38,7 +38,7 @@ voice_said kinds.Other value = None
 abbrev pub voice_on : HeaderLine → Option (List ℕ × Shift)
 voice_on line = said_by_line voice_said line
 
--- The names with one more: not one that is among them, nor one too many. The limit is our own.
+-- The names with one more: not one that is among them, nor one too many. The limit is not in ABC 2.1.
 abbrev pub with_name : List (List ℕ) → List ℕ → List (List ℕ)
 with_name names name =
     if list_any (bytes_eq name) names || nat_le MOST_VOICES (length names) then names else names ++ name ∷ []

@@ -20,7 +20,7 @@ use Rattle.abc_bars.specs.LookBack.Place.{opening_at}
 -- What a voice begins with, by the values of the header, the key that ended it, and what was said of the voice's shift:
 -- the header's meter, or free meter; its unit note length, or that of the meter; the signature of the key, if it has one;
 -- as far as the header says an accidental reaches; and each part of the shift as the voice's own V: says, else as the
--- key says, else 0. That the V: goes before the key, and no signature without a tonic, is our own.
+-- key says, else 0. That the V: goes before the key, and no signature without a tonic, is not in ABC 2.1.
 pub record OpensWith (set : Defaults) (key : Key) (said : Shift) (settings : Settings) : Type 0 where
   pub meter : settings.meter ≡ unwrap_or set.meter Free
   pub unit : settings.unit ≡ unwrap_or set.unit (unit_by settings.meter)

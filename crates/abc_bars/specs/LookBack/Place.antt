@@ -52,14 +52,14 @@ view (InHeader opening before) = header_view opening before
 view (InBody opening before key elements) = entries.Body (held_at (opening_at opening before key) elements)
 
 -- The kind of a place, by a number: in a file header, at a tune's first line, in its header behind that line, in its body.
--- Our own.
+-- Not in ABC 2.1.
 abbrev pub kind_of_place : Place → ℕ
 kind_of_place (InFileHeader before) = 0
 kind_of_place (InHeader opening []) = 1
 kind_of_place (InHeader opening (line ∷ before)) = 2
 kind_of_place (InBody opening before key elements) = 3
 
--- Where the views at two places are the same, both are of one kind. Our own.
+-- Where the views at two places are the same, both are of one kind. Not in ABC 2.1.
 abbrev pub KindsApart : Type 0
 KindsApart = (here there : Place) → view here ≡ view there → kind_of_place here ≡ kind_of_place there
 

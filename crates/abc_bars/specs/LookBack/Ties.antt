@@ -27,7 +27,7 @@ loose_inside from chord = map (λ pair. (column_of (from + pair.1.from), LooseTi
 
 -- The loose ties of a token at a place of its line, by what stands directly before it: a tie is loose where no note
 -- or chord stands there, one without notes among them; a chord has those inside it. That nothing may stand between
--- is our own.
+-- is not in ABC 2.1.
 abbrev pub loose_in : Option TokenKind → ℕ → TokenKind → List (ℕ × FaultCode)
 loose_in before from kinds.Tie = if is_behind_note before then [] else (column_of from, LooseTie) ∷ []
 loose_in before from (kinds.Chord chord) = loose_inside from chord

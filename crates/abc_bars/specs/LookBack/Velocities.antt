@@ -1,5 +1,5 @@
 -- The velocities of notes and chords at the places of a tune, by the last dynamic that stands before them in their voice.
--- ABC 2.1 section 4.14; the velocities are our own.
+-- ABC 2.1 section 4.14; the velocities are not in ABC 2.1.
 use Rattle.std.specs.Prelude.{◌≡◌, ℕ, Bool, true, List, ◌∷◌, ◌++◌, All, None}
 use Rattle.abc_scan.specs.declared.chord.Chord.{Chord}
 use Rattle.abc_scan.specs.declared.dynamic.Dynamic.{Dynamic}

@@ -66,7 +66,7 @@ unfoldable pub unit_at : Ratio → List Element → Ratio
 unit_at opening before = last_said (said_by_field unit_said) opening before
 
 -- The signature that a K: says: none where it sets properties alone, and an empty one where it is refused.
--- ABC 2.1 section 3.1.14; what a refused one says is our own.
+-- ABC 2.1 section 3.1.14; what a refused one says is not in ABC 2.1.
 abbrev pub signature_said : FieldKind → List ℕ → Option Signature
 signature_said fields.Key value = (key_or_empty (key_of value)).signature
 signature_said _ value = None
@@ -106,13 +106,13 @@ abbrev pub notes_among : List (Spanned ChordPartKind) → List (Note × Bool)
 notes_among [] = []
 notes_among (part ∷ rest) = note_before part.kind (tie_follows rest) (notes_among rest)
 
--- The notes of a chord that count, each with whether a tie directly follows it: the first sixteen. Our own.
+-- The notes of a chord that count, each with whether a tie directly follows it: the first sixteen. Not in ABC 2.1.
 unfoldable pub counted_notes : Chord → List (Note × Bool)
 counted_notes chord = take MOST_CHORD_NOTES (notes_among chord.parts)
 
 -- Whether the accidental of a note reaches another one: with `pitch` those of its letter in every octave, with `octave`
 -- those in its own octave, as they are written, and with `not` none. ABC 2.1 sections 4.2 and 11.3; what these words
--- mean is our own.
+-- mean is not in ABC 2.1.
 abbrev pub reaches : Reach → Note → Note → Bool
 reaches Not from to = false
 reaches Octave from to = (capital from.letter == capital to.letter) && int_eq to.octave from.octave
@@ -133,7 +133,7 @@ put_before [] before = before
 put_before (note ∷ later) before = put_before later (note.0 ∷ before)
 
 -- Whether accidentals before a field no longer hold behind it: they end at every K:, and at every part
--- that is accepted. ABC 2.1 section 4.2; that a part ends them is our own.
+-- that is accepted. ABC 2.1 section 4.2; that a part ends them is not in ABC 2.1.
 abbrev pub ends_accidentals : FieldKind → List ℕ → Bool
 ends_accidentals fields.Key value = true
 ends_accidentals fields.Parts value = is_some (part_of value)
@@ -185,7 +185,7 @@ accidentals_of reach (note ∷ earlier) = with_own (accidentals_of reach earlier
 unfoldable pub accidentals_at : Reach → List Element → Accidentals
 accidentals_at reach before = accidentals_of reach (notes_of_bar before)
 
--- The dynamic that a token is, if it is one. One inside a chord is none. ABC 2.1 section 4.14; the latter is our own.
+-- The dynamic that a token is, if it is one. One inside a chord is none. ABC 2.1 section 4.14; the latter is not in ABC 2.1.
 abbrev pub dynamic_said : TokenKind → Option (Option Dynamic)
 dynamic_said (kinds.Note note) = None
 dynamic_said (kinds.Rest length) = None
@@ -257,7 +257,7 @@ tuplet_at opening before = tuplet_from opening 0 before
 
 -- By how many semitones a note is altered, where these notes of its chord stand before it, newest first: by
 -- its own accidental, else by the last one that reaches it, else as the note that is tied to it, else by the
--- signature. How far accidentals reach is settled where the body begins. ABC 2.1 section 4.2; the tied note's is our own.
+-- signature. How far accidentals reach is settled where the body begins. ABC 2.1 section 4.2; the tied note's is not in ABC 2.1.
 abbrev pub alteration_at : Settings → List TiedNote → List Element → List Note → Note → ℤ
 alteration_at opening tied before earlier note =
     unwrap_or (own_alteration note)

@@ -43,7 +43,7 @@ pub record IsFraction (text : List ℕ) (num den : ℕ) : Type 0 where
 abbrev pub IsSymbol : List ℕ → ℕ → ℕ → Type 0
 IsSymbol text num den = ((text ≡ codes "C") × (num ≡ 4) × (den ≡ 4)) ⊎ ((text ≡ codes "C|") × (num ≡ 2) × (den ≡ 2))
 
--- The meter that a text says. It is free where the text is `none`, or empty, which is our own.
+-- The meter that a text says. It is free where the text is `none`, or empty, which is not in ABC 2.1.
 abbrev pub IsMeter : List ℕ → Meter → Type 0
 IsMeter text Free = (text ≡ []) ⊎ (text ≡ codes "none")
 IsMeter text (Of num den) = IsSymbol text num den ⊎ IsFraction text num den

@@ -7,7 +7,7 @@ use Rattle.abc_fields.specs.Property.{clef_name, octave_name, transpose_name}
 use Rattle.abc_fields.specs.Spelling.Clef.{HasMark, HasNoMark, IsClef}
 use Rattle.abc_text.specs.Byte.{quote, plus_sign, minus_sign}
 
--- A text between two quotes is what stands between them, every other text is itself. Our own.
+-- A text between two quotes is what stands between them, every other text is itself. Not in ABC 2.1.
 abbrev pub IsUnquoted : List ℕ → List ℕ → Type 0
 IsUnquoted text value = (text ≡ quote ∷ (value ++ quote ∷ [])) ⊎ ((text ≡ value) × ((inner : List ℕ) → text ≢ quote ∷ (inner ++ quote ∷ [])))
 

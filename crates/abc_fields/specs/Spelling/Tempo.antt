@@ -9,7 +9,7 @@ use Rattle.abc_text.specs.Blank.{AreBlanks}
 use Rattle.abc_text.specs.Number.{IsNumber}
 use Rattle.abc_text.specs.Byte.{quote, slash, equals_sign}
 
--- A fraction of a whole note, as `3/8`, which is so many 512ths. The limits are our own.
+-- A fraction of a whole note, as `3/8`, which is so many 512ths. The limits are not in ABC 2.1.
 pub record IsFraction (text : List ℕ) (part : ℕ) : Type 0 where
   pub above : List ℕ
   pub below : List ℕ
@@ -55,7 +55,7 @@ abbrev pub IsLowest : Ratio → Type 0
 IsLowest r = (c : ℕ) → c ∣ r.num → c ∣ r.den → c ≡ 1
 
 -- The beat, `=` between blanks or none, and how many beats there are per minute. That a beat is at
--- most 16 fractions is our own.
+-- most 16 fractions is not in ABC 2.1.
 pub record IsBeats (text : List ℕ) (beat : Ratio) (n : ℕ) : Type 0 where
   pub front : List ℕ
   pub gap : List ℕ
@@ -69,7 +69,7 @@ pub record IsBeats (text : List ℕ) (beat : Ratio) (n : ℕ) : Type 0 where
   pub value : beat.num * 512 ≡ sum * beat.den
   pub lowest_is : IsLowest beat
 
--- A tempo without a text: beats, or how many unit notes there are per minute. The latter is our own.
+-- A tempo without a text: beats, or how many unit notes there are per minute. The latter is not in ABC 2.1.
 abbrev pub IsBareTempo : List ℕ → Tempo → Type 0
 IsBareTempo text Unset = ⊥
 IsBareTempo text (Units n) = IsNumber text n × (1 ≤ n)
@@ -102,7 +102,7 @@ pub record IsBeforeText (text : List ℕ) (m : Tempo) : Type 0 where
   pub quoted_is : IsQuoted quoted
 
 -- What a tempo field says: nothing where it is empty or a text alone, else a tempo, before or behind
--- which a text may stand. That an empty field is accepted is our own.
+-- which a text may stand. That an empty field is accepted is not in ABC 2.1.
 pub data IsTempo (text : List ℕ) (m : Tempo) : Type 0 where
   empty : text ≡ [] → m ≡ Unset → IsTempo text m
   text_alone : IsQuoted text → m ≡ Unset → IsTempo text m

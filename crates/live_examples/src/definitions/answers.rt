@@ -1,4 +1,4 @@
-//! The lines of a tune book that is handed in as a whole, and the lists that are answered. Our own.
+//! The lines of a tune book that is handed in as a whole, and the lists that are answered. Not in ABC 2.1.
 #![tactic(auto)]
 
 ghost use Rattle.std.specs.Prelude.{◌≡◌, [], ◌∷◌, ◌++◌, codes};

@@ -1,4 +1,4 @@
-//! Edits of a text, and the differences of two books. How a text is edited is our own.
+//! Edits of a text, and the differences of two books. How a text is edited is not in ABC 2.1.
 #![tactic(auto, unfolding(abc_lines::specs::Edits::edited, abc_lines::specs::Edits::replaced, abc_lines::specs::Text::spliced, abc_tune_compiler::specs::Files::removed, abc_tune_compiler::specs::Files::written))]
 
 ghost use Rattle.std.specs.Prelude.{◌≡◌, ℕ, true, false, [], ◌∷◌, ◌++◌, length, codes, replicate};

@@ -20,7 +20,7 @@ pub fn keys_of_notes()
     ensures highest { keys_by in_common (codes "g''''^g''''") ≡ Some 127 ∷ None ∷ [] }
 {}
 
-/// How far accidentals reach. ABC 2.1 sections 4.2 and 11.3; what the words mean is our own.
+/// How far accidentals reach. ABC 2.1 sections 4.2 and 11.3; what the words mean is not in ABC 2.1.
 pub fn reaches()
     ensures pitch { keys_by (in_reach Pitch) (codes "^FfF,|F") ≡ keys (66 ∷ 78 ∷ 54 ∷ 65 ∷ []) }
     ensures octave { keys_by (in_reach Octave) (codes "^FfF|F") ≡ keys (66 ∷ 77 ∷ 66 ∷ 65 ∷ []) }
@@ -41,7 +41,7 @@ pub fn ends_of_accidentals()
 {}
 
 /// What a tied note leaves to the next one: the alteration, on its letter in its octave, over bars, rests of bars and chords
-/// without notes. ABC 2.1 section 4.11; the octave and what is passed over is our own.
+/// without notes. ABC 2.1 section 4.11; the octave and what is passed over is not in ABC 2.1.
 pub fn tied_notes()
     ensures over_a_bar { keys_by in_common (codes "^F-|F|F") ≡ keys (66 ∷ 66 ∷ 65 ∷ []) }
     ensures octave { keys_by in_common (codes "^F-|f") ≡ keys (66 ∷ 77 ∷ []) }
@@ -51,7 +51,7 @@ pub fn tied_notes()
     ensures in_a_chord { keys_by in_common (codes "[^F-_A]|[FA]") ≡ keys (66 ∷ 68 ∷ 66 ∷ 69 ∷ []) }
 {}
 
-/// Lengths as written, and those that are refused, which are one unit. ABC 2.1 section 4.3; the bounds are our own.
+/// Lengths as written, and those that are refused, which are one unit. ABC 2.1 section 4.3; the bounds are not in ABC 2.1.
 pub fn lengths()
     ensures written { lengths_by in_common (codes "C3/2D/E//z2x") ≡ ticks (360 ∷ 120 ∷ 60 ∷ 480 ∷ 240 ∷ []) }
     ensures unit { lengths_by in_common (codes "[L:1/4]C[L:1/16]C2") ≡ ticks (480 ∷ 240 ∷ []) }
@@ -62,7 +62,7 @@ pub fn lengths()
     ensures rests_of_bars { items_by in_compound (codes "ZX2") ≡ bar_rest 1440 ∷ bar_rest 2880 ∷ [] }
 {}
 
-/// Lengths in tuplets. ABC 2.1 section 4.13; that only notes, chords and rests count is our own.
+/// Lengths in tuplets. ABC 2.1 section 4.13; that only notes, chords and rests count is not in ABC 2.1.
 pub fn lengths_in_tuplets()
     ensures three { lengths_by in_common (codes "(3CDEF") ≡ ticks (160 ∷ 160 ∷ 160 ∷ 240 ∷ []) }
     ensures over_a_bar { lengths_by in_common (codes "(3C[]D|zE") ≡ ticks (160 ∷ 160 ∷ 160 ∷ 240 ∷ []) }
@@ -74,7 +74,7 @@ pub fn lengths_in_tuplets()
     ensures another_voice { lengths_by in_common (codes "[V:1](3C[V:2]C[V:1]DEF") ≡ ticks (160 ∷ 240 ∷ 160 ∷ 160 ∷ 240 ∷ []) }
 {}
 
-/// Lengths in broken rhythm. ABC 2.1 section 4.4; over what a mark acts is our own.
+/// Lengths in broken rhythm. ABC 2.1 section 4.4; over what a mark acts is not in ABC 2.1.
 pub fn lengths_in_broken_rhythm()
     ensures one { lengths_by in_common (codes "C>DE") ≡ ticks (360 ∷ 120 ∷ 240 ∷ []) }
     ensures two { lengths_by in_common (codes "C>>D") ≡ ticks (420 ∷ 60 ∷ []) }
@@ -97,14 +97,14 @@ pub fn lengths_of_chords()
     ensures empty { items_by in_common (codes "[]") ≡ [] }
 {}
 
-/// The velocities of notes, for each voice by its own last dynamic. ABC 2.1 section 4.14; the rule is our own.
+/// The velocities of notes, for each voice by its own last dynamic. ABC 2.1 section 4.14; the rule is not in ABC 2.1.
 pub fn loudness()
     ensures last { velocities_by in_common (codes "C!f!D|!pp!E") ≡ 80 ∷ 105 ∷ 45 ∷ [] }
     ensures chord { velocities_by in_common (codes "!f![CE!p!]C") ≡ 105 ∷ 105 ∷ 105 ∷ [] }
     ensures voices { velocities_by in_common (codes "[V:1]!f!C[V:2]C[V:1]C") ≡ 105 ∷ 80 ∷ 105 ∷ [] }
 {}
 
-/// The items of bars, endings, parts and voices, and of fields that change what is played. Our own.
+/// The items of bars, endings, parts and voices, and of fields that change what is played. Not in ABC 2.1.
 pub fn items_of_fields()
     ensures bars { items_by in_common (codes "|:C:|") ≡ items.Bar (record { closes = 0; opens = 1; double = false }) ∷ sound (Some 60) 240
         ∷ items.Bar (record { closes = 1; opens = 0; double = false }) ∷ [] }
@@ -120,7 +120,7 @@ pub fn items_of_fields()
     ensures no_effect { items_by in_common (codes "T:a") ≡ [] }
 {}
 
-/// What refused fields and directives give: a fault, and an item where the field is played. Our own.
+/// What refused fields and directives give: a fault, and an item where the field is played. Not in ABC 2.1.
 pub fn items_of_refused_fields()
     ensures meter { items_by in_common (codes "M:3") ≡ items.Meter false None ∷ [] }
     ensures key { items_by in_common (codes "K:H") ≡ items.Key false (Some (pos 0, false)) ∷ [] }
@@ -130,7 +130,7 @@ pub fn items_of_refused_fields()
     ensures others { items_by in_common (codes "[L:3][P:a][V:]") ≡ [] }
 {}
 
-/// Where the faults of fields stand: at column 1, or at the `[` of an inline field. Our own.
+/// Where the faults of fields stand: at column 1, or at the `[` of an inline field. Not in ABC 2.1.
 pub fn faults_of_fields()
     ensures meter { faults_by in_common (codes "M:3") ≡ (1, BadMeter) ∷ [] }
     ensures unit { faults_by in_common (codes "C[L:3]") ≡ (2, BadUnit) ∷ [] }
@@ -143,7 +143,7 @@ pub fn faults_of_fields()
     ensures open { faults_by in_common (codes "C[K:Hp") ≡ (2, Unclosed) ∷ (4, BadByte) ∷ [] }
 {}
 
-/// Where the faults of tokens stand. Our own.
+/// Where the faults of tokens stand. Not in ABC 2.1.
 pub fn faults_of_tokens()
     ensures bad_byte { faults_by in_common (codes "C&D") ≡ (2, BadByte) ∷ [] }
     ensures unclosed { faults_by in_common (codes "C{") ≡ (2, Unclosed) ∷ [] }
@@ -159,7 +159,7 @@ pub fn faults_of_tokens()
     ensures free_bar_rest { faults_by in_free (codes "CZ0") ≡ (2, FreeBarRest) ∷ [] }
 {}
 
-/// Where the faults of chords stand. Our own.
+/// Where the faults of chords stand. Not in ABC 2.1.
 pub fn faults_of_chords()
     ensures empty { faults_by in_common (codes "C[]-") ≡ (2, EmptyChord) ∷ [] }
     ensures inside { faults_by in_common (codes "[-C-1]") ≡ (2, LooseTie) ∷ (5, BadByte) ∷ [] }

@@ -6,7 +6,7 @@ ghost use Rattle.abc_scan.specs.declared.class.LineClass.TheVariants.{Blank, Com
 ghost use Rattle.abc_book.specs.Block.{blocks_of};
 ghost use Rattle.text_examples.specs.Blocks.{continued, free, header, key, reference, tune};
 
-/// What stands before the first tune. ABC 2.1 section 2.2.2; that its first line decides is our own.
+/// What stands before the first tune. ABC 2.1 section 2.2.2; that its first line decides is not in ABC 2.1.
 pub fn file_headers()
     ensures nothing { blocks_of [] ≡ [] }
     ensures comments_alone { blocks_of (Comment ∷ Blank ∷ Comment ∷ []) ≡ [] }

@@ -23,7 +23,7 @@ pub fn meters_and_units()
         ≡ in_body (settings_in (Of 3 4) (ratio 1 2) Not) }
 {}
 
-/// How far accidentals reach in a body. ABC 2.1 section 11.3; that it is every octave without a directive is our own.
+/// How far accidentals reach in a body. ABC 2.1 section 11.3; that it is every octave without a directive is not in ABC 2.1.
 pub fn reaches()
     ensures not { behind_header (codes "X:1" ∷ codes "%%propagate-accidentals not" ∷ codes "K:C" ∷ []) ≡ in_body (settings_in Free (ratio 1 8) Not) }
     ensures last { behind_header (codes "X:1" ∷ codes "%%propagate-accidentals not" ∷ codes "%%propagate-accidentals octave" ∷ codes "K:C" ∷ [])
@@ -32,7 +32,7 @@ pub fn reaches()
 {}
 
 /// The signature and the shift with which a body begins. ABC 2.1 sections 3.1.14 and 4.6; that a refused key and one of
-/// properties alone have no signature is our own.
+/// properties alone have no signature is not in ABC 2.1.
 pub fn keys_of_headers()
     ensures sharps { behind_header (codes "X:1" ∷ codes "K:G" ∷ []) ≡ in_body (keyed_so in_g (shifted (pos 0) (pos 0) (pos 0))) }
     ensures flats { behind_header (codes "X:1" ∷ codes "K:Dm treble-8 transpose=2" ∷ []) ≡ in_body (keyed_so in_f (shifted (negsuc 11) (pos 0) (pos 2))) }
@@ -42,14 +42,14 @@ pub fn keys_of_headers()
 {}
 
 /// The voices that a header declares, of which the first is the current one: what a `V:` says of a voice's shift goes before
-/// what the key says. ABC 2.1 section 7.1; which goes first is our own.
+/// what the key says. ABC 2.1 section 7.1; which goes first is not in ABC 2.1.
 pub fn declared_voices()
     ensures own_parts { behind_header shifted_voices
         ≡ two_voices (shifted (negsuc 11) (pos 2) (pos 3)) (shifted (pos 12) (pos 1) (pos 3)) (shifted (pos 12) (pos 0) (pos 3)) }
 {}
 
 /// What the lines of a header give beside the tempo and the meter that a tune has if its header ends there. ABC 2.1 section
-/// 3.1; what refused lines give is our own.
+/// 3.1; what refused lines give is not in ABC 2.1.
 pub fn items_of_headers()
     ensures reference { items_by (Opening no_defaults) (codes "X:12") ≡ items.Number 12 ∷ items.Tempo true None false ∷ items.Meter true (Some Free) ∷ [] }
     ensures refused_reference { items_by (Opening no_defaults) (codes "X:a") ≡ items.Number 0 ∷ items.Tempo true None false ∷ items.Meter true (Some Free) ∷ [] }
@@ -67,7 +67,7 @@ pub fn items_of_headers()
 {}
 
 /// The tempo that a tune has if its header ends behind a line: a number alone counts the unit that holds there. ABC 2.1
-/// section 3.1.8; the number alone is our own.
+/// section 3.1.8; the number alone is not in ABC 2.1.
 pub fn tempos_of_headers()
     ensures units { items_by (Opening no_defaults) (codes "Q:120") ≡ items.Tempo true (Some 1000000) false ∷ items.Meter true (Some Free) ∷ [] }
     ensures later_meter { items_by (behind_header (codes "X:1" ∷ codes "Q:120" ∷ [])) (codes "M:2/4")
@@ -77,7 +77,7 @@ pub fn tempos_of_headers()
     ensures out { items_by (Opening no_defaults) (codes "Q:1/4=1") ≡ items.Tempo true None true ∷ items.Meter true (Some Free) ∷ [] }
 {}
 
-/// Where the faults of headers stand: at column 1. Our own.
+/// Where the faults of headers stand: at column 1. Not in ABC 2.1.
 pub fn faults_of_headers()
     ensures reference { faults_by (Opening no_defaults) (codes "X:0") ≡ (1, BadReference) ∷ [] }
     ensures empty_reference { faults_by (Opening no_defaults) (codes "X:") ≡ [] }

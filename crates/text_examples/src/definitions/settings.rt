@@ -61,7 +61,7 @@ pub fn times_of_tuplets_in_three_parts()
 {}
 
 /// What tuplet marks begin: `(3`, `(3::2`, `(5:4`, `(3:2:6`, and marks of numbers that are not from 1 to 64. ABC 2.1 section
-/// 4.13; the bounds are our own.
+/// 4.13; the bounds are not in ABC 2.1.
 pub fn tuplet_marks()
     ensures three { tuplet_by (Of 4 4) (mark 3 None None) ≡ Some (open_tuplet 3 2 3) }
     ensures two_of_three { tuplet_by (Of 4 4) (mark 3 None (Some 2)) ≡ Some (open_tuplet 3 2 2) }
@@ -74,7 +74,7 @@ pub fn tuplet_marks()
 {}
 
 /// What is open behind a tuplet mark, and behind a note, chord or rest. That a refused mark leaves the old tuplet, and
-/// that another takes its place, is our own.
+/// that another takes its place, is not in ABC 2.1.
 pub fn open_tuplets()
     ensures alone { tuplet_opened Free None (mark 3 None None) ≡ (Some (open_tuplet 3 2 3), None) }
     ensures refused { tuplet_opened Free None (mark 65 None None) ≡ (None, Some BadTuplet) }
@@ -111,7 +111,7 @@ pub fn tempos()
     ensures too_slow_units { micros_by (ratio 1 8) (Units 7) ≡ None }
 {}
 
-/// What tempos give to the score. Our own.
+/// What tempos give to the score. Not in ABC 2.1.
 pub fn items_of_tempos()
     ensures opening { tempo_item true (ratio 1 8) (Units 120) ≡ items.Tempo true (Some 1000000) false }
     ensures unset { tempo_item false (ratio 1 8) Unset ≡ items.Tempo false None false }
@@ -120,7 +120,7 @@ pub fn items_of_tempos()
     ensures not_by_another { tempo_item false (ratio 1 4) (Units 7) ≡ items.Tempo false (Some 8571428) false }
 {}
 
-/// The number of `X:`. ABC 2.1 section 3.1.1; that nothing is 0, and that 0 is refused, is our own.
+/// The number of `X:`. ABC 2.1 section 3.1.1; that nothing is 0, and that 0 is refused, is not in ABC 2.1.
 pub fn reference_numbers()
     ensures empty { reference_of [] ≡ Ok 0 }
     ensures one { reference_of (codes "1") ≡ Ok 1 }
@@ -129,7 +129,7 @@ pub fn reference_numbers()
     ensures refused { map reference_of (codes "0" ∷ codes "000" ∷ codes "1234567890" ∷ codes "a" ∷ codes "1a" ∷ codes "-1" ∷ []) ≡ replicate 6 (Err BadReference) }
 {}
 
-/// The part of a `P:` in the body. ABC 2.1 section 3.1.9; that the rest is ignored is our own.
+/// The part of a `P:` in the body. ABC 2.1 section 3.1.9; that the rest is ignored is not in ABC 2.1.
 pub fn parts()
     ensures letters { map part_of (codes "A" ∷ codes "Z" ∷ codes "B2 x" ∷ []) ≡ map (λ letter. Some letter) (codes "AZB") }
     ensures refused { map part_of ([] ∷ codes "a" ∷ codes "@" ∷ codes "[" ∷ codes "1A" ∷ codes "(A)" ∷ []) ≡ replicate 6 None }
@@ -142,7 +142,7 @@ pub fn letters_of_fields()
 {}
 
 /// Programs and columns: a program is 0 to 127, the first column is 1. SMF 1.0; that columns count from 1, and no
-/// further than 32 bits, is our own.
+/// further than 32 bits, is not in ABC 2.1.
 pub fn programs_and_columns()
     ensures first { program_of 0 ≡ Some 0 }
     ensures last { program_of 127 ≡ Some 127 }
@@ -152,7 +152,7 @@ pub fn programs_and_columns()
     ensures beyond { column_of (2 ^ 32 - 1) ≡ 2 ^ 32 - 1 }
 {}
 
-/// How loud notes are. Our own.
+/// How loud notes are. Not in ABC 2.1.
 pub fn velocities()
     ensures soft { map (λ dynamic. velocity_of (Some dynamic)) (Ppp ∷ Pp ∷ P ∷ Mp ∷ []) ≡ 30 ∷ 45 ∷ 60 ∷ 75 ∷ [] }
     ensures loud { map (λ dynamic. velocity_of (Some dynamic)) (Mf ∷ F ∷ Ff ∷ Fff ∷ []) ≡ 90 ∷ 105 ∷ 120 ∷ 127 ∷ [] }
@@ -179,14 +179,14 @@ pub fn rests_of_bars()
     ensures none_in_free_meter { bar_rest_of Free (Some 0) ≡ (bar_rest 0, Some FreeBarRest) }
 {}
 
-/// The shift of a voice behind properties, part by part. Our own.
+/// The shift of a voice behind properties, part by part. Not in ABC 2.1.
 pub fn shifts()
     ensures clef { with_properties unshifted (shift (Some (negsuc 11)) None None) ≡ shifted (negsuc 11) (pos 0) (pos 0) }
     ensures others { with_properties (shifted (pos 12) (pos 1) (pos 3)) (shift None (Some (negsuc 0)) (Some (pos 0))) ≡ shifted (pos 12) (negsuc 0) (pos 0) }
     ensures nothing { with_properties (shifted (pos 12) (pos 1) (pos 3)) no_shift ≡ shifted (pos 12) (pos 1) (pos 3) }
 {}
 
-/// A header declares fifteen voices and no more, each part of a voice's shift as it was said last. Our own.
+/// A header declares fifteen voices and no more, each part of a voice's shift as it was said last. Not in ABC 2.1.
 pub fn voices_of_headers()
     ensures first { declared [] (codes "A") (shift (Some (pos 12)) None None) ≡ (voice_a (shift (Some (pos 12)) None None), None) }
     ensures again { declared (voice_a (shift (Some (pos 12)) (Some (pos 1)) None)) (codes "A") (shift None (Some (pos 0)) (Some (pos 2)))
