@@ -120,8 +120,11 @@ impl<T> GapList<T> {
         ensures items { self.new.items ≡ self.old.items ++ item ∷ [] }
         ensures room { self.new.room ≡ self.old.room - 1 }
     {
-        let end = self.len();
-        self.insert(end, item);
+        let end = self.block.len();
+        if self.block.gap() != end {
+            self.move_gap(end);
+        }
+        self.block.put(item);
     }
 
     /// Moves the gap to a place.
