@@ -3,12 +3,13 @@ use Rattle.std.proofs.Common.{◌≡◌, ℕ, ◌+◌, ◌-◌, ◌*◌, ◌/◌
 use Rattle.std.proofs.lemmas.Nat.{pow-add}
 use Rattle.std.proofs.Math.Nat.{mul-div_cancel, div-le_self}
 use Rattle.abc_text.specs.Power.{IsPowerUpTo}
-use Rattle.abc_text.proofs.Powers.{power_least}
+use Rattle.abc_text.proofs.Powers.{power_least, power_most}
 use Rattle.abc_time.specs.declared.grains.Grains.{Grains}
 use Rattle.abc_time.specs.declared.ratio.Ratio.{Ratio}
 use Rattle.abc_time.specs.Grains.{grains_of_a_whole_note, grains_of_the_longest_length}
 use Rattle.abc_time.specs.Length.{IsLength}
 use Rattle.abc_fields.specs.Spelling.Unit.{IsUnit}
+use Rattle.abc_fields.specs.Unit.{part_as_unit}
 use Rattle.abc_bars_voice.specs.Unit.{IsUnitPart, unit_grains}
 
 -- a number of grains that code computes
@@ -45,6 +46,16 @@ read_part text part h = record {
   one = h.one;
   power = ⊎_elim (λ whole. record { power = 0; small = omega arith; value = whole.1 }) (λ p. p.power) h.part;
 }
+
+-- a part is known by how many there are in a whole note, and these are few
+pub by_parts : (part : Ratio) → IsUnitPart part → part_as_unit part.den ≡ part
+by_parts part h = let one = sym h.one in λ i. record { num = one i; den = part.den }
+
+pub part_in_parts : (text : List ℕ) (part : Ratio) → IsUnit text part → IsUnitPart (part_as_unit part.den)
+part_in_parts text part h = let is = read_part text part h in subst IsUnitPart (sym (by_parts part is)) is
+
+pub few_parts : (text : List ℕ) (part : Ratio) → IsUnit text part → part.den ≤ 512
+few_parts text part h = power_most 9 part.den (read_part text part h).power
 
 -- a unit is exactly so many grains
 pub unit_exact : (part : Ratio) → IsUnitPart part → (unit_grains part).0 * (part.den * 1) ≡ grains_of_a_whole_note * (part.num * 1)

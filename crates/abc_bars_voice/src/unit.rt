@@ -13,29 +13,30 @@ use abc_time::{Grains, Ratio, WHOLE_NOTE};
 use std::marker::Model;
 
 /// Into how many units a whole note is cut at most.
-const MOST_PARTS: u32 = 512;
+const MOST_PARTS: u16 = 512;
 
 /// The shortest unit in grains. Each unit is so many of it: to divide 512 is cheaper than to divide a whole
 /// note's grains, which take 64 bits.
 const SHORTEST_UNIT: u64 = WHOLE_NOTE.0 / 512;
 
-/// A unit note length, as a part of a whole note (ABC 2.1 section 3.1.7). Contracts see the part.
+/// A unit note length, by the number of units in a whole note (ABC 2.1 section 3.1.7). Contracts see the part of a whole note.
 #[derive(Clone, Copy)]
 pub struct UnitLength {
-    part: Ratio,
+    parts: u16,
 }
 
 impl Model for UnitLength {
+    ghost use Rattle.abc_fields.specs.Unit.{part_as_unit};
     ghost use Rattle.abc_time.specs.declared.ratio.Ratio.{Ratio};
     ghost use Rattle.abc_bars_voice.specs.Unit.{IsUnitPart};
 
     ghost Value = { Ratio };
 
-    ghost view = { λ u. u.part };
+    ghost view = { λ u. part_as_unit u.parts };
 
-    ghost invariant = { λ u. IsUnitPart u.part };
+    ghost invariant = { λ u. IsUnitPart (part_as_unit u.parts) };
 
-    ghost inverse = { λ part. record { part = part } };
+    ghost inverse = { λ part. record { parts = part.den } };
 }
 
 impl UnitLength {
@@ -44,7 +45,9 @@ impl UnitLength {
         ensures { result ≡ unit_of value.now }
     {
         let part = read_unit(value)?;
-        Ok(UnitLength { part })
+        Ok(UnitLength {
+            parts: part.den as u16,
+        })
     }
 
     /// The unit in a meter where no L: says one (ABC 2.1 section 3.1.7): a sixteenth below 3/4, otherwise,
@@ -52,13 +55,11 @@ impl UnitLength {
     pub fn by(meter: TuneMeter) -> UnitLength
         ensures { result ≡ unit_by meter }
     {
-        let part = match meter.get() {
-            Meter::Of { num, den } if 4 * u32::from(num) < 3 * u32::from(den) => {
-                Ratio { num: 1, den: 16 }
-            }
-            Meter::Of { .. } | Meter::Free => Ratio { num: 1, den: 8 },
+        let parts = match meter.get() {
+            Meter::Of { num, den } if 4 * u32::from(num) < 3 * u32::from(den) => 16,
+            Meter::Of { .. } | Meter::Free => 8,
         };
-        UnitLength { part }
+        UnitLength { parts }
     }
 
     /// The part of a whole note.
@@ -67,7 +68,10 @@ impl UnitLength {
         ensures range { IsRatio result }
         ensures part { IsUnitPart result }
     {
-        self.part
+        Ratio {
+            num: 1,
+            den: u32::from(self.parts),
+        }
     }
 
     /// The length of one unit, exactly.
@@ -76,6 +80,6 @@ impl UnitLength {
         ensures exact { IsLength self [] result.0 }
         ensures range { result.0 ≤ grains_of_the_longest_length }
     {
-        Grains(SHORTEST_UNIT * u64::from(MOST_PARTS / self.part.den))
+        Grains(SHORTEST_UNIT * u64::from(MOST_PARTS / self.parts))
     }
 }
