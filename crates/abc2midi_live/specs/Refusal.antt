@@ -5,5 +5,5 @@ use Rattle.abc_lines.specs.declared.edit_error.EditError.{EditError}
 use Rattle.abc_lines.specs.declared.edit_error.EditError.TheVariants.{BadLine, TooLarge}
 
 -- lines are refused where one of them is no line, or there are too many
-unfoldable pub refused : Bool → ℕ → Option EditError
-refused proper count = if not proper then Some BadLine else if not (nat_le count MOST_LINES) then Some TooLarge else None
+unfoldable pub book_refusal : Bool → ℕ → Option EditError
+book_refusal proper count = if not proper then Some BadLine else if not (nat_le count MOST_LINES) then Some TooLarge else None

@@ -21,10 +21,10 @@ pub use Rattle.abc_bars_header.specs.SameDefaults
 pub use Rattle.abc_bars_header.specs.Voices
 pub use Rattle.abc_bars_header.specs.VoicesLent
 pub use Rattle.abc_bars_items.specs.Item
-pub use Rattle.abc_bars_items.specs.LentTones
+pub use Rattle.abc_bars_items.specs.TonesView
 pub use Rattle.abc_bars_notes.specs.Broken
 pub use Rattle.abc_bars_notes.specs.LooseTies
-pub use Rattle.abc_bars_voice.specs.Settings
+pub use Rattle.abc_bars_voice.specs.VoiceState
 pub use Rattle.abc_bars_voice.specs.Tempo as TuneTempo
 pub use Rattle.abc_bars_voice.specs.Unit as UnitLength
 pub use Rattle.abc_time.specs.Grains

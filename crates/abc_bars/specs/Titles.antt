@@ -21,7 +21,7 @@ title_said _ = None
 abbrev pub titles_said : List Item → List (List ℕ)
 titles_said tune = filter_map title_said tune
 
--- What the T: lines of a header say from a field of this kind on, of what those behind it say: a K: ends the header.
+-- What the T: lines of a header say from a field of this kind on, of what those after it say: a K: ends the header.
 abbrev pub titles_from : FieldKind → List ℕ → List (List ℕ) → List (List ℕ)
 titles_from fields.Reference value behind = behind
 titles_from fields.Title value behind = value ∷ behind

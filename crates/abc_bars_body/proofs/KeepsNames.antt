@@ -10,17 +10,17 @@ use Rattle.abc_scan.specs.declared.token.TokenKind.{TokenKind}
 use Rattle.abc_bars_body.specs.declared.body.Body.{Body}
 use Rattle.abc_bars_body.specs.declared.entry.Entry.{Entry}
 use Rattle.abc_bars_body.specs.declared.entry.Entry.TheVariants as entries
-use Rattle.abc_bars_body.specs.Cell.{cell_given}
+use Rattle.abc_bars_body.specs.Cell.{cell_result}
 use Rattle.abc_bars_body.specs.KeepsNames.{KeepsNames}
 use Rattle.abc_bars_body.specs.Mentioned.{Mentioned, behind_item, behind_items, behind_name, behind_time}
-use Rattle.abc_bars_body.specs.Step.{stepped}
+use Rattle.abc_bars_body.specs.Step.{entry_step}
 use Rattle.abc_bars_body.proofs.VoicesLemmas.{values_long}
 use Rattle.abc_bars_body.proofs.Mentions.{cell_mentions, is_placed, keys_long, known_of}
 
 abbrev More : Mentioned → Mentioned → Type 0
 More before after = (names : List (List ℕ)) × (after.0 ≡ before.0 ++ names)
 
--- what is mentioned later is the same, or a voice is current and there are names behind those of before
+-- what is mentioned later is the same, or a voice is current and there are names after those of before
 abbrev IsBehind : Mentioned → Mentioned → Type 0
 IsBehind before after = (after ≡ before) ⊎ ((after.1 ≡ true) × (before.1 ≡ true → More before after))
 
@@ -74,15 +74,15 @@ names_kept before after (inr more) placed long =
     let names = more.1 (placed ∙ more.0) in
     none_more before.0 names.0 (long ∙ ap length names.1) ∙ sym names.1
 
-cell_behind : (body : Body) (cell : List (Spanned TokenKind)) → IsBehind (known_of body) (known_of (cell_given body cell).body)
+cell_behind : (body : Body) (cell : List (Spanned TokenKind)) → IsBehind (known_of body) (known_of (cell_result body cell).body)
 cell_behind body cell =
     let mentions = cell_mentions body cell in
     subst (IsBehind (known_of body)) (sym mentions.1) (items_behind (known_of body) mentions.0)
 
-keeps_names : (body : Body) (cell : List (Spanned TokenKind)) → KeepsNames body (cell_given body cell).body
+keeps_names : (body : Body) (cell : List (Spanned TokenKind)) → KeepsNames body (cell_result body cell).body
 keeps_names body cell same long =
-    names_kept (known_of body) (known_of (cell_given body cell).body) (cell_behind body cell) (ap is_placed same)
-    (keys_long body.voices ∙ long ∙ sym (keys_long (cell_given body cell).body.voices))
+    names_kept (known_of body) (known_of (cell_result body cell).body) (cell_behind body cell) (ap is_placed same)
+    (keys_long body.voices ∙ long ∙ sym (keys_long (cell_result body cell).body.voices))
 
 body_of : Entry → Body → Body
 body_of (entries.Body body) other = body
@@ -90,11 +90,11 @@ body_of (entries.FileHeader defaults) other = other
 body_of (entries.Opening defaults) other = other
 body_of (entries.Header header) other = other
 
--- So what holds in a body behind a cell keeps its names.
-pub step_keeps_names : (body next : Body) (cell : List (Spanned TokenKind)) → entries.Body next ≡ (stepped (entries.Body body) cell).0 → KeepsNames body next
-unfolding stepped body_of
+-- So the state in a body after a cell keeps its names.
+pub step_keeps_names : (body next : Body) (cell : List (Spanned TokenKind)) → entries.Body next ≡ (entry_step (entries.Body body) cell).0 → KeepsNames body next
+unfolding entry_step body_of
 step_keeps_names body next cell same =
-    let is : next ≡ (cell_given body cell).body = ap (λ (e : Entry). body_of e next) same in
+    let is : next ≡ (cell_result body cell).body = ap (λ (e : Entry). body_of e next) same in
     subst (KeepsNames body) (sym is) (keeps_names body cell)
 
 -- Two bodies with the same names are the same where all else is.

@@ -1,20 +1,20 @@
--- Copies of a body, as they are held.
+-- Copies of a body, as they are stored.
 use Rattle.abc_bars_body.specs.Body.{with_here}
 use Rattle.abc_bars_body.specs.declared.body.Body.{Body}
-use Rattle.abc_bars_body.specs.declared.body_copy.HeldBody.{HeldBody}
-use Rattle.abc_bars_body.specs.declared.body_copy.HeldBody.TheVariants as held
+use Rattle.abc_bars_body.specs.declared.body_copy.BodyStorage.{BodyStorage}
+use Rattle.abc_bars_body.specs.declared.body_copy.BodyStorage.TheVariants as storages
 
--- The body that is held so.
-abbrev pub body_held : HeldBody → Body
-body_held (held.Lent body here) = with_here body here
-body_held (held.Own body) = body.value
+-- The stored body.
+abbrev pub stored_body : BodyStorage → Body
+stored_body (storages.Borrowed body here) = with_here body here
+stored_body (storages.Owned body) = body.value
 
 -- Nothing of it is shared.
-abbrev pub IsOwn : HeldBody → Type 0
-IsOwn (held.Lent body here) = ⊥
-IsOwn (held.Own body) = Unit {0}
+abbrev pub IsOwned : BodyStorage → Type 0
+IsOwned (storages.Borrowed body here) = ⊥
+IsOwned (storages.Owned body) = Unit {0}
 
--- Another body takes its place, where nothing of it is shared.
-abbrev pub with_own : HeldBody → Body → HeldBody
-with_own (held.Lent body here) other = held.Lent body here
-with_own (held.Own body) other = held.Own (record body { value = other })
+-- The storage with another body, if nothing of it is shared.
+abbrev pub with_own : BodyStorage → Body → BodyStorage
+with_own (storages.Borrowed body here) other = storages.Borrowed body here
+with_own (storages.Owned body) other = storages.Owned (record body { value = other })

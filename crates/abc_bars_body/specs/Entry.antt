@@ -1,4 +1,4 @@
--- What holds at a place of a file header or of a tune. Not in ABC 2.1.
+-- The state at a place of a file header or of a tune. Not in ABC 2.1.
 use Rattle.std.specs.Prelude.{Option, Some, None}
 use Rattle.abc_bars_header.specs.Defaults.{no_defaults}
 use Rattle.abc_bars_header.specs.declared.defaults.Defaults.{Defaults}
@@ -12,7 +12,7 @@ defaults_of (entries.Opening defaults) = no_defaults
 defaults_of (entries.Header header) = no_defaults
 defaults_of (entries.Body body) = no_defaults
 
--- What holds where a tune begins, by what holds behind the file header, if there is one.
+-- The state where a tune begins, by the state after the file header, if there is one.
 abbrev pub opening_after : Option Entry → Entry
 opening_after None = entries.Opening no_defaults
 opening_after (Some entry) = entries.Opening (defaults_of entry)

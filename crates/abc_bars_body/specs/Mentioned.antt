@@ -15,16 +15,16 @@ use Rattle.abc_scan.specs.declared.token.TokenKind.{TokenKind}
 abbrev pub Mentioned : Type 0
 Mentioned = List (List ℕ) × Bool
 
--- Behind the name of a voice: it is one more, unless it is mentioned already.
+-- After the name of a voice: it is one more, unless it is mentioned already.
 abbrev pub behind_name : List (List ℕ) → List ℕ → List (List ℕ)
 behind_name names name = if list_any (bytes_eq name) names then names else names ++ name ∷ []
 
--- Behind a note, chord or rest: it mentions the voice without a name where none is mentioned. Not in ABC 2.1.
+-- After a note, chord or rest: it mentions the voice without a name if none is mentioned. Not in ABC 2.1.
 abbrev pub behind_time : Mentioned → Mentioned
 behind_time (names, true) = (names, true)
 behind_time (names, false) = ([] ∷ [], true)
 
--- Behind an item.
+-- After an item.
 abbrev pub behind_item : Mentioned → Item → Mentioned
 behind_item known (items.Number number) = known
 behind_item known (items.Tone tones length) = behind_time known
@@ -40,7 +40,7 @@ behind_item known (items.Program opening number) = known
 behind_item known (items.Title text) = known
 behind_item known (items.Order text) = known
 
--- Behind items.
+-- After items.
 abbrev pub behind_items : Mentioned → List Item → Mentioned
 behind_items known [] = known
 behind_items known (item ∷ tune) = behind_items (behind_item known item) tune
@@ -54,7 +54,7 @@ abbrev pub AreNamed : List Item → Type 0
 AreNamed [] = Unit {0}
 AreNamed (item ∷ tune) = IsNamed item × AreNamed tune
 
--- What the cells of a tune give to the score, where a file header set these values.
+-- The items of the cells of a tune, after a file header that set these values.
 abbrev pub items_of_cells : Defaults → List (List (Spanned TokenKind)) → List Item
 items_of_cells opening cells = flat_map (λ given. given.items) (items_from bar_steps (entries.Opening opening) cells)
 

@@ -1,4 +1,4 @@
--- What a cell gives where it is entered, and what holds behind it.
+-- What a cell gives if it is entered, and the state after it.
 use Rattle.std.specs.Prelude.{ℕ, List, [], ◌∷◌, Option, Some, None}
 use Rattle.abc_fields.specs.Key.{empty_key, key_of, key_or_empty}
 use Rattle.abc_scan.specs.declared.directive.Directive.{Directive}
@@ -7,21 +7,21 @@ use Rattle.abc_scan.specs.declared.spanned.Spanned.{Spanned}
 use Rattle.abc_scan.specs.declared.token.TokenKind.{TokenKind}
 use Rattle.abc_scan.specs.declared.token.TokenKind.TheVariants as kinds
 use Rattle.abc_bars_body.specs.declared.body.Body.{Body}
-use Rattle.abc_bars_body.specs.declared.cell.Given.{Given}
+use Rattle.abc_bars_body.specs.declared.cell.CellResult.{CellResult}
 use Rattle.abc_bars_header.specs.declared.defaults.Defaults.{Defaults}
 use Rattle.abc_bars_body.specs.declared.entry.Entry.{Entry}
 use Rattle.abc_bars_body.specs.declared.entry.Entry.TheVariants as entries
 use Rattle.abc_bars_header.specs.declared.field_kind.FieldKind.{FieldKind}
-use Rattle.abc_bars_header.specs.declared.file_header.FileHeaderGiven.{FileHeaderGiven}
+use Rattle.abc_bars_header.specs.declared.file_header.FileHeaderResult.{FileHeaderResult}
 use Rattle.abc_bars_header.specs.declared.field_kind.FieldKind.TheVariants as fields
 use Rattle.abc_bars_header.specs.declared.header.Header.{Header}
-use Rattle.abc_bars_header.specs.declared.header.HeaderGiven.{HeaderGiven}
+use Rattle.abc_bars_header.specs.declared.header.HeaderResult.{HeaderResult}
 use Rattle.abc_bars_items.specs.Item.{Items}
 use Rattle.abc_bars_body.specs.BodyOpening.{body_from}
-use Rattle.abc_bars_body.specs.Cell.{cell_given}
+use Rattle.abc_bars_body.specs.Cell.{cell_result}
 use Rattle.abc_bars_header.specs.FieldKind.{kind_of}
-use Rattle.abc_bars_header.specs.FileHeader.{file_header_given}
-use Rattle.abc_bars_header.specs.Header.{header_given, opening_header}
+use Rattle.abc_bars_header.specs.FileHeader.{file_header_result}
+use Rattle.abc_bars_header.specs.Header.{header_result, opening_header}
 use Rattle.abc_bars_header.specs.HeaderLine.{HeaderLine, FieldLine, DirectiveLine}
 
 -- The field that a token is, if it is a field line.
@@ -84,15 +84,15 @@ line_of None None = None
 abbrev pub line_in : List (Spanned TokenKind) → Option HeaderLine
 line_in cell = line_of (field_in cell) (directive_in cell)
 
--- What holds behind a cell, and what it gives.
-abbrev pub stepped_to : Given → Entry × Items
-stepped_to given = (entries.Body given.body, given.items)
+-- The state after a cell, and what it gives.
+abbrev pub step_of : CellResult → Entry × Items
+step_of given = (entries.Body given.body, given.items)
 
 -- A cell of a body.
-abbrev pub body_stepped : Body → List (Spanned TokenKind) → Entry × Items
-body_stepped body cell = stepped_to (cell_given body cell)
+abbrev pub body_step : Body → List (Spanned TokenKind) → Entry × Items
+body_step body cell = step_of (cell_result body cell)
 
--- What holds behind a field of this kind in a header: a K: ends it, even one that is refused, which sets
+-- The state after a field of this kind in a header: a K: ends it, even one that is refused, which sets
 -- an empty signature. ABC 2.1 section 3.1.14; the refused one is not in ABC 2.1.
 abbrev pub behind_kind : Header → FieldKind → List ℕ → Entry
 behind_kind header fields.Reference value = entries.Header header
@@ -105,33 +105,33 @@ behind_kind header fields.Voice value = entries.Header header
 behind_kind header fields.Key value = entries.Body (body_from header (key_or_empty (key_of value)))
 behind_kind header fields.Other value = entries.Header header
 
--- What holds behind a line of a header: no directive ends it.
+-- The state after a line of a header: no directive ends it.
 abbrev pub behind_line : Header → HeaderLine → Entry
 behind_line header (FieldLine field) = behind_kind header (kind_of field.letter) field.value
 behind_line header (DirectiveLine directive) = entries.Header header
 
--- What holds behind a line of a header, and what it gives.
-abbrev pub line_stepped : HeaderGiven → HeaderLine → Entry × Items
-line_stepped given line = (behind_line given.header line, record { items = given.items; faults = given.faults })
+-- The state after a line of a header, and what it gives.
+abbrev pub line_step : HeaderResult → HeaderLine → Entry × Items
+line_step given line = (behind_line given.header line, record { items = given.items; faults = given.faults })
 
 -- A cell of a header, which is this line or music: a line of music ends the header as an empty K: would, and
 -- is a cell of the body. The latter is not in ABC 2.1.
-abbrev pub header_stepped : Header → List (Spanned TokenKind) → Option HeaderLine → Entry × Items
-header_stepped header cell (Some line) = line_stepped (header_given header line) line
-header_stepped header cell None = body_stepped (body_from header empty_key) cell
+abbrev pub header_step : Header → List (Spanned TokenKind) → Option HeaderLine → Entry × Items
+header_step header cell (Some line) = line_step (header_result header line) line
+header_step header cell None = body_step (body_from header empty_key) cell
 
--- What holds behind a cell of a file header, and what it gives: it has no items.
-abbrev pub file_header_made : FileHeaderGiven → Entry × Items
-file_header_made given = (entries.FileHeader given.defaults, record { items = []; faults = given.faults })
+-- The state after a cell of a file header, and what it gives: it has no items.
+abbrev pub file_header_step_of : FileHeaderResult → Entry × Items
+file_header_step_of given = (entries.FileHeader given.defaults, record { items = []; faults = given.faults })
 
 -- A cell of a file header, which is this line or music: the latter does nothing.
-abbrev pub file_header_stepped : Defaults → Option HeaderLine → Entry × Items
-file_header_stepped defaults None = file_header_made (record { defaults = defaults; faults = [] })
-file_header_stepped defaults (Some line) = file_header_made (file_header_given defaults line)
+abbrev pub file_header_step : Defaults → Option HeaderLine → Entry × Items
+file_header_step defaults None = file_header_step_of (record { defaults = defaults; faults = [] })
+file_header_step defaults (Some line) = file_header_step_of (file_header_result defaults line)
 
--- What holds behind a cell that is entered there, and what it gives.
-unfoldable pub stepped : Entry → List (Spanned TokenKind) → Entry × Items
-stepped (entries.FileHeader defaults) cell = file_header_stepped defaults (line_in cell)
-stepped (entries.Opening defaults) cell = header_stepped (opening_header defaults) cell (line_in cell)
-stepped (entries.Header header) cell = header_stepped header cell (line_in cell)
-stepped (entries.Body body) cell = body_stepped body cell
+-- The state after a cell that is entered there, and what it gives.
+unfoldable pub entry_step : Entry → List (Spanned TokenKind) → Entry × Items
+entry_step (entries.FileHeader defaults) cell = file_header_step defaults (line_in cell)
+entry_step (entries.Opening defaults) cell = header_step (opening_header defaults) cell (line_in cell)
+entry_step (entries.Header header) cell = header_step header cell (line_in cell)
+entry_step (entries.Body body) cell = body_step body cell

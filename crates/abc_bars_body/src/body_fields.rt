@@ -1,4 +1,4 @@
-//! The fields of a tune's body: what holds behind each, and what it gives.
+//! The fields of a tune's body: the state after each, its item and its fault.
 
 ghost use Rattle.std.specs.Prelude.{◌≡◌, None, Some, IfOk, IfSome};
 ghost use Rattle.abc_fields.specs.Key.{key_of, IsInRange};
@@ -9,18 +9,19 @@ ghost use Rattle.abc_fields.specs.Voice.{voice_of};
 ghost use Rattle.abc_bars_body.specs.declared.body.Body.{Body};
 ghost use Rattle.abc_bars_body.specs.Body.{here, with_here};
 ghost use Rattle.abc_bars_items.specs.Column.{column_of};
-ghost use Rattle.abc_bars_body.specs.BodyFields.{given_as, part_of, part_by, meter_by, unit_by, tempo_at, tempo_by, in_key, key_item, key_by, voice_by, kind_given, field_given};
+ghost use Rattle.abc_bars_body.specs.BodyFields.{field_result_of, part_of, part_by, meter_by, unit_by, tempo_at, tempo_by, in_key};
+ghost use Rattle.abc_bars_body.specs.BodyFields.{key_item, key_by, voice_by, kind_result, field_result};
 ghost use Rattle.abc_bars_items.specs.Item.{IsCapitalLetter, IsItem};
 
 use crate::body::Body;
 use abc_bars_header::{FieldKind, kind_of};
 use abc_bars_items::{Item, ItemText, LocalFault, column_of};
-use abc_bars_voice::{TuneMeter, TuneTempo, UnitLength, is_out, tempo_item};
+use abc_bars_voice::{TuneMeter, TuneTempo, UnitLength, is_out_of_range, tempo_item};
 use abc_fields::{EMPTY_KEY, FaultCode, Key, read_key, read_voice};
 use abc_scan::Field;
 use std::alloc::{AllocError, Global};
 
-/// The item and the fault that a field of the body gives, where it gives them.
+/// The item and the fault of a field of the body, if it has them.
 #[derive(Drop)]
 pub(crate) struct FieldItem {
     pub(crate) item: Option<Item>,
@@ -29,7 +30,7 @@ pub(crate) struct FieldItem {
 
 impl FieldItem {
     /// An item without a fault.
-    fn accepted(item: Item) -> FieldItem
+    fn accept(item: Item) -> FieldItem
         ensures { result ≡ record { item = Some item; fault = None } }
     {
         FieldItem {
@@ -39,7 +40,7 @@ impl FieldItem {
     }
 
     /// Nothing.
-    fn none() -> FieldItem
+    fn empty() -> FieldItem
         ensures { result ≡ record { item = None; fault = None } }
     {
         FieldItem {
@@ -49,7 +50,7 @@ impl FieldItem {
     }
 
     /// A fault without an item, at a place of its line.
-    fn refused(place: usize, code: FaultCode) -> FieldItem
+    fn refuse(place: usize, code: FaultCode) -> FieldItem
         ensures { result ≡ record { item = None; fault = Some (column_of place, code) } }
     {
         FieldItem {
@@ -59,7 +60,7 @@ impl FieldItem {
     }
 
     /// An item with a fault, at a place of its line.
-    fn faulty(place: usize, item: Item, code: FaultCode) -> FieldItem
+    fn accept_with_fault(place: usize, item: Item, code: FaultCode) -> FieldItem
         ensures { result ≡ record { item = Some item; fault = Some (column_of place, code) } }
     {
         FieldItem {
@@ -80,30 +81,30 @@ fn part_of(value: &[u8]) -> Option<u8>
     }
 }
 
-/// A P: begins a part.
-fn part_given(body: &mut Body, value: &[u8], place: usize) -> FieldItem
-    ensures value { given_as body.new result ≡ part_by body.old place (part_of value.now) }
+/// Reads a P:, which begins a part.
+fn part_result(body: &mut Body, value: &[u8], place: usize) -> FieldItem
+    ensures value { field_result_of body.new result ≡ part_by body.old place (part_of value.now) }
     ensures range { IfSome result.item IsItem }
 {
     match part_of(value) {
         Some(letter) => {
             body.begin_part();
-            FieldItem::accepted(Item::Section(letter))
+            FieldItem::accept(Item::Section(letter))
         }
-        None => FieldItem::refused(place, FaultCode::BadPart),
+        None => FieldItem::refuse(place, FaultCode::BadPart),
     }
 }
 
-/// An M: sets the meter of the current voice.
-fn meter_given(body: &mut Body, value: &[u8], place: usize) -> FieldItem
-    ensures value { given_as body.new result ≡ meter_by body.old place (meter_of value.now) }
+/// Reads an M:, which sets the meter of the current voice.
+fn meter_result(body: &mut Body, value: &[u8], place: usize) -> FieldItem
+    ensures value { field_result_of body.new result ≡ meter_by body.old place (meter_of value.now) }
     ensures range { IfSome result.item IsItem }
 {
     match TuneMeter::read(value) {
         Ok(meter) => {
-            let settings = body.here_mut();
-            settings.meter = meter;
-            FieldItem::accepted(Item::Meter {
+            let state = body.here_mut();
+            state.meter = meter;
+            FieldItem::accept(Item::Meter {
                 opening: false,
                 meter: Some(meter.get()),
             })
@@ -113,42 +114,42 @@ fn meter_given(body: &mut Body, value: &[u8], place: usize) -> FieldItem
                 opening: false,
                 meter: None,
             };
-            FieldItem::faulty(place, item, code)
+            FieldItem::accept_with_fault(place, item, code)
         }
     }
 }
 
-/// An L: sets the unit note length of the current voice.
-fn unit_given(body: &mut Body, value: &[u8], place: usize) -> FieldItem
-    ensures value { given_as body.new result ≡ unit_by body.old place (unit_of value.now) }
+/// Reads an L:, which sets the unit note length of the current voice.
+fn unit_result(body: &mut Body, value: &[u8], place: usize) -> FieldItem
+    ensures value { field_result_of body.new result ≡ unit_by body.old place (unit_of value.now) }
     ensures range { IfSome result.item IsItem }
 {
     match UnitLength::read(value) {
         Ok(unit) => {
-            let settings = body.here_mut();
-            settings.unit = unit;
-            FieldItem::none()
+            let state = body.here_mut();
+            state.unit = unit;
+            FieldItem::empty()
         }
-        Err(code) => FieldItem::refused(place, code),
+        Err(code) => FieldItem::refuse(place, code),
     }
 }
 
-/// What a tempo gives, in which a number alone counts units.
+/// The result of a tempo, in which a number alone counts units.
 fn tempo_at(unit: UnitLength, tempo: TuneTempo, place: usize) -> FieldItem
-    ensures value { (body : Body) → (here body).unit ≡ unit → given_as body result ≡ tempo_at body place tempo }
+    ensures value { (body : Body) → (here body).unit ≡ unit → field_result_of body result ≡ tempo_at body place tempo }
     ensures range { IfSome result.item IsItem }
 {
     let item = tempo_item(false, unit, tempo);
-    if is_out(unit, tempo) {
-        FieldItem::faulty(place, item, FaultCode::TempoRange)
+    if is_out_of_range(unit, tempo) {
+        FieldItem::accept_with_fault(place, item, FaultCode::TempoRange)
     } else {
-        FieldItem::accepted(item)
+        FieldItem::accept(item)
     }
 }
 
-/// A Q: gives a tempo, in which a number alone counts units of the current voice.
-fn tempo_given(body: &Body, value: &[u8], place: usize) -> FieldItem
-    ensures value { given_as body.now result ≡ tempo_by body.now place (tempo_of value.now) }
+/// Reads a Q:, in which a number alone counts units of the current voice.
+fn tempo_result(body: &Body, value: &[u8], place: usize) -> FieldItem
+    ensures value { field_result_of body.now result ≡ tempo_by body.now place (tempo_of value.now) }
     ensures range { IfSome result.item IsItem }
 {
     match TuneTempo::read(value) {
@@ -159,24 +160,24 @@ fn tempo_given(body: &Body, value: &[u8], place: usize) -> FieldItem
                 micros: None,
                 out: false,
             };
-            FieldItem::faulty(place, item, code)
+            FieldItem::accept_with_fault(place, item, code)
         }
     }
 }
 
-/// A key begins for the current voice, without accidentals.
+/// Begins a key for the current voice, without accidentals.
 fn begin_key(body: &mut Body, key: Key)
     ensures { body.new ≡ with_here body.old (in_key (here body.old) key) }
 {
-    let settings = body.here_mut();
-    settings.clear_accidentals();
+    let state = body.here_mut();
+    state.clear_accidentals();
     if let Some(signature) = key.signature {
-        settings.signature = signature;
+        state.signature = signature;
     }
-    settings.shift = settings.shift.with_properties(key.shift);
+    state.shift = state.shift.with_properties(key.shift);
 }
 
-/// What a key gives to the score.
+/// The item of a key.
 fn key_item(key: Key) -> Item
     requires { IsInRange key }
     ensures value { result ≡ key_item key }
@@ -188,81 +189,82 @@ fn key_item(key: Key) -> Item
     }
 }
 
-/// A K: sets the key of the current voice; where it is refused, an empty signature.
-fn key_given(body: &mut Body, value: &[u8], place: usize) -> FieldItem
-    ensures value { given_as body.new result ≡ key_by body.old place (key_of value.now) }
+/// Reads a K:, which sets the key of the current voice; if it is refused, an empty signature.
+fn key_result(body: &mut Body, value: &[u8], place: usize) -> FieldItem
+    ensures value { field_result_of body.new result ≡ key_by body.old place (key_of value.now) }
     ensures range { IfSome result.item IsItem }
 {
     match read_key(value) {
         Ok(key) => {
             begin_key(body, key);
-            FieldItem::accepted(key_item(key))
+            FieldItem::accept(key_item(key))
         }
         Err(code) => {
             begin_key(body, EMPTY_KEY);
-            FieldItem::faulty(place, key_item(EMPTY_KEY), code)
+            FieldItem::accept_with_fault(place, key_item(EMPTY_KEY), code)
         }
     }
 }
 
-/// A V: makes a voice the current one.
-fn voice_given(
+/// Reads a V:, which makes a voice the current one.
+fn voice_result(
     alloc: Global,
     body: &mut Body,
     value: &[u8],
     place: usize,
 ) -> Result<FieldItem, AllocError>
-    ensures value { IfOk result (λ given. given_as body.new given ≡ voice_by body.old place value.now (voice_of value.now)) }
+    ensures value { IfOk result (λ given. field_result_of body.new given ≡ voice_by body.old place value.now (voice_of value.now)) }
     ensures range { IfOk result (λ given. IfSome given.item IsItem) }
 {
     let voice = match read_voice(value) {
         Ok(voice) => voice,
-        Err(code) => return Ok(FieldItem::refused(place, code)),
+        Err(code) => return Ok(FieldItem::refuse(place, code)),
     };
     let name = &value[voice.from..voice.to];
     if !body.make_current(alloc, name, voice.shift)? {
-        return Ok(FieldItem::refused(place, FaultCode::TooManyVoices));
+        return Ok(FieldItem::refuse(place, FaultCode::TooManyVoices));
     }
     let name = ItemText::new(alloc, name)?;
-    Ok(FieldItem::accepted(Item::Voice {
+    Ok(FieldItem::accept(Item::Voice {
         opening: false,
         name,
     }))
 }
 
-/// What a field of this kind gives.
-fn kind_given(
+/// Reads a field of this kind.
+fn kind_result(
     alloc: Global,
     body: &mut Body,
     kind: FieldKind,
     value: &[u8],
     place: usize,
 ) -> Result<FieldItem, AllocError>
-    ensures value { IfOk result (λ given. given_as body.new given ≡ kind_given body.old kind value.now place) }
+    ensures value { IfOk result (λ given. field_result_of body.new given ≡ kind_result body.old kind value.now place) }
     ensures range { IfOk result (λ given. IfSome given.item IsItem) }
 {
     match kind {
-        FieldKind::Parts => Ok(part_given(body, value, place)),
-        FieldKind::Meter => Ok(meter_given(body, value, place)),
-        FieldKind::UnitLength => Ok(unit_given(body, value, place)),
-        FieldKind::Tempo => Ok(tempo_given(body, value, place)),
-        FieldKind::Key => Ok(key_given(body, value, place)),
-        FieldKind::Voice => voice_given(alloc, body, value, place),
-        FieldKind::Reference | FieldKind::Title | FieldKind::Other => Ok(FieldItem::none()),
+        FieldKind::Parts => Ok(part_result(body, value, place)),
+        FieldKind::Meter => Ok(meter_result(body, value, place)),
+        FieldKind::UnitLength => Ok(unit_result(body, value, place)),
+        FieldKind::Tempo => Ok(tempo_result(body, value, place)),
+        FieldKind::Key => Ok(key_result(body, value, place)),
+        FieldKind::Voice => voice_result(alloc, body, value, place),
+        FieldKind::Reference | FieldKind::Title | FieldKind::Other => Ok(FieldItem::empty()),
     }
 }
 
-/// What a field of the body gives, which stands at a place of its line.
-pub(crate) fn field_given(
+/// Reads a field of the body, at a place of its line.
+pub(crate) fn field_result(
     alloc: Global,
     body: &mut Body,
     field: &Field,
     place: usize,
 ) -> Result<FieldItem, AllocError>
-    ensures value { IfOk result (λ given. given_as body.new given ≡ field_given body.old field.now.letter field.now.value place) }
+    ensures value { IfOk result (λ given. field_result_of body.new given
+        ≡ field_result body.old field.now.letter field.now.value place) }
     ensures range { IfOk result (λ given. IfSome given.item IsItem) }
 {
-    kind_given(
+    kind_result(
         alloc,
         body,
         kind_of(field.letter),

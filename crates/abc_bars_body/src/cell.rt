@@ -1,22 +1,26 @@
 //! The cells of a tune's body.
 
 ghost use Rattle.std.specs.Prelude.{◌≡◌, ℕ, Bool, option_to_list, IfOk, IfSome, OnOk};
-ghost use Rattle.abc_bars_body.specs.Cell.{is_tie_token, tie_ahead, may_be_tied, nothing_given, with_item, with_items, with_faults, with_fault, with_fault_if, with_some_fault, with_note, with_rest, with_chord, with_bar_rest, with_field, with_bar, with_ending, with_tuplet, with_dynamic, with_program, with_directive, with_tie, with_kind, with_token, given_from, cell_given};
+ghost use Rattle.abc_bars_body.specs.Cell.{is_tie_token, tie_ahead, may_be_tied, empty_cell_result, with_item, with_items};
+ghost use Rattle.abc_bars_body.specs.Cell.{with_faults, with_fault, with_fault_if, with_some_fault, with_note, with_rest};
+ghost use Rattle.abc_bars_body.specs.Cell.{with_chord, with_bar_rest, with_field, with_bar, with_ending, with_tuplet, with_dynamic};
+ghost use Rattle.abc_bars_body.specs.Cell.{with_program, with_directive, with_tie, with_kind, with_token, cell_result_from};
+ghost use Rattle.abc_bars_body.specs.Cell.{cell_result};
 ghost use Rattle.abc_bars_notes.specs.Broken.{factors_of};
 ghost use Rattle.abc_bars_items.specs.Item.{IsItem};
 ghost use Rattle.abc_bars_items.specs.Program.{program_of};
-ghost use Rattle.abc_bars_notes.specs.TimeTokens.{chord_played};
-ghost use Rattle.abc_bars_voice.specs.declared.settings.Settings.{Settings};
+ghost use Rattle.abc_bars_notes.specs.TimeTokens.{play_chord};
+ghost use Rattle.abc_bars_voice.specs.declared.voice_state.VoiceState.{VoiceState};
 
 use crate::body_copy::BodyCopy;
 use crate::body_fields::FieldItem;
 use crate::room::room_for;
 use abc_bars_items::{Item, ItemsBuilder, LocalFault, column_of, program_of};
 use abc_bars_notes::{
-    Behind, BrokenFactors, NotePlace, TokenRole, bar_rest_of, behind_after, chord_played, has_note,
-    is_bad_mark, note_played, rest_played, token_role,
+    BrokenFactors, NotePlace, Preceding, TokenRole, bar_rest_of, has_note, is_bad_mark, play_chord,
+    play_note, play_rest, preceding_after, token_role,
 };
-use abc_bars_voice::tuplet_opened;
+use abc_bars_voice::begin_tuplet;
 use abc_fields::FaultCode;
 use abc_scan::{
     BarLine, Chord, Directive, Dynamic, Field, Note, Token, TokenKind, Tuplet, WrittenLength,
@@ -40,19 +44,19 @@ fn tie_ahead(ahead: &[Token]) -> bool
     }
 }
 
-/// Whether a tie may stand directly behind a token.
+/// Whether a tie may be directly after a token.
 fn may_be_tied(kind: &TokenKind) -> bool
     ensures { result ≡ may_be_tied kind.now }
 {
     matches!(token_role(kind), TokenRole::Sound { .. })
 }
 
-/// Factors with which a chord gives what it gives with those of the marks round it. One without notes takes no time, and for
-/// it no token ahead is read.
+/// Factors that give a chord the same result as those of the marks around it. A chord without notes takes no time, so no
+/// token ahead is read for it.
 #[tactic(auto, using(crate::proofs::SilentChords::silent_same))]
-fn chord_factors(behind: Behind, chord: &Chord, ahead: &[Token]) -> BrokenFactors
-    ensures { (settings : Settings) (tied : Bool) (from : ℕ) →
-        chord_played settings result tied from chord.now ≡ chord_played settings (factors_of behind ahead.now) tied from chord.now }
+fn chord_factors(behind: Preceding, chord: &Chord, ahead: &[Token]) -> BrokenFactors
+    ensures { (state : VoiceState) (tied : Bool) (from : ℕ) →
+        play_chord state result tied from chord.now ≡ play_chord state (factors_of behind ahead.now) tied from chord.now }
 {
     if has_note(chord.parts.as_slice()) {
         BrokenFactors::of(behind, ahead)
@@ -61,32 +65,32 @@ fn chord_factors(behind: Behind, chord: &Chord, ahead: &[Token]) -> BrokenFactor
     }
 }
 
-/// What holds behind some tokens of a cell, and what they gave.
+/// The state after some tokens of a cell, and their items and faults.
 #[derive(Drop)]
-pub struct Given {
+pub struct CellResult {
     pub body: BodyCopy,
     pub items: ItemsBuilder,
-    /// What stands nearest before, of what matters to broken rhythm.
-    pub(crate) behind: Behind,
-    /// Whether a note or chord stands directly before.
+    /// What precedes, as far as it matters to broken rhythm.
+    pub(crate) behind: Preceding,
+    /// Whether a note or chord is directly before.
     pub(crate) after_note: bool,
 }
 
-impl Given {
-    /// Before the first token of a cell, with room for so many items.
-    fn nothing(alloc: Global, body: BodyCopy, room: usize) -> Result<Given, AllocError>
-        ensures { IfOk result (λ given. given ≡ nothing_given body) }
+impl CellResult {
+    /// The result before the first token of a cell, with room for `room` items.
+    fn new(alloc: Global, body: BodyCopy, room: usize) -> Result<CellResult, AllocError>
+        ensures { IfOk result (λ given. given ≡ empty_cell_result body) }
     {
         let items = ItemsBuilder::with_room(alloc, room)?;
-        Ok(Given {
+        Ok(CellResult {
             body,
             items,
-            behind: Behind::Nothing,
+            behind: Preceding::Nothing,
             after_note: false,
         })
     }
 
-    /// A token gives an item.
+    /// Adds the item of a token.
     fn item(&mut self, item: Item) -> Result<(), AllocError>
         requires { IsItem item }
         ensures { OnOk result (self.new ≡ with_item self.old item) }
@@ -95,7 +99,7 @@ impl Given {
         Ok(())
     }
 
-    /// A token gives this item or none.
+    /// Adds the item of a token, if there is one.
     fn some_item(&mut self, item: Option<Item>) -> Result<(), AllocError>
         requires { IfSome item IsItem }
         ensures { OnOk result (self.new ≡ with_items self.old (option_to_list item)) }
@@ -106,7 +110,7 @@ impl Given {
         Ok(())
     }
 
-    /// A token has this fault, with its column, or none.
+    /// Adds the fault of a token with its column, if there is one.
     fn some_local_fault(&mut self, fault: Option<LocalFault>) -> Result<(), AllocError>
         ensures { OnOk result (self.new ≡ with_faults self.old (option_to_list fault)) }
     {
@@ -116,7 +120,7 @@ impl Given {
         Ok(())
     }
 
-    /// A token has a fault.
+    /// Adds the fault of a token.
     fn fault(&mut self, place: usize, code: FaultCode) -> Result<(), AllocError>
         ensures { OnOk result (self.new ≡ with_fault self.old place code) }
     {
@@ -124,7 +128,7 @@ impl Given {
         Ok(())
     }
 
-    /// A token has a fault, if it has one.
+    /// Adds the fault of a token, if it has one.
     fn fault_if(&mut self, is_fault: bool, place: usize, code: FaultCode) -> Result<(), AllocError>
         ensures { OnOk result (self.new ≡ with_fault_if self.old is_fault place code) }
     {
@@ -134,7 +138,7 @@ impl Given {
         Ok(())
     }
 
-    /// A token has this fault or none.
+    /// Adds the fault of a token, if there is one.
     fn some_fault(&mut self, place: usize, fault: Option<FaultCode>) -> Result<(), AllocError>
         ensures { OnOk result (self.new ≡ with_some_fault self.old place fault) }
     {
@@ -162,7 +166,7 @@ impl Given {
         };
         self.body.mention(alloc)?;
         let here = self.body.here_mut();
-        note_played(alloc, here, &mut self.items, note, &factors, place)?;
+        play_note(alloc, here, &mut self.items, note, &factors, place)?;
         Ok(())
     }
 
@@ -179,7 +183,7 @@ impl Given {
         let factors = BrokenFactors::of(self.behind, ahead);
         self.body.mention(alloc)?;
         let here = self.body.here_mut();
-        rest_played(alloc, here, &mut self.items, written, &factors, place)?;
+        play_rest(alloc, here, &mut self.items, written, &factors, place)?;
         Ok(())
     }
 
@@ -202,7 +206,7 @@ impl Given {
             self.body.mention(alloc)?;
         }
         let here = self.body.here_mut();
-        chord_played(alloc, here, &mut self.items, chord, &factors, place)?;
+        play_chord(alloc, here, &mut self.items, chord, &factors, place)?;
         Ok(())
     }
 
@@ -252,7 +256,7 @@ impl Given {
         ensures { OnOk result (self.new ≡ with_tuplet self.old place mark) }
     {
         let here = self.body.here_mut();
-        let (open, fault) = tuplet_opened(here.meter, here.tuplet, mark);
+        let (open, fault) = begin_tuplet(here.meter, here.tuplet, mark);
         here.tuplet = open;
         self.some_fault(place, fault)?;
         Ok(())
@@ -277,7 +281,7 @@ impl Given {
         self.fault_if(number.is_none(), place, FaultCode::BadProgram)
     }
 
-    /// A directive: how far accidentals reach is settled where the body begins.
+    /// A directive: the reach of accidentals is fixed where the body begins.
     fn directive(&mut self, place: usize, directive: Directive) -> Result<(), AllocError>
         ensures { OnOk result (self.new ≡ with_directive self.old place directive) }
     {
@@ -297,7 +301,7 @@ impl Given {
         Ok(())
     }
 
-    /// A token at a place of its line, with the tokens behind it in its cell.
+    /// A token at a place of its line, with the tokens after it in its cell.
     #[inline(always)]
     fn kind(
         &mut self,
@@ -334,13 +338,13 @@ impl Given {
         }
     }
 
-    /// One more token of the cell, with those behind it.
+    /// One more token of the cell, with those after it.
     #[inline(always)]
     fn token(&mut self, alloc: Global, token: &Token, ahead: &[Token]) -> Result<(), AllocError>
         ensures { OnOk result (self.new ≡ with_token self.old token.now ahead.now) }
     {
         self.kind(alloc, token.from as usize, &token.kind, ahead)?;
-        self.behind = behind_after(self.behind, &token.kind);
+        self.behind = preceding_after(self.behind, &token.kind);
         self.after_note = may_be_tied(&token.kind);
         Ok(())
     }
@@ -348,7 +352,7 @@ impl Given {
     /// The tokens of the cell, or those that are left of it.
     #[inline(always)]
     fn tokens(&mut self, alloc: Global, cell: &[Token]) -> Result<(), AllocError>
-        ensures { OnOk result (self.new ≡ given_from self.old cell.now) }
+        ensures { OnOk result (self.new ≡ cell_result_from self.old cell.now) }
     {
         for (at, token) in cell.iter().enumerate() {
             self.token(alloc, token, &cell[at + 1..])?;
@@ -357,11 +361,11 @@ impl Given {
     }
 }
 
-/// What holds behind a cell that is entered in a body, and what it gives.
-pub fn cell_given(alloc: Global, body: BodyCopy, cell: &[Token]) -> Result<Given, AllocError>
-    ensures { IfOk result (λ given. given ≡ cell_given body cell.now) }
+/// Reads a cell in a body: the state after it, its items and its faults.
+pub fn cell_result(alloc: Global, body: BodyCopy, cell: &[Token]) -> Result<CellResult, AllocError>
+    ensures { IfOk result (λ given. given ≡ cell_result body cell.now) }
 {
-    let mut given = Given::nothing(alloc, body, room_for(cell))?;
+    let mut given = CellResult::new(alloc, body, room_for(cell))?;
     given.tokens(alloc, cell)?;
     Ok(given)
 }

@@ -1,4 +1,4 @@
-//! What holds at a place of a file header or of a tune.
+//! The state of the fold before a cell.
 
 ghost use Rattle.std.specs.Prelude.{◌≡◌, IfOk};
 ghost use Rattle.std.specs.Option.{option_copied};
@@ -10,22 +10,22 @@ use abc_bars_header::{Defaults, Header, NO_DEFAULTS};
 use abc_fold::Shared;
 use std::alloc::{AllocError, Global};
 
-/// All that what follows a place of a file header or of a tune can depend on. A copy shares what holds in a header or in
-/// a body; so each place is of a few words.
+/// The state of the fold before a cell, or after the last: all that later cells of a file header or of a tune can depend
+/// on. A copy shares the state in a header or in a body, so each entry has a few words.
 #[derive(Drop)]
 pub enum Entry {
     /// In a file header: its values so far.
     FileHeader(Defaults),
     /// Before the first field of a tune: the file header's values.
     Opening(Defaults),
-    /// In a tune's header, also where a line of music ends it.
+    /// In a tune's header, also if a line of music ends it.
     Header(Shared<Header>),
     /// In a tune's body.
     Body(Shared<Body>),
 }
 
 impl Entry {
-    /// What holds in a tune's header.
+    /// The state in a tune's header.
     pub fn in_header(alloc: Global, header: Header) -> Result<Entry, AllocError>
         ensures { IfOk result (λ entry. entry ≡ Entry.Header header) }
     {
@@ -33,7 +33,7 @@ impl Entry {
         Ok(Entry::Header(header))
     }
 
-    /// What holds in a tune's body.
+    /// The state in a tune's body.
     pub fn in_body(alloc: Global, body: Body) -> Result<Entry, AllocError>
         ensures { IfOk result (λ entry. entry ≡ Entry.Body body) }
     {
@@ -41,14 +41,14 @@ impl Entry {
         Ok(Entry::Body(body))
     }
 
-    /// What holds where a file header begins. No memory is taken.
+    /// The state where a file header begins. No memory is taken.
     pub fn header(_alloc: Global) -> Entry
         ensures { result ≡ Entry.FileHeader no_defaults }
     {
         Entry::FileHeader(NO_DEFAULTS)
     }
 
-    /// What holds where a tune begins, by what holds behind the file header, if there is one. No memory is
+    /// The state where a tune begins, by the state after the file header, if there is one. No memory is
     /// taken.
     pub fn tune(_alloc: Global, after: Option<&Entry>) -> Entry
         ensures { result ≡ opening_after (option_copied after.entry) }
@@ -69,8 +69,8 @@ impl Entry {
         }
     }
 
-    /// The same, which holds there. No memory is taken.
-    pub fn copied(&self) -> Result<Entry, AllocError>
+    /// A copy, which shares the state in a header or a body. No memory is taken.
+    pub fn share(&self) -> Result<Entry, AllocError>
         ensures { IfOk result (λ copy. copy ≡ self.now) }
     {
         match self {

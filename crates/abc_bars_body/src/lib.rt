@@ -14,5 +14,5 @@ mod stays;
 pub use body::Body;
 pub use body_copy::BodyCopy;
 pub use body_opening::body_from;
-pub use cell::{Given, cell_given};
+pub use cell::{CellResult, cell_result};
 pub use entry::Entry;

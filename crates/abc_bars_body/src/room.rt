@@ -1,4 +1,4 @@
-//! How much room the items of a cell take.
+//! The room for the items of a cell.
 
 use abc_bars_header::{FieldKind, kind_of};
 use abc_bars_notes::{TokenRole, token_role};
@@ -36,8 +36,8 @@ fn may_give(token: &Token) -> bool {
     }
 }
 
-/// For how many items there is room at first: as many as a cell gives, unless it has a field that is refused. What a cell
-/// gives is kept, so that room to spare would be kept too. No result depends on it.
+/// The number of items for which there is room at first: exact unless a field of the cell is refused. The items are stored
+/// with their room, so spare room would be stored too. No result depends on it.
 pub(crate) fn room_for(cell: &[Token]) -> usize {
     cell.iter().filter(|token| may_give(token)).count()
 }

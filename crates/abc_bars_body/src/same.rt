@@ -1,4 +1,4 @@
-//! Whether the same holds at two places.
+//! Whether two entries are equal.
 
 ghost use Rattle.std.specs.Prelude.{◌≡◌, ◌↔◌, IsTrue};
 
@@ -6,12 +6,12 @@ use crate::body::{Body, Current};
 use crate::entry::Entry;
 
 impl Current {
-    /// Whether both are the same voice; of one that is not mentioned yet also what holds for it.
+    /// Whether both are the same voice; before it is mentioned, with equal states.
     fn same(&self, other: &Current) -> bool
         ensures { IsTrue result ↔ (self.now ≡ other.now) }
     {
         match (self, other) {
-            (Current::Unnamed(settings), Current::Unnamed(with)) => settings.same(with),
+            (Current::Unnamed(state), Current::Unnamed(with)) => state.same(with),
             (Current::At(at), Current::At(place)) => at == place,
             _ => false,
         }
@@ -19,7 +19,7 @@ impl Current {
 }
 
 impl Body {
-    /// Whether the same holds in both bodies.
+    /// Whether both bodies are equal.
     fn same(&self, other: &Body) -> bool
         ensures { IsTrue result ↔ (self.now ≡ other.now) }
     {
@@ -30,8 +30,8 @@ impl Body {
 }
 
 impl Entry {
-    /// Whether the same holds at both places: then the same cells give the same there, and the same holds
-    /// behind them. No memory is taken.
+    /// Whether both entries are equal: then equal cells give equal items and faults there, and equal entries after them. No
+    /// memory is taken.
     pub fn same(&self, other: &Entry) -> bool
         ensures { IsTrue result ↔ (self.now ≡ other.now) }
     {

@@ -66,7 +66,7 @@ made_on f (y ∷ xs) (suc i) x at = ap (λ ys. f y ∷ ys) (made_on f xs i x at)
 pub one_more_made : {X Y : Type 0} (f : X → Y) (xs : List X) (i : ℕ) (x : X) → slice_get xs i ≡ Some x → map f (take (i + 1) xs) ≡ map f (take i xs) ++ f x ∷ []
 one_more_made f xs i x at = rw add-one (made_on f xs i x at)
 
--- Something stands at a place inside a list.
+-- Something is at a place inside a list.
 pub inside_some : {X : Type 0} (xs : List X) (i : ℕ) → i < length xs → None ≡ slice_get xs i → ⊥
 inside_some [] i inside none = omega arith
 inside_some (x ∷ xs) zero inside none = cc

@@ -22,7 +22,7 @@ absent p xs none = by (list_any p xs) refl
     by true is = let found = find_place p xs is in absurd (cc (none, found.1))
     by false is = is
 
--- A name without a place is put behind the others.
+-- A name without a place is put after the others.
 pub put_behind : {K : Type 0} (eq : K → K → Bool) (names : List K) (name : K) → position (eq name) names ≡ None → insert_key eq names name ≡ names ++ name ∷ []
 put_behind eq names name none = ap (λ b. cond b names (names ++ name ∷ [])) (absent (eq name) names none)
 
@@ -32,7 +32,7 @@ past_end [] at past = refl
 past_end (x ∷ xs) zero past = absurd (omega arith)
 past_end (x ∷ xs) (suc at) past = past_end xs at (omega arith)
 
--- What is lent of a list is what stands at the place.
+-- What is lent of a list is what is at the place.
 pub lent_at : {R X : Type 0} (now : R → X) (xs : List X) (at : ℕ) (lent : Option R) → ItemBy now xs at at lent → option_map now lent ≡ slice_get xs at
 lent_at now xs at None is = sym (past_end xs at is.3)
 lent_at now xs at (Some r) is = ap Some is.1 ∙ sym (slice_get-get_or xs at (now r) is.3.0)

@@ -16,7 +16,7 @@ use Rattle.abc_scan.specs.declared.directive.Directive.{Directive}
 use Rattle.abc_scan.specs.declared.directive.Directive.TheVariants as directives
 use Rattle.abc_scan.specs.declared.directive.Reach.TheVariants.{Pitch}
 use Rattle.abc_bars_header.specs.declared.defaults.Defaults.{Defaults}
-use Rattle.abc_bars_header.specs.declared.defaults.SettingGiven.{SettingGiven}
+use Rattle.abc_bars_header.specs.declared.defaults.SettingResult.{SettingResult}
 use Rattle.abc_bars_header.specs.declared.field_kind.FieldKind.{FieldKind}
 use Rattle.abc_bars_header.specs.declared.field_kind.FieldKind.TheVariants as kinds
 
@@ -24,55 +24,56 @@ use Rattle.abc_bars_header.specs.declared.field_kind.FieldKind.TheVariants as ki
 abbrev pub no_defaults : Defaults
 no_defaults = record { meter = None; unit = None; tempo = None; program = None; reach = Pitch }
 
--- The values behind a field that is accepted, or those before it and its fault.
-abbrev pub set_or_refused : {V : Type 0} → Defaults → (V → Defaults) → Result V FaultCode → SettingGiven
+-- The values after a field that is accepted, or those before it and its fault.
+abbrev pub set_or_refused : {V : Type 0} → Defaults → (V → Defaults) → Result V FaultCode → SettingResult
 set_or_refused defaults set (Ok value) = record { defaults = set value; fault = None }
 set_or_refused defaults set (Err fault) = record { defaults = defaults; fault = Some fault }
 
--- The values behind an M:.
-abbrev pub meter_set : Defaults → List ℕ → SettingGiven
-meter_set defaults value = set_or_refused defaults (λ meter. record defaults { meter = Some meter }) (meter_of value)
+-- The values after an M:.
+abbrev pub set_meter : Defaults → List ℕ → SettingResult
+set_meter defaults value = set_or_refused defaults (λ meter. record defaults { meter = Some meter }) (meter_of value)
 
--- The values behind an L:.
-abbrev pub unit_set : Defaults → List ℕ → SettingGiven
-unit_set defaults value = set_or_refused defaults (λ unit. record defaults { unit = Some unit }) (unit_of value)
+-- The values after an L:.
+abbrev pub set_unit : Defaults → List ℕ → SettingResult
+set_unit defaults value = set_or_refused defaults (λ unit. record defaults { unit = Some unit }) (unit_of value)
 
--- The tempo behind an accepted Q:. One that is empty or a text alone counts as none. Not in ABC 2.1.
+-- The tempo after an accepted Q:. One that is empty or a text alone counts as none. Not in ABC 2.1.
 abbrev pub tempo_or : Option Tempo → Tempo → Option Tempo
 tempo_or before Unset = before
 tempo_or before (Units n) = Some (Units n)
 tempo_or before (Beat beat n) = Some (Beat beat n)
 
--- The values behind a Q:.
-abbrev pub tempo_set : Defaults → List ℕ → SettingGiven
-tempo_set defaults value = set_or_refused defaults (λ tempo. record defaults { tempo = tempo_or defaults.tempo tempo }) (tempo_of value)
+-- The values after a Q:.
+abbrev pub set_tempo : Defaults → List ℕ → SettingResult
+set_tempo defaults value =
+    set_or_refused defaults (λ tempo. record defaults { tempo = tempo_or defaults.tempo tempo }) (tempo_of value)
 
--- The values behind a field with this value, of which only M:, L: and Q: set any.
-abbrev pub setting_given : Defaults → FieldKind → List ℕ → SettingGiven
-setting_given defaults kinds.Reference value = record { defaults = defaults; fault = None }
-setting_given defaults kinds.Title value = record { defaults = defaults; fault = None }
-setting_given defaults kinds.Meter value = meter_set defaults value
-setting_given defaults kinds.UnitLength value = unit_set defaults value
-setting_given defaults kinds.Tempo value = tempo_set defaults value
-setting_given defaults kinds.Parts value = record { defaults = defaults; fault = None }
-setting_given defaults kinds.Voice value = record { defaults = defaults; fault = None }
-setting_given defaults kinds.Key value = record { defaults = defaults; fault = None }
-setting_given defaults kinds.Other value = record { defaults = defaults; fault = None }
+-- The values after a field with this value, of which only M:, L: and Q: set any.
+abbrev pub setting_result : Defaults → FieldKind → List ℕ → SettingResult
+setting_result defaults kinds.Reference value = record { defaults = defaults; fault = None }
+setting_result defaults kinds.Title value = record { defaults = defaults; fault = None }
+setting_result defaults kinds.Meter value = set_meter defaults value
+setting_result defaults kinds.UnitLength value = set_unit defaults value
+setting_result defaults kinds.Tempo value = set_tempo defaults value
+setting_result defaults kinds.Parts value = record { defaults = defaults; fault = None }
+setting_result defaults kinds.Voice value = record { defaults = defaults; fault = None }
+setting_result defaults kinds.Key value = record { defaults = defaults; fault = None }
+setting_result defaults kinds.Other value = record { defaults = defaults; fault = None }
 
--- The values behind a directive with this program, if it is one that MIDI has, or those before it and its fault.
-abbrev pub program_set : Defaults → Option ℕ → SettingGiven
-program_set defaults (Some program) = record { defaults = record defaults { program = Some program }; fault = None }
-program_set defaults None = record { defaults = defaults; fault = Some BadProgram }
+-- The values after a directive with this program, if it is one that MIDI has, or those before it and its fault.
+abbrev pub set_program : Defaults → Option ℕ → SettingResult
+set_program defaults (Some program) = record { defaults = record defaults { program = Some program }; fault = None }
+set_program defaults None = record { defaults = defaults; fault = Some BadProgram }
 
--- The values behind a directive.
-abbrev pub directive_given : Defaults → Directive → SettingGiven
-directive_given defaults (directives.Program written) = program_set defaults (program_of written)
-directive_given defaults (directives.Reach reach) = record { defaults = record defaults { reach = reach }; fault = None }
+-- The values after a directive.
+abbrev pub directive_result : Defaults → Directive → SettingResult
+directive_result defaults (directives.Program written) = set_program defaults (program_of written)
+directive_result defaults (directives.Reach reach) = record { defaults = record defaults { reach = reach }; fault = None }
 
--- The meter that holds where a header with these values ends: free meter without an M:.
+-- The meter after a header with these values: free meter without an M:.
 abbrev pub meter_in : Defaults → Meter
 meter_in defaults = unwrap_or defaults.meter Free
 
--- The unit note length that holds where a header with these values ends: without an L: that of the meter.
+-- The unit note length after a header with these values: without an L: that of the meter.
 abbrev pub unit_in : Defaults → Ratio
 unit_in defaults = unwrap_or defaults.unit (unit_by (meter_in defaults))

@@ -71,7 +71,8 @@ module _ {A : Type 0} (each : Equality A) where
 
 module _ {A B : Type 0} (parts : Equality B) (to : A → B) (from : B → A) (back : (a : A) → from (to a) ≡ a) where
   pub exact_by : (a b : A) → Decides (parts.same (to a) (to b)) (a ≡ b)
-  exact_by a b = (λ e. sym (back a) ∙ ap from ((parts.exact (to a) (to b)).0 e) ∙ back b, λ e. (parts.exact (to a) (to b)).1 (ap to e))
+  exact_by a b =
+      (λ e. sym (back a) ∙ ap from ((parts.exact (to a) (to b)).0 e) ∙ back b, λ e. (parts.exact (to a) (to b)).1 (ap to e))
 
   -- Values, by parts that give them back. Not in ABC 2.1.
   abbrev pub by_parts : Equality A

@@ -4,7 +4,7 @@ use Rattle.abc_bars_header.specs.declared.field_kind.FieldKind.{FieldKind}
 use Rattle.abc_bars_header.specs.declared.field_kind.FieldKind.TheVariants as kinds
 use Rattle.abc_bars_header.specs.declared.field_kind.TheConstants.{REFERENCE, TITLE, METER, UNIT_LENGTH, TEMPO, PARTS, VOICE, KEY}
 
--- What the field with a letter is about.
+-- The kind of the field with a letter.
 abbrev pub kind_of : ℕ → FieldKind
 kind_of letter =
     if letter == REFERENCE then kinds.Reference

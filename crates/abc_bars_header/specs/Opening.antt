@@ -1,4 +1,4 @@
--- What holds when a tune begins.
+-- The tempo and the meter with which a tune begins.
 use Rattle.std.specs.Prelude.{true, false, Option, Some, None}
 use Rattle.abc_fields.specs.declared.tempo.Tempo.{Tempo}
 use Rattle.abc_time.specs.declared.ratio.Ratio.{Ratio}
@@ -8,7 +8,7 @@ use Rattle.abc_bars_header.specs.declared.defaults.Defaults.{Defaults}
 use Rattle.abc_bars_items.specs.declared.item.Item.{Item}
 use Rattle.abc_bars_items.specs.declared.item.Item.TheVariants as items
 
--- The tempo of a tune by the tempo of its header, where it sets one.
+-- The tempo of a tune by the tempo of its header, if it sets one.
 abbrev pub opening_tempo_by : Ratio → Option Tempo → Item
 opening_tempo_by unit None = items.Tempo true None false
 opening_tempo_by unit (Some tempo) = tempo_item true unit tempo

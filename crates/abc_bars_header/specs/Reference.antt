@@ -9,7 +9,7 @@ abbrev pub from_one : Option ℕ → Result ℕ FaultCode
 from_one None = Err BadReference
 from_one (Some number) = if number == 0 then Err BadReference else Ok number
 
--- The reference number that a value says. That an empty value counts as 0 is not in ABC 2.1.
+-- The reference number of a value. That an empty value counts as 0 is not in ABC 2.1.
 abbrev pub reference_of : List ℕ → Result ℕ FaultCode
 reference_of [] = Ok 0
 reference_of (b ∷ bs) = from_one (number_of (b ∷ bs))

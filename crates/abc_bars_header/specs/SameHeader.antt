@@ -1,4 +1,4 @@
--- Whether the same holds in two headers, component by component. Not in ABC 2.1.
+-- Whether two headers are equal, component by component. Not in ABC 2.1.
 use Rattle.std.specs.Prelude.{◌≡◌, ◌⊎◌, ℕ, zero, suc, List, Option, Some, None, refl}
 use Rattle.std.proofs.Common.{inl, inr}
 use Rattle.abc_fields.specs.declared.meter.Meter.{Meter}
@@ -54,9 +54,14 @@ abbrev tempo_equality : Equality Tempo
 tempo_equality = by_parts (options (either numbers (pairs ratio_equality numbers))) tempo_parts tempo_of_parts tempo_back
 
 abbrev shift_equality : Equality Shift
-shift_equality = by_parts (threes (options wholes)) (λ s. (s.clef, (s.octave, s.transpose))) (λ p. record { clef = p.0; octave = p.1.0; transpose = p.1.1 }) (λ _. refl)
+shift_equality =
+    by_parts (threes (options wholes)) (λ s. (s.clef, (s.octave, s.transpose))) (λ p. record {
+      clef = p.0;
+      octave = p.1.0;
+      transpose = p.1.1;
+    }) (λ _. refl)
 
--- Voices, by their names and what is known of each, in the order in which they were mentioned.
+-- Voices, by their names and values, in the order in which they were mentioned.
 abbrev pub voices_equality : {S : Type 0} → Equality S → Equality (List (List ℕ × S))
 voices_equality known = lists (pairs (lists numbers) known)
 
@@ -81,10 +86,15 @@ reach_equality = by_parts numbers reach_number reach_numbered reach_back
 -- The values that a file header sets, by each.
 abbrev pub defaults_equality : Equality Defaults
 defaults_equality = by_parts
-    (pairs (options meter_equality) (pairs (options ratio_equality) (pairs (options tempo_equality) (pairs (options numbers) reach_equality))))
+    (pairs (options meter_equality) (pairs (options ratio_equality)
+    (pairs (options tempo_equality) (pairs (options numbers) reach_equality))))
     (λ d. (d.meter, (d.unit, (d.tempo, (d.program, d.reach)))))
     (λ p. record { meter = p.0; unit = p.1.0; tempo = p.1.1.0; program = p.1.1.1.0; reach = p.1.1.1.1 })
     (λ _. refl)
 
 abbrev pub header_equality : Equality Header
-header_equality = by_parts (pairs defaults_equality (voices_equality shift_equality)) (λ h. (h.defaults, h.voices)) (λ p. record { defaults = p.0; voices = p.1 }) (λ _. refl)
+header_equality =
+    by_parts (pairs defaults_equality (voices_equality shift_equality)) (λ h. (h.defaults, h.voices)) (λ p. record {
+      defaults = p.0;
+      voices = p.1;
+    }) (λ _. refl)

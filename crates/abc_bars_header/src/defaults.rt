@@ -1,7 +1,8 @@
-//! The values that a file header sets for all tunes, and a tune's header for its own.
+//! The values that a file header sets for all tunes, and a tune's header for its tune.
 
 ghost use Rattle.std.specs.Prelude.{◌≡◌};
-ghost use Rattle.abc_bars_header.specs.Defaults.{meter_set, unit_set, tempo_or, tempo_set, setting_given, program_set, directive_given, meter_in, unit_in};
+ghost use Rattle.abc_bars_header.specs.Defaults.{set_meter, set_unit, tempo_or, set_tempo, setting_result, set_program};
+ghost use Rattle.abc_bars_header.specs.Defaults.{directive_result, meter_in, unit_in};
 ghost use Rattle.abc_bars_items.specs.Program.{program_of};
 
 use crate::field_kind::FieldKind;
@@ -18,9 +19,9 @@ pub struct Defaults {
     /// The unit note length.
     pub unit: Option<UnitLength>,
     pub tempo: Option<TuneTempo>,
-    /// The program of MIDI to play with.
+    /// The program of MIDI.
     pub program: Option<TuneProgram>,
-    /// How far accidentals reach, in all octaves where no directive says it.
+    /// How far accidentals reach: in all octaves if no directive sets it.
     pub reach: Reach,
 }
 
@@ -33,62 +34,62 @@ pub const NO_DEFAULTS: Defaults = Defaults {
     reach: Reach::Pitch,
 };
 
-/// The values behind a field or a directive, and its fault.
+/// The values after a field or a directive, and its fault.
 #[derive(Clone, Copy)]
-pub(crate) struct SettingGiven {
+pub(crate) struct SettingResult {
     pub(crate) defaults: Defaults,
     pub(crate) fault: Option<FaultCode>,
 }
 
-impl SettingGiven {
+impl SettingResult {
     /// These values, without a fault.
-    fn accepted(defaults: Defaults) -> SettingGiven
+    fn accept(defaults: Defaults) -> SettingResult
         ensures { result ≡ record { defaults = defaults; fault = None } }
     {
-        SettingGiven {
+        SettingResult {
             defaults,
             fault: None,
         }
     }
 
-    /// The values that hold already, since a field or a directive is refused.
-    fn refused(defaults: Defaults, fault: FaultCode) -> SettingGiven
+    /// The same values, since a field or a directive is refused.
+    fn refuse(defaults: Defaults, fault: FaultCode) -> SettingResult
         ensures { result ≡ record { defaults = defaults; fault = Some fault } }
     {
-        SettingGiven {
+        SettingResult {
             defaults,
             fault: Some(fault),
         }
     }
 }
 
-/// The values behind an M:.
-fn meter_set(defaults: Defaults, value: &[u8]) -> SettingGiven
-    ensures { result ≡ meter_set defaults value.now }
+/// The values after an M:.
+fn set_meter(defaults: Defaults, value: &[u8]) -> SettingResult
+    ensures { result ≡ set_meter defaults value.now }
 {
     match TuneMeter::read(value) {
-        Ok(meter) => SettingGiven::accepted(Defaults {
+        Ok(meter) => SettingResult::accept(Defaults {
             meter: Some(meter),
             ..defaults
         }),
-        Err(fault) => SettingGiven::refused(defaults, fault),
+        Err(fault) => SettingResult::refuse(defaults, fault),
     }
 }
 
-/// The values behind an L:.
-fn unit_set(defaults: Defaults, value: &[u8]) -> SettingGiven
-    ensures { result ≡ unit_set defaults value.now }
+/// The values after an L:.
+fn set_unit(defaults: Defaults, value: &[u8]) -> SettingResult
+    ensures { result ≡ set_unit defaults value.now }
 {
     match UnitLength::read(value) {
-        Ok(unit) => SettingGiven::accepted(Defaults {
+        Ok(unit) => SettingResult::accept(Defaults {
             unit: Some(unit),
             ..defaults
         }),
-        Err(fault) => SettingGiven::refused(defaults, fault),
+        Err(fault) => SettingResult::refuse(defaults, fault),
     }
 }
 
-/// The tempo behind an accepted Q:, which leaves the one before where it sets none.
+/// The tempo after an accepted Q:, which leaves the one before if it sets none.
 fn tempo_or(before: Option<TuneTempo>, tempo: TuneTempo) -> Option<TuneTempo>
     ensures { result ≡ tempo_or before tempo }
 {
@@ -98,67 +99,67 @@ fn tempo_or(before: Option<TuneTempo>, tempo: TuneTempo) -> Option<TuneTempo>
     }
 }
 
-/// The values behind a Q:.
-fn tempo_set(defaults: Defaults, value: &[u8]) -> SettingGiven
-    ensures { result ≡ tempo_set defaults value.now }
+/// The values after a Q:.
+fn set_tempo(defaults: Defaults, value: &[u8]) -> SettingResult
+    ensures { result ≡ set_tempo defaults value.now }
 {
     match TuneTempo::read(value) {
-        Ok(tempo) => SettingGiven::accepted(Defaults {
+        Ok(tempo) => SettingResult::accept(Defaults {
             tempo: tempo_or(defaults.tempo, tempo),
             ..defaults
         }),
-        Err(fault) => SettingGiven::refused(defaults, fault),
+        Err(fault) => SettingResult::refuse(defaults, fault),
     }
 }
 
-/// The values behind a field, of which only M:, L: and Q: set any.
-pub(crate) fn setting_given(defaults: Defaults, kind: FieldKind, value: &[u8]) -> SettingGiven
-    ensures { result ≡ setting_given defaults kind value.now }
+/// The values after a field, of which only M:, L: and Q: set any.
+pub(crate) fn setting_result(defaults: Defaults, kind: FieldKind, value: &[u8]) -> SettingResult
+    ensures { result ≡ setting_result defaults kind value.now }
 {
     match kind {
-        FieldKind::Meter => meter_set(defaults, value),
-        FieldKind::UnitLength => unit_set(defaults, value),
-        FieldKind::Tempo => tempo_set(defaults, value),
+        FieldKind::Meter => set_meter(defaults, value),
+        FieldKind::UnitLength => set_unit(defaults, value),
+        FieldKind::Tempo => set_tempo(defaults, value),
         FieldKind::Reference
         | FieldKind::Title
         | FieldKind::Parts
         | FieldKind::Voice
         | FieldKind::Key
-        | FieldKind::Other => SettingGiven::accepted(defaults),
+        | FieldKind::Other => SettingResult::accept(defaults),
     }
 }
 
-/// The values behind a directive of a program, by the number that is written.
-fn program_set(defaults: Defaults, written: u32) -> SettingGiven
-    ensures { result ≡ program_set defaults (program_of written) }
+/// The values after a directive of a program, by the number that is written.
+fn set_program(defaults: Defaults, written: u32) -> SettingResult
+    ensures { result ≡ set_program defaults (program_of written) }
 {
     match TuneProgram::read(written) {
-        Some(program) => SettingGiven::accepted(Defaults {
+        Some(program) => SettingResult::accept(Defaults {
             program: Some(program),
             ..defaults
         }),
-        None => SettingGiven::refused(defaults, FaultCode::BadProgram),
+        None => SettingResult::refuse(defaults, FaultCode::BadProgram),
     }
 }
 
-/// The values behind a directive.
-pub(crate) fn directive_given(defaults: Defaults, directive: Directive) -> SettingGiven
-    ensures { result ≡ directive_given defaults directive }
+/// The values after a directive.
+pub(crate) fn directive_result(defaults: Defaults, directive: Directive) -> SettingResult
+    ensures { result ≡ directive_result defaults directive }
 {
     match directive {
-        Directive::Program(written) => program_set(defaults, written),
-        Directive::Reach(reach) => SettingGiven::accepted(Defaults { reach, ..defaults }),
+        Directive::Program(written) => set_program(defaults, written),
+        Directive::Reach(reach) => SettingResult::accept(Defaults { reach, ..defaults }),
     }
 }
 
-/// The meter that holds where a header with these values ends.
+/// The meter after a header with these values.
 pub fn meter_in(defaults: &Defaults) -> TuneMeter
     ensures { result ≡ meter_in defaults.now }
 {
     defaults.meter.unwrap_or(TuneMeter::free())
 }
 
-/// The unit note length that holds where a header with these values ends.
+/// The unit note length after a header with these values.
 pub fn unit_in(defaults: &Defaults) -> UnitLength
     ensures { result ≡ unit_in defaults.now }
 {

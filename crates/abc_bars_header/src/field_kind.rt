@@ -1,10 +1,9 @@
 //! The letters of the fields that have an effect.
 
-ghost use Rattle.std.specs.Prelude.{◌≡◌, [], ◌∷◌, codes};
+ghost use Rattle.std.specs.Prelude.{◌≡◌};
 ghost use Rattle.abc_bars_header.specs.FieldKind.{kind_of};
-ghost use Rattle.abc_bars_header.specs.declared.field_kind.TheConstants.{REFERENCE, TITLE, METER, UNIT_LENGTH, TEMPO, PARTS, VOICE, KEY};
 
-/// What a field is about (ABC 2.1 section 3).
+/// The kind of a field (ABC 2.1 section 3).
 #[derive(Clone, Copy)]
 pub enum FieldKind {
     Reference,
@@ -43,7 +42,7 @@ const VOICE: u8 = b'V';
 /// The letter of a key.
 const KEY: u8 = b'K';
 
-/// What the field with a letter is about.
+/// The kind of the field with a letter.
 pub fn kind_of(letter: u8) -> FieldKind
     ensures { result ≡ kind_of letter }
 {
@@ -60,8 +59,19 @@ pub fn kind_of(letter: u8) -> FieldKind
     }
 }
 
-/// The letters of the fields that have an effect (ABC 2.1 section 3): those of the reference number, the title,
-/// the meter, the unit note length, the tempo, the parts, the voice and the key.
-pub fn field_letters()
-    ensures { REFERENCE ∷ TITLE ∷ METER ∷ UNIT_LENGTH ∷ TEMPO ∷ PARTS ∷ VOICE ∷ KEY ∷ [] ≡ codes "XTMLQPVK" }
-{}
+// The letters of ABC 2.1 section 3.
+const _: () = prove!(REFERENCE == b'X');
+
+const _: () = prove!(TITLE == b'T');
+
+const _: () = prove!(METER == b'M');
+
+const _: () = prove!(UNIT_LENGTH == b'L');
+
+const _: () = prove!(TEMPO == b'Q');
+
+const _: () = prove!(PARTS == b'P');
+
+const _: () = prove!(VOICE == b'V');
+
+const _: () = prove!(KEY == b'K');

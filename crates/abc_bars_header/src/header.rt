@@ -4,14 +4,17 @@ ghost use Rattle.std.specs.Prelude.{◌≡◌, IfOk, IfSome, All, Some, None};
 ghost use Rattle.abc_fields.specs.Key.{IsInRange, key_of};
 ghost use Rattle.abc_fields.specs.Parts.{parts_of};
 ghost use Rattle.abc_fields.specs.Voice.{voice_of};
-ghost use Rattle.abc_bars_header.specs.Header.{opening_header, shift_said, said_at, declared, declared_given, unchanged, reference_by, order_by, header_voice_by, header_key_item, header_key_by, own_given, setting_by, directive_item, directed, opening_program, and_program, items_with, header_line_given, header_given};
+ghost use Rattle.abc_bars_header.specs.Header.{opening_header, merge_shift, with_shift_at, declare, declare_result, with_header};
+ghost use Rattle.abc_bars_header.specs.Header.{reference_by, order_by, header_voice_by, header_key_item, header_key_by, own_result};
+ghost use Rattle.abc_bars_header.specs.Header.{setting_by, directive_item, own_directive_result, opening_program, append_program};
+ghost use Rattle.abc_bars_header.specs.Header.{items_with, header_line_result, header_result};
 ghost use Rattle.abc_bars_header.specs.HeaderLine.{DirectiveLine, FieldLine};
 ghost use Rattle.abc_bars_items.specs.Item.{IsItem};
 ghost use Rattle.abc_bars_items.specs.declared.item.Item.TheVariants as items;
-ghost use Rattle.abc_bars_header.specs.Defaults.{setting_given};
+ghost use Rattle.abc_bars_header.specs.Defaults.{setting_result};
 ghost use Rattle.abc_bars_header.specs.Reference.{reference_of};
 
-use crate::defaults::{Defaults, directive_given, setting_given};
+use crate::defaults::{Defaults, directive_result, setting_result};
 use crate::field_fault::faults_of;
 use crate::field_kind::{FieldKind, kind_of};
 use crate::opening::{opening_meter, opening_tempo};
@@ -25,25 +28,25 @@ use abc_scan::{Directive, Field};
 use abc_text::Sequence;
 use std::alloc::{AllocError, Global};
 
-/// What holds at a place of a tune's header: the values so far, else the file header's, and the voices
-/// that are declared, each with the parts of its shift that were said for it.
+/// The state at a place of a tune's header: the values so far, else the file header's, and the declared voices, each with
+/// the parts of its shift that are set.
 #[derive(Clone, Drop)]
 pub struct Header {
     pub defaults: Defaults,
     pub voices: Voices<Shift>,
 }
 
-/// What a line of a header gives.
+/// The result of a line of a header.
 #[derive(Drop)]
-pub struct HeaderGiven {
+pub struct HeaderResult {
     pub header: Header,
     pub items: Sequence<Item>,
     pub faults: Sequence<LocalFault>,
 }
 
-/// What a line gives of its own: what holds behind it, its item and its fault.
+/// The result of a line alone: the state after it, its item and its fault.
 #[derive(Drop)]
-pub struct OwnGiven {
+pub struct OwnResult {
     header: Header,
     item: Option<Item>,
     fault: Option<FaultCode>,
@@ -59,18 +62,11 @@ impl Header {
             voices: Voices::new(alloc),
         }
     }
-
-    /// A copy of it.
-    pub fn copied(&self) -> Result<Header, AllocError>
-        ensures { IfOk result (λ copy. copy ≡ self.now) }
-    {
-        self.clone()
-    }
 }
 
-/// A shift of which each part that is said here goes before the one that was said before.
-fn shift_said(here: Shift, before: Shift) -> Shift
-    ensures { result ≡ shift_said here before }
+/// Merges two shifts, part by part: `here` overrides `before`.
+fn merge_shift(here: Shift, before: Shift) -> Shift
+    ensures { result ≡ merge_shift here before }
 {
     Shift {
         clef: here.clef.or(before.clef),
@@ -79,25 +75,25 @@ fn shift_said(here: Shift, before: Shift) -> Shift
     }
 }
 
-/// Says a shift for the voice at a place.
-fn say_at(voices: &mut Voices<Shift>, at: usize, shift: Shift)
-    ensures { voices.new ≡ said_at voices.old at shift }
+/// Adds a shift to the voice at an index.
+fn add_shift_at(voices: &mut Voices<Shift>, at: usize, shift: Shift)
+    ensures { voices.new ≡ with_shift_at voices.old at shift }
 {
     if let Some(known) = voices.get_mut(at) {
-        *known = shift_said(shift, *known);
+        *known = merge_shift(shift, *known);
     }
 }
 
-/// Declares a voice, or says a shift for one that is declared; the fault where there are too many.
+/// Declares a voice, or adds a shift to a declared one; returns the fault if there are too many.
 fn declare(
     voices: &mut Voices<Shift>,
     name: VoiceName,
     shift: Shift,
 ) -> Result<Option<FaultCode>, AllocError>
-    ensures { IfOk result (λ fault. (voices.new, fault) ≡ declared voices.old name shift) }
+    ensures { IfOk result (λ fault. (voices.new, fault) ≡ declare voices.old name shift) }
 {
     if let Some(at) = voices.place_of(&name) {
-        say_at(voices, at, shift);
+        add_shift_at(voices, at, shift);
         return Ok(None);
     }
     if voices.len() >= MOST_VOICES {
@@ -107,12 +103,12 @@ fn declare(
     Ok(None)
 }
 
-impl OwnGiven {
-    /// The header as it is, with an item and a fault.
-    fn unchanged(header: Header, item: Option<Item>, fault: Option<FaultCode>) -> OwnGiven
-        ensures { result ≡ unchanged header item fault }
+impl OwnResult {
+    /// A result with this header, item and fault.
+    fn with_header(header: Header, item: Option<Item>, fault: Option<FaultCode>) -> OwnResult
+        ensures { result ≡ with_header header item fault }
     {
-        OwnGiven {
+        OwnResult {
             header,
             item,
             fault,
@@ -120,60 +116,60 @@ impl OwnGiven {
     }
 }
 
-/// What an X: gives.
-fn reference_given(header: Header, value: &[u8]) -> OwnGiven
+/// The result of an X:.
+fn reference_result(header: Header, value: &[u8]) -> OwnResult
     ensures value { result ≡ reference_by header (reference_of value.now) }
     ensures range { IfSome result.item IsItem }
 {
     match reference_of(value) {
-        Ok(number) => OwnGiven::unchanged(header, Some(Item::Number(number)), None),
-        Err(fault) => OwnGiven::unchanged(header, Some(Item::Number(0)), Some(fault)),
+        Ok(number) => OwnResult::with_header(header, Some(Item::Number(number)), None),
+        Err(fault) => OwnResult::with_header(header, Some(Item::Number(0)), Some(fault)),
     }
 }
 
-/// What a T: gives.
-fn title_given(alloc: Global, header: Header, value: &[u8]) -> Result<OwnGiven, AllocError>
-    ensures value { IfOk result (λ own. own ≡ unchanged header (Some (items.Title value.now)) None) }
+/// The result of a T:.
+fn title_result(alloc: Global, header: Header, value: &[u8]) -> Result<OwnResult, AllocError>
+    ensures value { IfOk result (λ own. own ≡ with_header header (Some (items.Title value.now)) None) }
     ensures range { IfOk result (λ own. IfSome own.item IsItem) }
 {
     let title = ItemText::new(alloc, value)?;
-    Ok(OwnGiven::unchanged(header, Some(Item::Title(title)), None))
+    Ok(OwnResult::with_header(header, Some(Item::Title(title)), None))
 }
 
-/// What an M:, L: or Q: gives.
-fn setting_own(header: Header, kind: FieldKind, value: &[u8]) -> OwnGiven
-    ensures value { result ≡ setting_by header (setting_given header.defaults kind value.now) }
+/// The result of an M:, L: or Q:.
+fn own_setting_result(header: Header, kind: FieldKind, value: &[u8]) -> OwnResult
+    ensures value { result ≡ setting_by header (setting_result header.defaults kind value.now) }
     ensures range { IfSome result.item IsItem }
 {
-    let given = setting_given(header.defaults, kind, value);
+    let given = setting_result(header.defaults, kind, value);
     let mut header = header;
     header.defaults = given.defaults;
-    OwnGiven::unchanged(header, None, given.fault)
+    OwnResult::with_header(header, None, given.fault)
 }
 
-/// What a P: gives.
-fn order_given(alloc: Global, header: Header, value: &[u8]) -> Result<OwnGiven, AllocError>
+/// The result of a P:.
+fn order_result(alloc: Global, header: Header, value: &[u8]) -> Result<OwnResult, AllocError>
     ensures value { IfOk result (λ own. own ≡ order_by header value.now (parts_of value.now)) }
     ensures range { IfOk result (λ own. IfSome own.item IsItem) }
 {
     match read_parts(value) {
         Ok(()) => {
             let order = ItemText::new(alloc, value)?;
-            Ok(OwnGiven::unchanged(header, Some(Item::Order(order)), None))
+            Ok(OwnResult::with_header(header, Some(Item::Order(order)), None))
         }
-        Err(fault) => Ok(OwnGiven::unchanged(header, None, Some(fault))),
+        Err(fault) => Ok(OwnResult::with_header(header, None, Some(fault))),
     }
 }
 
-/// Declares the voice of this name, with what is said of its shift: its item, or its fault.
+/// Declares the voice of this name with this shift; returns its item or its fault.
 fn declare_named(
     alloc: Global,
     header: &mut Header,
     name: &[u8],
     shift: Shift,
 ) -> Result<(Option<Item>, Option<FaultCode>), AllocError>
-    ensures value { IfOk result (λ said. unchanged header.new said.0 said.1
-        ≡ declared_given header.old name.now (declared header.old.voices name.now shift)) }
+    ensures value { IfOk result (λ said. with_header header.new said.0 said.1
+        ≡ declare_result header.old name.now (declare header.old.voices name.now shift)) }
     ensures range { IfOk result (λ said. IfSome said.0 IsItem) }
 {
     let fault = declare(&mut header.voices, VoiceName::new(alloc, name)?, shift)?;
@@ -188,8 +184,8 @@ fn declare_named(
     Ok((Some(item), None))
 }
 
-/// What a V: gives.
-fn voice_given(alloc: Global, header: Header, value: &[u8]) -> Result<OwnGiven, AllocError>
+/// The result of a V:.
+fn voice_result(alloc: Global, header: Header, value: &[u8]) -> Result<OwnResult, AllocError>
     ensures value { IfOk result (λ own. own ≡ header_voice_by header value.now (voice_of value.now)) }
     ensures range { IfOk result (λ own. IfSome own.item IsItem) }
 {
@@ -198,9 +194,9 @@ fn voice_given(alloc: Global, header: Header, value: &[u8]) -> Result<OwnGiven, 
             let name = &value[voice.from..voice.to];
             let mut header = header;
             let (item, fault) = declare_named(alloc, &mut header, name, voice.shift)?;
-            Ok(OwnGiven::unchanged(header, item, fault))
+            Ok(OwnResult::with_header(header, item, fault))
         }
-        Err(fault) => Ok(OwnGiven::unchanged(header, None, Some(fault))),
+        Err(fault) => Ok(OwnResult::with_header(header, None, Some(fault))),
     }
 }
 
@@ -216,41 +212,43 @@ fn header_key_item(key: Key) -> Item
     }
 }
 
-/// What a K: gives.
-fn key_given(header: Header, value: &[u8]) -> OwnGiven
+/// The result of a K:.
+fn key_result(header: Header, value: &[u8]) -> OwnResult
     ensures value { result ≡ header_key_by header (key_of value.now) }
     ensures range { IfSome result.item IsItem }
 {
     match read_key(value) {
-        Ok(key) => OwnGiven::unchanged(header, Some(header_key_item(key)), None),
-        Err(fault) => { OwnGiven::unchanged(header, Some(header_key_item(EMPTY_KEY)), Some(fault)) }
+        Ok(key) => OwnResult::with_header(header, Some(header_key_item(key)), None),
+        Err(fault) => {
+            OwnResult::with_header(header, Some(header_key_item(EMPTY_KEY)), Some(fault))
+        }
     }
 }
 
-/// What a field gives of its own.
-fn own_given(
+/// The result of a field alone.
+fn own_result(
     alloc: Global,
     header: Header,
     kind: FieldKind,
     value: &[u8],
-) -> Result<OwnGiven, AllocError>
-    ensures value { IfOk result (λ own. own ≡ own_given header kind value.now) }
+) -> Result<OwnResult, AllocError>
+    ensures value { IfOk result (λ own. own ≡ own_result header kind value.now) }
     ensures range { IfOk result (λ own. IfSome own.item IsItem) }
 {
     match kind {
-        FieldKind::Reference => Ok(reference_given(header, value)),
-        FieldKind::Title => title_given(alloc, header, value),
+        FieldKind::Reference => Ok(reference_result(header, value)),
+        FieldKind::Title => title_result(alloc, header, value),
         FieldKind::Meter | FieldKind::UnitLength | FieldKind::Tempo => {
-            Ok(setting_own(header, kind, value))
+            Ok(own_setting_result(header, kind, value))
         }
-        FieldKind::Parts => order_given(alloc, header, value),
-        FieldKind::Voice => voice_given(alloc, header, value),
-        FieldKind::Key => Ok(key_given(header, value)),
-        FieldKind::Other => Ok(OwnGiven::unchanged(header, None, None)),
+        FieldKind::Parts => order_result(alloc, header, value),
+        FieldKind::Voice => voice_result(alloc, header, value),
+        FieldKind::Key => Ok(key_result(header, value)),
+        FieldKind::Other => Ok(OwnResult::with_header(header, None, None)),
     }
 }
 
-/// An item, if there is one, and behind it the tempo and the meter of a tune whose header ends with these
+/// An item, if there is one, and after it the tempo and the meter of a tune whose header ends with these
 /// values.
 fn items_with(
     alloc: Global,
@@ -271,7 +269,7 @@ fn items_with(
     Ok(items)
 }
 
-/// The item of a directive: that of a program says its number, or none where it is refused.
+/// The item of a directive: a program has its number, or none if it is refused.
 fn directive_item(directive: Directive) -> Option<Item>
     ensures value { result ≡ directive_item directive }
     ensures range { IfSome result IsItem }
@@ -285,18 +283,18 @@ fn directive_item(directive: Directive) -> Option<Item>
     }
 }
 
-/// What a directive gives of its own.
-fn directed(header: Header, directive: Directive) -> OwnGiven
-    ensures value { result ≡ directed header directive }
+/// The result of a directive alone.
+fn own_directive_result(header: Header, directive: Directive) -> OwnResult
+    ensures value { result ≡ own_directive_result header directive }
     ensures range { IfSome result.item IsItem }
 {
-    let given = directive_given(header.defaults, directive);
+    let given = directive_result(header.defaults, directive);
     let mut header = header;
     header.defaults = given.defaults;
-    OwnGiven::unchanged(header, directive_item(directive), given.fault)
+    OwnResult::with_header(header, directive_item(directive), given.fault)
 }
 
-/// The program that a field gives to its tune: an X:, with which a tune begins, that of the file header.
+/// The program that a field adds: an X:, with which a tune begins, adds the program of the file header.
 fn opening_program(kind: FieldKind, defaults: &Defaults) -> Option<TuneProgram>
     ensures { result ≡ opening_program kind defaults.now }
 {
@@ -313,13 +311,13 @@ fn opening_program(kind: FieldKind, defaults: &Defaults) -> Option<TuneProgram>
     }
 }
 
-/// Puts the program of a tune behind items, if there is one.
-fn and_program(
+/// Adds the program of a tune after items, if there is one.
+fn append_program(
     items: Sequence<Item>,
     program: Option<TuneProgram>,
 ) -> Result<Sequence<Item>, AllocError>
     requires { All IsItem items }
-    ensures value { IfOk result (λ more. more ≡ and_program items program) }
+    ensures value { IfOk result (λ more. more ≡ append_program items program) }
     ensures range { IfOk result (λ more. All IsItem more) }
 {
     let mut items = items;
@@ -332,52 +330,56 @@ fn and_program(
     Ok(items)
 }
 
-/// What a line of a header gives, by what it gives of its own, and by the program that it gives to its tune.
-fn given_by(
+/// The result of a line of a header, from its result alone and the program that it adds.
+fn header_line_result(
     alloc: Global,
-    own: OwnGiven,
+    own: OwnResult,
     program: Option<TuneProgram>,
-) -> Result<HeaderGiven, AllocError>
+) -> Result<HeaderResult, AllocError>
     requires { IfSome own.item IsItem }
-    ensures value { IfOk result (λ given. given ≡ header_line_given own program) }
+    ensures value { IfOk result (λ given. given ≡ header_line_result own program) }
     ensures range { IfOk result (λ given. All IsItem given.items) }
 {
-    let OwnGiven {
+    let OwnResult {
         header,
         item,
         fault,
     } = own;
     let items = items_with(alloc, item, &header.defaults)?;
-    let items = and_program(items, program)?;
+    let items = append_program(items, program)?;
     let faults = faults_of(alloc, fault)?;
-    Ok(HeaderGiven {
+    Ok(HeaderResult {
         header,
         items,
         faults,
     })
 }
 
-/// What a field of a header gives: its own item, and then the tempo and meter with which the tune begins
-/// if its header ends behind it; an X: also the program of the file header.
-pub fn header_given(alloc: Global, header: Header, field: &Field) -> Result<HeaderGiven, AllocError>
-    ensures value { IfOk result (λ given. given ≡ header_given header (FieldLine field.now)) }
+/// Reads a field of a header: its own item, and then the tempo and meter with which the tune begins if its header ends
+/// after it; an X: also adds the program of the file header.
+pub fn header_result(
+    alloc: Global,
+    header: Header,
+    field: &Field,
+) -> Result<HeaderResult, AllocError>
+    ensures value { IfOk result (λ given. given ≡ header_result header (FieldLine field.now)) }
     ensures range { IfOk result (λ given. All IsItem given.items) }
 {
     let kind = kind_of(field.letter);
     let program = opening_program(kind, &header.defaults);
-    let own = own_given(alloc, header, kind, field.value.as_slice())?;
-    given_by(alloc, own, program)
+    let own = own_result(alloc, header, kind, field.value.as_slice())?;
+    header_line_result(alloc, own, program)
 }
 
-/// What a directive of a header gives: its own item, and then the tempo and meter with which the tune begins
-/// if its header ends behind it.
-pub fn header_directed(
+/// Reads a directive of a header: its own item, and then the tempo and meter with which the tune begins if its header ends
+/// after it.
+pub fn header_directive_result(
     alloc: Global,
     header: Header,
     directive: Directive,
-) -> Result<HeaderGiven, AllocError>
-    ensures value { IfOk result (λ given. given ≡ header_given header (DirectiveLine directive)) }
+) -> Result<HeaderResult, AllocError>
+    ensures value { IfOk result (λ given. given ≡ header_result header (DirectiveLine directive)) }
     ensures range { IfOk result (λ given. All IsItem given.items) }
 {
-    given_by(alloc, directed(header, directive), None)
+    header_line_result(alloc, own_directive_result(header, directive), None)
 }

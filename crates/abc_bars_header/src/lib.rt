@@ -1,5 +1,5 @@
-//! What holds in a file header and in a tune's header: the values that are set, the voices that are declared, and what a
-//! line there gives.
+//! The state in a file header and in a tune's header: the values that are set, the voices that are declared, and the
+//! results of lines.
 #![tactic(auto)]
 
 mod defaults;
@@ -17,9 +17,9 @@ mod voice_name;
 mod voices;
 
 pub use defaults::{Defaults, NO_DEFAULTS, meter_in, unit_in};
-pub use field_kind::{FieldKind, field_letters, kind_of};
-pub use file_header::{FileHeaderGiven, file_header_directed, file_header_given};
-pub use header::{Header, HeaderGiven, OwnGiven, header_directed, header_given};
+pub use field_kind::{FieldKind, kind_of};
+pub use file_header::{FileHeaderResult, file_header_directive_result, file_header_result};
+pub use header::{Header, HeaderResult, OwnResult, header_directive_result, header_result};
 pub use same_header::Known;
 pub use tune_program::TuneProgram;
 pub use voice_name::VoiceName;

@@ -10,11 +10,11 @@ use indexmap::IndexSet;
 use std::alloc::{AllocError, Global};
 use std::marker::Model;
 
-/// The names of voices in the order in which they were mentioned, no two alike. Contracts see a list. Copies share the
-/// names and their places: none of their bytes is read again for a copy.
+/// The names of voices in the order in which they were mentioned, no two equal. Contracts see a list. Copies share the
+/// names and their indexes: a copy reads none of their bytes.
 #[derive(Drop)]
 pub(crate) struct Names {
-    /// None where there are none.
+    /// None if there are none.
     set: Option<Shared<IndexSet<VoiceName>>>,
 }
 
@@ -49,8 +49,8 @@ impl Names {
         }
     }
 
-    /// The place of a name.
-    pub(crate) fn place_of(&self, name: &VoiceName) -> Option<usize>
+    /// The index of a name.
+    pub(crate) fn index_of(&self, name: &VoiceName) -> Option<usize>
         ensures value { result ≡ position (bytes_eq name.now) self.now }
         ensures inside { IfSome result (λ at. at < length self.now) }
     {
@@ -60,7 +60,7 @@ impl Names {
         }
     }
 
-    /// The name at a place. No two are alike.
+    /// The name at an index. No two are equal.
     pub(crate) fn get(&self, at: usize) -> Option<&VoiceName>
         ensures value { option_copied result ≡ slice_get self.now at }
         ensures distinct { IsDistinct bytes_eq self.now }
@@ -71,8 +71,8 @@ impl Names {
         }
     }
 
-    /// A copy of the names, to be changed.
-    fn own(&self, alloc: Global) -> Result<IndexSet<VoiceName>, AllocError>
+    /// A copy of the names that can be changed.
+    fn to_set(&self, alloc: Global) -> Result<IndexSet<VoiceName>, AllocError>
         ensures { IfOk result (λ set. set.keys ≡ self.now) }
     {
         match &self.set {
@@ -86,7 +86,7 @@ impl Names {
         requires { position (bytes_eq name) self.now ≡ None }
         ensures { IfOk result (λ names. names ≡ self.now ++ name ∷ []) }
     {
-        let mut set = self.own(alloc)?;
+        let mut set = self.to_set(alloc)?;
         set.insert(name)?;
         let set = Shared::new(alloc, set)?;
         Ok(Names { set: Some(set) })

@@ -1,4 +1,4 @@
-//! What holds when a tune begins.
+//! The tempo and the meter with which a tune begins.
 
 ghost use Rattle.std.specs.Prelude.{◌≡◌};
 ghost use Rattle.abc_bars_items.specs.Item.{IsItem};

@@ -7,8 +7,7 @@ ghost use Rattle.abc_bars_header.specs.Reference.{reference_of};
 use abc_fields::FaultCode;
 use abc_text::number_of;
 
-/// The reference number that a value of X: says (ABC 2.1 section 3.1.1): a number from 1; an empty value
-/// counts as 0.
+/// The reference number of a value of X: (ABC 2.1 section 3.1.1): a number from 1; an empty value counts as 0.
 pub(crate) fn reference_of(value: &[u8]) -> Result<u32, FaultCode>
     ensures value { result ≡ reference_of value.now }
     ensures range { IfOk result (λ number. number ≤ LARGEST_NUMBER) }

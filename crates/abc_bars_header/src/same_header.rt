@@ -1,4 +1,4 @@
-//! Whether the same holds in two headers.
+//! Whether two headers are equal.
 
 ghost use Rattle.std.specs.Prelude.{◌≡◌, ◌↔◌, IsTrue, slice_get};
 
@@ -6,18 +6,18 @@ use crate::defaults::Defaults;
 use crate::header::Header;
 use crate::tune_program::TuneProgram;
 use crate::voices::Voices;
-use abc_bars_voice::{Settings, TuneMeter, TuneTempo, UnitLength};
+use abc_bars_voice::{TuneMeter, TuneTempo, UnitLength, VoiceState};
 use abc_fields::Shift;
 
-/// What is known of a voice, which can be compared.
+/// The value of a voice, which can be compared.
 pub trait Known {
     /// Whether both are the same.
     fn is_same(&self, other: &Self) -> bool
         ensures { IsTrue result ↔ (self.now ≡ other.now) };
 }
 
-impl Known for Settings {
-    fn is_same(&self, other: &Settings) -> bool {
+impl Known for VoiceState {
+    fn is_same(&self, other: &VoiceState) -> bool {
         self.same(other)
     }
 }
@@ -30,7 +30,7 @@ impl Known for Shift {
     }
 }
 
-/// Whether both say the same of a part of a shift, or nothing.
+/// Whether both have the same part of a shift, or neither has it.
 fn same_part(said: Option<i64>, other: Option<i64>) -> bool
     ensures { IsTrue result ↔ (said ≡ other) }
 {
@@ -95,7 +95,7 @@ impl Defaults {
 }
 
 impl<S: Known> Voices<S> {
-    /// Whether both have the same voice at a place, of which the same is known, or none.
+    /// Whether both have the same voice with equal values at an index, or none.
     fn same_at(&self, other: &Voices<S>, at: usize) -> bool
         ensures { IsTrue result ↔ (slice_get self.now at ≡ slice_get other.now at) }
     {
@@ -108,7 +108,7 @@ impl<S: Known> Voices<S> {
         }
     }
 
-    /// Whether both are the same voices in the same order, of which the same is known.
+    /// Whether both are the same voices with equal values, in the same order.
     pub fn same(&self, other: &Voices<S>) -> bool
         ensures { IsTrue result ↔ (self.now ≡ other.now) }
     {
@@ -125,7 +125,7 @@ impl<S: Known> Voices<S> {
 }
 
 impl Header {
-    /// Whether the same holds in both headers.
+    /// Whether both headers are equal.
     pub fn same(&self, other: &Header) -> bool
         ensures { IsTrue result ↔ (self.now ≡ other.now) }
     {

@@ -7,7 +7,7 @@ ghost use Rattle.abc_bars_items.specs.declared.program.TheConstants.{HIGHEST_PRO
 use abc_bars_items::program_of;
 use std::marker::Model;
 
-/// A program that MIDI has (SMF 1.0). Contracts see its number.
+/// A program of MIDI (SMF 1.0). Contracts see its number.
 #[derive(Clone, Copy)]
 pub struct TuneProgram {
     number: u8,
@@ -27,7 +27,7 @@ impl Model for TuneProgram {
 }
 
 impl TuneProgram {
-    /// The program that the number of a directive says, if MIDI has it.
+    /// The program of a directive's number, if MIDI has it.
     pub(crate) fn read(written: u32) -> Option<TuneProgram>
         ensures { result ≡ program_of written }
     {

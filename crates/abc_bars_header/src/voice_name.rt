@@ -14,7 +14,7 @@ use std::hash::{Hash, Hasher};
 use std::marker::Model;
 
 /// The name of a voice, as a field V: writes it (ABC 2.1 section 7.1); that of the voice without one
-/// is empty. Contracts see its bytes. Copies share them, since each kept state of a tune has every name.
+/// is empty. Contracts see its bytes. Copies share them, since each stored state of a tune has every name.
 #[derive(Drop)]
 pub struct VoiceName {
     bytes: Shared<Sequence<u8>>,
@@ -32,7 +32,7 @@ impl Model for VoiceName {
 }
 
 impl VoiceName {
-    /// The name that these bytes spell.
+    /// The name with these bytes.
     pub fn new(alloc: Global, bytes: &[u8]) -> Result<VoiceName, AllocError>
         ensures { IfOk result (λ name. name ≡ bytes.now) }
     {

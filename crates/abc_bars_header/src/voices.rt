@@ -14,12 +14,12 @@ use crate::voice_name::VoiceName;
 use std::alloc::{AllocError, Global};
 use std::marker::Model;
 
-/// Voices in the order in which they were mentioned, each with what is known of it (ABC 2.1 section
-/// 7.1). No two have the same name. Contracts see pairs of a name and what is known. Copies share the names.
+/// Voices in the order in which they were mentioned, each with a value (ABC 2.1 section 7.1). No two have the same name.
+/// Contracts see pairs of a name and a value. Copies share the names.
 #[derive(Drop)]
 pub struct Voices<S> {
     names: Names,
-    /// What is known of each, in the order of the names.
+    /// The value of each, in the order of the names.
     known: Vec<S>,
 }
 
@@ -62,15 +62,15 @@ impl<S> Voices<S> {
         self.names.len() == 0
     }
 
-    /// The place of the voice with this name.
+    /// The index of the voice with this name.
     pub fn place_of(&self, name: &VoiceName) -> Option<usize>
         ensures value { result ≡ place_of name.now self.now }
         ensures inside { IfSome result (λ at. at < length self.now) }
     {
-        self.names.place_of(name)
+        self.names.index_of(name)
     }
 
-    /// The name of the voice at a place, and what is known of it. No two voices have the same name.
+    /// The name and the value of the voice at an index. No two voices have the same name.
     pub fn entry(&self, at: usize) -> Option<(&VoiceName, &S)>
         ensures value { option_map deref_pair result ≡ slice_get self.now at }
         ensures distinct { IsDistinct bytes_eq (keys_of self.now) }
@@ -80,14 +80,14 @@ impl<S> Voices<S> {
         Some((name, known))
     }
 
-    /// What is known of the voice at a place.
+    /// The value of the voice at an index.
     pub fn get(&self, at: usize) -> Option<&S>
         ensures { option_copied result ≡ voice_at self.now at }
     {
         self.known.get(at)
     }
 
-    /// What is known of the voice at a place, to be changed.
+    /// The value of the voice at an index, to be changed.
     pub fn get_mut(&mut self, at: usize) -> Option<&mut S>
         ensures* writes_back { sem 𝓛 (lends_voice S.row self.entry at result) }
         ensures value { option_copied_mut result ≡ voice_at self.old at }
@@ -99,7 +99,7 @@ impl<S> Voices<S> {
         }
     }
 
-    /// What is known of the voice at a place that there is, to be changed.
+    /// The value of an existing voice, to be changed.
     pub fn known_mut(&mut self, at: usize) -> &mut S
         requires { at < length self.old }
         ensures* writes_back { sem 𝓛 (lends_known S.row self.entry at result) }
@@ -108,13 +108,13 @@ impl<S> Voices<S> {
         &mut self.known[at]
     }
 
-    /// Puts one more voice at the end.
+    /// Adds a voice at the end.
     pub fn push(&mut self, name: VoiceName, known: S) -> Result<(), AllocError>
     where
         S: Drop,
         requires { place_of name self.old ≡ None }
         ensures ok { OnOk result (self.new ≡ self.old ++ (name, known) ∷ []) }
-        ensures err { OnErr result (self.new ≡ self.old) }
+        ensures unchanged { OnErr result (self.new ≡ self.old) }
     {
         let names = self.names.with(*self.known.allocator(), name)?;
         self.known.push(known)?;

@@ -1,4 +1,4 @@
--- What cells give, and what items can hold.
+-- Items of cells, and what items can hold.
 use Rattle.std.specs.Prelude.{ℕ, ◌≡◌, ◌≤◌, IfSome, All, List, [], ◌∷◌, ◌++◌, length, Ok}
 use Rattle.abc_fields.specs.declared.fault.FaultCode.{FaultCode}
 use Rattle.abc_fields.specs.Meter.{IsMeterInRange}
@@ -15,28 +15,28 @@ use Rattle.abc_bars_items.specs.declared.item.Tone.{Tone}
 use Rattle.abc_bars_items.specs.declared.program.TheConstants.{HIGHEST_PROGRAM}
 use Rattle.abc_bars_items.specs.Velocity.{IsVelocity}
 
--- What a cell gives: its items, and its faults, each with its column.
+-- The items of a cell, and its faults, each with its column.
 pub record Items : Type 0 where
   pub items : List Item
   pub faults : List (ℕ × FaultCode)
 
 -- No item and no fault.
-abbrev pub nothing : Items
-nothing = record { items = []; faults = [] }
+abbrev pub no_items : Items
+no_items = record { items = []; faults = [] }
 
 -- The same and one more item.
-abbrev pub and_item : Items → Item → Items
-and_item given item = record given { items = given.items ++ item ∷ [] }
+abbrev pub append_item : Items → Item → Items
+append_item lists item = record lists { items = lists.items ++ item ∷ [] }
 
 -- The same and more faults.
-abbrev pub and_faults : Items → List (ℕ × FaultCode) → Items
-and_faults given more = record given { faults = given.faults ++ more }
+abbrev pub append_faults : Items → List (ℕ × FaultCode) → Items
+append_faults lists more = record lists { faults = lists.faults ++ more }
 
 -- A length of at most 1,024 whole notes. Not in ABC 2.1.
 abbrev pub IsWithinLongest : Grains → Type 0
 IsWithinLongest length = length.0 ≤ grains_of_the_longest_length
 
--- A tone that MIDI has a key for, or a silent one (SMF 1.0), that is not too long, with a velocity that MIDI has.
+-- A tone with a key of MIDI, or a silent one (SMF 1.0), that is not too long, with a velocity of MIDI.
 pub record IsTone (tone : Tone) : Type 0 where
   pub key : IfSome tone.key (λ key. key ≤ HIGHEST_KEY)
   pub length : IsWithinLongest tone.length

@@ -6,8 +6,8 @@ ghost use Rattle.abc_bars_items.specs.Column.{column_of};
 /// The column in which a field line begins, counted from 1.
 pub const FIRST_COLUMN: u32 = 1;
 
-/// The column, counted from 1, of the byte at a place of a line, counted from 0. A line has at most 65,535
-/// bytes, so that the greatest `u32` never stands for another column.
+/// The column, counted from 1, of the byte at a place of a line, counted from 0. A line has at most 65,535 bytes, so
+/// no column is cut off at the greatest `u32`.
 pub fn column_of(place: usize) -> u32
     ensures { result ≡ column_of place }
 {

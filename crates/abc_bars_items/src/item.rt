@@ -1,4 +1,4 @@
-//! What cells give to the score.
+//! The items of cells.
 
 use crate::item_text::ItemText;
 use crate::tones::Tones;
@@ -21,7 +21,7 @@ pub const MOST_VOICES: usize = 15;
 pub struct Tone {
     /// How long it sounds, in grains.
     pub length: Grains,
-    /// The key of MIDI, 60 being the middle C; None where MIDI has none for it, and it is silent.
+    /// The key of MIDI, 60 for the middle C; None if MIDI has no key for it, and it is silent.
     pub key: Option<u8>,
     /// The velocity of MIDI, 1 to 127.
     pub velocity: u8,
@@ -40,19 +40,18 @@ impl Default for Tone {
     }
 }
 
-/// What a cell gives to the score. `opening` marks what holds when the tune begins: each line of a header, a
-/// field or a directive, gives the tempo and meter as if the header ended after it, of which the last counts,
-/// and the K: that ends a header gives the key.
+/// What a cell gives to the score. `opening` marks what holds when the tune begins. Each line of a header gives the tempo
+/// and the meter as if the header ended after it, and the last ones count. The K: that ends a header gives the key.
 #[derive(Clone, Drop)]
 pub enum Item {
-    /// The tune's reference number; 0 where X: is empty or refused.
+    /// The tune's reference number; 0 if X: is empty or refused.
     Number(u32),
     /// A note or chord, with the length that it takes.
     Tone {
         tones: Tones,
         length: Grains,
     },
-    /// A rest; `bar` where it rests for whole bars.
+    /// A rest; `bar` if it rests for whole bars.
     Rest {
         length: Grains,
         bar: bool,
@@ -63,19 +62,18 @@ pub enum Item {
     Ending(u32),
     /// The capital letter of a part.
     Section(u8),
-    /// Microseconds of a quarter note, None where the field sets none; `out` where its tempo is out of
-    /// range.
+    /// Microseconds of a quarter note, None if the field sets none; `out` if its tempo is out of range.
     Tempo {
         opening: bool,
         micros: Option<u32>,
         out: bool,
     },
-    /// None where the field is refused.
+    /// None if the field is refused.
     Meter {
         opening: bool,
         meter: Option<Meter>,
     },
-    /// Sharps, negative for flats, and whether the mode is minor; None where the signature stays.
+    /// Sharps, negative for flats, and whether the mode is minor; None if the signature stays.
     Key {
         opening: bool,
         key: Option<(i8, bool)>,
@@ -85,13 +83,13 @@ pub enum Item {
         opening: bool,
         name: ItemText,
     },
-    /// A program of MIDI, 0 to 127; None where the directive is refused. In a header the last one that is not
-    /// refused counts, and a file header's stands before those of the tune's header.
+    /// A program of MIDI, 0 to 127; None if the directive is refused. In a header the last accepted one counts, and a file
+    /// header's comes before those of the tune's header.
     Program {
         opening: bool,
         number: Option<u8>,
     },
-    /// What a T: of a header says; the first one is the tune's title.
+    /// The value of a T: of a header; the first one is the tune's title.
     Title(ItemText),
     /// The order of the parts.
     Order(ItemText),

@@ -7,8 +7,8 @@ use abc_text::Sequence;
 use std::alloc::{AllocError, Global};
 use std::marker::Model;
 
-/// The bytes of a name, a title or an order of parts, behind a pointer: few items have one, and each item pays for the
-/// room of the largest. Copies share them.
+/// The bytes of a name, a title or an order of parts. They are behind a pointer, since few items have them and each item is
+/// as large as the largest. Copies share them.
 #[derive(Drop)]
 pub struct ItemText {
     bytes: Shared<Sequence<u8>>,

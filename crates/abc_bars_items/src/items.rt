@@ -1,4 +1,4 @@
-//! What a cell gives.
+//! The items and faults of a cell.
 
 ghost use Rattle.std.specs.Prelude.{◌≡◌, All, IfOk};
 ghost use Rattle.abc_bars_items.specs.Item.{IsItem};
@@ -9,27 +9,27 @@ use abc_fold::Shared;
 use std::alloc::{AllocError, Global};
 use std::marker::Model;
 
-/// What a cell gives: its items and its faults, each in order. A copy shares them. Contracts see the two lists.
+/// The items and the faults of a cell, each in order. A copy shares them. Contracts see the two lists.
 #[derive(Drop)]
 pub struct Items {
-    given: Shared<ItemsBuilder>,
+    lists: Shared<ItemsBuilder>,
 }
 
 impl Model for Items {
-    ghost use Rattle.abc_bars_items.specs.Item.{Items as Seen};
+    ghost use Rattle.abc_bars_items.specs.Item.{Items as Lists};
 
-    ghost Value = { Seen };
+    ghost Value = { Lists };
 
-    ghost view = { λ items. items.given };
+    ghost view = { λ items. items.lists };
 }
 
 impl Items {
-    /// What has been put together.
-    pub fn new(alloc: Global, given: ItemsBuilder) -> Result<Items, AllocError>
-        ensures { IfOk result (λ items. items ≡ given) }
+    /// The items and faults of a builder.
+    pub fn new(alloc: Global, lists: ItemsBuilder) -> Result<Items, AllocError>
+        ensures { IfOk result (λ items. items ≡ lists) }
     {
-        let given = Shared::new(alloc, given)?;
-        Ok(Items { given })
+        let lists = Shared::new(alloc, lists)?;
+        Ok(Items { lists })
     }
 
     /// The items in order.
@@ -37,21 +37,21 @@ impl Items {
         ensures value { result.now ≡ self.now.items }
         ensures range { All IsItem result.now }
     {
-        self.given.get().items()
+        self.lists.get().items()
     }
 
     /// The faults in order, each column counted from 1.
     pub fn faults(&self) -> &[LocalFault]
         ensures { result.now ≡ self.now.faults }
     {
-        self.given.get().faults()
+        self.lists.get().faults()
     }
 
     /// A copy, which shares the lists.
     pub fn share(&self) -> Result<Items, AllocError>
         ensures { IfOk result (λ copy. copy ≡ self.now) }
     {
-        let given = self.given.share()?;
-        Ok(Items { given })
+        let lists = self.lists.share()?;
+        Ok(Items { lists })
     }
 }

@@ -1,14 +1,14 @@
-//! What a cell gives, while it is put together.
+//! The items and faults of a cell, one by one.
 
 ghost use Rattle.std.specs.Prelude.{◌≡◌, All, [], ◌∷◌, IfOk, OnErr, OnOk};
-ghost use Rattle.abc_bars_items.specs.Item.{IsItem, nothing, and_item, and_faults};
+ghost use Rattle.abc_bars_items.specs.Item.{IsItem, no_items, append_item, append_faults};
 
 use crate::item::{Item, LocalFault};
 use abc_text::Sequence;
 use std::alloc::{AllocError, Global};
 use std::marker::Model;
 
-/// The items and the faults that a cell has given so far, each in the order in which it was put here.
+/// The items and the faults of a cell so far, each in the order in which it was added.
 #[derive(Drop)]
 pub struct ItemsBuilder {
     items: Vec<Item>,
@@ -17,19 +17,19 @@ pub struct ItemsBuilder {
 
 impl Model for ItemsBuilder {
     ghost use Rattle.std.specs.Prelude.{All};
-    ghost use Rattle.abc_bars_items.specs.Item.{Items as Seen, IsItem};
+    ghost use Rattle.abc_bars_items.specs.Item.{Items as Lists, IsItem};
 
-    ghost Value = { Seen };
+    ghost Value = { Lists };
 
-    ghost view = { λ given. record { items = given.items.items; faults = given.faults.items } };
+    ghost view = { λ builder. record { items = builder.items.items; faults = builder.faults.items } };
 
-    ghost invariant = { λ given. All IsItem given.items.items };
+    ghost invariant = { λ builder. All IsItem builder.items.items };
 }
 
 impl ItemsBuilder {
-    /// No item and no fault yet, with room for so many items.
+    /// A builder without items and faults, with room for `items` items.
     pub fn with_room(alloc: Global, items: usize) -> Result<ItemsBuilder, AllocError>
-        ensures { IfOk result (λ made. made ≡ nothing) }
+        ensures { IfOk result (λ builder. builder ≡ no_items) }
     {
         Ok(ItemsBuilder {
             items: Vec::with_capacity(alloc, items)?,
@@ -37,7 +37,7 @@ impl ItemsBuilder {
         })
     }
 
-    /// These items and these faults.
+    /// A builder with these items and faults.
     pub fn of(items: Sequence<Item>, faults: Sequence<LocalFault>) -> ItemsBuilder
         requires { All IsItem items }
         ensures items { result.items ≡ items }
@@ -49,7 +49,7 @@ impl ItemsBuilder {
         }
     }
 
-    /// The items in the order in which they were put here.
+    /// The items in the order in which they were added.
     pub fn items(&self) -> &[Item]
         ensures value { result.now ≡ self.now.items }
         ensures range { All IsItem result.now }
@@ -57,48 +57,47 @@ impl ItemsBuilder {
         self.items.as_slice()
     }
 
-    /// The faults in the order in which they were put here, each column counted from 1.
+    /// The faults in the order in which they were added, each column counted from 1.
     pub fn faults(&self) -> &[LocalFault]
         ensures { result.now ≡ self.now.faults }
     {
         self.faults.as_slice()
     }
 
-    /// Puts one more item behind the others.
+    /// Adds an item at the end.
     #[inline(always)]
     pub fn push_item(&mut self, item: Item) -> Result<(), AllocError>
         requires { IsItem item }
-        ensures ok { OnOk result (self.new ≡ and_item self.old item) }
-        ensures refused { OnErr result (self.new ≡ self.old) }
+        ensures ok { OnOk result (self.new ≡ append_item self.old item) }
+        ensures unchanged { OnErr result (self.new ≡ self.old) }
     {
         self.items.push(item)?;
         Ok(())
     }
 
-    /// Puts one more fault behind the others.
+    /// Adds a fault at the end.
     pub fn push_fault(&mut self, fault: LocalFault) -> Result<(), AllocError>
-        ensures ok { OnOk result (self.new ≡ and_faults self.old (fault ∷ [])) }
-        ensures refused { OnErr result (self.new ≡ self.old) }
+        ensures ok { OnOk result (self.new ≡ append_faults self.old (fault ∷ [])) }
+        ensures unchanged { OnErr result (self.new ≡ self.old) }
     {
         self.faults.push(fault)?;
         Ok(())
     }
 
-    /// Puts faults behind the others.
+    /// Adds faults at the end.
     pub fn push_faults(&mut self, more: &[LocalFault]) -> Result<(), AllocError>
-        ensures ok { OnOk result (self.new ≡ and_faults self.old more.now) }
-        ensures refused { OnErr result (self.new ≡ self.old) }
+        ensures ok { OnOk result (self.new ≡ append_faults self.old more.now) }
+        ensures unchanged { OnErr result (self.new ≡ self.old) }
     {
         self.faults.extend_from_slice(more)?;
         Ok(())
     }
 
-    /// Puts one more item and its faults behind the others. There is room for the item before a fault is put, so that
-    /// none is put without it.
+    /// Adds an item and its faults at the end. It makes room for the item first, so that no fault is added without it.
     pub fn push_with_faults(&mut self, item: Item, faults: &[LocalFault]) -> Result<(), AllocError>
         requires { IsItem item }
-        ensures ok { OnOk result (self.new ≡ and_item (and_faults self.old faults.now) item) }
-        ensures refused { OnErr result (self.new ≡ self.old) }
+        ensures ok { OnOk result (self.new ≡ append_item (append_faults self.old faults.now) item) }
+        ensures unchanged { OnErr result (self.new ≡ self.old) }
     {
         self.items.reserve(1)?;
         self.faults.extend_from_slice(faults)?;

@@ -1,4 +1,4 @@
-//! What the cells of a tune give: notes, rests and changes that are to be played, and faults.
+//! The items of a tune's cells: notes, rests and changes that are to be played, and faults.
 #![tactic(auto)]
 
 mod column;
@@ -6,6 +6,7 @@ mod item;
 mod item_text;
 mod items;
 mod items_builder;
+pub mod laws;
 mod program;
 mod tones;
 mod velocity;
@@ -16,5 +17,5 @@ pub use item_text::ItemText;
 pub use items::Items;
 pub use items_builder::ItemsBuilder;
 pub use program::{HIGHEST_PROGRAM, program_of};
-pub use tones::{LentTones, Tones};
-pub use velocity::{HIGHEST_VELOCITY, USUAL_VELOCITY, velocities_of_dynamics, velocity_of};
+pub use tones::{Tones, TonesView};
+pub use velocity::{HIGHEST_VELOCITY, USUAL_VELOCITY, velocity_of};

@@ -6,7 +6,7 @@ ghost use Rattle.abc_bars_items.specs.Program.{program_of};
 /// The highest program of MIDI (SMF 1.0).
 pub const HIGHEST_PROGRAM: u8 = 127;
 
-/// The program that a directive's number says; None above 127, which is refused.
+/// The program of a directive's number; None above 127, which is refused.
 pub fn program_of(written: u32) -> Option<u8>
     ensures value { result ≡ program_of written }
     ensures range { IfSome result (λ number. number ≤ HIGHEST_PROGRAM) }

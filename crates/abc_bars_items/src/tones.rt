@@ -1,7 +1,7 @@
-//! The tones of a note or chord, in little room.
+//! The tones of a note or chord, in little memory.
 
 ghost use Rattle.std.specs.Prelude.{◌≡◌, [], ◌∷◌, IfOk};
-ghost use Rattle.abc_bars_items.specs.LentTones.{lent_tones};
+ghost use Rattle.abc_bars_items.specs.TonesView.{viewed_tones};
 
 use crate::item::Tone;
 use abc_fold::Shared;
@@ -10,10 +10,10 @@ use abc_time::Grains;
 use std::alloc::{AllocError, Global};
 use std::marker::Model;
 
-/// Tones as they are kept.
+/// How tones are stored.
 #[derive(Drop)]
-pub enum KeptTones {
-    /// One tone: its small parts stand beside the tag.
+pub enum StoredTones {
+    /// One tone, in its parts: the small ones are beside the tag.
     One {
         key: Option<u8>,
         velocity: u8,
@@ -23,25 +23,25 @@ pub enum KeptTones {
     List(Shared<ShortSequence<Tone>>),
 }
 
-/// The tones of a note or chord in order. Most are one tone, which stands in place, and a book keeps all of them: so a
-/// list stands behind a pointer. Copies share it.
+/// The tones of a note or chord in order. Most are one tone, which is stored in place; a list is behind a pointer, since a
+/// book has very many tones. Copies share it.
 #[derive(Drop)]
 pub struct Tones {
-    kept: KeptTones,
+    stored: StoredTones,
 }
 
 impl Model for Tones {
     ghost use Rattle.std.specs.Prelude.{List};
     ghost use Rattle.abc_bars_items.specs.declared.item.Tone.{Tone};
-    ghost use Rattle.abc_bars_items.specs.KeptTones.{kept_tones};
+    ghost use Rattle.abc_bars_items.specs.StoredTones.{stored_tones};
 
     ghost Value = { List Tone };
 
-    ghost view = { λ tones. kept_tones tones.kept };
+    ghost view = { λ tones. stored_tones tones.stored };
 }
 
-/// Tones as they are lent.
-pub enum LentTones<'a> {
+/// Tones as a caller reads them.
+pub enum TonesView<'a> {
     One(Tone),
     List(&'a [Tone]),
 }
@@ -52,7 +52,7 @@ impl Tones {
         ensures { result ≡ tone ∷ [] }
     {
         Tones {
-            kept: KeptTones::One {
+            stored: StoredTones::One {
                 key: tone.key,
                 velocity: tone.velocity,
                 tied: tone.tied,
@@ -63,34 +63,34 @@ impl Tones {
 
     /// These tones.
     pub fn of(alloc: Global, tones: ShortSequence<Tone>) -> Result<Tones, AllocError>
-        ensures { IfOk result (λ kept. kept ≡ tones) }
+        ensures { IfOk result (λ made. made ≡ tones) }
     {
         if let [tone] = tones.as_slice() {
             return Ok(Tones::one(*tone));
         }
         let tones = Shared::new(alloc, tones)?;
         Ok(Tones {
-            kept: KeptTones::List(tones),
+            stored: StoredTones::List(tones),
         })
     }
 
     /// The tones in order.
-    pub fn lent(&self) -> LentTones<'_>
-        ensures { lent_tones result ≡ self.now }
+    pub fn view(&self) -> TonesView<'_>
+        ensures { viewed_tones result ≡ self.now }
     {
-        match &self.kept {
-            KeptTones::One {
+        match &self.stored {
+            StoredTones::One {
                 key,
                 velocity,
                 tied,
                 length,
-            } => LentTones::One(Tone {
+            } => TonesView::One(Tone {
                 length: *length,
                 key: *key,
                 velocity: *velocity,
                 tied: *tied,
             }),
-            KeptTones::List(tones) => LentTones::List(tones.get().as_slice()),
+            StoredTones::List(tones) => TonesView::List(tones.get().as_slice()),
         }
     }
 }
@@ -99,20 +99,20 @@ impl Clone for Tones {
     ghost is_clone = { λ tones copy. copy ≡ tones };
 
     fn clone(&self) -> Result<Tones, AllocError> {
-        let kept = match &self.kept {
-            KeptTones::One {
+        let stored = match &self.stored {
+            StoredTones::One {
                 key,
                 velocity,
                 tied,
                 length,
-            } => KeptTones::One {
+            } => StoredTones::One {
                 key: *key,
                 velocity: *velocity,
                 tied: *tied,
                 length: *length,
             },
-            KeptTones::List(tones) => KeptTones::List(tones.share()?),
+            StoredTones::List(tones) => StoredTones::List(tones.share()?),
         };
-        Ok(Tones { kept })
+        Ok(Tones { stored })
     }
 }

@@ -1,18 +1,18 @@
-//! How loud notes are played.
+//! The velocities of notes.
 
 ghost use Rattle.std.specs.Prelude.{◌≡◌};
-ghost use Rattle.abc_bars_items.specs.Velocity.{velocity_of, IsVelocity, VelocitiesDiffer};
+ghost use Rattle.abc_bars_items.specs.Velocity.{velocity_of, IsVelocity};
 
 use abc_scan::Dynamic;
 
 /// The highest velocity of MIDI (SMF 1.0).
 pub const HIGHEST_VELOCITY: u8 = 127;
 
-/// The velocity of notes before which no dynamic stands. Not in ABC 2.1.
+/// The velocity of notes without a dynamic before them. Not in ABC 2.1.
 pub const USUAL_VELOCITY: u8 = 80;
 
-/// The MIDI velocity of notes, 1 to 127, by the last dynamic that stands before them in their voice (ABC 2.1
-/// section 4.14). The numbers are not in ABC 2.1.
+/// The MIDI velocity of notes, 1 to 127, by the last dynamic before them in their voice (ABC 2.1 section 4.14). The
+/// numbers are not in ABC 2.1.
 pub fn velocity_of(dynamic: Option<Dynamic>) -> u8
     ensures value { result ≡ velocity_of dynamic }
     ensures range { IsVelocity result }
@@ -22,9 +22,3 @@ pub fn velocity_of(dynamic: Option<Dynamic>) -> u8
         None => USUAL_VELOCITY,
     }
 }
-
-/// No two dynamics have the same velocity, and none has that of notes without one: who knows the velocity knows
-/// the dynamic.
-pub fn velocities_of_dynamics()
-    ensures { VelocitiesDiffer }
-{}

@@ -7,12 +7,13 @@ use Rattle.abc_scan.specs.declared.chord.Chord.{Chord}
 use Rattle.abc_scan.specs.declared.spanned.Spanned.{Spanned}
 use Rattle.abc_scan.specs.declared.token.TokenKind.{TokenKind}
 use Rattle.abc_scan.specs.declared.token.TokenKind.TheVariants as kinds
-use Rattle.abc_bars_notes.specs.declared.broken.Behind.{Behind}
-use Rattle.abc_bars_notes.specs.declared.broken.Behind.TheVariants as behinds
+use Rattle.abc_bars_notes.specs.declared.broken.Preceding.{Preceding}
+use Rattle.abc_bars_notes.specs.declared.broken.Preceding.TheVariants as precedings
 use Rattle.abc_bars_notes.specs.declared.broken.BrokenRole.{BrokenRole}
 use Rattle.abc_bars_notes.specs.declared.broken.BrokenRole.TheVariants as roles
-use Rattle.abc_bars_notes.specs.Broken.{role_of, is_time_token, behind_mark, behind_by, behind_after, behind_from, time_or, time_follows, mark_or, mark_ahead, mark_behind, is_behind_time, is_bad_mark, factors_of}
-use Rattle.abc_bars_notes.specs.Acting.{hinders, IsTimeAt, IsMarkAt, IsFreeAt, AreFreeBetween, Acts, ActsBefore, ActsBehind, AreFactors, behind_at}
+use Rattle.abc_bars_notes.specs.Broken.{role_of, is_time_token, preceding_after_mark, preceding_by, preceding_after, preceding_from, time_or, time_follows, mark_or, mark_ahead, mark_before}
+use Rattle.abc_bars_notes.specs.Broken.{is_after_time, is_bad_mark, factors_of}
+use Rattle.abc_bars_notes.specs.Acting.{hinders, IsTimeAt, IsMarkAt, IsFreeAt, AreFreeBetween, Acts, ActsBefore, ActsBehind, AreFactors, preceding_at}
 use Rattle.abc_bars_notes.specs.TokenRole.{has_note}
 
 -- what a role says of its token
@@ -192,11 +193,11 @@ within [] place P h = absurd h
 within (token ∷ cell) zero P h = omega arith
 within (token ∷ cell) (suc place) P h = let below = within cell place P h in omega arith
 
-step : (behind : Behind) (cell : List (Spanned TokenKind)) (place : ℕ) (token : Spanned TokenKind) → slice_get cell place ≡ Some token
-    → behind_from behind (take (suc place) cell) ≡ behind_after (behind_from behind (take place cell)) token.kind
+step : (behind : Preceding) (cell : List (Spanned TokenKind)) (place : ℕ) (token : Spanned TokenKind) → slice_get cell place ≡ Some token
+    → preceding_from behind (take (suc place) cell) ≡ preceding_after (preceding_from behind (take place cell)) token.kind
 step behind [] place token e = cc
-step behind (first ∷ cell) zero token e = let same : first ≡ token = cc in ap (λ t. behind_after behind t.kind) same
-step behind (first ∷ cell) (suc place) token e = step (behind_after behind first.kind) cell place token e
+step behind (first ∷ cell) zero token e = let same : first ≡ token = cc in ap (λ t. preceding_after behind t.kind) same
+step behind (first ∷ cell) (suc place) token e = step (preceding_after behind first.kind) cell place token e
 
 -- the last of what matters before a place is a time token
 record IsLastTime (cell : List (Spanned TokenKind)) (place : ℕ) : Type 0 where
@@ -216,10 +217,10 @@ record IsLastMark (cell : List (Spanned TokenKind)) (mark : BrokenRhythm) (place
   between : AreFreeBetween cell first sign
   free : AreFreeBetween cell sign place
 
-no_time : (behind : Behind) (mark : BrokenRhythm) → is_behind_time (behind_mark behind mark) ≡ false
-no_time behinds.Nothing mark = refl
-no_time behinds.TimeToken mark = refl
-no_time (behinds.Mark other) mark = refl
+no_time : (behind : Preceding) (mark : BrokenRhythm) → is_after_time (preceding_after_mark behind mark) ≡ false
+no_time precedings.Nothing mark = refl
+no_time precedings.TimeToken mark = refl
+no_time (precedings.Mark other) mark = refl
 
 free_more : (cell : List (Spanned TokenKind)) (low high : ℕ) → IsFreeAt cell high → AreFreeBetween cell low high → AreFreeBetween cell low (suc high)
 free_more cell low high here free k from to = ⊎_elim
@@ -228,14 +229,14 @@ free_more cell low high here free k from to = ⊎_elim
     (cases_eq k high)
 
 last_time_here : (cell : List (Spanned TokenKind)) (place : ℕ) (token : Spanned TokenKind) (role : BrokenRole) → slice_get cell place ≡ Some token → Says token.kind role
-    → (is_behind_time (behind_at cell place) ≡ true → IsLastTime cell place) → is_behind_time (behind_by (behind_at cell place) role) ≡ true → IsLastTime cell (suc place)
+    → (is_after_time (preceding_at cell place) ≡ true → IsLastTime cell place) → is_after_time (preceding_by (preceding_at cell place) role) ≡ true → IsLastTime cell (suc place)
 last_time_here cell place token roles.Time is s rec e = record {
   first = place;
   before = omega arith;
   is = back _ (λ t. is_time_token t.kind ≡ true) token is s;
   free = λ k from to. absurd (omega arith);
 }
-last_time_here cell place token (roles.Mark mark) is s rec e = let no = no_time (behind_at cell place) mark in cc
+last_time_here cell place token (roles.Mark mark) is s rec e = let no = no_time (preceding_at cell place) mark in cc
 last_time_here cell place token roles.Hindrance is s rec e = cc
 last_time_here cell place token roles.Silent is s rec e =
     let last = rec e in
@@ -247,38 +248,38 @@ last_time_here cell place token roles.Silent is s rec e =
       free = free_more cell last.first place (back _ (λ t. IsFree t.kind) token is s) last.free;
     }
 
-last_time : (cell : List (Spanned TokenKind)) (place : ℕ) → place ≤ length cell → is_behind_time (behind_at cell place) ≡ true → IsLastTime cell place
-last_time cell zero inside e = cc
-last_time cell (suc place) inside e =
+last_time : (cell : List (Spanned TokenKind)) (place : ℕ) → place ≤ length cell → is_after_time (preceding_at cell place) ≡ true → IsLastTime cell place
+last_time cell zero builder e = cc
+last_time cell (suc place) builder e =
     let here = found cell place (omega arith) in
     last_time_here cell place here.token (role_of here.token.kind) here.is (says here.token.kind) (last_time cell place (omega arith))
-    (sym (ap is_behind_time (step behinds.Nothing cell place here.token here.is)) ∙ e)
+    (sym (ap is_after_time (step precedings.Nothing cell place here.token here.is)) ∙ e)
 
 last_time_is : (cell : List (Spanned TokenKind)) (place first : ℕ) → place ≤ length cell → first < place → IsTimeAt cell first → AreFreeBetween cell first place
-    → is_behind_time (behind_at cell place) ≡ true
-last_time_is cell zero first inside before h free = absurd (omega arith)
-last_time_is cell (suc place) first inside before h free =
+    → is_after_time (preceding_at cell place) ≡ true
+last_time_is cell zero first builder before h free = absurd (omega arith)
+last_time_is cell (suc place) first builder before h free =
     let here = found cell place (omega arith) in
-    ap is_behind_time (step behinds.Nothing cell place here.token here.is)
+    ap is_after_time (step precedings.Nothing cell place here.token here.is)
     ∙ ⊎_elim
     (λ same.
     let now : IsTimeAt cell place = subst (λ j. IsTimeAt cell j) same h in
-    ap (λ role. is_behind_time (behind_by (behind_at cell place) role))
+    ap (λ role. is_after_time (preceding_by (preceding_at cell place) role))
     (time_role here.token.kind (there _ (λ t. is_time_token t.kind ≡ true) here.token here.is now)))
     (λ other.
     let earlier : first < place = omega arith in
-    ap (λ role. is_behind_time (behind_by (behind_at cell place) role))
+    ap (λ role. is_after_time (preceding_by (preceding_at cell place) role))
     (free_role here.token.kind (there _ (λ t. IsFree t.kind) here.token here.is (free place earlier (omega arith))))
     ∙ last_time_is cell place first (omega arith) earlier h (λ k from to. free k from (omega arith)))
     (cases_eq first place)
 
-last_mark_by : (cell : List (Spanned TokenKind)) (mark other : BrokenRhythm) (place : ℕ) (token : Spanned TokenKind) (behind : Behind) → place ≤ length cell
-    → behind_at cell place ≡ behind → slice_get cell place ≡ Some token → token.kind ≡ kinds.Broken other
-    → mark_behind (behind_mark behind other) ≡ Some mark → IsLastMark cell mark (suc place)
-last_mark_by cell mark other place token behinds.Nothing inside was is s e = cc
-last_mark_by cell mark other place token behinds.TimeToken inside was is s e =
+last_mark_by : (cell : List (Spanned TokenKind)) (mark other : BrokenRhythm) (place : ℕ) (token : Spanned TokenKind) (behind : Preceding) → place ≤ length cell
+    → preceding_at cell place ≡ behind → slice_get cell place ≡ Some token → token.kind ≡ kinds.Broken other
+    → mark_before (preceding_after_mark behind other) ≡ Some mark → IsLastMark cell mark (suc place)
+last_mark_by cell mark other place token precedings.Nothing builder was is s e = cc
+last_mark_by cell mark other place token precedings.TimeToken builder was is s e =
     let same : other ≡ mark = cc in
-    let last = last_time cell place inside (ap is_behind_time was) in
+    let last = last_time cell place builder (ap is_after_time was) in
     record {
       first = last.first;
       sign = place;
@@ -289,17 +290,17 @@ last_mark_by cell mark other place token behinds.TimeToken inside was is s e =
       between = last.free;
       free = λ k from to. absurd (omega arith);
     }
-last_mark_by cell mark other place token (behinds.Mark earlier) inside was is s e = cc
+last_mark_by cell mark other place token (precedings.Mark earlier) builder was is s e = cc
 
 last_mark_here : (cell : List (Spanned TokenKind)) (mark : BrokenRhythm) (place : ℕ) (token : Spanned TokenKind) (role : BrokenRole) → place ≤ length cell
     → slice_get cell place ≡ Some token → Says token.kind role
-    → (mark_behind (behind_at cell place) ≡ Some mark → IsLastMark cell mark place) → mark_behind (behind_by (behind_at cell place) role) ≡ Some mark
+    → (mark_before (preceding_at cell place) ≡ Some mark → IsLastMark cell mark place) → mark_before (preceding_by (preceding_at cell place) role) ≡ Some mark
     → IsLastMark cell mark (suc place)
-last_mark_here cell mark place token roles.Time inside is s rec e = cc
-last_mark_here cell mark place token (roles.Mark other) inside is s rec e =
-    last_mark_by cell mark other place token (behind_at cell place) inside refl is s e
-last_mark_here cell mark place token roles.Hindrance inside is s rec e = cc
-last_mark_here cell mark place token roles.Silent inside is s rec e =
+last_mark_here cell mark place token roles.Time builder is s rec e = cc
+last_mark_here cell mark place token (roles.Mark other) builder is s rec e =
+    last_mark_by cell mark other place token (preceding_at cell place) builder refl is s e
+last_mark_here cell mark place token roles.Hindrance builder is s rec e = cc
+last_mark_here cell mark place token roles.Silent builder is s rec e =
     let last = rec e in
     let before : last.sign < place = last.before in
     record {
@@ -313,47 +314,47 @@ last_mark_here cell mark place token roles.Silent inside is s rec e =
       free = free_more cell last.sign place (back _ (λ t. IsFree t.kind) token is s) last.free;
     }
 
-last_mark : (cell : List (Spanned TokenKind)) (mark : BrokenRhythm) (place : ℕ) → place ≤ length cell → mark_behind (behind_at cell place) ≡ Some mark → IsLastMark cell mark place
-last_mark cell mark zero inside e = cc
-last_mark cell mark (suc place) inside e =
+last_mark : (cell : List (Spanned TokenKind)) (mark : BrokenRhythm) (place : ℕ) → place ≤ length cell → mark_before (preceding_at cell place) ≡ Some mark → IsLastMark cell mark place
+last_mark cell mark zero builder e = cc
+last_mark cell mark (suc place) builder e =
     let here = found cell place (omega arith) in
     last_mark_here cell mark place here.token (role_of here.token.kind) (omega arith) here.is (says here.token.kind) (last_mark cell mark place (omega arith))
-    (sym (ap mark_behind (step behinds.Nothing cell place here.token here.is)) ∙ e)
+    (sym (ap mark_before (step precedings.Nothing cell place here.token here.is)) ∙ e)
 
-behind_time : (behind : Behind) (mark : BrokenRhythm) → is_behind_time behind ≡ true → mark_behind (behind_mark behind mark) ≡ Some mark
-behind_time behinds.Nothing mark e = cc
-behind_time behinds.TimeToken mark e = refl
-behind_time (behinds.Mark other) mark e = cc
+behind_time : (behind : Preceding) (mark : BrokenRhythm) → is_after_time behind ≡ true → mark_before (preceding_after_mark behind mark) ≡ Some mark
+behind_time precedings.Nothing mark e = cc
+behind_time precedings.TimeToken mark e = refl
+behind_time (precedings.Mark other) mark e = cc
 
 last_mark_is : (cell : List (Spanned TokenKind)) (mark : BrokenRhythm) (place first sign : ℕ) → place ≤ length cell → first < sign → sign < place
     → IsMarkAt cell sign mark → IsTimeAt cell first → AreFreeBetween cell first sign → AreFreeBetween cell sign place
-    → mark_behind (behind_at cell place) ≡ Some mark
-last_mark_is cell mark zero first sign inside order before h time between free = absurd (omega arith)
-last_mark_is cell mark (suc place) first sign inside order before h time between free =
+    → mark_before (preceding_at cell place) ≡ Some mark
+last_mark_is cell mark zero first sign builder order before h time between free = absurd (omega arith)
+last_mark_is cell mark (suc place) first sign builder order before h time between free =
     let here = found cell place (omega arith) in
-    ap mark_behind (step behinds.Nothing cell place here.token here.is)
+    ap mark_before (step precedings.Nothing cell place here.token here.is)
     ∙ ⊎_elim
     (λ same.
     let now : IsMarkAt cell place mark = subst (λ j. IsMarkAt cell j mark) same h in
     let at : first < place = omega arith in
-    ap (λ kind. mark_behind (behind_by (behind_at cell place) (role_of kind))) (there _ (λ t. t.kind ≡ kinds.Broken mark) here.token here.is now)
-    ∙ behind_time (behind_at cell place) mark
+    ap (λ kind. mark_before (preceding_by (preceding_at cell place) (role_of kind))) (there _ (λ t. t.kind ≡ kinds.Broken mark) here.token here.is now)
+    ∙ behind_time (preceding_at cell place) mark
     (last_time_is cell place first (omega arith) at time (λ k from to. between k from (omega arith))))
     (λ other.
     let earlier : sign < place = omega arith in
-    ap (λ role. mark_behind (behind_by (behind_at cell place) role))
+    ap (λ role. mark_before (preceding_by (preceding_at cell place) role))
     (free_role here.token.kind (there _ (λ t. IsFree t.kind) here.token here.is (free place earlier (omega arith))))
     ∙ last_mark_is cell mark place first sign (omega arith) order earlier h time between (λ k from to. free k from (omega arith)))
     (cases_eq sign place)
 
--- a place behind some first ones
+-- a place after some first ones
 shift : (cell : List (Spanned TokenKind)) (n k : ℕ) → slice_get (drop n cell) k ≡ slice_get cell (n + k)
 shift cell zero k = ap (slice_get cell) (let e : k ≡ zero + k = omega arith in e)
 shift [] (suc n) k = refl
 shift (token ∷ cell) (suc n) k =
     shift cell n k ∙ ap (slice_get (token ∷ cell)) (let e : suc (n + k) ≡ suc n + k = omega arith in e)
 
--- what holds at a place behind some first ones, and back
+-- the state at a place after some first ones, and back
 shifted : (cell : List (Spanned TokenKind)) (P : Spanned TokenKind → Type 0) (n k at : ℕ) → at ≡ n + k → IsSomeAnd (slice_get (drop n cell) k) P → IsSomeAnd (slice_get cell at) P
 shifted cell P n k at e h =
     let Q : Option (Spanned TokenKind) → Type 0 = λ o. IsSomeAnd o P in
@@ -370,10 +371,10 @@ both true false e = cc
 both false b e = cc
 
 acts_from : (cell : List (Spanned TokenKind)) (place : ℕ) (mark : BrokenRhythm) → IsMarkAt cell place mark
-    → is_bad_mark (behind_at cell place) (drop (place + 1) cell) ≡ false → Acts cell mark place
+    → is_bad_mark (preceding_at cell place) (drop (place + 1) cell) ≡ false → Acts cell mark place
 acts_from cell place mark h e =
-    let inside : place < length cell = within cell place (λ t. t.kind ≡ kinds.Broken mark) h in
-    let parts = both (is_behind_time (behind_at cell place)) (time_follows (drop (place + 1) cell)) e in
+    let builder : place < length cell = within cell place (λ t. t.kind ≡ kinds.Broken mark) h in
+    let parts = both (is_after_time (preceding_at cell place)) (time_follows (drop (place + 1) cell)) e in
     let last = last_time cell place (omega arith) parts.0 in
     let next = time_first (drop (place + 1) cell) parts.1 in
     record {
@@ -392,13 +393,13 @@ acts_from cell place mark h e =
     }
 
 acts_to : (cell : List (Spanned TokenKind)) (place : ℕ) (mark : BrokenRhythm) → Acts cell mark place
-    → is_bad_mark (behind_at cell place) (drop (place + 1) cell) ≡ false
+    → is_bad_mark (preceding_at cell place) (drop (place + 1) cell) ≡ false
 acts_to cell place mark acts =
     let a = acts.acting in
     let before : acts.first < place = a.before in
     let behind : place < acts.second = a.behind in
-    let inside : place < length cell = within cell place (λ t. t.kind ≡ kinds.Broken mark) a.mark_is in
-    let last : is_behind_time (behind_at cell place) ≡ true = last_time_is cell place acts.first (omega arith) before a.first_is a.free_before in
+    let builder : place < length cell = within cell place (λ t. t.kind ≡ kinds.Broken mark) a.mark_is in
+    let last : is_after_time (preceding_at cell place) ≡ true = last_time_is cell place acts.first (omega arith) before a.first_is a.free_before in
     let next : time_follows (drop (place + 1) cell) ≡ true =
     time_is (drop (place + 1) cell) (acts.second - (place + 1))
     (unshifted cell (λ t. is_time_token t.kind ≡ true) (place + 1) (acts.second - (place + 1)) acts.second (omega arith) a.second_is)
@@ -406,12 +407,12 @@ acts_to cell place mark acts =
     λ i. not (last i && next i)
 
 pub marks_act : (cell : List (Spanned TokenKind)) (place : ℕ) (mark : BrokenRhythm) → IsMarkAt cell place mark
-    → (is_bad_mark (behind_at cell place) (drop (place + 1) cell) ≡ false) ↔ Acts cell mark place
+    → (is_bad_mark (preceding_at cell place) (drop (place + 1) cell) ≡ false) ↔ Acts cell mark place
 marks_act cell place mark h = (acts_from cell place mark h, acts_to cell place mark)
 
-pub before_from : (cell : List (Spanned TokenKind)) (place : ℕ) (mark : BrokenRhythm) → IsTimeAt cell place → mark_behind (behind_at cell place) ≡ Some mark → ActsBefore cell mark place
+pub before_from : (cell : List (Spanned TokenKind)) (place : ℕ) (mark : BrokenRhythm) → IsTimeAt cell place → mark_before (preceding_at cell place) ≡ Some mark → ActsBefore cell mark place
 before_from cell place mark h e =
-    let inside : place < length cell = within cell place (λ t. is_time_token t.kind ≡ true) h in
+    let builder : place < length cell = within cell place (λ t. is_time_token t.kind ≡ true) h in
     let last = last_mark cell mark place (omega arith) e in
     record {
       first = last.first;
@@ -427,10 +428,10 @@ before_from cell place mark h e =
       };
     }
 
-pub before_to : (cell : List (Spanned TokenKind)) (place : ℕ) (mark : BrokenRhythm) → ActsBefore cell mark place → mark_behind (behind_at cell place) ≡ Some mark
+pub before_to : (cell : List (Spanned TokenKind)) (place : ℕ) (mark : BrokenRhythm) → ActsBefore cell mark place → mark_before (preceding_at cell place) ≡ Some mark
 before_to cell place mark acts =
     let a = acts.acting in
-    let inside : place < length cell = within cell place (λ t. is_time_token t.kind ≡ true) a.second_is in
+    let builder : place < length cell = within cell place (λ t. is_time_token t.kind ≡ true) a.second_is in
     last_mark_is cell mark place acts.first acts.place (omega arith) a.before a.behind a.mark_is a.first_is a.free_before a.free_behind
 
 pub behind_of : (cell : List (Spanned TokenKind)) (place : ℕ) (mark : BrokenRhythm) → IsTimeAt cell place → mark_ahead (drop (place + 1) cell) ≡ Some mark → ActsBehind cell mark place
@@ -466,9 +467,9 @@ behind_to cell place mark acts =
     (λ j low high. unshifted cell (λ t. IsFree t.kind) (place + 1) j ((place + 1) + j) refl (a.free_behind ((place + 1) + j) (omega arith) (omega arith)))
 
 pub factors_act : (cell : List (Spanned TokenKind)) (place : ℕ) → IsTimeAt cell place
-    → AreFactors cell place (factors_of (behind_at cell place) (drop (place + 1) cell))
+    → AreFactors cell place (factors_of (preceding_at cell place) (drop (place + 1) cell))
 factors_act cell place h = record {
-  before = mark_behind (behind_at cell place);
+  before = mark_before (preceding_at cell place);
   behind = mark_ahead (drop (place + 1) cell);
   before_is = λ mark. (before_from cell place mark h, before_to cell place mark);
   behind_is = λ mark. (behind_of cell place mark h, behind_to cell place mark);

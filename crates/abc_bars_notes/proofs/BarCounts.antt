@@ -71,7 +71,7 @@ bars_exact num den n bar factor r found is accepted_is found_is ok g =
           found_is ∙ (ok_or_none r (record { 0 = g })).1 ((ok g).1 (subst (λ t. t) (sym lengths) plain, bars.short)),
     )
 
--- where the number is refused there are no such bars
+-- if the number is refused there are no such bars
 pub no_bars : (num den n : ℕ) (found : Option Grains) → HasMeterRange num den → ratio_of n 1 ≡ None → found ≡ None
     → (g : ℕ) → (found ≡ Some (record { 0 = g })) ↔ AreBars num den n g
 no_bars num den n found range e is g = (λ some. cc, λ bars. absurd (too_many num den n g range e bars))

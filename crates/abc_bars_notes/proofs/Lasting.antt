@@ -1,5 +1,6 @@
--- What is computed of a length is what the factors make that stand round it.
-use Rattle.std.proofs.Common.{◌≡◌, ◌∙◌, ℕ, zero, suc, ◌+◌, ◌-◌, ◌*◌, ◌^◌, ◌≤◌, ◌<◌, ◌↔◌, Bool, true, false, List, [], ◌∷◌, ◌++◌, length, drop, Option, Some, None, inl, inr, append-nil, refl, sym, ap, subst, ⊎_elim, lit≤, arith}
+-- What is computed of a length is what the factors make that are round it.
+use Rattle.std.proofs.Common.{◌≡◌, ◌∙◌, ℕ, zero, suc, ◌+◌, ◌-◌, ◌*◌, ◌^◌, ◌≤◌, ◌<◌, ◌↔◌, Bool, true, false, List, [], ◌∷◌, ◌++◌, length, drop, Option, Some, None, inl, inr, append-nil, refl, sym, ap}
+use Rattle.std.proofs.Common.{subst, ⊎_elim, lit≤, arith}
 use Rattle.std.specs.Prelude.{◌⊎◌, ◌&&◌, if◌then◌else◌, unwrap_or, option_map, option_to_list, option_and_then, All, IfSome, min, is_none}
 use Rattle.std.specs.List.{Contains, slice_index_or}
 use Rattle.std.specs.Result.{result_ok}
@@ -20,16 +21,17 @@ use Rattle.abc_time.specs.Grains.{grains_of_the_longest_length}
 use Rattle.abc_time.specs.Length.{IsLength, length_of}
 use Rattle.abc_time.specs.Ratio.{IsRatio}
 use Rattle.abc_time.proofs.LengthLaws.{length_of-Ok}
-use Rattle.abc_bars_voice.specs.declared.settings.Settings.{Settings}
-use Rattle.abc_bars_notes.specs.Acting.{ActsBefore, ActsBehind, behind_at}
+use Rattle.abc_bars_voice.specs.declared.voice_state.VoiceState.{VoiceState}
+use Rattle.abc_bars_notes.specs.Acting.{ActsBefore, ActsBehind, preceding_at}
 use Rattle.abc_fields.specs.Meter.{HasMeterRange}
 use Rattle.abc_bars_items.specs.declared.item.Item.{Item}
 use Rattle.abc_bars_notes.specs.BarRest.{AreBars, bar_grains, bars_of, or_one_bar}
 use Rattle.std.proofs.lemmas.List.Elements.{All-nil, All-cons}
 use Rattle.abc_bars_notes.proofs.BarCounts.{bars_exact, no_bars}
-use Rattle.abc_bars_notes.specs.Broken.{first_factor, second_factor, first_by, second_by, longer, shorter, parts_of, mark_behind, mark_ahead}
+use Rattle.abc_bars_notes.specs.Broken.{first_factor, second_factor, first_by, second_by, longer_ratio, shorter_ratio, parts_of, mark_before, mark_ahead}
 use Rattle.abc_bars_notes.specs.Lengths.{is_ratio_part, ratio_of, written_ratio, texts_of, length_by, or_unit}
-use Rattle.abc_bars_notes.specs.Lasting.{once, SaysFactor, IsOuterFactor, IsTupletFactor, IsLengthened, IsShortened, IsFirstFactor, IsSecondFactor, Lasts, IsPlace, factors_at, IsGiven, HasLengthFault, NotesLast, RestsLast, BarRestsLast, FreeBarRests}
+use Rattle.abc_bars_notes.specs.Lasting.{once, SaysFactor, IsOuterFactor, IsTupletFactor, IsLengthened, IsShortened, IsFirstFactor, IsSecondFactor, Lasts, IsPlace, factors_at, IsGiven, HasLengthFault}
+use Rattle.abc_bars_notes.specs.Lasting.{NotesLast, RestsLast, BarRestsLast, FreeBarRests}
 use Rattle.abc_bars_items.specs.declared.item.Item.TheVariants as items
 use Rattle.abc_bars_items.specs.Column.{column_of}
 use Rattle.abc_bars_notes.specs.Sound.{length_in, tone_in, key_in, fault_if}
@@ -86,7 +88,7 @@ record AreRatios (t b a : Option Ratio) : Type 0 where
   b_is : IfSome b IsRatio
   a_is : IfSome a IsRatio
 
--- what the text behind the chord says
+-- what the text after the chord says
 abbrev OuterIs : Option (Option Ratio) → Ratio → Type 0
 OuterIs None outer = outer ≡ once
 OuterIs (Some y) outer = y ≡ Some outer
@@ -182,35 +184,35 @@ two_to (suc (suc (suc (suc k)))) h = absurd (omega arith)
 parts_are : (mark : BrokenRhythm) → mark.marks ≤ 3 → ArePartsOf mark
 parts_are mark h = let e = two_to mark.marks h in record { is = e.0; least = e.1; most = e.2 }
 
-longer_range : (mark : BrokenRhythm) → mark.marks ≤ 3 → IsRatio (longer mark)
+longer_range : (mark : BrokenRhythm) → mark.marks ≤ 3 → IsRatio (longer_ratio mark)
 longer_range mark h =
     let few = parts_are mark h in let least = few.least in let most = few.most in
     record { num_least = omega arith; num_most = omega arith; den_least = omega arith; den_most = omega arith }
 
-shorter_range : (mark : BrokenRhythm) → mark.marks ≤ 3 → IsRatio (shorter mark)
+shorter_range : (mark : BrokenRhythm) → mark.marks ≤ 3 → IsRatio (shorter_ratio mark)
 shorter_range mark h =
     let few = parts_are mark h in let least = few.least in let most = few.most in
     record { num_least = omega arith; num_most = omega arith; den_least = omega arith; den_most = omega arith }
 
-longer_from : (mark : BrokenRhythm) → mark.marks ≤ 3 → IsLengthened mark.marks (longer mark)
+longer_from : (mark : BrokenRhythm) → mark.marks ≤ 3 → IsLengthened mark.marks (longer_ratio mark)
 longer_from mark h =
     let few = parts_are mark h in let least = few.least in let is = few.is in
     record { num = omega arith; den = is }
 
-longer_to : (mark : BrokenRhythm) (factor : Ratio) → mark.marks ≤ 3 → IsLengthened mark.marks factor → factor ≡ longer mark
+longer_to : (mark : BrokenRhythm) (factor : Ratio) → mark.marks ≤ 3 → IsLengthened mark.marks factor → factor ≡ longer_ratio mark
 longer_to mark factor h says =
     let few = parts_are mark h in let least = few.least in let is = few.is in
     let said : factor.num + 1 ≡ 2 * 2 ^ mark.marks = says.num in
     let num : factor.num ≡ 2 * parts_of mark - 1 = omega arith in
     λ i. record { num = num i; den = (says.den ∙ sym is) i }
 
-shorter_from : (mark : BrokenRhythm) → mark.marks ≤ 3 → IsShortened mark.marks (shorter mark)
+shorter_from : (mark : BrokenRhythm) → mark.marks ≤ 3 → IsShortened mark.marks (shorter_ratio mark)
 shorter_from mark h = record { num = refl; den = (parts_are mark h).is }
 
-shorter_to : (mark : BrokenRhythm) (factor : Ratio) → mark.marks ≤ 3 → IsShortened mark.marks factor → factor ≡ shorter mark
+shorter_to : (mark : BrokenRhythm) (factor : Ratio) → mark.marks ≤ 3 → IsShortened mark.marks factor → factor ≡ shorter_ratio mark
 shorter_to mark factor h says = λ i. record { num = says.num i; den = (says.den ∙ sym (parts_are mark h).is) i }
 
--- a mark makes this of the note before it, and of the one behind it
+-- a mark makes this of the note before it, and of the one after it
 record Says (direction : Direction) (mark : BrokenRhythm) : Type 0 where
   first_to : (factor : Ratio) → IsFirstFactor direction mark.marks factor → factor ≡ first_by direction mark
   first_from : IsFirstFactor direction mark.marks (first_by direction mark)
@@ -237,7 +239,7 @@ mark_says Left mark h = record {
   second_range = longer_range mark h;
 }
 
--- the factor of the mark that acts, where one does
+-- the factor of the mark that acts, if one does
 record Found (o : Option BrokenRhythm) (Acts : BrokenRhythm → Type 0) : Type 0 where
   to : (mark : BrokenRhythm) → Acts mark → o ≡ Some mark
   from : (mark : BrokenRhythm) → o ≡ Some mark → Acts mark
@@ -266,23 +268,23 @@ chosen_range None Acts by found is = tt
 chosen_range (Some mark) Acts by found is = is mark (found.few mark (found.from mark refl))
 
 -- at a place of a cell
-found_before : (settings : Settings) (cell : List (Spanned TokenKind)) (place : ℕ) → IsPlace settings cell place
-    → Found (mark_behind (behind_at cell place)) (λ mark. ActsBefore cell mark place)
-found_before settings cell place h = record {
+found_before : (state : VoiceState) (cell : List (Spanned TokenKind)) (place : ℕ) → IsPlace state cell place
+    → Found (mark_before (preceding_at cell place)) (λ mark. ActsBefore cell mark place)
+found_before state cell place h = record {
   to = before_to cell place;
   from = λ mark. before_from cell place mark h.time;
   few = λ mark acts. h.marks mark acts.place acts.acting.mark_is;
 }
 
-found_behind : (settings : Settings) (cell : List (Spanned TokenKind)) (place : ℕ) → IsPlace settings cell place
+found_behind : (state : VoiceState) (cell : List (Spanned TokenKind)) (place : ℕ) → IsPlace state cell place
     → Found (mark_ahead (drop (place + 1) cell)) (λ mark. ActsBehind cell mark place)
-found_behind settings cell place h = record {
+found_behind state cell place h = record {
   to = behind_to cell place;
   from = λ mark. behind_of cell place mark h.time;
   few = λ mark acts. h.marks mark acts.place acts.acting.mark_is;
 }
 
--- what is written behind a chord
+-- what is written after a chord
 outer_to : (outer : Option WrittenLength) (factor : Ratio) → IsOuterFactor outer factor → OuterIs (option_map written_ratio outer) factor
 outer_to None factor h = h
 outer_to (Some outer) factor h = says_ratio outer factor h
@@ -310,30 +312,31 @@ unit_range unit h =
 -- an accepted length, and one that is not
 accepted_by : (unit : Ratio) (found : Option Grains) (g : ℕ) → (or_unit unit found ≡ (record { 0 = g }, false)) ↔ (found ≡ Some (record { 0 = g }))
 accepted_by unit None g = (λ e. let no : true ≡ false = ap (λ (p : Grains × Bool). p.1) e in cc, λ e. cc)
-accepted_by unit (Some length) g = (λ e. let same : length ≡ record { 0 = g } = ap (λ (p : Grains × Bool). p.0) e in ap Some same, λ e. let same : length ≡ record { 0 = g } = cc in ap (λ l. (l, false)) same)
+accepted_by unit (Some length) g =
+    (λ e. let same : length ≡ record { 0 = g } = ap (λ (p : Grains × Bool). p.0) e in ap Some same, λ e. let same : length ≡ record { 0 = g } = cc in ap (λ l. (l, false)) same)
 
 -- what is computed is what the rule says
-pub length_lasts : (settings : Settings) (cell : List (Spanned TokenKind)) (place : ℕ) (own : WrittenLength) (outer : Option WrittenLength) (g : ℕ)
-    → IsPlace settings cell place
-    → (length_by settings.unit (texts_of own outer) (tuplet_factors settings.tuplet ++ factors_at cell place) ≡ Some (record { 0 = g }))
-    ↔ Lasts settings cell place own outer g
-length_lasts settings cell place own outer g h =
-    let before = mark_behind (behind_at cell place) in
+pub length_lasts : (state : VoiceState) (cell : List (Spanned TokenKind)) (place : ℕ) (own : WrittenLength) (outer : Option WrittenLength) (g : ℕ)
+    → IsPlace state cell place
+    → (length_by state.unit (texts_of own outer) (tuplet_factors state.tuplet ++ factors_at cell place) ≡ Some (record { 0 = g }))
+    ↔ Lasts state cell place own outer g
+length_lasts state cell place own outer g h =
+    let before = mark_before (preceding_at cell place) in
     let behind = mark_ahead (drop (place + 1) cell) in
-    let fb = found_before settings cell place h in
-    let fa = found_behind settings cell place h in
-    let t = option_map tuplet_ratio settings.tuplet in
+    let fb = found_before state cell place h in
+    let fa = found_behind state cell place h in
+    let t = option_map tuplet_ratio state.tuplet in
     let b = option_map second_factor before in
     let a = option_map first_factor behind in
     let ratios : AreRatios t b a = record {
-      t_is = tuplet_range settings.tuplet h.tuplet;
+      t_is = tuplet_range state.tuplet h.tuplet;
       b_is = chosen_range before (λ mark. ActsBefore cell mark place) second_factor fb (λ mark few. (mark_says mark.direction mark few).second_range);
       a_is = chosen_range behind (λ mark. ActsBehind cell mark place) first_factor fa (λ mark few. (mark_says mark.direction mark few).first_range);
     } in
-    let both = made settings.unit (unit_range settings.unit h.unit) t b a ratios (written_ratio own) (option_map written_ratio outer) g (written_range own (written_ratio own) refl) (outer_range outer) in
-    let computed : length_by settings.unit (texts_of own outer) (tuplet_factors settings.tuplet ++ factors_at cell place)
-    ≡ length_by settings.unit (texts (written_ratio own) (option_map written_ratio outer)) (rest t b a) =
-    λ i. length_by settings.unit (texts_are own outer i) (sym (tuplet_list settings.tuplet) i ++ factors_at cell place) in (
+    let both = made state.unit (unit_range state.unit h.unit) t b a ratios (written_ratio own) (option_map written_ratio outer) g (written_range own (written_ratio own) refl) (outer_range outer) in
+    let computed : length_by state.unit (texts_of own outer) (tuplet_factors state.tuplet ++ factors_at cell place)
+    ≡ length_by state.unit (texts (written_ratio own) (option_map written_ratio outer)) (rest t b a) =
+    λ i. length_by state.unit (texts_are own outer i) (sym (tuplet_list state.tuplet) i ++ factors_at cell place) in (
       λ e.
           let m = both.0 (sym computed ∙ e) in
           record {
@@ -344,14 +347,16 @@ length_lasts settings cell place own outer g h =
             behind_factor = unwrap_or a once;
             own_is = ratio_says own m.w m.w_is;
             outer_is = outer_from outer m.outer m.outer_is;
-            tuplet_is = tuplet_from settings.tuplet;
-            before_is = chosen_from before (λ mark. ActsBefore cell mark place) (λ mark factor. IsSecondFactor mark.direction mark.marks factor) second_factor fb (λ mark few. (mark_says mark.direction mark few).second_from);
-            behind_is = chosen_from behind (λ mark. ActsBehind cell mark place) (λ mark factor. IsFirstFactor mark.direction mark.marks factor) first_factor fa (λ mark few. (mark_says mark.direction mark few).first_from);
+            tuplet_is = tuplet_from state.tuplet;
+            before_is = chosen_from before (λ mark. ActsBefore cell mark place) (λ mark factor. IsSecondFactor mark.direction mark.marks
+                factor) second_factor fb (λ mark few. (mark_says mark.direction mark few).second_from);
+            behind_is = chosen_from behind (λ mark. ActsBehind cell mark place) (λ mark factor. IsFirstFactor mark.direction mark.marks
+                factor) first_factor fa (λ mark few. (mark_says mark.direction mark few).first_from);
             exact = m.exact;
             short = m.short;
           },
       λ l.
-          let te = tuplet_to settings.tuplet l.tuplet_factor l.tuplet_is in
+          let te = tuplet_to state.tuplet l.tuplet_factor l.tuplet_is in
           let be = chosen_to before (λ mark. ActsBefore cell mark place) (λ mark factor. IsSecondFactor mark.direction mark.marks factor) second_factor l.before_factor fb
           (λ mark few. (mark_says mark.direction mark few).second_to l.before_factor) l.before_is in
           let ae = chosen_to behind (λ mark. ActsBehind cell mark place) (λ mark factor. IsFirstFactor mark.direction mark.marks factor) first_factor l.behind_factor fa
@@ -361,7 +366,7 @@ length_lasts settings cell place own outer g h =
             outer = l.outer_factor;
             w_is = says_ratio own l.own_factor l.own_is;
             outer_is = outer_to outer l.outer_factor l.outer_is;
-            exact = subst (λ (f : Ratio × Ratio × Ratio). IsLength settings.unit (five l.own_factor l.outer_factor f.0 f.1 f.2) g) (λ i. (te i, be i, ae i)) l.exact;
+            exact = subst (λ (f : Ratio × Ratio × Ratio). IsLength state.unit (five l.own_factor l.outer_factor f.0 f.1 f.2) g) (λ i. (te i, be i, ae i)) l.exact;
             short = l.short;
           }),
     )
@@ -394,32 +399,32 @@ fault_by unit (Some length) Lasting column silent is = (
 )
 
 pub notes_last : NotesLast
-notes_last settings cell place from note tied h =
+notes_last state cell place from note tied h =
     let broken = factors_at cell place in
-    let found = length_by settings.unit (texts_of note.length None) (tuplet_factors settings.tuplet ++ broken) in
-    let Lasting : ℕ → Type 0 = Lasts settings cell place note.length None in
-    let is : (g : ℕ) → (found ≡ Some (record { 0 = g })) ↔ Lasting g = λ g. length_lasts settings cell place note.length None g h in
-    let tone = tone_in settings settings.accidentals broken None note tied in (
+    let found = length_by state.unit (texts_of note.length None) (tuplet_factors state.tuplet ++ broken) in
+    let Lasting : ℕ → Type 0 = Lasts state cell place note.length None in
+    let is : (g : ℕ) → (found ≡ Some (record { 0 = g })) ↔ Lasting g = λ g. length_lasts state cell place note.length None g h in
+    let tone = tone_in state state.accidentals broken None note tied in (
       items.Tone (tone ∷ []) tone.length,
       tone.length,
       refl,
       (refl, refl),
-      given_by settings.unit found Lasting h.unit is,
-      fault_by settings.unit found Lasting (column_of from) (is_none (key_in settings settings.accidentals note)) is,
+      given_by state.unit found Lasting h.unit is,
+      fault_by state.unit found Lasting (column_of from) (is_none (key_in state state.accidentals note)) is,
     )
 
 pub rests_last : RestsLast
-rests_last settings cell place from written h =
+rests_last state cell place from written h =
     let broken = factors_at cell place in
-    let found = length_by settings.unit (texts_of written None) (tuplet_factors settings.tuplet ++ broken) in
-    let Lasting : ℕ → Type 0 = Lasts settings cell place written None in
-    let is : (g : ℕ) → (found ≡ Some (record { 0 = g })) ↔ Lasting g = λ g. length_lasts settings cell place written None g h in (
-      (length_in settings broken written None).0,
+    let found = length_by state.unit (texts_of written None) (tuplet_factors state.tuplet ++ broken) in
+    let Lasting : ℕ → Type 0 = Lasts state cell place written None in
+    let is : (g : ℕ) → (found ≡ Some (record { 0 = g })) ↔ Lasting g = λ g. length_lasts state cell place written None g h in (
+      (length_in state broken written None).0,
       refl,
-      given_by settings.unit found Lasting h.unit is,
+      given_by state.unit found Lasting h.unit is,
       (
-        λ there. (fault_by settings.unit found Lasting (column_of from) false is).0 (subst (λ l. Contains l (column_of from, BadLength)) (sym (append-nil _)) there),
-        λ none. subst (λ l. Contains l (column_of from, BadLength)) (append-nil _) ((fault_by settings.unit found Lasting (column_of from) false is).1 none),
+        λ there. (fault_by state.unit found Lasting (column_of from) false is).0 (subst (λ l. Contains l (column_of from, BadLength)) (sym (append-nil _)) there),
+        λ none. subst (λ l. Contains l (column_of from, BadLength)) (append-nil _) ((fault_by state.unit found Lasting (column_of from) false is).1 none),
       ),
     )
 

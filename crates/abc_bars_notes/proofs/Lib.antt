@@ -5,7 +5,7 @@ pub mod ChordKeys
 pub mod ChordNotes
 pub mod ChordTones
 pub mod Factors
-pub mod InsideLoop
+pub mod ChordLoop
 pub mod Lasting
 pub mod LooseTies
 pub mod NoteKeys

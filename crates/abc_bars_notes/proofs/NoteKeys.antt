@@ -13,7 +13,7 @@ use Rattle.abc_text.specs.declared.accidental.Accidental.{Accidental}
 use Rattle.abc_text.specs.Accidental.{alteration as accidental_alteration}
 use Rattle.abc_text.specs.Letter.{capital}
 use Rattle.abc_bars_voice.specs.declared.accidentals.Accidentals.{Accidentals}
-use Rattle.abc_bars_voice.specs.declared.settings.Settings.{Settings}
+use Rattle.abc_bars_voice.specs.declared.voice_state.VoiceState.{VoiceState}
 use Rattle.abc_bars_voice.specs.declared.tied.TiedNote.{TiedNote}
 use Rattle.abc_bars_voice.specs.Accidentals.{written_on}
 use Rattle.abc_bars_voice.specs.Alteration.{alteration_of, goes_on_in, tied_alteration}
@@ -44,7 +44,8 @@ none_found note [] h = refl
 none_found note (first ∷ tied) h =
     ap (find (goes_on_in note)) (reverse-append (first ∷ []) tied)
     ∙ find-append (goes_on_in note) (reverse tied) (first ∷ [])
-    ∙ (λ i. option_or (none_found note tied (All-tail (λ other. ¬ IsSame note other) first tied h) i) (one note first false (false_by (goes_on_in note first) (λ e. All-head (λ other. ¬ IsSame note other) first tied h (same_by note first e))) i))
+    ∙ (λ i. option_or (none_found note tied (All-tail (λ other. ¬ IsSame note other) first tied h) i)
+    (one note first false (false_by (goes_on_in note first) (λ e. All-head (λ other. ¬ IsSame note other) first tied h (same_by note first e))) i))
 
 last_found : (note : Note) (before behind : List TiedNote) (tied : TiedNote) → IsSame note tied → All (λ other. ¬ IsSame note other) behind
     → find (goes_on_in note) (reverse (before ++ tied ∷ behind)) ≡ Some tied
@@ -55,26 +56,26 @@ last_found note before behind tied same h =
     (find-append (goes_on_in note) (reverse behind) (tied ∷ [])
     ∙ (λ i. option_or (none_found note behind h i) (one note tied true (same_to note tied same) i)))
 
-pub altered_by : (settings : Settings) (accidentals : Accidentals) (note : Note) → IsAltered settings accidentals note (alteration_of settings accidentals note)
-altered_by settings accidentals note =
-    let signature = signature_alteration settings.signature note.letter in
-    let behind_own : ℤ = unwrap_or (written_on accidentals note) (unwrap_or (tied_alteration settings.tied note) signature) in
-    let no_own : note.accidental ≡ None → alteration_of settings accidentals note ≡ behind_own =
+pub altered_by : (state : VoiceState) (accidentals : Accidentals) (note : Note) → IsAltered state accidentals note (alteration_of state accidentals note)
+altered_by state accidentals note =
+    let signature = signature_alteration state.signature note.letter in
+    let behind_own : ℤ = unwrap_or (written_on accidentals note) (unwrap_or (tied_alteration state.tied note) signature) in
+    let no_own : note.accidental ≡ None → alteration_of state accidentals note ≡ behind_own =
     λ e. ap (λ (a : Option Accidental). unwrap_or (option_map accidental_alteration a) behind_own) e in
-    let no_written : written_on accidentals note ≡ None → behind_own ≡ unwrap_or (tied_alteration settings.tied note) signature =
-    λ e. ap (λ w. unwrap_or w (unwrap_or (tied_alteration settings.tied note) signature)) e in
+    let no_written : written_on accidentals note ≡ None → behind_own ≡ unwrap_or (tied_alteration state.tied note) signature =
+    λ e. ap (λ w. unwrap_or w (unwrap_or (tied_alteration state.tied note) signature)) e in
     record {
       own = λ accidental e. ap (λ (a : Option Accidental). unwrap_or (option_map accidental_alteration a) behind_own) e;
-      written = λ last e f. no_own e ∙ ap (λ w. unwrap_or w (unwrap_or (tied_alteration settings.tied note) signature)) f;
+      written = λ last e f. no_own e ∙ ap (λ w. unwrap_or w (unwrap_or (tied_alteration state.tied note) signature)) f;
       tied = λ before behind tied e f is same h.
           no_own e ∙ no_written f
           ∙ ap (λ o. unwrap_or (option_map (λ (t : TiedNote). t.alteration) o) signature)
           (ap (λ l. find (goes_on_in note) (reverse l)) is ∙ last_found note before behind tied same h);
       signature = λ e f h.
           no_own e ∙ no_written f
-          ∙ ap (λ o. unwrap_or (option_map (λ (t : TiedNote). t.alteration) o) signature) (none_found note settings.tied h);
+          ∙ ap (λ o. unwrap_or (option_map (λ (t : TiedNote). t.alteration) o) signature) (none_found note state.tied h);
     }
 
 pub notes_sound_their_keys : NotesSoundTheirKeys
-notes_sound_their_keys settings broken from note tied =
-    (alteration_of settings settings.accidentals note, tone_in settings settings.accidentals broken None note tied, altered_by settings settings.accidentals note, refl, refl)
+notes_sound_their_keys state broken from note tied =
+    (alteration_of state state.accidentals note, tone_in state state.accidentals broken None note tied, altered_by state state.accidentals note, refl, refl)

@@ -1,38 +1,39 @@
 -- Broken rhythm apart from how it is read: which marks of a cell act, and on what. ABC 2.1 section 4.4.
-use Rattle.std.specs.Prelude.{◌≡◌, ◌<◌, ◌↔◌, ℕ, ◌+◌, Bool, true, false, List, ◌++◌, take, drop, slice_get, IsSomeAnd, Option, Some, option_map, option_to_list}
+use Rattle.std.specs.Prelude.{◌≡◌, ◌<◌, ◌↔◌, ℕ, ◌+◌, Bool, true, false, List, ◌++◌, take, drop, slice_get, IsSomeAnd, Option, Some}
+use Rattle.std.specs.Prelude.{option_map, option_to_list}
 use Rattle.abc_scan.specs.declared.broken.BrokenRhythm.{BrokenRhythm}
 use Rattle.abc_scan.specs.declared.spanned.Spanned.{Spanned}
 use Rattle.abc_scan.specs.declared.token.TokenKind.{TokenKind}
 use Rattle.abc_scan.specs.declared.token.TokenKind.TheVariants as kinds
 use Rattle.abc_time.specs.declared.ratio.Ratio.{Ratio}
-use Rattle.abc_bars_notes.specs.declared.broken.Behind.{Behind}
-use Rattle.abc_bars_notes.specs.declared.broken.Behind.TheVariants as behinds
-use Rattle.abc_bars_notes.specs.Broken.{is_time_token, behind_from, first_factor, second_factor, factors_of, is_bad_mark}
+use Rattle.abc_bars_notes.specs.declared.broken.Preceding.{Preceding}
+use Rattle.abc_bars_notes.specs.declared.broken.Preceding.TheVariants as precedings
+use Rattle.abc_bars_notes.specs.Broken.{is_time_token, preceding_from, first_factor, second_factor, factors_of, is_bad_mark}
 use Rattle.abc_bars_notes.specs.TokenRole.{hinders_marks, token_role}
 
 -- Whether no mark reaches over a token.
 abbrev pub hinders : TokenKind → Bool
 hinders kind = hinders_marks (token_role kind)
 
--- A time token stands at a place of a cell.
+-- A time token is at a place of a cell.
 abbrev pub IsTimeAt : List (Spanned TokenKind) → ℕ → Type 0
 IsTimeAt cell place = IsSomeAnd (slice_get cell place) (λ token. is_time_token token.kind ≡ true)
 
--- This mark stands at a place of a cell.
+-- This mark is at a place of a cell.
 abbrev pub IsMarkAt : List (Spanned TokenKind) → ℕ → BrokenRhythm → Type 0
 IsMarkAt cell place mark = IsSomeAnd (slice_get cell place) (λ token. token.kind ≡ kinds.Broken mark)
 
--- At a place of a cell stands neither a time token nor anything that hinders.
+-- At a place of a cell is neither a time token nor anything that hinders.
 abbrev pub IsFreeAt : List (Spanned TokenKind) → ℕ → Type 0
 IsFreeAt cell place =
     IsSomeAnd (slice_get cell place) (λ token. (is_time_token token.kind ≡ false) × (hinders token.kind ≡ false))
 
--- Between two places of a cell stands neither a time token nor anything that hinders.
+-- Between two places of a cell is neither a time token nor anything that hinders.
 abbrev pub AreFreeBetween : List (Spanned TokenKind) → ℕ → ℕ → Type 0
 AreFreeBetween cell low high = (k : ℕ) → low < k → k < high → IsFreeAt cell k
 
--- A mark acts on the last time token before it and on the next one behind it in its cell, where nothing
--- that hinders stands between. Not in ABC 2.1.
+-- A mark acts on the last time token before it and on the next one after it in its cell, where nothing
+-- that hinders is between. Not in ABC 2.1.
 pub record IsActing (cell : List (Spanned TokenKind)) (mark : BrokenRhythm) (first place second : ℕ) : Type 0 where
   pub mark_is : IsMarkAt cell place mark
   pub first_is : IsTimeAt cell first
@@ -69,16 +70,16 @@ pub record AreFactors (cell : List (Spanned TokenKind)) (place : ℕ) (factors :
   pub behind_is : (mark : BrokenRhythm) → (behind ≡ Some mark) ↔ ActsBehind cell mark place
   pub factors_are : factors ≡ option_to_list (option_map second_factor before) ++ option_to_list (option_map first_factor behind)
 
--- What stands nearest before a place of a cell, of what matters.
-abbrev pub behind_at : List (Spanned TokenKind) → ℕ → Behind
-behind_at cell place = behind_from behinds.Nothing (take place cell)
+-- What is nearest before a place of a cell, of what matters.
+abbrev pub preceding_at : List (Spanned TokenKind) → ℕ → Preceding
+preceding_at cell place = preceding_from precedings.Nothing (take place cell)
 
--- A mark at any place of any cell is good where it acts.
+-- A mark at any place of any cell is good if it acts.
 abbrev pub ActsAsRead : Type 0
 ActsAsRead = (cell : List (Spanned TokenKind)) (place : ℕ) (mark : BrokenRhythm) → IsMarkAt cell place mark
-    → (is_bad_mark (behind_at cell place) (drop (place + 1) cell) ≡ false) ↔ Acts cell mark place
+    → (is_bad_mark (preceding_at cell place) (drop (place + 1) cell) ≡ false) ↔ Acts cell mark place
 
 -- A time token at any place of any cell has the factors that are read.
 abbrev pub GivesFactorsAsRead : Type 0
 GivesFactorsAsRead = (cell : List (Spanned TokenKind)) (place : ℕ) → IsTimeAt cell place
-    → AreFactors cell place (factors_of (behind_at cell place) (drop (place + 1) cell))
+    → AreFactors cell place (factors_of (preceding_at cell place) (drop (place + 1) cell))

@@ -22,7 +22,7 @@ abbrev pub bars_of : ℕ → ℕ → ℕ → Option Grains
 bars_of num den n =
     option_and_then (λ factor. result_ok (length_of (record { num = num; den = den }) (factor ∷ []))) (ratio_of n 1)
 
--- So many bars, one at least, are exactly so many grains, and not above 1,024 whole notes.
+-- `bars` bars, at least one, are exactly `g` grains, and at most 1,024 whole notes.
 pub record AreBars (num den n g : ℕ) : Type 0 where
   pub some : 1 ≤ n
   pub exact : g * den ≡ grains_of_a_whole_note * (num * n)
@@ -33,7 +33,7 @@ abbrev pub or_one_bar : ℕ → ℕ → Option Grains → Grains × Option Fault
 or_one_bar num den None = (bar_grains num den, Some BadLength)
 or_one_bar num den (Some length) = (length, None)
 
--- How long a rest of so many bars is, one bar where no number is written, and its fault. In free meter it
+-- The length of a rest of bars, one bar if no number is written, and its fault. In free meter it
 -- takes no time, whatever the number is, which is not in ABC 2.1.
 abbrev pub bar_rest_length : Meter → Option ℕ → Grains × Option FaultCode
 bar_rest_length Free bars = (record { 0 = 0 }, Some FreeBarRest)

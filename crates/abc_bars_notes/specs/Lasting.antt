@@ -1,6 +1,7 @@
--- How long notes and rests last, by what stands round them: apart from how it is computed.
+-- How long notes and rests last, by what is round them: apart from how it is computed.
 -- ABC 2.1 sections 4.3, 4.4, 4.5 and 4.13.
-use Rattle.std.specs.Prelude.{◌≡◌, ◌≤◌, ◌↔◌, ◌⊎◌, ℕ, ◌+◌, ◌*◌, ◌^◌, Bool, true, false, List, [], ◌∷◌, drop, Option, Some, None, IfSome}
+use Rattle.std.specs.Prelude.{◌≡◌, ◌≤◌, ◌↔◌, ◌⊎◌, ℕ, ◌+◌, ◌*◌, ◌^◌, Bool, true, false, List, [], ◌∷◌, drop, Option, Some, None}
+use Rattle.std.specs.Prelude.{IfSome}
 use Rattle.std.specs.List.{Contains}
 use Rattle.abc_fields.specs.declared.fault.FaultCode.{FaultCode}
 use Rattle.abc_fields.specs.declared.fault.FaultCode.TheVariants.{BadLength, FreeBarRest}
@@ -22,12 +23,12 @@ use Rattle.abc_time.specs.Ratio.{IsRatio}
 use Rattle.abc_bars_notes.specs.declared.broken.TheConstants.{MOST_MARKS}
 use Rattle.abc_bars_items.specs.declared.item.Item.{Item}
 use Rattle.abc_bars_items.specs.declared.item.Item.TheVariants as items
-use Rattle.abc_bars_voice.specs.declared.settings.Settings.{Settings}
-use Rattle.abc_bars_notes.specs.Acting.{IsTimeAt, IsMarkAt, ActsBefore, ActsBehind, behind_at}
+use Rattle.abc_bars_voice.specs.declared.voice_state.VoiceState.{VoiceState}
+use Rattle.abc_bars_notes.specs.Acting.{IsTimeAt, IsMarkAt, ActsBefore, ActsBehind, preceding_at}
 use Rattle.abc_bars_notes.specs.BarRest.{AreBars, bar_rest_of}
 use Rattle.abc_bars_notes.specs.Broken.{factors_of}
 use Rattle.abc_bars_items.specs.Column.{column_of}
-use Rattle.abc_bars_notes.specs.TimeTokens.{note_played, rest_played, first_length}
+use Rattle.abc_bars_notes.specs.TimeTokens.{play_note, play_rest, first_length}
 use Rattle.abc_bars_voice.specs.Tuplet.{IsOpen, OpenTuplet}
 use Rattle.abc_bars_voice.specs.Unit.{IsUnitPart}
 
@@ -41,7 +42,7 @@ pub record SaysFactor (written : WrittenLength) (factor : Ratio) : Type 0 where
   pub says : written ≡ Factor factor.num factor.den
   pub range : IsRatio factor
 
--- What is written behind a chord multiplies each of its notes. ABC 2.1 section 4.17.
+-- What is written after a chord multiplies each of its notes. ABC 2.1 section 4.17.
 abbrev pub IsOuterFactor : Option WrittenLength → Ratio → Type 0
 IsOuterFactor None factor = factor ≡ once
 IsOuterFactor (Some outer) factor = SaysFactor outer factor
@@ -66,7 +67,7 @@ abbrev pub IsFirstFactor : Direction → ℕ → Ratio → Type 0
 IsFirstFactor Right k factor = IsLengthened k factor
 IsFirstFactor Left k factor = IsShortened k factor
 
--- `>` shortens the note behind it, `<` lengthens it.
+-- `>` shortens the note after it, `<` lengthens it.
 abbrev pub IsSecondFactor : Direction → ℕ → Ratio → Type 0
 IsSecondFactor Right k factor = IsShortened k factor
 IsSecondFactor Left k factor = IsLengthened k factor
@@ -83,10 +84,11 @@ IsFactorBehind cell place factor =
     (((mark : BrokenRhythm) → ¬ ActsBehind cell mark place) × (factor ≡ once))
     ⊎ ((mark : BrokenRhythm) × ActsBehind cell mark place × IsFirstFactor mark.direction mark.marks factor)
 
--- What is written so, and so behind its chord, at a place of a cell is g grains long: the unit times what is written,
--- what is written behind the chord, and what the tuplet and the marks of broken rhythm say that act there, exactly,
+-- What is written so, and so after its chord, at a place of a cell is g grains long: the unit times what is written,
+-- what is written after the chord, and what the tuplet and the marks of broken rhythm say that act there, exactly,
 -- and not above 1,024 whole notes. The bound is not in ABC 2.1.
-pub record Lasts (settings : Settings) (cell : List (Spanned TokenKind)) (place : ℕ) (own : WrittenLength) (outer : Option WrittenLength) (g : ℕ) : Type 0 where
+pub record Lasts (state : VoiceState) (cell : List (Spanned
+    TokenKind)) (place : ℕ) (own : WrittenLength) (outer : Option WrittenLength) (g : ℕ) : Type 0 where
   pub own_factor : Ratio
   pub outer_factor : Ratio
   pub tuplet_factor : Ratio
@@ -94,10 +96,10 @@ pub record Lasts (settings : Settings) (cell : List (Spanned TokenKind)) (place 
   pub behind_factor : Ratio
   pub own_is : SaysFactor own own_factor
   pub outer_is : IsOuterFactor outer outer_factor
-  pub tuplet_is : IsTupletFactor settings.tuplet tuplet_factor
+  pub tuplet_is : IsTupletFactor state.tuplet tuplet_factor
   pub before_is : IsFactorBefore cell place before_factor
   pub behind_is : IsFactorBehind cell place behind_factor
-  pub exact : IsLength settings.unit (own_factor ∷ outer_factor ∷ tuplet_factor ∷ before_factor ∷ behind_factor ∷ []) g
+  pub exact : IsLength state.unit (own_factor ∷ outer_factor ∷ tuplet_factor ∷ before_factor ∷ behind_factor ∷ []) g
   pub short : g ≤ grains_of_the_longest_length
 
 -- A length as it is given: the one that the rule says, else that of one unit, which is not in ABC 2.1.
@@ -105,54 +107,57 @@ pub record IsGiven (Lasting : ℕ → Type 0) (unit : Ratio) (length : Grains) :
   pub accepted : (g : ℕ) → Lasting g → length.0 ≡ g
   pub refused : ((g : ℕ) → ¬ Lasting g) → IsLength unit [] length.0
 
--- BadLength stands at the column exactly where the rule says no length. Not in ABC 2.1.
+-- BadLength is at the column exactly if the rule says no length. Not in ABC 2.1.
 abbrev pub HasLengthFault : (ℕ → Type 0) → ℕ → List (ℕ × FaultCode) → Type 0
 HasLengthFault Lasting column faults = Contains faults (column, BadLength) ↔ ((g : ℕ) → ¬ Lasting g)
 
--- A place of a cell at which a note, chord or rest stands, in a cell whose marks are as a text has them, of which there
+-- A place of a cell with a note, chord or rest, in a cell whose marks are as a text has them, of which there
 -- are three together at most; and what holds there is what a voice can hold.
-pub record IsPlace (settings : Settings) (cell : List (Spanned TokenKind)) (place : ℕ) : Type 0 where
+pub record IsPlace (state : VoiceState) (cell : List (Spanned TokenKind)) (place : ℕ) : Type 0 where
   pub time : IsTimeAt cell place
   pub marks : (mark : BrokenRhythm) (at : ℕ) → IsMarkAt cell at mark → mark.marks ≤ MOST_MARKS
-  pub unit : IsUnitPart settings.unit
-  pub tuplet : IfSome settings.tuplet IsOpen
+  pub unit : IsUnitPart state.unit
+  pub tuplet : IfSome state.tuplet IsOpen
 
 -- The factors of broken rhythm as they are read at a place of a cell.
 abbrev pub factors_at : List (Spanned TokenKind) → ℕ → List Ratio
-factors_at cell place = factors_of (behind_at cell place) (drop (place + 1) cell)
+factors_at cell place = factors_of (preceding_at cell place) (drop (place + 1) cell)
 
 -- An item is one tone of this length, and takes so long.
 abbrev pub IsOneTone : Item → Grains → Type 0
 IsOneTone (items.Tone tones length) given = (length ≡ given) × (first_length tones ≡ given)
 IsOneTone _ given = ⊥
 
--- A note is as long as the rule says, and has BadLength where it says nothing.
+-- A note is as long as the rule says, and has BadLength if it says nothing.
 abbrev pub NotesLast : Type 0
 NotesLast =
-    (settings : Settings) (cell : List (Spanned TokenKind)) (place from : ℕ) (note : Note) (tied : Bool) → IsPlace settings cell place
+    (state : VoiceState) (cell : List (Spanned TokenKind)) (place from : ℕ) (note : Note) (tied : Bool) → IsPlace state cell place
     → (item : Item) × (given : Grains)
-    × ((note_played settings (factors_at cell place) tied from note).items ≡ item ∷ [])
+    × ((play_note state (factors_at cell place) tied from note).items ≡ item ∷ [])
     × IsOneTone item given
-    × IsGiven (Lasts settings cell place note.length None) settings.unit given
-    × HasLengthFault (Lasts settings cell place note.length None) (column_of from) (note_played settings (factors_at cell place) tied from note).faults
+    × IsGiven (Lasts state cell place note.length None) state.unit given
+    × HasLengthFault (Lasts state cell place note.length None) (column_of from) (play_note state (factors_at cell place) tied from
+    note).faults
 
--- A rest is as long as the rule says, and has BadLength where it says nothing.
+-- A rest is as long as the rule says, and has BadLength if it says nothing.
 abbrev pub RestsLast : Type 0
 RestsLast =
-    (settings : Settings) (cell : List (Spanned TokenKind)) (place from : ℕ) (written : WrittenLength) → IsPlace settings cell place
+    (state : VoiceState) (cell : List (Spanned TokenKind)) (place from : ℕ) (written : WrittenLength) → IsPlace state cell place
     → (given : Grains)
-    × ((rest_played settings (factors_at cell place) from written).items ≡ items.Rest given false ∷ [])
-    × IsGiven (Lasts settings cell place written None) settings.unit given
-    × HasLengthFault (Lasts settings cell place written None) (column_of from) (rest_played settings (factors_at cell place) from written).faults
+    × ((play_rest state (factors_at cell place) from written).items ≡ items.Rest given false ∷ [])
+    × IsGiven (Lasts state cell place written None) state.unit given
+    × HasLengthFault (Lasts state cell place written None) (column_of from) (play_rest state (factors_at cell place) from
+    written).faults
 
--- What a rest of bars gives in a meter: the item of one bar where no number is written, the item of so many bars, which
--- take so many times as long, and where that is no length that of one bar and BadLength. What is refused is not in ABC 2.1.
+-- The item of a rest of bars in a meter: one bar if no number is written, else that number of bars, which
+-- take that many times as long; if that is no length, one bar and BadLength. What is refused is not in ABC 2.1.
 pub record RestsForBars (num den : ℕ) : Type 0 where
   pub bar : ℕ
   pub bar_is : AreBars num den 1 bar
   pub alone : bar_rest_of (Of num den) None ≡ (items.Rest (record { 0 = bar }) true, None)
   pub counted : (n g : ℕ) → AreBars num den n g → bar_rest_of (Of num den) (Some n) ≡ (items.Rest (record { 0 = g }) true, None)
-  pub refused : (n : ℕ) → ((g : ℕ) → ¬ AreBars num den n g) → bar_rest_of (Of num den) (Some n) ≡ (items.Rest (record { 0 = bar }) true, Some BadLength)
+  pub refused : (n : ℕ) → ((g : ℕ) → ¬ AreBars num den n g) → bar_rest_of (Of num den) (Some n)
+      ≡ (items.Rest (record { 0 = bar }) true, Some BadLength)
 
 -- A rest of bars lasts as many bars as it says.
 abbrev pub BarRestsLast : Type 0

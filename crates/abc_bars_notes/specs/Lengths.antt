@@ -1,5 +1,6 @@
 -- Lengths of notes and rests. ABC 2.1 section 4.3.
-use Rattle.std.specs.Prelude.{◌≤◌, ℕ, ◌&&◌, nat_le, Bool, true, false, if◌then◌else◌, List, [], ◌∷◌, ◌++◌, Option, Some, None, option_map, option_and_then, IsSomeAnd}
+use Rattle.std.specs.Prelude.{◌≤◌, ℕ, ◌&&◌, nat_le, Bool, true, false, if◌then◌else◌, List, [], ◌∷◌, ◌++◌, Option, Some, None}
+use Rattle.std.specs.Prelude.{option_map, option_and_then, IsSomeAnd}
 use Rattle.std.specs.Result.{result_ok}
 use Rattle.abc_scan.specs.declared.length.WrittenLength.{WrittenLength}
 use Rattle.abc_scan.specs.declared.length.WrittenLength.TheVariants.{Factor, Refused}
@@ -14,7 +15,7 @@ use Rattle.abc_bars_voice.specs.Unit.{unit_grains}
 abbrev pub is_ratio_part : ℕ → Bool
 is_ratio_part n = nat_le 1 n && nat_le n LARGEST_NUMBER
 
--- The ratio of two numbers, where both are in range.
+-- The ratio of two numbers, if both are in range.
 abbrev pub ratio_of : ℕ → ℕ → Option Ratio
 ratio_of num den = if is_ratio_part num && is_ratio_part den then Some (record { num = num; den = den }) else None
 
@@ -23,18 +24,18 @@ abbrev pub written_ratio : WrittenLength → Option Ratio
 written_ratio (Factor num den) = ratio_of num den
 written_ratio Refused = None
 
--- The factors of a note's own length text, and of that behind its chord.
+-- The factors of a note's own length text, and of that after its chord.
 abbrev pub texts_of : WrittenLength → Option WrittenLength → List (Option Ratio)
 texts_of own None = written_ratio own ∷ []
 texts_of own (Some outer) = written_ratio own ∷ written_ratio outer ∷ []
 
--- The ratios, where none is wanting.
+-- The ratios, if none is wanting.
 abbrev pub all_ratios : List (Option Ratio) → Option (List Ratio)
 all_ratios [] = Some []
 all_ratios (None ∷ rest) = None
 all_ratios (Some ratio ∷ rest) = option_map (λ ratios. ratio ∷ ratios) (all_ratios rest)
 
--- The unit times the factors of texts and those of its place, where no text is refused and the product is
+-- The unit times the factors of texts and those of its place, if no text is refused and the product is
 -- a whole number of grains and not above 1,024 whole notes. Not in ABC 2.1.
 abbrev pub length_by : Ratio → List (Option Ratio) → List Ratio → Option Grains
 length_by unit texts factors = option_and_then (λ written. result_ok (length_of unit (written ++ factors))) (all_ratios texts)

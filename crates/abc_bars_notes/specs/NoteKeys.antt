@@ -9,32 +9,32 @@ use Rattle.abc_time.specs.declared.ratio.Ratio.{Ratio}
 use Rattle.abc_bars_voice.specs.declared.accidentals.Accidentals.{Accidentals}
 use Rattle.abc_bars_items.specs.declared.item.Item.TheVariants as items
 use Rattle.abc_bars_items.specs.declared.item.Tone.{Tone}
-use Rattle.abc_bars_voice.specs.declared.settings.Settings.{Settings}
+use Rattle.abc_bars_voice.specs.declared.voice_state.VoiceState.{VoiceState}
 use Rattle.abc_bars_voice.specs.declared.tied.TiedNote.{TiedNote}
 use Rattle.abc_bars_voice.specs.Accidentals.{written_on}
 use Rattle.abc_bars_notes.specs.Pitch.{midi_key, pitch_of}
-use Rattle.abc_bars_notes.specs.TimeTokens.{note_played}
+use Rattle.abc_bars_notes.specs.TimeTokens.{play_note}
 
 -- A tied note has the letter and the octave of a note, as they are written.
 abbrev pub IsSame : Note → TiedNote → Type 0
 IsSame note tied = (capital tied.letter ≡ capital note.letter) × (tied.octave ≡ note.octave)
 
--- What alters a note: its own accidental; else the last one that reaches it, where these hold in its voice; else what altered
+-- What alters a note: its own accidental; else the last one that reaches it, if these hold in its voice; else what altered
 -- the last tied note of its letter and octave in the time token before; else the signature. That of a tied note is
--- our own.
-pub record IsAltered (settings : Settings) (accidentals : Accidentals) (note : Note) (by : ℤ) : Type 0 where
+-- not in ABC 2.1.
+pub record IsAltered (state : VoiceState) (accidentals : Accidentals) (note : Note) (by : ℤ) : Type 0 where
   pub own : (accidental : Accidental) → note.accidental ≡ Some accidental → by ≡ accidental_alteration accidental
   pub written : (last : ℤ) → note.accidental ≡ None → written_on accidentals note ≡ Some last → by ≡ last
   pub tied : (before behind : List TiedNote) (tied : TiedNote) → note.accidental ≡ None → written_on accidentals note ≡ None
-      → settings.tied ≡ before ++ tied ∷ behind → IsSame note tied → All (λ other. ¬ IsSame note other) behind → by ≡ tied.alteration
-  pub signature : note.accidental ≡ None → written_on accidentals note ≡ None → All (λ other. ¬ IsSame note other) settings.tied
-      → by ≡ signature_alteration settings.signature note.letter
+      → state.tied ≡ before ++ tied ∷ behind → IsSame note tied → All (λ other. ¬ IsSame note other) behind → by ≡ tied.alteration
+  pub signature : note.accidental ≡ None → written_on accidentals note ≡ None → All (λ other. ¬ IsSame note other) state.tied
+      → by ≡ signature_alteration state.signature note.letter
 
 -- A note sounds the key of its pitch, as what alters it says.
 abbrev pub NotesSoundTheirKeys : Type 0
 NotesSoundTheirKeys =
-    (settings : Settings) (broken : List Ratio) (from : ℕ) (note : Note) (tied : Bool)
+    (state : VoiceState) (broken : List Ratio) (from : ℕ) (note : Note) (tied : Bool)
     → (by : ℤ) × (tone : Tone)
-    × IsAltered settings settings.accidentals note by
-    × ((note_played settings broken tied from note).items ≡ items.Tone (tone ∷ []) tone.length ∷ [])
-    × (tone.key ≡ midi_key (pitch_of settings.shift note by))
+    × IsAltered state state.accidentals note by
+    × ((play_note state broken tied from note).items ≡ items.Tone (tone ∷ []) tone.length ∷ [])
+    × (tone.key ≡ midi_key (pitch_of state.shift note by))

@@ -1,8 +1,8 @@
 -- What tokens are to their voice: what takes time, what ties see, and what marks of broken rhythm see, follow from it.
 use Rattle.std.specs.Prelude.{Bool, true, false, List}
 use Rattle.std.specs.List.{list_any}
-use Rattle.abc_scan.specs.declared.parts.ChordPartKind.{ChordPartKind}
-use Rattle.abc_scan.specs.declared.parts.ChordPartKind.TheVariants as parts
+use Rattle.abc_scan.specs.declared.chord_part.ChordPartKind.{ChordPartKind}
+use Rattle.abc_scan.specs.declared.chord_part.ChordPartKind.TheVariants as parts
 use Rattle.abc_scan.specs.declared.spanned.Spanned.{Spanned}
 use Rattle.abc_scan.specs.declared.token.TokenKind.{TokenKind}
 use Rattle.abc_scan.specs.declared.token.TokenKind.TheVariants as kinds
@@ -65,7 +65,7 @@ is_tie_role roles.Tie = true
 is_tie_role roles.Barrier = false
 is_tie_role roles.Other = false
 
--- Whether a tie may stand directly behind it: behind a note or a chord, even one without notes. Not in ABC 2.1.
+-- Whether a tie may be directly after it: after a note or a chord, even one without notes. Not in ABC 2.1.
 abbrev pub is_tieable : TokenRole → Bool
 is_tieable (roles.Sound noted) = true
 is_tieable roles.Rest = false

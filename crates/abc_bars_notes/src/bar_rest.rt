@@ -23,8 +23,7 @@ fn bar_grains(num: u8, den: u8) -> Grains
     Grains(WHOLE_NOTE.0 / u64::from(den) * u64::from(num))
 }
 
-/// The length of several bars, if there is one bar at least and they are not above 1,024 whole notes
-/// together.
+/// The length of several bars, if there is at least one and they are at most 1,024 whole notes together.
 fn bars_of(num: u8, den: u8, bars: u32) -> Option<Grains>
     requires { HasMeterRange num den }
     ensures value { result ≡ bars_of num den bars }
@@ -39,7 +38,7 @@ fn bars_of(num: u8, den: u8, bars: u32) -> Option<Grains>
     length(bar, &[factor]).ok()
 }
 
-/// How long a rest of so many bars is, and its fault.
+/// The length of a rest of bars, and its fault.
 fn bar_rest_length(meter: TuneMeter, bars: Option<u32>) -> (Grains, Option<FaultCode>)
     ensures value { result ≡ bar_rest_length meter bars }
     ensures range { result.0.0 ≤ grains_of_the_longest_length }
@@ -54,7 +53,7 @@ fn bar_rest_length(meter: TuneMeter, bars: Option<u32>) -> (Grains, Option<Fault
     }
 }
 
-/// What a rest of bars gives, and its fault (ABC 2.1 section 4.5).
+/// The item of a rest of bars, and its fault (ABC 2.1 section 4.5).
 pub fn bar_rest_of(meter: TuneMeter, bars: Option<u32>) -> (Item, Option<FaultCode>)
     ensures value { result ≡ bar_rest_of meter bars }
     ensures range { IsItem result.0 }

@@ -1,8 +1,8 @@
 //! Broken rhythm: which marks act, and what they multiply the lengths beside them by.
 
 ghost use Rattle.std.specs.Prelude.{◌≡◌, ◌==◌, ◌≤◌, ◌^◌, length, option_map, IfSome};
-ghost use Rattle.abc_bars_notes.specs.Broken.{role_of, behind_after, time_follows, mark_ahead, mark_behind, parts_of, shorter, longer, first_factor, second_factor, factors_of, is_bad_mark};
-ghost use Rattle.abc_bars_notes.specs.Acting.{ActsAsRead, GivesFactorsAsRead};
+ghost use Rattle.abc_bars_notes.specs.Broken.{role_of, preceding_after, time_follows, mark_ahead, mark_before, parts_of};
+ghost use Rattle.abc_bars_notes.specs.Broken.{shorter_ratio, longer_ratio, first_factor, second_factor, factors_of, is_bad_mark};
 ghost use Rattle.abc_time.specs.Ratio.{IsRatio};
 
 use crate::role::{TokenRole, token_role};
@@ -10,33 +10,33 @@ use abc_scan::{BrokenRhythm, Direction, Token, TokenKind};
 use abc_time::Ratio;
 use std::marker::Model;
 
-/// How many marks stand together at most.
-const MOST_MARKS: u8 = 3;
+/// The most marks of broken rhythm together (ABC 2.1 section 4.4).
+pub(crate) const MOST_MARKS: u8 = 3;
 
-/// What stands nearest before a place of a cell, of what matters to broken rhythm.
+/// What precedes a place of a cell, as far as it matters to broken rhythm.
 #[derive(Clone, Copy, PartialEq, Eq)]
-pub enum Behind {
-    /// Nothing that a mark or a time token here could act with.
+pub enum Preceding {
+    /// Nothing that a mark or a time token could act with.
     Nothing,
     /// A note, chord or rest.
     TimeToken,
-    /// A mark behind a note, chord or rest.
+    /// A mark after a note, chord or rest.
     Mark(BrokenRhythm),
 }
 
-/// What broken rhythm sees of a token.
+/// The role of a token in broken rhythm.
 #[derive(Clone, Copy)]
 pub(crate) enum BrokenRole {
     /// A note, a rest, or a chord with a note.
     Time,
     Mark(BrokenRhythm),
-    /// What no mark reaches over.
+    /// A token that no mark reaches over.
     Hindrance,
     /// Anything else.
     Silent,
 }
 
-/// The factors that the marks round a note, chord or rest give it, at most two. Contracts see their list.
+/// The factors of a note, chord or rest by the marks around it, at most two. Contracts see their list.
 #[derive(Drop)]
 pub struct BrokenFactors {
     /// From the mark before it.
@@ -58,13 +58,13 @@ impl Model for BrokenFactors {
 }
 
 impl BrokenFactors {
-    /// The factors of a note, chord or rest behind which these tokens stand, up to the cell's end.
+    /// The factors of a note, chord or rest, by what precedes it and by the tokens after it in its cell.
     #[inline(always)]
-    pub fn of(behind: Behind, ahead: &[Token]) -> BrokenFactors
+    pub fn of(behind: Preceding, ahead: &[Token]) -> BrokenFactors
         ensures { result ≡ factors_of behind ahead.now }
     {
         BrokenFactors {
-            behind: factor_behind(behind),
+            behind: factor_before(behind),
             ahead: mark_ahead(ahead).map(first_factor),
         }
     }
@@ -77,7 +77,7 @@ impl BrokenFactors {
     }
 }
 
-/// What broken rhythm sees of a token.
+/// The role of a token in broken rhythm.
 fn role_of(kind: &TokenKind) -> BrokenRole
     ensures { result ≡ role_of kind.now }
 {
@@ -89,14 +89,14 @@ fn role_of(kind: &TokenKind) -> BrokenRole
     }
 }
 
-/// What stands nearest before the next place, of what matters.
-pub fn behind_after(behind: Behind, kind: &TokenKind) -> Behind
-    ensures { result ≡ behind_after behind kind.now }
+/// What precedes the next place, as far as it matters.
+pub fn preceding_after(behind: Preceding, kind: &TokenKind) -> Preceding
+    ensures { result ≡ preceding_after behind kind.now }
 {
     match (role_of(kind), behind) {
-        (BrokenRole::Time, _) => Behind::TimeToken,
-        (BrokenRole::Mark(mark), Behind::TimeToken) => Behind::Mark(mark),
-        (BrokenRole::Mark(_) | BrokenRole::Hindrance, _) => Behind::Nothing,
+        (BrokenRole::Time, _) => Preceding::TimeToken,
+        (BrokenRole::Mark(mark), Preceding::TimeToken) => Preceding::Mark(mark),
+        (BrokenRole::Mark(_) | BrokenRole::Hindrance, _) => Preceding::Nothing,
         (BrokenRole::Silent, _) => behind,
     }
 }
@@ -115,7 +115,7 @@ fn time_follows(tokens: &[Token]) -> bool
     false
 }
 
-/// The mark that comes first of what matters, where a time token follows it.
+/// The mark that comes first of what matters, if a time token follows it.
 fn mark_ahead(tokens: &[Token]) -> Option<BrokenRhythm>
     ensures { result ≡ mark_ahead tokens.now }
 {
@@ -129,7 +129,7 @@ fn mark_ahead(tokens: &[Token]) -> Option<BrokenRhythm>
     None
 }
 
-/// Into how many parts marks cut a note: two to the number of marks.
+/// The number of parts into which marks cut a note: two to the number of marks.
 fn parts_of(mark: BrokenRhythm) -> u32
     ensures value { result ≡ parts_of mark }
     ensures range { (1 ≤ result) × (result ≤ 2 ^ MOST_MARKS) }
@@ -137,9 +137,9 @@ fn parts_of(mark: BrokenRhythm) -> u32
     1 << mark.marks.min(MOST_MARKS)
 }
 
-/// 1/2^k: what k marks make of the shorter one.
-fn shorter(mark: BrokenRhythm) -> Ratio
-    ensures value { result ≡ shorter mark }
+/// The factor of the shorter note by k marks: 1/2^k.
+fn shorter_ratio(mark: BrokenRhythm) -> Ratio
+    ensures value { result ≡ shorter_ratio mark }
     ensures range { IsRatio result }
 {
     Ratio {
@@ -148,9 +148,9 @@ fn shorter(mark: BrokenRhythm) -> Ratio
     }
 }
 
-/// 2 - 1/2^k: what k marks make of the longer one.
-fn longer(mark: BrokenRhythm) -> Ratio
-    ensures value { result ≡ longer mark }
+/// The factor of the longer note by k marks: 2 - 1/2^k.
+fn longer_ratio(mark: BrokenRhythm) -> Ratio
+    ensures value { result ≡ longer_ratio mark }
     ensures range { IsRatio result }
 {
     let den = parts_of(mark);
@@ -160,49 +160,42 @@ fn longer(mark: BrokenRhythm) -> Ratio
     }
 }
 
-/// What a mark multiplies the note, chord or rest before it by (ABC 2.1 section 4.4).
+/// The factor of a mark for the note, chord or rest before it (ABC 2.1 section 4.4).
 fn first_factor(mark: BrokenRhythm) -> Ratio
     ensures value { result ≡ first_factor mark }
     ensures range { IsRatio result }
 {
     match mark.direction {
-        Direction::Right => longer(mark),
-        Direction::Left => shorter(mark),
+        Direction::Right => longer_ratio(mark),
+        Direction::Left => shorter_ratio(mark),
     }
 }
 
-/// What a mark multiplies the note, chord or rest behind it by.
+/// The factor of a mark for the note, chord or rest after it.
 fn second_factor(mark: BrokenRhythm) -> Ratio
     ensures value { result ≡ second_factor mark }
     ensures range { IsRatio result }
 {
     match mark.direction {
-        Direction::Right => shorter(mark),
-        Direction::Left => longer(mark),
+        Direction::Right => shorter_ratio(mark),
+        Direction::Left => longer_ratio(mark),
     }
 }
 
-/// What the mark multiplies a note, chord or rest by that stands behind it, if there was one before the mark.
-fn factor_behind(behind: Behind) -> Option<Ratio>
-    ensures value { result ≡ option_map second_factor (mark_behind behind) }
+/// The factor of the preceding mark, if a note, chord or rest was before the mark.
+fn factor_before(behind: Preceding) -> Option<Ratio>
+    ensures value { result ≡ option_map second_factor (mark_before behind) }
     ensures range { IfSome result IsRatio }
 {
     match behind {
-        Behind::Mark(mark) => Some(second_factor(mark)),
-        Behind::Nothing | Behind::TimeToken => None,
+        Preceding::Mark(mark) => Some(second_factor(mark)),
+        Preceding::Nothing | Preceding::TimeToken => None,
     }
 }
 
 /// Whether a mark has no two notes, chords or rests to act on.
-pub fn is_bad_mark(behind: Behind, ahead: &[Token]) -> bool
+pub fn is_bad_mark(behind: Preceding, ahead: &[Token]) -> bool
     ensures { result ≡ is_bad_mark behind ahead.now }
 {
-    !(behind == Behind::TimeToken && time_follows(ahead))
+    !(behind == Preceding::TimeToken && time_follows(ahead))
 }
-
-/// What is read of broken rhythm token by token is what acts: a mark is bad where it acts on nothing, and
-/// a note, chord or rest has the factors of the marks that act on it.
-pub fn acting_marks()
-    ensures marks { ActsAsRead }
-    ensures factors { GivesFactorsAsRead }
-{}

@@ -1,33 +1,34 @@
 //! Chords.
 
 ghost use Rattle.std.specs.Prelude.{◌≡◌, IfOk, OnOk};
-ghost use Rattle.abc_bars_notes.specs.Chords.{around_part, inside_of, is_tie, tie_follows, with_chord_note, with_kind, with_part, AreCounted};
+ghost use Rattle.abc_bars_notes.specs.Chords.{part_context, chord_builder_of, is_tie, tie_follows, with_chord_note, with_kind};
+ghost use Rattle.abc_bars_notes.specs.Chords.{with_part, AreCounted};
 
 use crate::broken::BrokenFactors;
-use crate::sound::{Around, Inside, add_note};
+use crate::sound::{ChordBuilder, NoteContext, add_note};
 use abc_bars_items::{MOST_CHORD_NOTES, column_inside};
-use abc_bars_voice::Settings;
+use abc_bars_voice::VoiceState;
 use abc_fields::FaultCode;
 use abc_scan::{ChordPart, ChordPartKind, Note, WrittenLength};
 use std::alloc::{AllocError, Global};
 
-/// What stands round the notes of a chord (ABC 2.1 section 4.17).
+/// The context of a chord's notes (ABC 2.1 section 4.17).
 #[derive(Clone, Copy)]
-pub struct Outside {
-    /// The length behind the chord.
+pub struct ChordContext {
+    /// The length after the chord.
     pub(crate) length: WrittenLength,
-    /// Whether a tie stands behind the chord.
+    /// Whether a tie is after the chord.
     pub(crate) tied: bool,
     /// The place of the chord in its line, counted from 0.
     pub(crate) from: usize,
 }
 
-impl Outside {
-    /// What stands around a note at a place of the chord, behind which a tie stands or not.
-    fn around(self, from: usize, tied: bool) -> Around
-        ensures { result ≡ around_part self from tied }
+impl ChordContext {
+    /// The context of a note at a place of the chord, with a tie after it or not.
+    fn note_context(self, from: usize, tied: bool) -> NoteContext
+        ensures { result ≡ part_context self from tied }
     {
-        Around {
+        NoteContext {
             outer: Some(self.length),
             column: column_inside(self.from, from),
             tied: self.tied || tied,
@@ -54,88 +55,88 @@ fn tie_follows(parts: &[ChordPart]) -> bool
 
 /// Adds a note of a chord, if it is not one too many.
 fn add_chord_note(
-    settings: &Settings,
+    state: &VoiceState,
     broken: &BrokenFactors,
-    around: Around,
+    context: NoteContext,
     note: Note,
-    inside: &mut Inside,
+    builder: &mut ChordBuilder,
 ) -> Result<(), AllocError>
-    requires { AreCounted inside.old.tones }
-    ensures value { OnOk result (inside.new ≡ with_chord_note settings.now broken.now around note inside.old) }
-    ensures range { OnOk result (AreCounted inside.new.tones) }
+    requires { AreCounted builder.old.tones }
+    ensures value { OnOk result (builder.new ≡ with_chord_note state.now broken.now context note builder.old) }
+    ensures range { OnOk result (AreCounted builder.new.tones) }
 {
-    if inside.tones.as_slice().len() < MOST_CHORD_NOTES {
-        add_note(settings, broken, around, note, inside)?;
+    if builder.tones.as_slice().len() < MOST_CHORD_NOTES {
+        add_note(state, broken, context, note, builder)?;
         return Ok(());
     }
-    if !inside.big {
-        inside.big = true;
-        inside.faults.push((around.column, FaultCode::BigChord))?;
+    if !builder.big {
+        builder.big = true;
+        builder.faults.push((context.column, FaultCode::BigChord))?;
     }
     Ok(())
 }
 
-/// Adds what a part of this kind gives.
+/// Adds a part of this kind.
 fn add_kind(
-    settings: &Settings,
+    state: &VoiceState,
     broken: &BrokenFactors,
-    around: Around,
+    context: NoteContext,
     kind: ChordPartKind,
-    inside: &mut Inside,
+    builder: &mut ChordBuilder,
 ) -> Result<(), AllocError>
-    requires { AreCounted inside.old.tones }
-    ensures value { OnOk result (inside.new ≡ with_kind settings.now broken.now around kind inside.old) }
-    ensures range { OnOk result (AreCounted inside.new.tones) }
+    requires { AreCounted builder.old.tones }
+    ensures value { OnOk result (builder.new ≡ with_kind state.now broken.now context kind builder.old) }
+    ensures range { OnOk result (AreCounted builder.new.tones) }
 {
     match kind {
         ChordPartKind::Note(note) => {
-            add_chord_note(settings, broken, around, note, inside)?;
+            add_chord_note(state, broken, context, note, builder)?;
         }
         ChordPartKind::Tie => {
-            if !inside.after_note {
-                inside.faults.push((around.column, FaultCode::LooseTie))?;
+            if !builder.after_note {
+                builder.faults.push((context.column, FaultCode::LooseTie))?;
             }
         }
         ChordPartKind::NoEffect => {}
-        ChordPartKind::BadByte => inside.faults.push((around.column, FaultCode::BadByte))?,
+        ChordPartKind::BadByte => builder.faults.push((context.column, FaultCode::BadByte))?,
     }
     Ok(())
 }
 
-/// Adds what a part gives, behind which a tie stands or not.
+/// Adds a part, with a tie after it or not.
 fn add_part(
-    settings: &Settings,
+    state: &VoiceState,
     broken: &BrokenFactors,
-    outside: Outside,
+    chord_context: ChordContext,
     part: &ChordPart,
     tied: bool,
-    inside: &mut Inside,
+    builder: &mut ChordBuilder,
 ) -> Result<(), AllocError>
-    requires { AreCounted inside.old.tones }
-    ensures value { OnOk result (inside.new ≡ with_part settings.now broken.now outside part.now tied inside.old) }
-    ensures range { OnOk result (AreCounted inside.new.tones) }
+    requires { AreCounted builder.old.tones }
+    ensures value { OnOk result (builder.new ≡ with_part state.now broken.now chord_context part.now tied builder.old) }
+    ensures range { OnOk result (AreCounted builder.new.tones) }
 {
-    let around = outside.around(part.from as usize, tied);
-    add_kind(settings, broken, around, part.kind, inside)?;
-    inside.after_note = matches!(part.kind, ChordPartKind::Note(_));
+    let context = chord_context.note_context(part.from as usize, tied);
+    add_kind(state, broken, context, part.kind, builder)?;
+    builder.after_note = matches!(part.kind, ChordPartKind::Note(_));
     Ok(())
 }
 
-/// What the parts of a chord give.
-pub(crate) fn inside_of(
+/// Builds a chord from its parts.
+pub(crate) fn chord_builder_of(
     alloc: Global,
-    settings: &Settings,
+    state: &VoiceState,
     broken: &BrokenFactors,
-    outside: Outside,
+    chord_context: ChordContext,
     parts: &[ChordPart],
-) -> Result<Inside, AllocError>
-    ensures value { IfOk result (λ inside. inside ≡ inside_of settings.now broken.now outside parts.now) }
-    ensures range { IfOk result (λ inside. AreCounted inside.tones) }
+) -> Result<ChordBuilder, AllocError>
+    ensures value { IfOk result (λ builder. builder ≡ chord_builder_of state.now broken.now chord_context parts.now) }
+    ensures range { IfOk result (λ builder. AreCounted builder.tones) }
 {
-    let mut inside = Inside::new(alloc, settings)?;
+    let mut builder = ChordBuilder::new(alloc, state)?;
     for (at, part) in parts.iter().enumerate() {
         let tied = tie_follows(&parts[at + 1..]);
-        add_part(settings, broken, outside, part, tied, &mut inside)?;
+        add_part(state, broken, chord_context, part, tied, &mut builder)?;
     }
-    Ok(inside)
+    Ok(builder)
 }

@@ -6,7 +6,8 @@ ghost use Rattle.std.specs.Result.{result_ok};
 ghost use Rattle.abc_time.specs.Grains.{grains_of_the_longest_length};
 ghost use Rattle.abc_time.specs.Length.{IsLength, length_of};
 ghost use Rattle.abc_time.specs.Ratio.{IsRatio};
-ghost use Rattle.abc_bars_notes.specs.Lengths.{is_ratio_part, ratio_of, written_ratio, texts_of, length_by, HasLength, length_or_unit};
+ghost use Rattle.abc_bars_notes.specs.Lengths.{is_ratio_part, ratio_of, written_ratio, texts_of, length_by, HasLength};
+ghost use Rattle.abc_bars_notes.specs.Lengths.{length_or_unit};
 ghost use Rattle.abc_bars_voice.specs.Tuplet.{tuplet_factors};
 
 use crate::broken::BrokenFactors;
@@ -25,7 +26,7 @@ fn is_ratio_part(number: u32) -> bool
     (1..=LARGEST_NUMBER).contains(&number)
 }
 
-/// The ratio of two numbers, where both are in range.
+/// The ratio of two numbers, if both are in range.
 pub(crate) fn ratio_of(num: u32, den: u32) -> Option<Ratio>
     ensures value { result ≡ ratio_of num den }
     ensures range { IfSome result IsRatio }
@@ -37,7 +38,7 @@ pub(crate) fn ratio_of(num: u32, den: u32) -> Option<Ratio>
     }
 }
 
-/// The factor that a length text says, if it is accepted (ABC 2.1 section 4.3).
+/// The factor of a written length, if it is accepted (ABC 2.1 section 4.3).
 fn written_ratio(length: WrittenLength) -> Option<Ratio>
     ensures value { result ≡ written_ratio length }
     ensures range { IfSome result IsRatio }
@@ -48,7 +49,7 @@ fn written_ratio(length: WrittenLength) -> Option<Ratio>
     }
 }
 
-/// What the open tuplet multiplies a length by, if there is one.
+/// The factor of the open tuplet, if there is one.
 fn tuplet_ratio(tuplet: Option<OpenTuplet>) -> Option<Ratio>
     ensures value { option_to_list result ≡ tuplet_factors tuplet }
     ensures range { IfSome result IsRatio }
@@ -59,8 +60,8 @@ fn tuplet_ratio(tuplet: Option<OpenTuplet>) -> Option<Ratio>
     }
 }
 
-/// The unit times the factors of the note's own text, of its chord's, of its tuplet and of the marks
-/// beside it, where that is a length.
+/// The unit times the factors of the note's own text, of its chord's, of its tuplet and of the marks beside it, if that
+/// is a length.
 #[inline(always)]
 fn product_of(
     unit: UnitLength,
@@ -73,7 +74,8 @@ fn product_of(
     requires outer { ForSome outer IsRatio }
     ensures value { result ≡ result_ok (length_of unit ((own ∷ option_to_list outer) ++ (tuplet_factors tuplet ++ broken.now))) }
     ensures exact { (g : ℕ) → (result ≡ Some (record { 0 = g }))
-        ↔ (IsLength unit ((own ∷ option_to_list outer) ++ (tuplet_factors tuplet ++ broken.now)) g × (g ≤ grains_of_the_longest_length)) }
+        ↔ (IsLength unit ((own ∷ option_to_list outer) ++ (tuplet_factors tuplet ++ broken.now)) g
+        × (g ≤ grains_of_the_longest_length)) }
     ensures range { IfSome result (λ length. length.0 ≤ grains_of_the_longest_length) }
 {
     let part = unit.get();
@@ -90,7 +92,7 @@ fn product_of(
     length(part, &factors).ok()
 }
 
-/// The unit times all factors, where no text is refused and the product is a length.
+/// The unit times all factors, if no text is refused and the product is a length.
 #[inline(always)]
 fn length_by(
     unit: UnitLength,
@@ -114,8 +116,8 @@ fn length_by(
     }
 }
 
-/// The length of a note or rest, and whether what is written is refused: then it is one unit long. `outer`
-/// is the length behind the chord that the note stands in.
+/// The length of a note or rest, and whether what is written is refused: then it is one unit long. `outer` is the length
+/// after the note's chord.
 #[inline(always)]
 pub(crate) fn length_or_unit(
     unit: UnitLength,

@@ -1,11 +1,11 @@
-//! What tokens are to their voice.
+//! The roles of tokens in their voice.
 
 ghost use Rattle.std.specs.Prelude.{◌≡◌};
 ghost use Rattle.abc_bars_notes.specs.TokenRole.{has_note, token_role};
 
 use abc_scan::{BrokenRhythm, ChordPart, ChordPartKind, TokenKind};
 
-/// What a token is to its voice: what takes time, what ties see, and what marks of broken rhythm see, follow from it.
+/// The role of a token in its voice. It determines what takes time, what ties see, and what marks of broken rhythm see.
 #[derive(Clone, Copy)]
 pub enum TokenRole {
     /// A note, or a chord, which has a note or not.
@@ -14,7 +14,7 @@ pub enum TokenRole {
     /// A mark of broken rhythm.
     Mark(BrokenRhythm),
     Tie,
-    /// What no mark of broken rhythm reaches over: a field, or a rest of bars.
+    /// A token that no mark of broken rhythm reaches over: a field, or a rest of bars.
     Barrier,
     /// Anything else.
     Other,
@@ -29,7 +29,7 @@ pub fn has_note(inside: &[ChordPart]) -> bool
         .any(|part| matches!(part.kind, ChordPartKind::Note(_)))
 }
 
-/// What a token is to its voice.
+/// The role of a token in its voice.
 pub fn token_role(kind: &TokenKind) -> TokenRole
     ensures { result ≡ token_role kind.now }
 {

@@ -9,28 +9,28 @@ use crate::broken::BrokenFactors;
 use crate::lengths::length_or_unit;
 use crate::pitch::key_of;
 use abc_bars_items::{LocalFault, Tone, velocity_of};
-use abc_bars_voice::{Accidentals, Settings, TiedNote, alteration_of, write_own};
+use abc_bars_voice::{Accidentals, TiedNote, VoiceState, alteration_of, write_own};
 use abc_fields::FaultCode;
 use abc_scan::{Note, WrittenLength};
 use abc_text::{Sequence, ShortSequence};
 use abc_time::Grains;
 use std::alloc::{AllocError, Global};
 
-/// What stands around a note.
+/// The context of a note.
 #[derive(Clone, Copy)]
-pub struct Around {
-    /// The length behind its chord, if it is a note of one (ABC 2.1 section 4.17).
+pub struct NoteContext {
+    /// The length after its chord, if it is a note of one (ABC 2.1 section 4.17).
     pub(crate) outer: Option<WrittenLength>,
     /// The column of its faults.
     pub(crate) column: u32,
-    /// Whether a tie stands behind it or behind its chord.
+    /// Whether a tie is after it or after its chord.
     pub(crate) tied: bool,
 }
 
-/// What the notes and other parts of a chord, or a note alone, have given so far.
+/// The notes and other parts of a chord, or a note alone, so far.
 #[derive(Drop)]
-pub struct Inside {
-    /// The accidentals that hold behind them.
+pub struct ChordBuilder {
+    /// The accidentals after them.
     pub(crate) accidentals: Accidentals,
     pub(crate) tones: ShortSequence<Tone>,
     /// Those of the notes that are tied.
@@ -38,17 +38,17 @@ pub struct Inside {
     pub(crate) faults: Sequence<LocalFault>,
     /// Whether a note came last.
     pub(crate) after_note: bool,
-    /// Whether there were more notes than count.
+    /// Whether there were more notes than a chord may have.
     pub(crate) big: bool,
 }
 
-impl Inside {
+impl ChordBuilder {
     /// No note yet.
-    pub(crate) fn new(alloc: Global, settings: &Settings) -> Result<Inside, AllocError>
-        ensures { IfOk result (λ inside. inside ≡ no_notes settings.now) }
+    pub(crate) fn new(alloc: Global, state: &VoiceState) -> Result<ChordBuilder, AllocError>
+        ensures { IfOk result (λ builder. builder ≡ no_notes state.now) }
     {
-        Ok(Inside {
-            accidentals: settings.accidentals.clone()?,
+        Ok(ChordBuilder {
+            accidentals: state.accidentals.clone()?,
             tones: ShortSequence::new(alloc),
             tied: ShortSequence::new(alloc),
             faults: Sequence::new(alloc),
@@ -58,21 +58,21 @@ impl Inside {
     }
 }
 
-/// The length of what is written so, and perhaps behind its chord, and whether it is refused.
+/// The length of a written length, with that of the chord if there is one, and whether it is refused.
 #[inline(always)]
 pub(crate) fn length_in(
-    settings: &Settings,
+    state: &VoiceState,
     broken: &BrokenFactors,
     own: WrittenLength,
     outer: Option<WrittenLength>,
 ) -> (Grains, bool)
-    ensures value { result ≡ length_in settings.now broken.now own outer }
+    ensures value { result ≡ length_in state.now broken.now own outer }
     ensures range { IsWithinLongest result.0 }
 {
-    length_or_unit(settings.unit, own, outer, settings.tuplet, broken)
+    length_or_unit(state.unit, own, outer, state.tuplet, broken)
 }
 
-/// Puts a fault at the end, if there is one.
+/// Adds a fault at the end, if there is one.
 fn push_fault_if(
     faults: &mut Sequence<LocalFault>,
     is_fault: bool,
@@ -87,21 +87,22 @@ fn push_fault_if(
     Ok(())
 }
 
-/// Puts the faults of a note at the end: that its length is refused, and that MIDI has no key for it.
+/// Adds the faults of a note at the end: its length is refused, or MIDI has no key for it.
 fn push_note_faults(
     faults: &mut Sequence<LocalFault>,
     refused: bool,
     silent: bool,
     column: u32,
 ) -> Result<(), AllocError>
-    ensures { OnOk result (faults.new ≡ faults.old ++ (fault_if refused column FaultCode.BadLength ++ fault_if silent column FaultCode.KeyRange)) }
+    ensures { OnOk result (faults.new ≡ faults.old
+        ++ (fault_if refused column FaultCode.BadLength ++ fault_if silent column FaultCode.KeyRange)) }
 {
     push_fault_if(faults, refused, column, FaultCode::BadLength)?;
     push_fault_if(faults, silent, column, FaultCode::KeyRange)?;
     Ok(())
 }
 
-/// Puts a tone at the end.
+/// Adds a tone at the end.
 fn push_tone(tones: &mut ShortSequence<Tone>, tone: Tone) -> Result<(), AllocError>
     requires tone { IsTone tone }
     requires tones { All IsTone tones.old }
@@ -112,7 +113,7 @@ fn push_tone(tones: &mut ShortSequence<Tone>, tone: Tone) -> Result<(), AllocErr
     Ok(())
 }
 
-/// Puts a note at the end of those that are tied, if it is.
+/// Adds a note at the end of the tied notes, if it is tied.
 fn push_tied_if(
     notes: &mut ShortSequence<TiedNote>,
     tied: bool,
@@ -135,29 +136,29 @@ pub(crate) struct Sounding {
     pub(crate) refused: bool,
 }
 
-/// A note as it sounds behind these accidentals, with what stands around it (ABC 2.1 sections 4.1 to 4.3).
+/// A note as it sounds after these accidentals, in its context (ABC 2.1 sections 4.1 to 4.3).
 #[inline(always)]
 pub(crate) fn sounding_of(
-    settings: &Settings,
+    state: &VoiceState,
     accidentals: &Accidentals,
     broken: &BrokenFactors,
-    around: Around,
+    context: NoteContext,
     note: Note,
 ) -> Sounding
-    ensures tone { result.tone ≡ tone_in settings.now accidentals.now broken.now around.outer note around.tied }
+    ensures tone { result.tone ≡ tone_in state.now accidentals.now broken.now context.outer note context.tied }
     ensures range { IsTone result.tone }
-    ensures tied_note { result.tied_note ≡ tied_note_in settings.now accidentals.now note }
-    ensures refused { result.refused ≡ (length_in settings.now broken.now note.length around.outer).1 }
+    ensures tied_note { result.tied_note ≡ tied_note_in state.now accidentals.now note }
+    ensures is_refused { result.refused ≡ (length_in state.now broken.now note.length context.outer).1 }
 {
-    let alteration = alteration_of(settings, accidentals, note);
-    let key = key_of(settings.shift, note, alteration);
-    let (length, refused) = length_in(settings, broken, note.length, around.outer);
+    let alteration = alteration_of(state, accidentals, note);
+    let key = key_of(state.shift, note, alteration);
+    let (length, refused) = length_in(state, broken, note.length, context.outer);
     Sounding {
         tone: Tone {
             length,
             key,
-            velocity: velocity_of(settings.dynamic),
-            tied: around.tied,
+            velocity: velocity_of(state.dynamic),
+            tied: context.tied,
         },
         tied_note: TiedNote {
             letter: note.letter,
@@ -168,56 +169,56 @@ pub(crate) fn sounding_of(
     }
 }
 
-/// Puts one more note to those that sound together.
+/// Adds a note to those that sound together.
 pub(crate) fn add_note(
-    settings: &Settings,
+    state: &VoiceState,
     broken: &BrokenFactors,
-    around: Around,
+    context: NoteContext,
     note: Note,
-    inside: &mut Inside,
+    builder: &mut ChordBuilder,
 ) -> Result<(), AllocError>
-    requires { All IsTone inside.old.tones }
-    ensures value { OnOk result (inside.new ≡ with_note settings.now broken.now around note inside.old) }
-    ensures range { OnOk result (All IsTone inside.new.tones) }
+    requires { All IsTone builder.old.tones }
+    ensures value { OnOk result (builder.new ≡ with_note state.now broken.now context note builder.old) }
+    ensures range { OnOk result (All IsTone builder.new.tones) }
 {
     let Sounding {
         tone,
         tied_note,
         refused,
-    } = sounding_of(settings, &inside.accidentals, broken, around, note);
+    } = sounding_of(state, &builder.accidentals, broken, context, note);
     let silent = tone.key.is_none();
-    push_note_faults(&mut inside.faults, refused, silent, around.column)?;
-    push_tone(&mut inside.tones, tone)?;
-    push_tied_if(&mut inside.tied, around.tied, tied_note)?;
-    write_own(&mut inside.accidentals, note)?;
+    push_note_faults(&mut builder.faults, refused, silent, context.column)?;
+    push_tone(&mut builder.tones, tone)?;
+    push_tied_if(&mut builder.tied, context.tied, tied_note)?;
+    write_own(&mut builder.accidentals, note)?;
     Ok(())
 }
 
-/// The accidentals behind a note alone, where it has one of its own: they are copied only then.
-pub(crate) fn accidentals_behind(
-    settings: &Settings,
+/// The accidentals after a single note, if it has one of its own: they are copied only then.
+pub(crate) fn accidentals_after(
+    state: &VoiceState,
     note: Note,
 ) -> Result<Option<Accidentals>, AllocError>
-    ensures { IfOk result (λ changed. unwrap_or changed settings.now.accidentals ≡ with_own settings.now.accidentals note) }
+    ensures { IfOk result (λ changed. unwrap_or changed state.now.accidentals ≡ with_own state.now.accidentals note) }
 {
     if note.accidental.is_none() {
         return Ok(None);
     }
-    let mut accidentals = settings.accidentals.clone()?;
+    let mut accidentals = state.accidentals.clone()?;
     write_own(&mut accidentals, note)?;
     Ok(Some(accidentals))
 }
 
-/// The tied notes behind a note alone, where it or a note before it is tied.
-pub(crate) fn tied_behind(
+/// The tied notes after a single note, if it or a note before it is tied.
+pub(crate) fn tied_notes_after(
     alloc: Global,
-    settings: &Settings,
+    state: &VoiceState,
     tied: bool,
     note: TiedNote,
 ) -> Result<Option<ShortSequence<TiedNote>>, AllocError>
-    ensures { IfOk result (λ changed. unwrap_or changed settings.now.tied ≡ (if tied then note ∷ [] else [])) }
+    ensures { IfOk result (λ changed. unwrap_or changed state.now.tied ≡ (if tied then note ∷ [] else [])) }
 {
-    if !tied && settings.tied.as_slice().is_empty() {
+    if !tied && state.tied.as_slice().is_empty() {
         return Ok(None);
     }
     let mut notes = ShortSequence::new(alloc);

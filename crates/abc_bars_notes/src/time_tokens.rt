@@ -1,34 +1,35 @@
-//! Notes, chords and rests: what each gives and what it leaves for its voice.
+//! Notes, chords and rests: their items and faults, and the state of the voice after them.
 
 ghost use Rattle.std.specs.Prelude.{◌≡◌, ◌∷◌, ◌++◌, [], false, All, IfOk, OnErr, OnOk, is_none, unwrap_or};
 ghost use Rattle.abc_fields.specs.declared.fault.FaultCode.TheVariants.{BadLength, EmptyChord, KeyRange};
 ghost use Rattle.abc_bars_items.specs.Column.{column_of};
-ghost use Rattle.abc_bars_items.specs.Item.{AreTones, IsTone, IsWithinLongest, and_faults, and_item};
+ghost use Rattle.abc_bars_items.specs.Item.{AreTones, IsTone, IsWithinLongest, append_faults, append_item};
 ghost use Rattle.abc_bars_notes.specs.Sound.{fault_if};
 ghost use Rattle.abc_bars_items.specs.declared.item.Item.TheVariants as item_kinds;
-ghost use Rattle.abc_bars_voice.specs.Tuplet.{counted_down};
-ghost use Rattle.abc_bars_notes.specs.TimeTokens.{first_length, sounded, note_played, chord_played, rest_played, with_played};
+ghost use Rattle.abc_bars_voice.specs.Tuplet.{count_down};
+ghost use Rattle.abc_bars_notes.specs.TimeTokens.{first_length, sound_notes, play_note, play_chord, play_rest, with_result};
 
 use crate::broken::BrokenFactors;
-use crate::chords::{Outside, inside_of};
+use crate::chords::{ChordContext, chord_builder_of};
 use crate::role::has_note;
 use crate::sound::{
-    Around, Inside, Sounding, accidentals_behind, length_in, sounding_of, tied_behind,
+    ChordBuilder, NoteContext, Sounding, accidentals_after, length_in, sounding_of,
+    tied_notes_after,
 };
 use abc_bars_items::{Item, ItemsBuilder, LocalFault, Tone, Tones, column_of};
-use abc_bars_voice::{Accidentals, Settings, TiedNote, counted_down};
+use abc_bars_voice::{Accidentals, TiedNote, VoiceState, count_down};
 use abc_fields::FaultCode;
 use abc_scan::{Chord, Note, WrittenLength};
 use abc_text::ShortSequence;
 use abc_time::Grains;
 use std::alloc::{AllocError, Global};
 
-/// Where a note or chord stands in its line.
+/// The place of a note or chord in its line.
 #[derive(Clone, Copy)]
 pub struct NotePlace {
     /// The place of its first byte, counted from 0.
     pub from: usize,
-    /// Whether a tie stands behind it.
+    /// Whether a tie is after it.
     pub tied: bool,
 }
 
@@ -43,36 +44,36 @@ fn first_length(tones: &[Tone]) -> Grains
     }
 }
 
-/// Gives notes that sound together (ABC 2.1 sections 4.1 and 4.17).
-fn sound(
+/// Adds notes that sound together (ABC 2.1 sections 4.1 and 4.17).
+fn push_notes(
     alloc: Global,
-    settings: &mut Settings,
+    state: &mut VoiceState,
     items: &mut ItemsBuilder,
-    inside: Inside,
+    builder: ChordBuilder,
 ) -> Result<(), AllocError>
-    requires { AreTones inside.tones }
-    ensures settings { OnOk result (settings.new ≡ (sounded settings.old inside).settings) }
-    ensures items { OnOk result (items.new ≡ with_played items.old (sounded settings.old inside)) }
-    ensures refused { OnErr result ((settings.new ≡ settings.old) × (items.new ≡ items.old)) }
+    requires { AreTones builder.tones }
+    ensures state { OnOk result (state.new ≡ (sound_notes state.old builder).state) }
+    ensures items { OnOk result (items.new ≡ with_result items.old (sound_notes state.old builder)) }
+    ensures unchanged { OnErr result ((state.new ≡ state.old) × (items.new ≡ items.old)) }
 {
-    let Inside {
+    let ChordBuilder {
         accidentals,
         tones,
         tied,
         faults,
         after_note: _,
         big: _,
-    } = inside;
+    } = builder;
     let length = first_length(tones.as_slice());
     let tones = Tones::of(alloc, tones)?;
     items.push_with_faults(Item::Tone { tones, length }, faults.as_slice())?;
-    settings.accidentals = accidentals;
-    settings.tuplet = counted_down(settings.tuplet);
-    settings.tied = tied;
+    state.accidentals = accidentals;
+    state.tuplet = count_down(state.tuplet);
+    state.tied = tied;
     Ok(())
 }
 
-/// Puts a note alone, and its faults: that its length is refused, and that MIDI has no key for it.
+/// Adds a single note, and its faults: its length is refused, or MIDI has no key for it.
 #[inline(always)]
 fn push_note(
     items: &mut ItemsBuilder,
@@ -81,9 +82,10 @@ fn push_note(
     column: u32,
 ) -> Result<(), AllocError>
     requires { IsTone tone }
-    ensures ok { OnOk result (items.new ≡ and_item (and_faults items.old
-        (fault_if refused column BadLength ++ fault_if (is_none tone.key) column KeyRange)) (item_kinds.Tone (tone ∷ []) tone.length)) }
-    ensures refused { OnErr result (items.new ≡ items.old) }
+    ensures ok { OnOk result (items.new ≡ append_item (append_faults items.old
+        (fault_if refused column BadLength ++ fault_if (is_none tone.key) column KeyRange)) (item_kinds.Tone (tone
+        ∷ []) tone.length)) }
+    ensures unchanged { OnErr result (items.new ≡ items.old) }
 {
     let item = Item::Tone {
         tones: Tones::one(tone),
@@ -99,41 +101,45 @@ fn push_note(
     }
 }
 
-/// What holds for a voice behind a note alone, where its accidentals or tied notes change.
+/// Updates the state of a voice after a single note; the accidentals and tied notes only if they change.
 #[inline(always)]
-fn settle(
-    settings: &mut Settings,
+fn update_voice(
+    state: &mut VoiceState,
     accidentals: Option<Accidentals>,
     tied: Option<ShortSequence<TiedNote>>,
 )
-    ensures { settings.new ≡ record settings.old
-        { accidentals = unwrap_or accidentals settings.old.accidentals; tuplet = counted_down settings.old.tuplet; tied = unwrap_or tied settings.old.tied } }
+    ensures { state.new ≡ record state.old {
+      accidentals = unwrap_or accidentals state.old.accidentals;
+      tuplet = count_down state.old.tuplet;
+      tied = unwrap_or tied
+          state.old.tied;
+    } }
 {
     if let Some(accidentals) = accidentals {
-        settings.accidentals = accidentals;
+        state.accidentals = accidentals;
     }
-    settings.tuplet = counted_down(settings.tuplet);
+    state.tuplet = count_down(state.tuplet);
     if let Some(tied) = tied {
-        settings.tied = tied;
+        state.tied = tied;
     }
 }
 
-/// Gives a note.
+/// Adds a note.
 #[inline(always)]
-pub fn note_played(
+pub fn play_note(
     alloc: Global,
-    settings: &mut Settings,
+    state: &mut VoiceState,
     items: &mut ItemsBuilder,
     note: Note,
     broken: &BrokenFactors,
     place: NotePlace,
 ) -> Result<(), AllocError>
-    ensures settings { OnOk result (settings.new ≡ (note_played settings.old broken.now place.tied place.from note).settings) }
-    ensures items { OnOk result (items.new ≡ with_played items.old (note_played settings.old broken.now place.tied place.from note)) }
-    ensures refused { OnErr result ((settings.new ≡ settings.old) × (items.new ≡ items.old)) }
+    ensures state { OnOk result (state.new ≡ (play_note state.old broken.now place.tied place.from note).state) }
+    ensures items { OnOk result (items.new ≡ with_result items.old (play_note state.old broken.now place.tied place.from note)) }
+    ensures unchanged { OnErr result ((state.new ≡ state.old) × (items.new ≡ items.old)) }
 {
     let column = column_of(place.from);
-    let around = Around {
+    let context = NoteContext {
         outer: None,
         column,
         tied: place.tied,
@@ -142,63 +148,68 @@ pub fn note_played(
         tone,
         tied_note,
         refused,
-    } = sounding_of(settings, &settings.accidentals, broken, around, note);
-    let accidentals = accidentals_behind(settings, note)?;
-    let tied = tied_behind(alloc, settings, place.tied, tied_note)?;
+    } = sounding_of(state, &state.accidentals, broken, context, note);
+    let accidentals = accidentals_after(state, note)?;
+    let tied = tied_notes_after(alloc, state, place.tied, tied_note)?;
     push_note(items, tone, refused, column)?;
-    settle(settings, accidentals, tied);
+    update_voice(state, accidentals, tied);
     Ok(())
 }
 
-/// The faults of a chord without a note, in which its own comes first.
-fn silent_faults(inside: Inside, from: usize) -> Result<Vec<LocalFault>, AllocError>
-    ensures { IfOk result (λ faults. faults.items ≡ (column_of from, EmptyChord) ∷ inside.faults) }
+/// The faults of a chord without a note; its own comes first.
+fn silent_faults(builder: ChordBuilder, from: usize) -> Result<Vec<LocalFault>, AllocError>
+    ensures { IfOk result (λ faults. faults.items ≡ (column_of from, EmptyChord) ∷ builder.faults) }
 {
-    let Inside { faults, .. } = inside;
+    let ChordBuilder { faults, .. } = builder;
     let mut faults = faults.into_vec();
     faults.insert(0, (column_of(from), FaultCode::EmptyChord))?;
     Ok(faults)
 }
 
-/// Gives the faults of a chord without a note, which takes no time.
-fn take_no_time(items: &mut ItemsBuilder, inside: Inside, from: usize) -> Result<(), AllocError>
-    ensures ok { OnOk result (items.new ≡ and_faults items.old ((column_of from, EmptyChord) ∷ inside.faults)) }
-    ensures refused { OnErr result (items.new ≡ items.old) }
+/// Adds the faults of a chord without a note, which takes no time.
+fn push_empty_chord(
+    items: &mut ItemsBuilder,
+    builder: ChordBuilder,
+    from: usize,
+) -> Result<(), AllocError>
+    ensures ok { OnOk result (items.new ≡ append_faults items.old ((column_of from, EmptyChord) ∷ builder.faults)) }
+    ensures unchanged { OnErr result (items.new ≡ items.old) }
 {
-    let faults = silent_faults(inside, from)?;
+    let faults = silent_faults(builder, from)?;
     items.push_faults(faults.as_slice())?;
     Ok(())
 }
 
-/// Gives a chord: one that has no note takes no time.
-pub fn chord_played(
+/// Adds a chord: one without a note takes no time.
+pub fn play_chord(
     alloc: Global,
-    settings: &mut Settings,
+    state: &mut VoiceState,
     items: &mut ItemsBuilder,
     chord: &Chord,
     broken: &BrokenFactors,
     place: NotePlace,
 ) -> Result<(), AllocError>
-    ensures settings { OnOk result (settings.new ≡ (chord_played settings.old broken.now place.tied place.from chord.now).settings) }
-    ensures items { OnOk result (items.new ≡ with_played items.old (chord_played settings.old broken.now place.tied place.from chord.now)) }
-    ensures refused { OnErr result ((settings.new ≡ settings.old) × (items.new ≡ items.old)) }
+    ensures state { OnOk result (state.new ≡ (play_chord state.old broken.now place.tied place.from chord.now).state) }
+    ensures items { OnOk result (items.new ≡ with_result items.old
+        (play_chord state.old broken.now place.tied place.from chord.now)) }
+    ensures unchanged { OnErr result ((state.new ≡ state.old) × (items.new ≡ items.old)) }
 {
-    let outside = Outside {
+    let chord_context = ChordContext {
         length: chord.length,
         tied: place.tied,
         from: place.from,
     };
     let parts = chord.parts.as_slice();
-    let inside = inside_of(alloc, settings, broken, outside, parts)?;
+    let builder = chord_builder_of(alloc, state, broken, chord_context, parts)?;
     if has_note(parts) {
-        sound(alloc, settings, items, inside)?;
+        push_notes(alloc, state, items, builder)?;
     } else {
-        take_no_time(items, inside, place.from)?;
+        push_empty_chord(items, builder, place.from)?;
     }
     Ok(())
 }
 
-/// Puts a rest, and its fault where its length is refused.
+/// Adds a rest, and its fault if its length is refused.
 fn push_rest(
     items: &mut ItemsBuilder,
     length: Grains,
@@ -206,8 +217,9 @@ fn push_rest(
     column: u32,
 ) -> Result<(), AllocError>
     requires { IsWithinLongest length }
-    ensures ok { OnOk result (items.new ≡ and_item (and_faults items.old (fault_if refused column BadLength)) (item_kinds.Rest length false)) }
-    ensures refused { OnErr result (items.new ≡ items.old) }
+    ensures ok { OnOk result (items.new ≡ append_item (append_faults items.old (fault_if refused column BadLength))
+        (item_kinds.Rest length false)) }
+    ensures unchanged { OnErr result (items.new ≡ items.old) }
 {
     let rest = Item::Rest { length, bar: false };
     if refused {
@@ -217,22 +229,22 @@ fn push_rest(
     }
 }
 
-/// Gives a rest at a place of its line, counted from 0 (ABC 2.1 section 4.5).
-pub fn rest_played(
+/// Adds a rest at a place of its line, counted from 0 (ABC 2.1 section 4.5).
+pub fn play_rest(
     alloc: Global,
-    settings: &mut Settings,
+    state: &mut VoiceState,
     items: &mut ItemsBuilder,
     written: WrittenLength,
     broken: &BrokenFactors,
     from: usize,
 ) -> Result<(), AllocError>
-    ensures settings { OnOk result (settings.new ≡ (rest_played settings.old broken.now from written).settings) }
-    ensures items { OnOk result (items.new ≡ with_played items.old (rest_played settings.old broken.now from written)) }
-    ensures refused { OnErr result ((settings.new ≡ settings.old) × (items.new ≡ items.old)) }
+    ensures state { OnOk result (state.new ≡ (play_rest state.old broken.now from written).state) }
+    ensures items { OnOk result (items.new ≡ with_result items.old (play_rest state.old broken.now from written)) }
+    ensures unchanged { OnErr result ((state.new ≡ state.old) × (items.new ≡ items.old)) }
 {
-    let (length, refused) = length_in(settings, broken, written, None);
+    let (length, refused) = length_in(state, broken, written, None);
     push_rest(items, length, refused, column_of(from))?;
-    settings.tuplet = counted_down(settings.tuplet);
-    settings.tied = ShortSequence::new(alloc);
+    state.tuplet = count_down(state.tuplet);
+    state.tied = ShortSequence::new(alloc);
     Ok(())
 }

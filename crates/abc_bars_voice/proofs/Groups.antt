@@ -94,7 +94,7 @@ module _ {V : Type 0} where
   found_front [] others key h = h
   found_front (first ∷ entries) others key h = ap (cond (int_eq key first.0) (Some first.1)) (found_front entries others key h)
 
-  -- An entry is put before those above it, behind those below it, and among the others.
+  -- An entry is put before those above it, after those below it, and among the others.
   put_above : (entries : List (ℤ × V)) (key : ℤ) (value : V) → AllAbove key entries → insert_entry int_cmp entries key value ≡ (key, value) ∷ entries
   put_above [] key value h = refl
   put_above (first ∷ entries) key value h = rw (less key first.0 h.0) refl
@@ -198,7 +198,7 @@ module _ {V : Type 0} where
   none_of_group : (octave : ℤ) (groups : List (ℤ × List (ℤ × V))) → AllAbove (group_of octave) groups → group_at groups octave ≡ []
   none_of_group octave groups above = ap (λ (o : Option (List (ℤ × V))). unwrap_or o []) (none_below (group_of octave) groups above)
 
-  -- A value is put where it would be in the one list.
+  -- A value is put if it would be in the one list.
   one_list_by : (octave : ℤ) (value : V) (first : ℤ × List (ℤ × V)) (groups : List (ℤ × List (ℤ × V))) (r : Ordering) → r ≡ int_cmp (group_of octave) first.0 → AreGrouped (first ∷ groups)
       → octaves_of (with_value groups octave value) ≡ insert_entry int_cmp (octaves_of groups) octave value
       → octaves_of (put_by r octave value first groups) ≡ insert_entry int_cmp (first.1 ++ octaves_of groups) octave value

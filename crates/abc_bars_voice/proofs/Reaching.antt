@@ -67,7 +67,7 @@ pub false_by : (b : Bool) → (b ≡ true → ⊥) → b ≡ false
 false_by true h = absurd (h refl)
 false_by false h = refl
 
--- on the letter that it stands on
+-- on the letter that it is on
 pub on_its_letter : (letters : LetterAccidentals) (letter : Letter) (by : ℤ) (other : Letter) → capital letter ≡ capital other
     → on_letter (with_letter letters letter by) other ≡ Some by
 on_its_letter letters letter by other e = seen_by letters letter by other true ((Decides-eqb (capital letter) (capital other)).1 e)
@@ -78,7 +78,7 @@ pub on_another : (letters : LetterAccidentals) (letter : Letter) (by : ℤ) (oth
 on_another letters letter by other h =
     seen_by letters letter by other false (false_by (capital letter == capital other) (λ e. h ((Decides-eqb (capital letter) (capital other)).0 e)))
 
--- an entry is found where it was put
+-- an entry is found if it was put
 abbrev Octaves : Type 0
 Octaves = List (ℤ × LetterAccidentals)
 
@@ -180,7 +180,7 @@ reach_by Own earlier (Some by) = refl
 reach_by (InOctaves octaves) earlier (Some by) = refl
 reach_by (OnLetters letters) earlier (Some by) = refl
 
--- accidentals reach as far behind notes
+-- accidentals reach as far after notes
 pub reach_stays : (accidentals : Accidentals) (notes : List Note) → reach_of (behind_notes accidentals notes) ≡ reach_of accidentals
 reach_stays accidentals [] = refl
 reach_stays accidentals (note ∷ notes) = reach_stays (with_own accidentals note) notes ∙ reach_by accidentals note (option_map accidental_alteration note.accidental)

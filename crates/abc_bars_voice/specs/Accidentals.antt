@@ -1,4 +1,4 @@
--- The accidentals that hold in a bar. ABC 2.1 sections 4.2 and 11.3.
+-- The accidentals of a bar. ABC 2.1 sections 4.2 and 11.3.
 use Rattle.std.specs.Prelude.{ℤ, List, [], Option, Some, None, unwrap_or}
 use Rattle.std.specs.BTreeMap.{insert_entry, is_at}
 use Rattle.std.specs.Map.{lookup}
@@ -16,7 +16,7 @@ use Rattle.abc_bars_voice.specs.declared.accidentals.LetterAccidentals.{LetterAc
 abbrev pub no_letters : LetterAccidentals
 no_letters = record { c = None; d = None; e = None; f = None; g = None; a = None; b = None }
 
--- By how many semitones the last accidental that was written on a letter alters it, if there is one.
+-- By how many semitones the last accidental on a letter alters it, if there is one.
 abbrev pub on_letter : LetterAccidentals → Letter → Option ℤ
 on_letter letters C = letters.c
 on_letter letters D = letters.d
@@ -45,7 +45,7 @@ unfoldable pub with_octave : List (ℤ × LetterAccidentals) → ℤ → Letter 
 with_octave octaves octave letter by =
     insert_entry int_cmp octaves octave (with_letter (letters_in octaves octave) letter by)
 
--- No accidentals, as at the beginning of a bar, that reach so far.
+-- The accidentals at the beginning of a bar, none, with this reach.
 abbrev pub no_accidentals : Reach → Accidentals
 no_accidentals Not = Own
 no_accidentals Octave = InOctaves []

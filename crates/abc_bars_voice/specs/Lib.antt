@@ -2,7 +2,7 @@ pub mod Accidentals
 pub mod Alteration
 pub mod OctaveGroups
 pub mod Reaching
-pub mod Settings
+pub mod VoiceState
 pub mod Tempo
 pub mod TempoItem
 pub mod Tuplet

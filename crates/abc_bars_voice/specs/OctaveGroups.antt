@@ -1,4 +1,4 @@
--- How the accidentals of octaves are kept: in groups of octaves that lie side by side. Not in ABC 2.1.
+-- How the accidentals of octaves are stored: in groups of adjacent octaves. Not in ABC 2.1.
 use Rattle.std.specs.Prelude.{◌≡◌, ℤ, pos, Bool, ◌&&◌, List, [], ◌∷◌, ◌++◌, Option, Some, None, unwrap_or}
 use Rattle.std.specs.BTreeMap.{BTreeMap, insert_entry, is_at}
 use Rattle.std.specs.Cmp.{IsPartialEquivalence, and_per, int_eq_equiv, on_per, partial_equiv_from_equiv}
@@ -23,16 +23,17 @@ groups_in (Some groups) = groups.entries
 abbrev pub group_at : {V : Type 0} → List (ℤ × List (ℤ × V)) → ℤ → List (ℤ × V)
 group_at groups octave = unwrap_or (lookup (is_at (int_cmp (group_of octave))) groups) []
 
--- The groups after an octave got this value.
+-- The groups with this value for an octave.
 abbrev pub with_value : {V : Type 0} → List (ℤ × List (ℤ × V)) → ℤ → V → List (ℤ × List (ℤ × V))
-with_value groups octave value = insert_entry int_cmp groups (group_of octave) (insert_entry int_cmp (group_at groups octave) octave value)
+with_value groups octave value =
+    insert_entry int_cmp groups (group_of octave) (insert_entry int_cmp (group_at groups octave) octave value)
 
--- The octaves of all groups, one group behind the other.
+-- The octaves of all groups, one group after the other.
 abbrev pub octaves_of : {V : Type 0} → List (ℤ × List (ℤ × V)) → List (ℤ × V)
 octaves_of [] = []
 octaves_of (group ∷ groups) = group.1 ++ octaves_of groups
 
--- Every key lies above this one.
+-- Every key is above this one.
 abbrev pub AllAbove : {V : Type 0} → ℤ → List (ℤ × V) → Type 0
 AllAbove key [] = Unit {0}
 AllAbove key (first ∷ entries) = (key <ℤ first.0) × AllAbove key entries
@@ -42,7 +43,7 @@ abbrev pub LieIn : {V : Type 0} → ℤ → List (ℤ × V) → Type 0
 LieIn group [] = Unit {0}
 LieIn group (first ∷ octaves) = (group_of first.0 ≡ group) × LieIn group octaves
 
--- The groups rise, and each has octaves, which are its own.
+-- The groups rise, and each has octaves, all of its own.
 abbrev pub AreGrouped : {V : Type 0} → List (ℤ × List (ℤ × V)) → Type 0
 AreGrouped [] = Unit {0}
 AreGrouped (group ∷ groups) = AllAbove group.0 groups × LieIn group.0 group.1 × (¬ (group.1 ≡ [])) × AreGrouped groups

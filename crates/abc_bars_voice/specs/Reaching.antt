@@ -1,4 +1,4 @@
--- Which accidentals a note hears, apart from how they are kept. ABC 2.1 sections 4.2 and 11.3.
+-- Which accidentals a note hears, apart from how they are stored. ABC 2.1 sections 4.2 and 11.3.
 use Rattle.std.specs.Prelude.{◌≡◌, ℤ, List, [], ◌∷◌, ◌++◌, All, Option, Some, None}
 use Rattle.abc_scan.specs.declared.directive.Reach.{Reach}
 use Rattle.abc_scan.specs.declared.directive.Reach.TheVariants.{Not, Octave, Pitch}
@@ -23,14 +23,14 @@ pub record Hears (reach : Reach) (note earlier : Note) : Type 0 where
   pub written : earlier.accidental ≡ Some accidental
   pub reaches : Reaches reach earlier note
 
--- What a note hears of these notes, oldest first: the accidental of the last one that has any which reaches it.
+-- What a note hears of these notes, oldest first: the accidental of the last note whose accidental reaches it.
 pub record HearsLast (reach : Reach) (notes : List Note) (note : Note) (heard : Option ℤ) : Type 0 where
   pub last : (before behind : List Note) (earlier : Note) (accidental : Accidental) → notes ≡ before ++ earlier ∷ behind
       → earlier.accidental ≡ Some accidental → Reaches reach earlier note → All (λ other. ¬ Hears reach note other) behind
       → heard ≡ Some (accidental_alteration accidental)
   pub none : All (λ other. ¬ Hears reach note other) notes → heard ≡ None
 
--- The accidentals behind more notes.
+-- The accidentals after more notes.
 abbrev pub behind_notes : Accidentals → List Note → Accidentals
 behind_notes accidentals [] = accidentals
 behind_notes accidentals (note ∷ notes) = behind_notes (with_own accidentals note) notes
@@ -38,12 +38,14 @@ behind_notes accidentals (note ∷ notes) = behind_notes (with_own accidentals n
 -- A note hears of the notes of its bar the last accidental that reaches it.
 abbrev pub AccidentalsReach : Type 0
 AccidentalsReach =
-    (reach : Reach) (notes : List Note) (note : Note) → HearsLast reach notes note (written_on (behind_notes (no_accidentals reach) notes) note)
+    (reach : Reach) (notes : List Note) (note : Note)
+    → HearsLast reach notes note (written_on (behind_notes (no_accidentals reach) notes) note)
 
--- The accidentals behind notes are nothing but what notes hear of them: in whatever order they were written, where every
--- note would hear the same they are the same.
+-- The accidentals after notes are nothing but what notes hear of them: they are equal if every note would hear the same,
+-- in whatever order they were written.
 abbrev pub SameWhereHeardAlike : Type 0
 SameWhereHeardAlike =
     (reach : Reach) (notes others : List Note)
-    → ((note : Note) → written_on (behind_notes (no_accidentals reach) notes) note ≡ written_on (behind_notes (no_accidentals reach) others) note)
+    → ((note : Note) → written_on (behind_notes (no_accidentals reach) notes) note
+    ≡ written_on (behind_notes (no_accidentals reach) others) note)
     → behind_notes (no_accidentals reach) notes ≡ behind_notes (no_accidentals reach) others

@@ -1,5 +1,6 @@
 -- Tuplets. ABC 2.1 section 4.13.
-use Rattle.std.specs.Prelude.{◌≤◌, ℕ, ◌-◌, ◌==◌, ◌&&◌, ◌||◌, nat_lt, nat_le, Bool, false, if◌then◌else◌, unwrap_or, List, [], ◌∷◌, Option, Some, None}
+use Rattle.std.specs.Prelude.{◌≤◌, ℕ, ◌-◌, ◌==◌, ◌&&◌, ◌||◌, nat_lt, nat_le, Bool, false, if◌then◌else◌, unwrap_or, List, [], ◌∷◌}
+use Rattle.std.specs.Prelude.{Option, Some, None}
 use Rattle.abc_fields.specs.declared.fault.FaultCode.{FaultCode}
 use Rattle.abc_fields.specs.declared.fault.FaultCode.TheVariants.{BadTuplet, NestedTuplet}
 use Rattle.abc_fields.specs.declared.meter.Meter.{Meter}
@@ -13,7 +14,7 @@ pub record IsTupletNumber (n : ℕ) : Type 0 where
   pub least : 1 ≤ n
   pub most : n ≤ LARGEST_TUPLET_NUMBER
 
--- An open tuplet: notes come p in the time of q, and so many notes, chords and rests are left of it.
+-- An open tuplet: notes come p in the time of q, and `left` notes, chords and rests are left of it.
 pub record OpenTuplet : Type 0 where
   pub p : ℕ
   pub q : ℕ
@@ -34,15 +35,15 @@ abbrev pub is_compound : Meter → Bool
 is_compound Free = false
 is_compound (Of num den) = (den == 8) && ((num == 6) || (num == 9) || (num == 12))
 
--- The time of how many notes p of them take where q is not written (ABC 2.1 section 4.13; for p that are
--- not from 2 to 9 our own).
+-- The number of notes whose time p of them take, if q is not written (ABC 2.1 section 4.13; for p outside 2 to 9 not in
+-- ABC 2.1).
 abbrev pub default_q : Meter → ℕ → ℕ
 default_q meter p =
     if (p == 2) || (p == 4) || (p == 8) then 3
     else if (p == 3) || (p == 6) then 2
     else if is_compound meter then 3 else 2
 
--- The tuplet of p notes in the time of q that takes r, where each is a number that a tuplet may have.
+-- The tuplet of p notes in the time of q that takes r, if a tuplet may have each of these numbers.
 abbrev pub tuplet_with : ℕ → ℕ → ℕ → Option OpenTuplet
 tuplet_with p q r =
     if is_tuplet_number p && is_tuplet_number q && is_tuplet_number r then Some (record { p = p; q = q; left = r }) else None
@@ -51,27 +52,27 @@ tuplet_with p q r =
 abbrev pub tuplet_by : Meter → Tuplet → Option OpenTuplet
 tuplet_by meter mark = tuplet_with mark.p (unwrap_or mark.q (default_q meter mark.p)) (unwrap_or mark.r mark.p)
 
--- The open tuplet behind a mark that makes this one, and the mark's fault: a refused mark leaves the open
--- tuplet going, another one takes its place. Not in ABC 2.1.
-abbrev pub opened : Option OpenTuplet → Option OpenTuplet → Option OpenTuplet × Option FaultCode
-opened old None = (old, Some BadTuplet)
-opened None (Some new) = (Some new, None)
-opened (Some old) (Some new) = (Some new, Some NestedTuplet)
+-- The open tuplet after a mark of this new one, and the mark's fault: a refused mark leaves the open tuplet as it is,
+-- another one replaces it. Not in ABC 2.1.
+abbrev pub tuplet_after_mark : Option OpenTuplet → Option OpenTuplet → Option OpenTuplet × Option FaultCode
+tuplet_after_mark old None = (old, Some BadTuplet)
+tuplet_after_mark None (Some new) = (Some new, None)
+tuplet_after_mark (Some old) (Some new) = (Some new, Some NestedTuplet)
 
--- The open tuplet behind a mark, and the mark's fault.
-abbrev pub tuplet_opened : Meter → Option OpenTuplet → Tuplet → Option OpenTuplet × Option FaultCode
-tuplet_opened meter open_before mark = opened open_before (tuplet_by meter mark)
+-- The open tuplet after a mark, and the mark's fault.
+abbrev pub begin_tuplet : Meter → Option OpenTuplet → Tuplet → Option OpenTuplet × Option FaultCode
+begin_tuplet meter open_before mark = tuplet_after_mark open_before (tuplet_by meter mark)
 
--- What is left of the open tuplet behind one more note, chord or rest.
-abbrev pub counted_down : Option OpenTuplet → Option OpenTuplet
-counted_down None = None
-counted_down (Some tuplet) = if nat_lt 1 tuplet.left then Some (record tuplet { left = tuplet.left - 1 }) else None
+-- What is left of the open tuplet after one more note, chord or rest.
+abbrev pub count_down : Option OpenTuplet → Option OpenTuplet
+count_down None = None
+count_down (Some tuplet) = if nat_lt 1 tuplet.left then Some (record tuplet { left = tuplet.left - 1 }) else None
 
--- What a tuplet multiplies a length by.
+-- The factor of a tuplet's lengths.
 abbrev pub tuplet_ratio : OpenTuplet → Ratio
 tuplet_ratio tuplet = record { num = tuplet.q; den = tuplet.p }
 
--- What the open tuplet multiplies a length by, if there is one.
+-- The factor of the open tuplet, if there is one.
 abbrev pub tuplet_factors : Option OpenTuplet → List Ratio
 tuplet_factors None = []
 tuplet_factors (Some tuplet) = tuplet_ratio tuplet ∷ []

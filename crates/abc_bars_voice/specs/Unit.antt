@@ -7,8 +7,8 @@ use Rattle.abc_time.specs.declared.grains.Grains.{Grains}
 use Rattle.abc_time.specs.declared.ratio.Ratio.{Ratio}
 use Rattle.abc_time.specs.Grains.{grains_of_a_whole_note}
 
--- A whole note, or a half, a quarter and so on of it, down to a 512th (ABC 2.1 section 3.1.7; the bound is
--- our own).
+-- A whole note, or a half, a quarter and so on of it, down to a 512th (ABC 2.1 section 3.1.7; the bound is not in
+-- ABC 2.1).
 pub record IsUnitPart (part : Ratio) : Type 0 where
   pub one : part.num ≡ 1
   pub power : IsPowerUpTo 9 part.den

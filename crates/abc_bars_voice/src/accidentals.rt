@@ -1,15 +1,15 @@
-//! The accidentals that hold in a bar.
+//! The accidentals of a bar.
 
 ghost use Rattle.std.specs.Prelude.{◌≡◌, ◌↔◌, [], IsTrue, OnErr, OnOk};
-ghost use Rattle.abc_bars_voice.specs.Accidentals.{letters_in, no_accidentals, on_letter, reach_of, with_accidental, with_letter, with_octave, written_on};
+ghost use Rattle.abc_bars_voice.specs.Accidentals.{letters_in, no_accidentals, on_letter, reach_of, with_accidental, with_letter};
+ghost use Rattle.abc_bars_voice.specs.Accidentals.{with_octave, written_on};
 
 use crate::octave_groups::OctaveGroups;
 use abc_scan::{Letter, Note, Reach};
 use std::alloc::{AllocError, Global};
 use std::marker::Model;
 
-/// By how many semitones the accidentals that were written in a bar alter each letter; None where there was
-/// none (ABC 2.1 section 4.2).
+/// By how many semitones the accidentals of a bar alter each letter; None if it has none (ABC 2.1 section 4.2).
 #[derive(Clone, Copy, PartialEq, Eq)]
 pub struct LetterAccidentals {
     pub c: Option<i8>,
@@ -21,7 +21,7 @@ pub struct LetterAccidentals {
     pub b: Option<i8>,
 }
 
-/// How many groups of octaves music lies in: from the octave of the middle C up, and below it.
+/// The groups of octaves of usual music: from the octave of the middle C up, and below it.
 const MOST_GROUPS: usize = 2;
 
 /// No accidentals on any letter.
@@ -35,8 +35,8 @@ pub(crate) const NO_LETTERS: LetterAccidentals = LetterAccidentals {
     b: None,
 };
 
-/// The accidentals on the letters of each octave that has any. Contracts see them as a list, in which the octaves
-/// rise: whatever the order is in which the same accidentals were written, it is the same list. Copies share them.
+/// The accidentals on the letters of each octave that has any. Contracts see a list with rising octaves, which is the same
+/// in whatever order the accidentals were written. Copies share them.
 #[derive(Drop)]
 pub struct OctaveAccidentals {
     groups: OctaveGroups,
@@ -54,19 +54,19 @@ impl Model for OctaveAccidentals {
     ghost invariant = { λ o. AreGrouped o.groups };
 }
 
-/// The accidentals that were written in a bar, as far as they reach (ABC 2.1 section 11.3).
+/// The accidentals of a bar, as far as they reach (ABC 2.1 section 11.3).
 #[derive(Drop)]
 pub enum Accidentals {
-    /// None is heard on another note.
+    /// No accidental alters another note.
     Own,
-    /// Each is heard on its letter in its octave.
+    /// Each alters its letter in its octave.
     InOctaves(OctaveAccidentals),
-    /// Each is heard on its letter in every octave.
+    /// Each alters its letter in every octave.
     OnLetters(LetterAccidentals),
 }
 
 impl LetterAccidentals {
-    /// By how many semitones the last accidental that was written on a letter alters it, if there is one.
+    /// By how many semitones the last accidental on a letter alters it, if there is one.
     fn on(&self, letter: Letter) -> Option<i8>
         ensures { result ≡ on_letter self.now letter }
     {
@@ -81,7 +81,7 @@ impl LetterAccidentals {
         }
     }
 
-    /// Puts one more accidental on a letter.
+    /// Adds an accidental on a letter.
     fn set(&mut self, letter: Letter, by: i8)
         ensures { self.new ≡ with_letter self.old letter by }
     {
@@ -114,10 +114,10 @@ impl OctaveAccidentals {
         self.groups.letters_in(octave)
     }
 
-    /// Puts one more accidental on a letter in an octave.
+    /// Adds an accidental on a letter in an octave.
     fn set(&mut self, octave: i32, letter: Letter, by: i8) -> Result<(), AllocError>
         ensures ok { OnOk result (self.new ≡ with_octave self.old octave letter by) }
-        ensures refused { OnErr result (self.new ≡ self.old) }
+        ensures unchanged { OnErr result (self.new ≡ self.old) }
     {
         let mut letters = self.letters_in(octave);
         letters.set(letter, by);
@@ -125,16 +125,16 @@ impl OctaveAccidentals {
         Ok(())
     }
 
-    /// Whether they are in few groups of octaves. No result depends on it.
+    /// Whether they are in few groups of octaves, so that a comparison is cheap. No result depends on it.
     fn is_small(&self) -> bool {
         self.groups.len() <= MOST_GROUPS
     }
 
-    /// Takes all accidentals away.
+    /// Removes all accidentals.
     fn clear(&mut self)
         ensures { self.new ≡ [] }
     {
-        self.groups = self.groups.cleared();
+        self.groups = self.groups.without_groups();
     }
 
     /// Whether both have the same accidentals in each octave.
@@ -171,7 +171,7 @@ impl Clone for Accidentals {
 }
 
 impl Accidentals {
-    /// No accidentals, as at the beginning of a bar, that reach so far.
+    /// The accidentals at the beginning of a bar, none, with this reach.
     pub fn none(alloc: Global, reach: Reach) -> Accidentals
         ensures { result ≡ no_accidentals reach }
     {
@@ -182,7 +182,7 @@ impl Accidentals {
         }
     }
 
-    /// Whether there are few of them to compare. No result depends on it.
+    /// Whether a comparison is cheap. No result depends on it.
     pub fn is_small(&self) -> bool {
         match self {
             Accidentals::Own | Accidentals::OnLetters(_) => true,
@@ -201,10 +201,10 @@ impl Accidentals {
         }
     }
 
-    /// Puts the accidental of one more note behind the others.
+    /// Adds the accidental of a note after the others.
     pub fn set(&mut self, note: Note, by: i8) -> Result<(), AllocError>
         ensures ok { OnOk result (self.new ≡ with_accidental self.old note by) }
-        ensures refused { OnErr result (self.new ≡ self.old) }
+        ensures unchanged { OnErr result (self.new ≡ self.old) }
     {
         match self {
             Accidentals::Own => {}
@@ -214,7 +214,7 @@ impl Accidentals {
         Ok(())
     }
 
-    /// Takes the accidentals away; those that come reach as far.
+    /// Removes all accidentals; later ones have the same reach.
     pub fn clear(&mut self)
         ensures { self.new ≡ no_accidentals (reach_of self.old) }
     {

@@ -4,13 +4,13 @@ ghost use Rattle.std.specs.Prelude.{◌≡◌, OnErr, OnOk};
 ghost use Rattle.abc_bars_voice.specs.Alteration.{alteration_of, goes_on_in, own_alteration, tied_alteration, with_own};
 
 use crate::accidentals::Accidentals;
-use crate::settings::Settings;
 use crate::tied::TiedNote;
+use crate::voice_state::VoiceState;
 use abc_fields::alteration;
 use abc_scan::Note;
 use std::alloc::AllocError;
 
-/// The alteration that the note's own accidental says, if it has one.
+/// The alteration of the note's own accidental, if it has one.
 fn own_alteration(note: Note) -> Option<i8>
     ensures { result ≡ own_alteration note }
 {
@@ -24,7 +24,7 @@ fn goes_on_in(note: Note, tied: TiedNote) -> bool
     tied.letter.capital() == note.letter.capital() && tied.octave == note.octave
 }
 
-/// The alteration of the last of the tied notes that has the letter and the octave of a note.
+/// The alteration of the last tied note with the letter and the octave of a note.
 fn tied_alteration(tied: &[TiedNote], note: Note) -> Option<i8>
     ensures { result ≡ tied_alteration tied.now note }
 {
@@ -35,8 +35,8 @@ fn tied_alteration(tied: &[TiedNote], note: Note) -> Option<i8>
 /// By how many semitones a note is altered (ABC 2.1 sections 4.2 and 4.11): by its own accidental, else by
 /// the last one in the bar that reaches it, else as the note that is tied to it, else by the signature.
 #[inline(always)]
-pub fn alteration_of(settings: &Settings, accidentals: &Accidentals, note: Note) -> i8
-    ensures { result ≡ alteration_of settings.now accidentals.now note }
+pub fn alteration_of(state: &VoiceState, accidentals: &Accidentals, note: Note) -> i8
+    ensures { result ≡ alteration_of state.now accidentals.now note }
 {
     if let Some(by) = own_alteration(note) {
         return by;
@@ -44,16 +44,16 @@ pub fn alteration_of(settings: &Settings, accidentals: &Accidentals, note: Note)
     if let Some(by) = accidentals.on(note) {
         return by;
     }
-    if let Some(by) = tied_alteration(settings.tied.as_slice(), note) {
+    if let Some(by) = tied_alteration(state.tied.as_slice(), note) {
         return by;
     }
-    alteration(&settings.signature, note.letter)
+    alteration(&state.signature, note.letter)
 }
 
-/// Puts a note's own accidental, if it has one, behind the others.
+/// Adds a note's own accidental, if it has one, after the others.
 pub fn write_own(accidentals: &mut Accidentals, note: Note) -> Result<(), AllocError>
     ensures ok { OnOk result (accidentals.new ≡ with_own accidentals.old note) }
-    ensures refused { OnErr result (accidentals.new ≡ accidentals.old) }
+    ensures unchanged { OnErr result (accidentals.new ≡ accidentals.old) }
 {
     if let Some(by) = own_alteration(note) {
         accidentals.set(note, by)?;

@@ -1,4 +1,4 @@
-//! The meter that holds.
+//! The current meter.
 
 ghost use Rattle.std.specs.Prelude.{◌≡◌};
 ghost use Rattle.abc_fields.specs.Meter.{meter_of, IsMeterInRange};
@@ -6,8 +6,7 @@ ghost use Rattle.abc_fields.specs.Meter.{meter_of, IsMeterInRange};
 use abc_fields::{FaultCode, Meter, read_meter};
 use std::marker::Model;
 
-/// A meter that M: can say, or none, which is free meter (ABC 2.1 section 3.1.6). Contracts see the
-/// meter.
+/// A meter of an M:, or none, which is free meter (ABC 2.1 section 3.1.6). Contracts see the meter.
 #[derive(Clone, Copy)]
 pub struct TuneMeter {
     meter: Meter,
@@ -27,14 +26,14 @@ impl Model for TuneMeter {
 }
 
 impl TuneMeter {
-    /// No meter.
+    /// Free meter.
     pub fn free() -> TuneMeter
         ensures { result ≡ Meter.Free }
     {
         TuneMeter { meter: Meter::Free }
     }
 
-    /// The meter that a value of M: says.
+    /// The meter of a value of M:.
     pub fn read(value: &[u8]) -> Result<TuneMeter, FaultCode>
         ensures { result ≡ meter_of value.now }
     {

@@ -1,4 +1,4 @@
-//! The accidentals of octaves that lie side by side.
+//! The accidentals of adjacent octaves.
 
 ghost use Rattle.std.specs.Prelude.{◌≡◌, [], ◌∷◌, IfOk};
 ghost use Rattle.std.specs.BTreeMap.{insert_entry};
@@ -12,8 +12,8 @@ use std::alloc::{AllocError, Global};
 use std::collections::BTreeMap;
 use std::marker::Model;
 
-/// The accidentals on the letters of each octave of a group that has any. Contracts see a list, in which the octaves
-/// rise. Copies share them.
+/// The accidentals on the letters of each octave of a group that has any. Contracts see a list with rising octaves. Copies
+/// share them.
 #[derive(Drop)]
 pub(crate) struct OctaveGroup {
     octaves: Shared<BTreeMap<i32, LetterAccidentals>>,
@@ -30,7 +30,7 @@ impl Model for OctaveGroup {
 
 impl OctaveGroup {
     /// A group with accidentals in one octave.
-    pub(crate) fn alone(
+    pub(crate) fn of_octave(
         alloc: Global,
         octave: i32,
         letters: LetterAccidentals,
@@ -52,8 +52,8 @@ impl OctaveGroup {
         octaves.get(&octave).copied().unwrap_or(NO_LETTERS)
     }
 
-    /// A copy of the octaves, to be changed.
-    fn own(&self) -> Result<BTreeMap<i32, LetterAccidentals>, AllocError>
+    /// A copy of the octaves that can be changed.
+    fn copy_octaves(&self) -> Result<BTreeMap<i32, LetterAccidentals>, AllocError>
         ensures { IfOk result (λ octaves. octaves.entries ≡ self.now) }
     {
         Ok(self.octaves.get().clone()?)
@@ -68,7 +68,7 @@ impl OctaveGroup {
     ) -> Result<OctaveGroup, AllocError>
         ensures { IfOk result (λ group. group ≡ insert_entry int_cmp self.now octave letters) }
     {
-        let mut octaves = self.own()?;
+        let mut octaves = self.copy_octaves()?;
         octaves.insert(octave, letters)?;
         let octaves = Shared::new(alloc, octaves)?;
         Ok(OctaveGroup { octaves })

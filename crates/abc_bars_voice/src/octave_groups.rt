@@ -1,4 +1,4 @@
-//! The accidentals of octaves, group by group.
+//! The accidentals of all octaves, group by group.
 
 ghost use Rattle.std.specs.Prelude.{◌≡◌, ◌↔◌, [], IfOk, IsTrue};
 ghost use Rattle.std.specs.Option.{option_copied};
@@ -15,7 +15,7 @@ use std::alloc::{AllocError, Global};
 use std::collections::BTreeMap;
 use std::marker::Model;
 
-/// How many octaves lie in a group.
+/// The octaves of a group.
 const GROUP_SIZE: i32 = 32;
 
 /// The number of the group of an octave.
@@ -25,12 +25,12 @@ fn group_of(octave: i32) -> i32
     octave.div_euclid(GROUP_SIZE)
 }
 
-/// Groups of octaves by their numbers. Contracts see a list, in which the numbers rise. Copies share them, and what an
-/// accidental adds copies the one group that it is in and a word or two for each other.
+/// Groups of octaves by their numbers. Contracts see a list with rising numbers. Copies share them: an added accidental
+/// copies its own group, and a word or two for each other group.
 #[derive(Drop)]
 pub(crate) struct OctaveGroups {
     alloc: Global,
-    /// None where there are none.
+    /// None if there are none.
     groups: Option<Shared<BTreeMap<i32, OctaveGroup>>>,
 }
 
@@ -55,8 +55,8 @@ impl OctaveGroups {
         }
     }
 
-    /// No groups any more.
-    pub(crate) fn cleared(&self) -> OctaveGroups
+    /// The same without any group.
+    pub(crate) fn without_groups(&self) -> OctaveGroups
         ensures { result ≡ [] }
     {
         OctaveGroups::new(self.alloc)
@@ -90,8 +90,8 @@ impl OctaveGroups {
         }
     }
 
-    /// A copy of the groups, to be changed.
-    fn own(&self) -> Result<BTreeMap<i32, OctaveGroup>, AllocError>
+    /// A copy of the groups that can be changed.
+    fn copy_groups(&self) -> Result<BTreeMap<i32, OctaveGroup>, AllocError>
         ensures { IfOk result (λ groups. groups.entries ≡ self.now) }
     {
         match &self.groups {
@@ -104,7 +104,7 @@ impl OctaveGroups {
     fn with_group(&self, number: i32, group: OctaveGroup) -> Result<OctaveGroups, AllocError>
         ensures { IfOk result (λ all. all ≡ insert_entry int_cmp self.now number group) }
     {
-        let mut groups = self.own()?;
+        let mut groups = self.copy_groups()?;
         groups.insert(number, group)?;
         let groups = Shared::new(self.alloc, groups)?;
         Ok(OctaveGroups {
@@ -119,7 +119,7 @@ impl OctaveGroups {
     {
         match self.group(group_of(octave)) {
             Some(group) => group.with(self.alloc, octave, letters),
-            None => OctaveGroup::alone(self.alloc, octave, letters),
+            None => OctaveGroup::of_octave(self.alloc, octave, letters),
         }
     }
 

@@ -1,15 +1,15 @@
-//! Whether the same holds for two voices.
+//! Whether the states of two voices are equal.
 
 ghost use Rattle.std.specs.Prelude.{◌≡◌, ◌↔◌, IsTrue, slice_get};
 
 use crate::accidentals::{Accidentals, LetterAccidentals};
 use crate::meter::TuneMeter;
-use crate::settings::Settings;
 use crate::tempo::TuneTempo;
 use crate::tied::TiedNote;
 use crate::tuplet::OpenTuplet;
 use crate::unit::UnitLength;
 use crate::voice_shift::VoiceShift;
+use crate::voice_state::VoiceState;
 use abc_fields::Signature;
 use abc_scan::Dynamic;
 
@@ -41,17 +41,10 @@ impl TuneTempo {
 }
 
 /// Whether both signatures alter each letter alike.
-#[tactic(auto, using(crate::proofs::Alike::signature_of_parts))]
 fn same_signature(signature: Signature, other: Signature) -> bool
     ensures { IsTrue result ↔ (signature ≡ other) }
 {
-    signature.a == other.a
-        && signature.b == other.b
-        && signature.c == other.c
-        && signature.d == other.d
-        && signature.e == other.e
-        && signature.f == other.f
-        && signature.g == other.g
+    signature == other
 }
 
 impl VoiceShift {
@@ -87,7 +80,7 @@ impl LetterAccidentals {
 }
 
 impl Accidentals {
-    /// Whether both reach as far and say the same.
+    /// Whether both have the same reach and the same accidentals.
     fn same(&self, other: &Accidentals) -> bool
         ensures { IsTrue result ↔ (self.now ≡ other.now) }
     {
@@ -129,7 +122,7 @@ impl TiedNote {
     }
 }
 
-/// Whether both lists have the same tied note at a place, or none.
+/// Whether both lists have the same tied note at an index, or none.
 fn same_at(tied: &[TiedNote], other: &[TiedNote], at: usize) -> bool
     ensures { IsTrue result ↔ (slice_get tied.now at ≡ slice_get other.now at) }
 {
@@ -155,14 +148,14 @@ fn same_tied(tied: &[TiedNote], other: &[TiedNote]) -> bool
     true
 }
 
-impl Settings {
-    /// Whether there is little to compare: accidentals of two groups of octaves at most. No result depends on it.
+impl VoiceState {
+    /// Whether a comparison is cheap: it has accidentals of at most two groups of octaves. No result depends on it.
     pub fn is_small(&self) -> bool {
         self.accidentals.is_small()
     }
 
-    /// Whether the same holds for both voices.
-    pub fn same(&self, other: &Settings) -> bool
+    /// Whether both states are equal.
+    pub fn same(&self, other: &VoiceState) -> bool
         ensures { IsTrue result ↔ (self.now ≡ other.now) }
     {
         self.meter.same(other.meter)

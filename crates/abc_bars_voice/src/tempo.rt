@@ -1,4 +1,4 @@
-//! The tempo that a header sets.
+//! The tempo of a header.
 
 ghost use Rattle.std.specs.Prelude.{◌≡◌, IfSome};
 ghost use Rattle.abc_fields.specs.Tempo.{tempo_of};
@@ -10,7 +10,7 @@ use abc_fields::{FaultCode, Tempo, read_tempo};
 use abc_time::quarter_micros;
 use std::marker::Model;
 
-/// A tempo that Q: can say (ABC 2.1 section 3.1.8). Contracts see the tempo.
+/// A tempo of a Q: (ABC 2.1 section 3.1.8). Contracts see the tempo.
 #[derive(Clone, Copy)]
 pub struct TuneTempo {
     tempo: Tempo,
@@ -30,7 +30,7 @@ impl Model for TuneTempo {
 }
 
 impl TuneTempo {
-    /// The tempo that a value of Q: says.
+    /// The tempo of a value of Q:.
     pub fn read(value: &[u8]) -> Result<TuneTempo, FaultCode>
         ensures { result ≡ tempo_of value.now }
     {
@@ -45,8 +45,7 @@ impl TuneTempo {
         self.tempo
     }
 
-    /// The microseconds of a quarter note, where a tempo is set and they are in range; a number alone
-    /// counts units.
+    /// The microseconds of a quarter note, if a tempo is set and they are in range; a number alone counts units.
     pub fn micros(self, unit: UnitLength) -> Option<u32>
         ensures value { result ≡ micros_by unit self }
         ensures range { IfSome result FitsInTempoEvent }

@@ -1,17 +1,17 @@
-//! What a tempo gives to the score.
+//! The item of a tempo.
 
 ghost use Rattle.std.specs.Prelude.{◌≡◌};
 ghost use Rattle.abc_bars_items.specs.Item.{IsItem};
-ghost use Rattle.abc_bars_voice.specs.TempoItem.{is_out, tempo_item};
+ghost use Rattle.abc_bars_voice.specs.TempoItem.{is_out_of_range, tempo_item};
 
 use crate::tempo::TuneTempo;
 use crate::unit::UnitLength;
 use abc_bars_items::Item;
 use abc_fields::Tempo;
 
-/// Whether a tempo is set, and out of range; a number alone counts units.
-pub fn is_out(unit: UnitLength, tempo: TuneTempo) -> bool
-    ensures { result ≡ is_out unit tempo }
+/// Whether a tempo is set and out of range; a number alone counts units.
+pub fn is_out_of_range(unit: UnitLength, tempo: TuneTempo) -> bool
+    ensures { result ≡ is_out_of_range unit tempo }
 {
     match tempo.get() {
         Tempo::Unset => false,
@@ -19,7 +19,7 @@ pub fn is_out(unit: UnitLength, tempo: TuneTempo) -> bool
     }
 }
 
-/// What an accepted tempo gives to the score; a number alone counts units.
+/// The item of an accepted tempo; a number alone counts units.
 pub fn tempo_item(opening: bool, unit: UnitLength, tempo: TuneTempo) -> Item
     ensures value { result ≡ tempo_item opening unit tempo }
     ensures range { IsItem result }
@@ -27,6 +27,6 @@ pub fn tempo_item(opening: bool, unit: UnitLength, tempo: TuneTempo) -> Item
     Item::Tempo {
         opening,
         micros: tempo.micros(unit),
-        out: is_out(unit, tempo),
+        out: is_out_of_range(unit, tempo),
     }
 }

@@ -1,4 +1,4 @@
-//! Notes that a tie goes on from.
+//! Tied notes.
 
 use abc_scan::Letter;
 

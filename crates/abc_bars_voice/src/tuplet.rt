@@ -1,7 +1,8 @@
-//! Tuplets that are open.
+//! Open tuplets.
 
 ghost use Rattle.std.specs.Prelude.{◌≡◌, ◌↔◌, IsTrue};
-ghost use Rattle.abc_bars_voice.specs.Tuplet.{is_tuplet_number, is_compound, default_q, tuplet_with, tuplet_by, tuplet_opened, counted_down, tuplet_ratio};
+ghost use Rattle.abc_bars_voice.specs.Tuplet.{is_tuplet_number, is_compound, default_q, tuplet_with, tuplet_by, begin_tuplet};
+ghost use Rattle.abc_bars_voice.specs.Tuplet.{count_down, tuplet_ratio};
 ghost use Rattle.abc_time.specs.Ratio.{IsRatio};
 
 use crate::meter::TuneMeter;
@@ -13,8 +14,8 @@ use std::marker::Model;
 /// The largest of a tuplet's three numbers. Not in ABC 2.1.
 pub const LARGEST_TUPLET_NUMBER: u32 = 64;
 
-/// A tuplet of a voice, with how many notes, chords and rests it still takes (ABC 2.1 section 4.13).
-/// Contracts see the three numbers.
+/// A tuplet of a voice, with the count of notes, chords and rests that it still takes (ABC 2.1 section 4.13). Contracts
+/// see the three numbers.
 #[derive(Clone, Copy)]
 pub struct OpenTuplet {
     p: u8,
@@ -23,19 +24,19 @@ pub struct OpenTuplet {
 }
 
 impl Model for OpenTuplet {
-    ghost use Rattle.abc_bars_voice.specs.Tuplet.{IsOpen, OpenTuplet as Seen};
+    ghost use Rattle.abc_bars_voice.specs.Tuplet.{IsOpen, OpenTuplet as Numbers};
 
-    ghost Value = { Seen };
+    ghost Value = { Numbers };
 
     ghost view = { λ t. record { p = t.p; q = t.q; left = t.left } };
 
     ghost invariant = { λ t. IsOpen (record { p = t.p; q = t.q; left = t.left }) };
 
-    ghost inverse = { λ seen. record { p = seen.p; q = seen.q; left = seen.left } };
+    ghost inverse = { λ numbers. record { p = numbers.p; q = numbers.q; left = numbers.left } };
 }
 
 impl OpenTuplet {
-    /// The tuplet that a mark begins in a meter, if its numbers are accepted.
+    /// The tuplet of a mark in a meter, if its numbers are accepted.
     pub(crate) fn by(meter: TuneMeter, mark: Tuplet) -> Option<OpenTuplet>
         ensures { result ≡ tuplet_by meter mark }
     {
@@ -59,7 +60,7 @@ impl OpenTuplet {
         }
     }
 
-    /// What it multiplies a length by.
+    /// The factor of its lengths.
     pub fn ratio(self) -> Ratio
         ensures value { result ≡ tuplet_ratio self }
         ensures range { IsRatio result }
@@ -70,7 +71,7 @@ impl OpenTuplet {
         }
     }
 
-    /// Whether both are the same tuplet, with as many notes, chords and rests left.
+    /// Whether both are the same tuplet, with the same count left.
     pub(crate) fn same(self, other: OpenTuplet) -> bool
         ensures { IsTrue result ↔ (self ≡ other) }
     {
@@ -98,7 +99,7 @@ fn is_compound(meter: TuneMeter) -> bool
     )
 }
 
-/// The time of how many notes p of them take where it is not written.
+/// The number of notes whose time p of them take, if it is not written.
 fn default_q(meter: TuneMeter, p: u32) -> u32
     ensures { result ≡ default_q meter p }
 {
@@ -109,13 +110,13 @@ fn default_q(meter: TuneMeter, p: u32) -> u32
     }
 }
 
-/// The open tuplet behind a mark, and the mark's fault.
-pub fn tuplet_opened(
+/// The open tuplet after a mark, and the mark's fault.
+pub fn begin_tuplet(
     meter: TuneMeter,
     before: Option<OpenTuplet>,
     mark: Tuplet,
 ) -> (Option<OpenTuplet>, Option<FaultCode>)
-    ensures { result ≡ tuplet_opened meter before mark }
+    ensures { result ≡ begin_tuplet meter before mark }
 {
     match (OpenTuplet::by(meter, mark), before) {
         (None, _) => (before, Some(FaultCode::BadTuplet)),
@@ -124,9 +125,9 @@ pub fn tuplet_opened(
     }
 }
 
-/// What is left of the open tuplet behind one more note, chord or rest.
-pub fn counted_down(before: Option<OpenTuplet>) -> Option<OpenTuplet>
-    ensures { result ≡ counted_down before }
+/// What is left of the open tuplet after one more note, chord or rest.
+pub fn count_down(before: Option<OpenTuplet>) -> Option<OpenTuplet>
+    ensures { result ≡ count_down before }
 {
     let open = before?;
     if open.left > 1 {

@@ -1,4 +1,4 @@
-//! The unit note length that holds.
+//! The current unit note length.
 
 ghost use Rattle.std.specs.Prelude.{◌≡◌, ◌≤◌, []};
 ghost use Rattle.abc_fields.specs.Unit.{unit_of};
@@ -12,10 +12,10 @@ use abc_fields::{FaultCode, Meter, read_unit};
 use abc_time::{Grains, Ratio, WHOLE_NOTE};
 use std::marker::Model;
 
-/// Into how many units a whole note is cut at most.
+/// The most units of a whole note.
 const MOST_PARTS: u16 = 512;
 
-/// The shortest unit in grains. Each unit is so many of it: to divide 512 is cheaper than to divide a whole
+/// The shortest unit in grains. Each unit is a multiple of it: to divide 512 is cheaper than to divide a whole
 /// note's grains, which take 64 bits.
 const SHORTEST_UNIT: u64 = WHOLE_NOTE.0 / 512;
 
@@ -40,7 +40,7 @@ impl Model for UnitLength {
 }
 
 impl UnitLength {
-    /// The unit that a value of L: says.
+    /// The unit of a value of L:.
     pub fn read(value: &[u8]) -> Result<UnitLength, FaultCode>
         ensures { result ≡ unit_of value.now }
     {
@@ -50,7 +50,7 @@ impl UnitLength {
         })
     }
 
-    /// The unit in a meter where no L: says one (ABC 2.1 section 3.1.7): a sixteenth below 3/4, otherwise,
+    /// The unit in a meter if no L: sets one (ABC 2.1 section 3.1.7): a sixteenth below 3/4, otherwise,
     /// and in free meter, an eighth.
     pub fn by(meter: TuneMeter) -> UnitLength
         ensures { result ≡ unit_by meter }

@@ -1,11 +1,11 @@
-//! How the notes of a voice are shifted.
+//! The shift of a voice's notes.
 
 ghost use Rattle.std.specs.Prelude.{◌≡◌};
 ghost use Rattle.abc_bars_voice.specs.VoiceShift.{with_properties};
 
 use abc_fields::Shift;
 
-/// How the notes of a voice are shifted (ABC 2.1 sections 4.6 and 7.1), each part 0 where no field says it.
+/// The shift of a voice's notes (ABC 2.1 sections 4.6 and 7.1); each part is 0 if no field sets it.
 #[derive(Clone, Copy)]
 pub struct VoiceShift {
     /// In semitones.
@@ -17,7 +17,7 @@ pub struct VoiceShift {
 }
 
 impl VoiceShift {
-    /// The shift behind properties: each part that they say takes the place of the one before.
+    /// The shift after properties: each part of theirs replaces the one before.
     pub fn with_properties(self, said: Shift) -> VoiceShift
         ensures { result ≡ with_properties self said }
     {

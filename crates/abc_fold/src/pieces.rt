@@ -7,7 +7,7 @@ use crate::{Fold, Piece};
 use std::alloc::{AllocError, Global};
 use std::marker::Model;
 
-/// Pieces one behind the other, each with a mark whether it is known that it was entered in the very state in which the
+/// Pieces one after the other, each with a mark whether it is known that it was entered in the very state in which the
 /// one before it was left. Contracts see the pieces.
 #[derive(Drop)]
 pub struct Pieces<F: Fold> {
@@ -38,11 +38,11 @@ impl<F: Fold> Pieces<F> {
         }
     }
 
-    /// Appends a piece of which it is not known whether it follows the last one. Where memory is refused the pieces stay
+    /// Appends a piece of which it is not known whether it follows the last one. If an allocation fails, the pieces stay
     /// as they were.
     pub fn push(&mut self, piece: Piece<F>) -> Result<(), AllocError>
-        ensures pushed { OnOk result (self.new ≡ self.old ++ piece ∷ []) }
-        ensures refused { OnErr result (self.new ≡ self.old) }
+        ensures ok { OnOk result (self.new ≡ self.old ++ piece ∷ []) }
+        ensures unchanged { OnErr result (self.new ≡ self.old) }
     {
         self.put(piece, false)
     }
@@ -51,8 +51,8 @@ impl<F: Fold> Pieces<F> {
     /// memory is refused the pieces stay as they were.
     pub fn push_following(&mut self, piece: Piece<F>) -> Result<(), AllocError>
         requires { FollowsLast self.old piece }
-        ensures pushed { OnOk result (self.new ≡ self.old ++ piece ∷ []) }
-        ensures refused { OnErr result (self.new ≡ self.old) }
+        ensures ok { OnOk result (self.new ≡ self.old ++ piece ∷ []) }
+        ensures unchanged { OnErr result (self.new ≡ self.old) }
     {
         self.put(piece, true)
     }
@@ -60,8 +60,8 @@ impl<F: Fold> Pieces<F> {
     /// Appends a piece with its mark.
     fn put(&mut self, piece: Piece<F>, follows: bool) -> Result<(), AllocError>
         requires { follows ≡ true → FollowsLast self.old piece }
-        ensures pushed { OnOk result (self.new ≡ self.old ++ piece ∷ []) }
-        ensures refused { OnErr result (self.new ≡ self.old) }
+        ensures ok { OnOk result (self.new ≡ self.old ++ piece ∷ []) }
+        ensures unchanged { OnErr result (self.new ≡ self.old) }
     {
         self.marks.push(follows)?;
         match self.pieces.push(piece) {

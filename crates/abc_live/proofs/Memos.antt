@@ -16,7 +16,8 @@ pub nothing_remembered : {State Cell Items Defaults : Type 0} (steps : Steps Sta
 nothing_remembered steps rules entry member = absurd (omega (arith, member.1))
 
 -- Of no lines there is nothing in the book.
-pub no_book : {State Cell Items Defaults : Type 0} (steps : Steps State Cell Items) (rules : Rules State Cell Items Defaults) (text : Text) (outputs : List Output) (found : List Fault) → text ≡ [] → outputs ≡ [] → found ≡ []
+pub no_book : {State Cell Items Defaults : Type 0} (steps : Steps State Cell Items) (rules : Rules State Cell Items Defaults)
+    (text : Text) (outputs : List Output) (found : List Fault) → text ≡ [] → outputs ≡ [] → found ≡ []
     → IsBook outputs found (book_of steps rules text)
 no_book steps rules text outputs found empty none nothing =
     let book = ap (book_of steps rules) empty ∙ no_lines_no_book steps rules in

@@ -7,7 +7,7 @@ mod change;
 mod edit;
 mod outcome;
 mod session;
-mod stretch;
+mod stretch_lines;
 
 pub use abc::Session;
 pub use abc_fields::FaultCode;

@@ -1,9 +1,10 @@
 -- Laws of lists and options.
-use Rattle.std.proofs.Common.{◌≡◌, ℕ, zero, suc, ◌+◌, ◌<◌, ◌≤◌, true, false, Bool, List, [], ◌∷◌, ◌++◌, map, take, drop, length, Option, Some, None, option_map, find, refl, sym, ap, ◌∙◌, ⊎_elim, arith, suc-add, zero-add}
+use Rattle.std.proofs.Common.{◌≡◌, ℕ, zero, suc, ◌+◌, ◌<◌, ◌≤◌, true, false, Bool, List, [], ◌∷◌, ◌++◌, map, take, drop, length}
+use Rattle.std.proofs.Common.{Option, Some, None, option_map, find, refl, sym, ap, ◌∙◌, ⊎_elim, arith, suc-add, zero-add}
 use Rattle.std.proofs.lemmas.Bool.{cases_Bool}
 use Rattle.std.proofs.lemmas.List.Folds.{find-append}
 use Rattle.std.specs.Option.{option_or}
-use Rattle.abc_live_cost.specs.Pasts.{row_at}
+use Rattle.abc_live_cost.specs.Past.{row_at}
 
 pub find-map : {A B : Type 0} (p : B → Bool) (g : A → B) (xs : List A) → find p (map g xs) ≡ option_map g (find (λ x. p (g x)) xs)
 find-map p g [] = refl

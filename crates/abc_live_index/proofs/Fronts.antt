@@ -1,7 +1,7 @@
--- What stays in front while more is put behind it.
+-- What stays in front while more is put after it.
 use Rattle.std.proofs.Common.{◌≡◌, ◌≤◌, List, length, take, sym, ap, ◌∙◌, arith, min}
 use Rattle.std.proofs.lemmas.List.{length-take, take-take}
-use Rattle.abc_live_index.specs.Front.{StayInFront}
+use Rattle.abc_live_index.specs.StayInFront.{StayInFront}
 
 -- There are as many.
 front_long : {X : Type 0} (items longer : List X) → StayInFront items longer → length items ≤ length longer

@@ -1,11 +1,12 @@
 -- Elements of lists by their places.
-use Rattle.std.proofs.Common.{◌≡◌, ℕ, zero, suc, ◌+◌, ◌-◌, ◌<◌, ◌≤◌, List, [], ◌∷◌, ◌++◌, length, take, drop, set, Option, Some, None, slice_get, refl, sym, ap, ◌∙◌, append_assoc, arith, inl, inr}
+use Rattle.std.proofs.Common.{◌≡◌, ℕ, zero, suc, ◌+◌, ◌-◌, ◌<◌, ◌≤◌, List, [], ◌∷◌, ◌++◌, length, take, drop, set, Option, Some}
+use Rattle.std.proofs.Common.{None, slice_get, refl, sym, ap, ◌∙◌, append_assoc, arith, inl, inr}
 use Rattle.std.specs.Prelude.{IfOk, Result, Ok, Err}
 use Rattle.std.proofs.Math.Seq.{drop-cons}
 use Rattle.std.proofs.lemmas.List.{drop-drop, drop-set-lt, take_all, take_more, take_more_set, take-append-drop}
 use Rattle.std.proofs.lemmas.Option.{slice_get_within, slice_get_cases, get_or_from_slice_get}
 
--- the one at a place, and those behind it
+-- the one at a place, and those after it
 pub one_on : {X : Type 0} (xs : List X) (i : ℕ) (x : X) → slice_get xs i ≡ Some x → drop i xs ≡ x ∷ drop (i + 1) xs
 one_on xs i x is =
     let next : suc i ≡ i + 1 = omega arith in
@@ -70,7 +71,7 @@ same_behind xs ys from to i k here there apart same =
     let other : to + (i - from) ≡ k = omega (arith, there, apart) in
     ap (slice_get xs) one ∙ sym (get_behind from xs (i - from)) ∙ ap (λ l. slice_get l (i - from)) (sym same) ∙ get_behind to ys (i - from) ∙ ap (slice_get ys) other
 
--- one more that is put in the place of an old one, and those that are still to be put
+-- one more that is put instead of an old one, and those that are still to be put
 pub put_next : {X : Type 0} (xs next : List X) (k : ℕ) (x : X) (rest : List X) → k < length xs → next ≡ set xs k x
     → take (k + 1) next ++ (rest ++ drop (k + 1 + length rest) next) ≡ take k xs ++ ((x ∷ rest) ++ drop (k + length (x ∷ rest)) xs)
 put_next xs next k x rest inside put =

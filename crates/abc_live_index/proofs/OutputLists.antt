@@ -1,5 +1,6 @@
 -- Items of a chain from a place on, and their faults.
-use Rattle.std.proofs.Common.{◌≡◌, ℕ, zero, suc, ◌+◌, ◌-◌, ◌<◌, ◌≤◌, List, [], ◌∷◌, ◌++◌, length, take, drop, map, Option, Some, None, slice_get, get_or, refl, sym, ap, ◌∙◌, subst, append_assoc, length-append, arith, inl, inr}
+use Rattle.std.proofs.Common.{◌≡◌, ℕ, zero, suc, ◌+◌, ◌-◌, ◌<◌, ◌≤◌, List, [], ◌∷◌, ◌++◌, length, take, drop, map, Option, Some}
+use Rattle.std.proofs.Common.{None, slice_get, get_or, refl, sym, ap, ◌∙◌, subst, append_assoc, length-append, arith, inl, inr}
 use Rattle.std.proofs.Math.Seq.{drop-cons}
 use Rattle.std.proofs.lemmas.Grind.{flat_map-append}
 use Rattle.std.proofs.lemmas.List.{drop_all, drop-drop, drop-map, append-nil}
@@ -23,13 +24,13 @@ some_one : {X : Type 0} (x y : X) → Some x ≡ Some y → x ≡ y
 unfolding value_or
 some_one x y is = ap (value_or x) is
 
--- the one at a place, and those behind it
+-- the one at a place, and those after it
 pub one_on : {X : Type 0} (xs : List X) (i : ℕ) (x : X) → slice_get xs i ≡ Some x → drop i xs ≡ x ∷ drop (i + 1) xs
 one_on xs i x is =
     let next : suc i ≡ i + 1 = omega arith in
     drop-cons xs i x (slice_get_within xs i x is) ∙ ap (λ y. y ∷ drop (suc i) xs) (get_or_from_slice_get xs i x x is) ∙ ap (λ k. x ∷ drop k xs) next
 
--- there is none behind the last
+-- there is none after the last
 pub none_on : {X : Type 0} (xs : List X) (i : ℕ) → slice_get xs i ≡ None → drop i xs ≡ []
 none_on xs i is =
     let cases = slice_get_cases xs i in
@@ -55,12 +56,14 @@ put_more out more own rest left whole put split is =
 module _ {Items : Type 0} (faults : Items → List (ℕ × FaultCode)) where
   -- the faults of a line from a place on
   pub line_on : (all : List Items) (line from to : ℕ) (one : Items) → from < to → slice_get all from ≡ Some one
-      → faults_along faults (map (placed_at line) (take (to - from) (drop from all))) ≡ map (fault_in line) (faults one) ++ faults_along faults (map (placed_at line) (take (to - (from + 1)) (drop (from + 1) all)))
+      → faults_along faults (map (placed_at line) (take (to - from) (drop from all))) ≡ map (fault_in line) (faults one)
+      ++ faults_along faults (map (placed_at line) (take (to - (from + 1)) (drop (from + 1) all)))
   line_on all line from to one order is = ap (λ l. faults_along faults (map (placed_at line) l)) (between all from to one order is)
 
   -- the faults of a line and those of the rest
   pub lines_on : (all : List Items) (line next from to : ℕ) (count : ℕ) (counts left : List ℕ) → left ≡ count ∷ counts → to ≡ from + count → next ≡ line + 1
-      → faults_along faults (placed_from line left (drop from all)) ≡ faults_along faults (map (placed_at line) (take (to - from) (drop from all))) ++ faults_along faults (placed_from next counts (drop to all))
+      → faults_along faults (placed_from line left (drop from all)) ≡ faults_along faults
+      (map (placed_at line) (take (to - from) (drop from all))) ++ faults_along faults (placed_from next counts (drop to all))
   lines_on all line next from to count counts left are ends follows =
       let long : count ≡ to - from = omega (arith, ends) in
       let behind : drop count (drop from all) ≡ drop to all = drop-drop count from all ∙ ap (λ k. drop k all) (let e : from + count ≡ to = omega (arith, ends) in e) in
@@ -70,11 +73,11 @@ module _ {Items : Type 0} (faults : Items → List (ℕ × FaultCode)) where
       ∙ ap (λ l. faults_along faults (map (placed_at line) (take (to - from) (drop from all))) ++ faults_along faults (placed_from (line + 1) counts l)) behind
       ∙ ap (λ k. faults_along faults (map (placed_at line) (take (to - from) (drop from all))) ++ faults_along faults (placed_from k counts (drop to all))) (sym follows)
 
--- an order behind another
+-- an order after another
 pub shorter : (i to count : ℕ) → i < to → to ≤ count → i < count
 shorter i to count before within = omega (arith, before, within)
 
--- the count at a place, and those behind it
+-- the count at a place, and those after it
 pub one_count : (counts : List ℕ) (at : ℕ) → at < length counts → drop at counts ≡ get_or counts at 0 ∷ drop (at + 1) counts
 one_count counts at inside =
     let next : suc at ≡ at + 1 = omega arith in

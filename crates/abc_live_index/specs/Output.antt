@@ -1,5 +1,6 @@
--- What the items of a tune give, wherever its lines stand. Not in ABC 2.1.
-use Rattle.std.specs.Prelude.{◌≡◌, ℕ, ◌+◌, ◌==◌, if◌then◌else◌, Bool, true, false, List, [], ◌∷◌, ◌++◌, length, map, take, drop, Option, Some, IfSome, slice_get}
+-- What the items of a tune give, whatever its place in the text. Not in ABC 2.1.
+use Rattle.std.specs.Prelude.{◌≡◌, ℕ, ◌+◌, ◌==◌, if◌then◌else◌, Bool, true, false, List, [], ◌∷◌, ◌++◌, length, map, take, drop}
+use Rattle.std.specs.Prelude.{Option, Some, IfSome, slice_get}
 use Rattle.abc_fold.specs.Chain.{Chained}
 use Rattle.abc_live_index.specs.declared.output.Output.{Output}
 use Rattle.abc_tune_compiler.specs.Placed.{Placed, placed_at}
@@ -33,6 +34,7 @@ placed_from line (count ∷ counts) all = map (placed_at line) (take count all) 
 abbrev pub counts_of : {Cell : Type 0} → (List ℕ → List Cell) → List (List ℕ) → List ℕ
 counts_of read lines = map (λ line. length (read line)) lines
 
--- Where an old tune is named for a chain, what that tune gives is what the chain gives.
-abbrev pub TakesOver : {State Cell Items Defaults : Type 0} → Rules State Cell Items Defaults → List Output → Chained State Cell Items → Option ℕ → Type 0
-TakesOver rules outputs chain taken = IfSome taken (λ old. slice_get outputs old ≡ Some (output_in rules chain))
+-- If an old tune is named for a chain, its output is what the chain gives.
+abbrev pub ReusesOutput : {State Cell Items Defaults : Type 0} → Rules State Cell Items Defaults → List Output
+    → Chained State Cell Items → Option ℕ → Type 0
+ReusesOutput rules outputs chain reused_tunes = IfSome reused_tunes (λ old. slice_get outputs old ≡ Some (output_in rules chain))

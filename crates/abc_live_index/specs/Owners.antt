@@ -23,21 +23,21 @@ abbrev pub claims_of : List Output → List Claim
 claims_of outputs = map claim_of outputs
 
 -- A number that has an owner keeps it.
-abbrev pub owned_by : Owners → ℕ → ℕ → Owners
-owned_by owners number place = if is_some (owner_at owners number) then owners else insert_entry nat_cmp owners number place
+abbrev pub owners_with : Owners → ℕ → ℕ → Owners
+owners_with owners number place = if is_some (owner_at owners number) then owners else insert_entry nat_cmp owners number place
 
--- The owners behind the claim of a tune.
-abbrev pub claimed : Owners → Claim → ℕ → Owners
-claimed owners claim place = if claim.has_file then owned_by owners claim.number place else owners
+-- The owners after the claim of a tune.
+abbrev pub owners_with_claim : Owners → Claim → ℕ → Owners
+owners_with_claim owners claim place = if claim.has_file then owners_with owners claim.number place else owners
 
--- The owners behind the claims of tunes, of which the first stands at a place.
-abbrev pub owners_behind : Owners → ℕ → List Claim → Owners
-owners_behind owners place [] = owners
-owners_behind owners place (claim ∷ claims) = owners_behind (claimed owners claim place) (place + 1) claims
+-- The owners after the claims of tunes, of which the first is at a place.
+abbrev pub owners_after : Owners → ℕ → List Claim → Owners
+owners_after owners place [] = owners
+owners_after owners place (claim ∷ claims) = owners_after (owners_with_claim owners claim place) (place + 1) claims
 
 -- The owners among tunes.
 abbrev pub owners_of : List Output → Owners
-owners_of outputs = owners_behind [] 0 (claims_of outputs)
+owners_of outputs = owners_after [] 0 (claims_of outputs)
 
 -- The file that the tune at a place gives, if it gives one.
 abbrev pub bytes_at : List Output → ℕ → Option (List ℕ)

@@ -6,12 +6,12 @@ use Rattle.abc_live_index.specs.Owners.{Owners, bytes_at, owner_at}
 use Rattle.abc_live_index.specs.declared.output.Output.{Output}
 
 -- The number of an output, if its tune owns it and gave other bytes before.
-abbrev pub rewritten_by : List Output → Owners → ℕ → Output → Option ℕ
-rewritten_by before owners place output =
+abbrev pub changed_number_by : List Output → Owners → ℕ → Output → Option ℕ
+changed_number_by before owners place output =
     if option_eq ◌==◌ (owner_at owners output.number) (Some place)
     then (if option_eq bytes_eq (bytes_at before place) output.built.bytes then None else Some output.number)
     else None
 
 -- The number that the tune at a place owns before and after, where its bytes differ.
-abbrev pub rewritten_at : List Output → List Output → Owners → ℕ → Option ℕ
-rewritten_at before after owners place = option_and_then (rewritten_by before owners place) (slice_get after place)
+abbrev pub changed_number_at : List Output → List Output → Owners → ℕ → Option ℕ
+changed_number_at before after owners place = option_and_then (changed_number_by before owners place) (slice_get after place)

@@ -1,26 +1,27 @@
 //! The files, titles and faults of a text, and a change of them that has been prepared.
 
-ghost use Rattle.std.specs.Prelude.{◌≡◌, ◌+◌, ◌-◌, ◌<◌, ◌≤◌, ◌++◌, [], All, IfOk, IsOk, drop, length, option_copied, take, unwrap_or};
+ghost use Rattle.std.specs.Prelude.{◌≡◌, ◌+◌, ◌-◌, ◌<◌, ◌≤◌, ◌++◌, [], All, IfOk, IsOk, drop, length, option_copied, take};
+ghost use Rattle.std.specs.Prelude.{unwrap_or};
 ghost use Rattle.std.specs.List.Sorted.{IsStrictlyIncreasing};
 ghost use Rattle.std.specs.Map.{keys_of};
-ghost use Rattle.abc_live_index.specs.Change.{IsChange, new_in, old_in};
+ghost use Rattle.abc_live_index.specs.TuneChange.{IsChange, new_outputs, old_outputs};
 ghost use Rattle.abc_live_index.specs.Faults.{faults_after};
 ghost use Rattle.abc_live_index.specs.Outputs.{files_of, titles_of};
 ghost use Rattle.abc_live_index.specs.Owners.{owners_of};
-ghost use Rattle.abc_live_index.specs.Titles.{Fit, titles_after};
+ghost use Rattle.abc_live_index.specs.Titles.{TitlesFit, titles_after};
 ghost use Rattle.abc_tune_compiler.specs.Files.{file_at};
 ghost use Rattle.abc_tune_compiler.specs.Report.{Reports};
 
 use crate::Output;
-use crate::change::{TuneChange, file_of};
 use crate::faults::{NewLines, faults_after};
 use crate::new_tunes::NewTunes;
 use crate::owners::Owners;
 use crate::report::{report_over, report_within};
 use crate::titles::NewTitles;
+use crate::tune_change::{TuneChange, file_of};
 use abc_fold::Shared;
 use abc_lines::{GapList, SplicePatch};
-use abc_text::Seen;
+use abc_text::Snapshot;
 use abc_tune_compiler::{Fault, Report, Title};
 use std::alloc::{AllocError, Global};
 use std::marker::Model;
@@ -37,21 +38,21 @@ pub struct KeptBook {
 
 impl Model for KeptBook {
     ghost use Rattle.std.specs.Prelude.{◌≡◌};
-    ghost use Rattle.abc_live_index.specs.Kept.{Kept, kept};
+    ghost use Rattle.abc_live_index.specs.KeptBook.{KeptBookView, kept_book_view};
     ghost use Rattle.abc_live_index.specs.Outputs.{titles_of};
     ghost use Rattle.abc_live_index.specs.Owners.{owners_of};
 
-    ghost Value = { Kept };
+    ghost Value = { KeptBookView };
 
-    ghost view = { λ b. kept b.outputs b.faults.items };
+    ghost view = { λ b. kept_book_view b.outputs b.faults.items };
 
     ghost invariant = { λ b. (b.owners ≡ owners_of b.outputs.items) × (b.titles.items ≡ titles_of b.outputs.items) };
 }
 
-/// A change of a book that has been prepared: what its tunes and faults are then, and how its files differ. It must be
-/// spent, by `commit` of the book as it is or by `drop_patch`.
+/// A prepared change of a book: its new tunes and faults, and how its files differ. It must be spent, by `commit` of
+/// the book as it is or by `drop_patch`.
 pub struct BookPatch {
-    on: Seen<KeptBook>,
+    on: Snapshot<KeptBook>,
     outputs: SplicePatch<Shared<Output>>,
     differences: Differences,
     faults: Vec<Fault>,
@@ -60,17 +61,18 @@ pub struct BookPatch {
 impl Model for BookPatch {
     ghost use Rattle.std.specs.Prelude.{◌≡◌};
     ghost use Rattle.abc_live_index.specs.Differences.{AreDifferences};
-    ghost use Rattle.abc_live_index.specs.Kept.{Changed, changed};
+    ghost use Rattle.abc_live_index.specs.KeptBook.{BookPatchView, book_patch_view};
 
-    ghost Value = { Changed };
+    ghost Value = { BookPatchView };
 
-    ghost view = { λ p. changed p.on.value p.outputs.after.items p.faults.items p.differences.report };
+    ghost view = { λ p. book_patch_view p.on.value p.outputs.after.items p.faults.items p.differences.report };
 
-    ghost invariant = { λ p. (p.outputs.on ≡ p.on.value.outputs) × AreDifferences p.on.value.outputs.items p.outputs.after.items p.differences.owners p.differences.titles };
+    ghost invariant = { λ p. (p.outputs.on ≡ p.on.value.outputs)
+        × AreDifferences p.on.value.outputs.items p.outputs.after.items p.differences.owners p.differences.titles };
 }
 
-/// What a change makes of a book beside its outputs and faults: other owners, where there are any, titles, and how the
-/// files differ.
+/// What a change makes of a book beside its outputs and faults: new owners, if they change, titles, and how the files
+/// differ.
 #[derive(Drop)]
 struct Differences {
     owners: Option<Owners>,
@@ -79,7 +81,7 @@ struct Differences {
 }
 
 impl KeptBook {
-    /// The book of no tunes. It takes no memory yet.
+    /// The book of no tunes. It allocates nothing yet.
     pub fn new(alloc: Global) -> Result<KeptBook, AllocError>
         ensures succeeds { IsOk result }
         ensures outputs { IfOk result (λ book. book.outputs.items ≡ []) }
@@ -129,14 +131,17 @@ impl KeptBook {
         &self.faults
     }
 
-    /// Prepares that new tunes and faults take the place of old ones. Nothing changes.
+    /// Prepares to replace old tunes and faults by new ones. Nothing changes.
     pub fn prepare(&self, alloc: Global, tunes: NewTunes) -> Result<BookPatch, AllocError>
         requires order { tunes.front ≤ tunes.behind }
         requires inside { tunes.behind ≤ length self.now.outputs.items }
-        requires few { All (λ fault. tunes.from + tunes.gone < fault.line → fault.line - tunes.gone + tunes.came ≤ u32.MAX) self.now.faults }
+        requires few { All (λ fault. tunes.from + tunes.gone < fault.line
+            → fault.line - tunes.gone + tunes.came ≤ u32.MAX) self.now.faults }
         ensures on { IfOk result (λ patch. patch.on ≡ self.now) }
-        ensures outputs { IfOk result (λ patch. patch.outputs ≡ take tunes.front self.now.outputs.items ++ (tunes.outputs.items ++ drop tunes.behind self.now.outputs.items)) }
-        ensures faults { IfOk result (λ patch. patch.faults ≡ faults_after tunes.from tunes.gone tunes.came self.now.faults tunes.faults.items) }
+        ensures outputs { IfOk result (λ patch. patch.outputs ≡ take tunes.front self.now.outputs.items
+            ++ (tunes.outputs.items ++ drop tunes.behind self.now.outputs.items)) }
+        ensures faults { IfOk result (λ patch. patch.faults
+            ≡ faults_after tunes.from tunes.gone tunes.came self.now.faults tunes.faults.items) }
         ensures report { IfOk result (λ patch. Reports (files_of self.now.outputs.items) (files_of patch.outputs) patch.report) }
     {
         let NewTunes {
@@ -162,7 +167,7 @@ impl KeptBook {
         };
         match self.differences(alloc, &change) {
             Ok(differences) => Ok(BookPatch {
-                on: Seen::of(self),
+                on: Snapshot::of(self),
                 outputs,
                 differences,
                 faults,
@@ -174,14 +179,17 @@ impl KeptBook {
         }
     }
 
-    /// What a change of the tunes makes of the book: where they claim what the old ones did, one by one, the owners stay.
+    /// What a change of the tunes makes of the book. If each new tune claims what the old one did, the owners stay.
     fn differences(&self, alloc: Global, change: &TuneChange) -> Result<Differences, AllocError>
         requires change { IsChange change.now }
         requires before { change.now.before.now ≡ self.now.outputs }
-        ensures owners { IfOk result (λ d. unwrap_or d.owners (owners_of (old_in change.now)) ≡ owners_of (new_in change.now)) }
-        ensures fit { IfOk result (λ d. Fit (titles_of (old_in change.now)) d.titles) }
-        ensures titles { IfOk result (λ d. titles_after (titles_of (old_in change.now)) d.titles ≡ titles_of (new_in change.now)) }
-        ensures report { IfOk result (λ d. Reports (files_of (old_in change.now)) (files_of (new_in change.now)) d.report) }
+        ensures owners { IfOk result (λ d. unwrap_or d.owners (owners_of (old_outputs change.now))
+            ≡ owners_of (new_outputs change.now)) }
+        ensures fit { IfOk result (λ d. TitlesFit (titles_of (old_outputs change.now)) d.titles) }
+        ensures titles { IfOk result (λ d. titles_after (titles_of (old_outputs change.now)) d.titles
+            ≡ titles_of (new_outputs change.now)) }
+        ensures report { IfOk result (λ d. Reports (files_of (old_outputs change.now))
+            (files_of (new_outputs change.now)) d.report) }
     {
         let titles = NewTitles::of(alloc, change)?;
         if change.keeps_claims() {
@@ -201,7 +209,7 @@ impl KeptBook {
         })
     }
 
-    /// Puts a prepared change in place, without memory, and answers how the files differ. The patch belongs to the book as
+    /// Commits a prepared change without allocating, and returns how the files differ. The patch belongs to the book as
     /// it is now.
     pub fn commit(&mut self, patch: BookPatch) -> Report
         requires { patch.on ≡ self.old }
@@ -229,7 +237,7 @@ impl KeptBook {
 }
 
 impl BookPatch {
-    /// Gives the patch up.
+    /// Drops the patch: nothing changes.
     pub fn drop_patch(self) {
         let BookPatch {
             on: _,

@@ -1,19 +1,19 @@
-//! What the tunes of a text are known by.
+//! The keys of tunes in the memo.
 
 ghost use Rattle.std.specs.Prelude.{◌≡◌, IfOk, length, option_copied};
 ghost use Rattle.abc_lines.specs.Text.{seen_lines};
 ghost use Rattle.abc_tune_memo.specs.Bytes.{bytes_of_lines};
 ghost use Rattle.abc_live_index.specs.Key.{defaults_by, key_by};
-ghost use Rattle.abc_live_index.specs.Tunes.{LiesAmong, lowered};
+ghost use Rattle.abc_live_index.specs.Tunes.{LiesAmong, lowered_place};
 
-use crate::stretch::FoldedStretch;
+use crate::stretch_view::StretchView;
 use abc_book::Block;
 use abc_text::Sequence;
 use abc_tune_compiler::Compiler;
 use abc_tune_memo::{TuneKey, put_line};
 use std::alloc::{AllocError, Global};
 
-/// What a file header, if there is one, sets for all tunes, by the state in which it leaves its last cell.
+/// The defaults that a file header sets, by the state after its last cell; without one, those of an empty file header.
 fn defaults_by<C: Compiler>(compiler: &C, alloc: Global, left: Option<&C::State>) -> C::Defaults
     ensures { result ≡ defaults_by (C.rules compiler.now) (option_copied left.entry) }
 {
@@ -23,7 +23,7 @@ fn defaults_by<C: Compiler>(compiler: &C, alloc: Global, left: Option<&C::State>
     }
 }
 
-/// The bytes by which lines are known.
+/// The bytes of lines in a key.
 fn bytes_of<C: Compiler>(
     compiler: &C,
     alloc: Global,
@@ -38,15 +38,16 @@ fn bytes_of<C: Compiler>(
     Ok(Sequence::from(bytes))
 }
 
-/// What the tune of a place is known by.
+/// The memo's key of the tune of a place.
 pub(crate) fn key_of<C: Compiler>(
     compiler: &C,
     alloc: Global,
-    stretch: &FoldedStretch<C>,
+    stretch: &StretchView<C>,
     place: Block,
 ) -> Result<TuneKey<C::Defaults>, AllocError>
     requires { LiesAmong stretch.now.before (length stretch.now.lines.now) place }
-    ensures { IfOk result (λ key. key ≡ key_by (C.rules compiler.now) (option_copied stretch.now.left) (seen_lines stretch.now.lines.now) (lowered stretch.now.before place)) }
+    ensures { IfOk result (λ key. key ≡ key_by (C.rules compiler.now) (option_copied stretch.now.left)
+        (seen_lines stretch.now.lines.now) (lowered_place stretch.now.before place)) }
 {
     let from = place.from - stretch.before;
     let to = place.to - stretch.before;

@@ -1,24 +1,24 @@
-//! What an edit makes of the tunes and the faults of a text.
+//! The new tunes and faults of an edited text.
 
 use crate::Output;
 use abc_fold::Shared;
 use abc_tune_compiler::Fault;
 
-/// Tunes and faults that take the place of old ones.
+/// Tunes and faults that replace old ones.
 #[derive(Drop)]
 pub struct NewTunes {
-    /// How many old tunes stand before the new ones.
+    /// How many old tunes are before the new ones.
     pub front: usize,
-    /// The first old tune, counted from 0, that stands behind the new ones.
+    /// The first old tune after the new ones, counted from 0.
     pub behind: usize,
-    /// What the tunes give that take the place of those from `front` to `behind`.
+    /// What the tunes give that replace the tunes `front..behind`.
     pub outputs: Vec<Shared<Output>>,
-    /// The faults that take the place of those of the lines that go, in the lines of the new text and in any order.
+    /// The faults that replace those of the lines that go, by the lines of the new text and in any order.
     pub faults: Vec<Fault>,
     /// How many lines stay before those that go.
     pub from: u32,
     /// How many lines go.
     pub gone: u32,
-    /// How many lines come in their place.
+    /// How many lines replace them.
     pub came: u32,
 }

@@ -1,4 +1,4 @@
-//! What a tune gives, wherever its lines stand.
+//! What a tune gives, whatever its place in the text.
 
 ghost use Rattle.std.specs.Prelude.{◌≡◌, [], IfOk};
 ghost use Rattle.abc_live_index.specs.Output.{has_faults, output_of};
@@ -9,12 +9,12 @@ use abc_text::Sequence;
 use abc_tune_compiler::{Built, Compiler};
 use std::alloc::{AllocError, Global};
 
-/// What a tune gives to the book wherever its lines stand: all but the faults of its cells.
+/// What a tune gives to the book, whatever its place in the text: all but the faults of its cells.
 #[derive(Drop)]
 pub struct Output {
-    /// The reference number, 0 where the tune has none.
+    /// The reference number, 0 if the tune has none.
     pub number: u32,
-    /// The title's bytes, empty where the tune has none.
+    /// The title's bytes, empty if the tune has none.
     pub title: Sequence<u8>,
     /// Its MIDI file and its faults as a whole, which the memo may hold too.
     pub built: Built,
@@ -70,7 +70,7 @@ fn has_faults<C: Compiler>(compiler: &C, items: &[C::Items]) -> bool
     false
 }
 
-/// The reference number of the first cell that gives one, 0 where none does.
+/// The reference number of the first cell that gives one, 0 if none does.
 fn number_of<C: Compiler>(compiler: &C, items: &[C::Items]) -> u32
     ensures { result ≡ first_of (C.rules compiler.now).number 0 items.now }
 {
@@ -82,7 +82,7 @@ fn number_of<C: Compiler>(compiler: &C, items: &[C::Items]) -> u32
     0
 }
 
-/// The title of the first cell that gives one, empty where none does.
+/// The title of the first cell that gives one, empty if none does.
 fn title_of<'a, C: Compiler>(compiler: &C, items: &'a [C::Items]) -> &'a [u8]
     ensures { result.now ≡ first_of (C.rules compiler.now).title [] items.now }
 {

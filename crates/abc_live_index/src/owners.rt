@@ -3,11 +3,11 @@
 ghost use Rattle.std.specs.Prelude.{◌≡◌, [], IfOk, OnOk, unwrap_or};
 ghost use Rattle.std.specs.List.Sorted.{IsStrictlyIncreasing};
 ghost use Rattle.std.specs.Map.{keys_of};
-ghost use Rattle.abc_live_index.specs.Change.{IsChange, new_in};
-ghost use Rattle.abc_live_index.specs.Owners.{claim_of, claimed, owner_at, owners_of};
+ghost use Rattle.abc_live_index.specs.TuneChange.{IsChange, new_outputs};
+ghost use Rattle.abc_live_index.specs.Owners.{claim_of, owners_with_claim, owner_at, owners_of};
 
 use crate::Output;
-use crate::change::TuneChange;
+use crate::tune_change::TuneChange;
 use std::alloc::{AllocError, Global};
 use std::collections::BTreeMap;
 use std::marker::Model;
@@ -50,14 +50,14 @@ impl Model for Owners {
     ghost invariant = { λ o. (o.numbers.items ≡ keys_of o.places.entries) × IsStrictlyIncreasing o.numbers.items };
 }
 
-/// Takes what a tune claims for the tune at a place, unless another one has it.
+/// Gives the number that a tune claims to the tune at a place, unless another one owns it.
 #[tactic(auto, using(crate::proofs::Places::kept, crate::proofs::Places::taken))]
 fn put_claim(
     places: &mut BTreeMap<u32, usize>,
     claim: Claim,
     place: usize,
 ) -> Result<(), AllocError>
-    ensures { OnOk result (places.new.entries ≡ claimed places.old.entries claim place) }
+    ensures { OnOk result (places.new.entries ≡ owners_with_claim places.old.entries claim place) }
 {
     if !claim.has_file {
         return Ok(());
@@ -72,7 +72,7 @@ fn put_claim(
 /// The places of the tunes that give the files after a change.
 fn places_after(alloc: Global, change: &TuneChange) -> Result<BTreeMap<u32, usize>, AllocError>
     requires { IsChange change.now }
-    ensures { IfOk result (λ places. places.entries ≡ owners_of (new_in change.now)) }
+    ensures { IfOk result (λ places. places.entries ≡ owners_of (new_outputs change.now)) }
 {
     let mut places = BTreeMap::new(alloc);
     for place in 0..change.count() {
@@ -95,14 +95,14 @@ impl Owners {
     /// The owners after a change.
     pub(crate) fn after(alloc: Global, change: &TuneChange) -> Result<Owners, AllocError>
         requires { IsChange change.now }
-        ensures { IfOk result (λ owners. owners ≡ owners_of (new_in change.now)) }
+        ensures { IfOk result (λ owners. owners ≡ owners_of (new_outputs change.now)) }
     {
         let places = places_after(alloc, change)?;
         let numbers = numbers_of(alloc, &places)?;
         Ok(Owners { places, numbers })
     }
 
-    /// Lets others take their place, if there are any.
+    /// Replaces the owners by others, if there are any.
     pub(crate) fn replace_by(&mut self, others: Option<Owners>)
         ensures { self.new ≡ unwrap_or others self.old }
     {

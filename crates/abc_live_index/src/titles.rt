@@ -1,12 +1,12 @@
 //! The titles of tunes after a change.
 
 ghost use Rattle.std.specs.Prelude.{◌≡◌, ◌+◌, ◌-◌, ◌≤◌, ◌++◌, IfOk, drop, length, take};
-ghost use Rattle.abc_live_index.specs.Change.{IsChange, new_in, old_in};
+ghost use Rattle.abc_live_index.specs.TuneChange.{IsChange, new_outputs, old_outputs};
 ghost use Rattle.abc_live_index.specs.Outputs.{title_by, titles_of};
-ghost use Rattle.abc_live_index.specs.Titles.{Fit, titles_after};
+ghost use Rattle.abc_live_index.specs.Titles.{TitlesFit, titles_after};
 
 use crate::Output;
-use crate::change::TuneChange;
+use crate::tune_change::TuneChange;
 use abc_text::Sequence;
 use abc_tune_compiler::Title;
 use std::alloc::{AllocError, Global};
@@ -16,7 +16,7 @@ use std::alloc::{AllocError, Global};
 pub(crate) enum NewTitles {
     /// All titles.
     Whole(Vec<Title>),
-    /// Those that stand behind the first so many, in the place of as many old ones.
+    /// Those from this index on, which replace as many old ones.
     Among(usize, Vec<Title>),
 }
 
@@ -39,8 +39,8 @@ fn titles_between(
 ) -> Result<Vec<Title>, AllocError>
     requires change { IsChange change.now }
     requires order { from ≤ to }
-    requires inside { to ≤ length (new_in change.now) }
-    ensures { IfOk result (λ titles. titles.items ≡ titles_of (take (to - from) (drop from (new_in change.now)))) }
+    requires inside { to ≤ length (new_outputs change.now) }
+    ensures { IfOk result (λ titles. titles.items ≡ titles_of (take (to - from) (drop from (new_outputs change.now)))) }
 {
     let mut titles = Vec::with_capacity(alloc, to - from)?;
     for place in from..to {
@@ -50,11 +50,12 @@ fn titles_between(
 }
 
 impl NewTitles {
-    /// The titles of a change: those of the stretch, where as many tunes came as went.
+    /// The titles after a change: only those of the stretch if as many tunes came as went.
     pub(crate) fn of(alloc: Global, change: &TuneChange) -> Result<NewTitles, AllocError>
         requires { IsChange change.now }
-        ensures fit { IfOk result (Fit (titles_of (old_in change.now))) }
-        ensures after { IfOk result (λ titles. titles_after (titles_of (old_in change.now)) titles ≡ titles_of (new_in change.now)) }
+        ensures fit { IfOk result (TitlesFit (titles_of (old_outputs change.now))) }
+        ensures after { IfOk result (λ titles. titles_after (titles_of (old_outputs change.now)) titles
+            ≡ titles_of (new_outputs change.now)) }
     {
         if change.keeps_count() {
             let end = change.front + change.came;
@@ -66,20 +67,20 @@ impl NewTitles {
         }
     }
 
-    /// Puts the titles in their place, without memory.
+    /// Commits the titles without allocating.
     pub(crate) fn put_in_place(self, titles: &mut Vec<Title>)
-        requires { Fit titles.old.items self }
+        requires { TitlesFit titles.old.items self }
         ensures { titles.new.items ≡ titles_after titles.old.items self }
     {
         match self {
             NewTitles::Whole(whole) => *titles = whole,
-            NewTitles::Among(front, some) => put_among(titles, front, some),
+            NewTitles::Among(front, some) => replace_titles(titles, front, some),
         }
     }
 }
 
-/// Puts titles in the place of those behind the first so many.
-fn put_among(titles: &mut Vec<Title>, front: usize, some: Vec<Title>)
+/// Replaces the titles from index `front` on.
+fn replace_titles(titles: &mut Vec<Title>, front: usize, some: Vec<Title>)
     requires { front + length some.items ≤ length titles.old.items }
     ensures { titles.new.items ≡ take front titles.old.items ++ (some.items ++ drop (front + length some.items) titles.old.items) }
 {

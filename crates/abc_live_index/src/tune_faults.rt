@@ -3,7 +3,7 @@
 ghost use Rattle.std.specs.Prelude.{◌≡◌, ◌+◌, ◌-◌, ◌≤◌, ◌++◌, length, map, take, drop, OnOk};
 ghost use Rattle.std.specs.List.{sum_by};
 ghost use Rattle.abc_live_index.specs.Output.{placed_from};
-ghost use Rattle.abc_live_index.specs.Front.{StayInFront};
+ghost use Rattle.abc_live_index.specs.StayInFront.{StayInFront};
 ghost use Rattle.abc_tune_compiler.specs.Placed.{placed_at};
 ghost use Rattle.abc_tune_compiler.specs.Tune.{fault_in, fault_of_tune, faults_along};
 
@@ -12,13 +12,13 @@ use abc_fold::Chain;
 use abc_tune_compiler::{Compiler, Fault};
 use std::alloc::AllocError;
 
-/// Puts the faults of a cell of a line behind others.
+/// Appends the faults of a cell of a line.
 fn put_of_cell(
     faults: &mut Vec<Fault>,
     line: u32,
     found: &[(u32, FaultCode)],
 ) -> Result<(), AllocError>
-    ensures put { OnOk result (faults.new.items ≡ faults.old.items ++ map (fault_in line) found.now) }
+    ensures ok { OnOk result (faults.new.items ≡ faults.old.items ++ map (fault_in line) found.now) }
     ensures front { StayInFront faults.old.items faults.new.items }
 {
     for (column, code) in found {
@@ -31,7 +31,7 @@ fn put_of_cell(
     Ok(())
 }
 
-/// Puts the faults of the cells of a line, those from one place of a chain to another, behind others.
+/// Appends the faults of the cells of a line, which are the cells `from..to` of a chain.
 #[tactic(auto, using(crate::proofs::Fronts::front_both))]
 fn put_of_line<C: Compiler>(
     compiler: &C,
@@ -43,7 +43,8 @@ fn put_of_line<C: Compiler>(
 ) -> Result<(), AllocError>
     requires order { from ≤ to }
     requires inside { to ≤ length chain.now.items }
-    ensures put { OnOk result (faults.new.items ≡ faults.old.items ++ faults_along (C.rules compiler.now).faults (map (placed_at line) (take (to - from) (drop from chain.now.items)))) }
+    ensures ok { OnOk result (faults.new.items ≡ faults.old.items
+        ++ faults_along (C.rules compiler.now).faults (map (placed_at line) (take (to - from) (drop from chain.now.items)))) }
     ensures front { StayInFront faults.old.items faults.new.items }
 {
     for i in from..to {
@@ -54,8 +55,8 @@ fn put_of_line<C: Compiler>(
     Ok(())
 }
 
-/// Puts the faults of the cells of a chain behind others, by how many of its cells each line has: the first of these
-/// lines has this number.
+/// Appends the faults of the cells of a chain, by how many of its cells each line has. `first` is the number of the
+/// first of these lines.
 #[tactic(auto, using(crate::proofs::Fronts::front_both))]
 pub(crate) fn put_of_lines<C: Compiler>(
     compiler: &C,
@@ -67,10 +68,11 @@ pub(crate) fn put_of_lines<C: Compiler>(
     requires few { first + length counts.now ≤ u32.MAX }
     requires shape { length chain.now.items ≡ length chain.now.cells }
     requires inside { sum_by (λ count. count) counts.now ≤ length chain.now.cells }
-    ensures put { OnOk result (faults.new.items ≡ faults.old.items ++ faults_along (C.rules compiler.now).faults (placed_from first counts.now chain.now.items)) }
+    ensures ok { OnOk result (faults.new.items ≡ faults.old.items
+        ++ faults_along (C.rules compiler.now).faults (placed_from first counts.now chain.now.items)) }
     ensures front { StayInFront faults.old.items faults.new.items }
 {
-    // A chain has no more cells than a number can say.
+    // For the prover: the count of a chain's cells fits.
     let _ = chain.len();
     let mut from = 0;
     for (at, count) in counts.iter().enumerate() {
@@ -81,13 +83,13 @@ pub(crate) fn put_of_lines<C: Compiler>(
     Ok(())
 }
 
-/// Puts the faults of a tune as a whole, whose first line has this number, behind others.
+/// Appends the faults of a tune as a whole, whose first line is `line`.
 pub(crate) fn put_of_tune(
     faults: &mut Vec<Fault>,
     line: u32,
     codes: &[FaultCode],
 ) -> Result<(), AllocError>
-    ensures put { OnOk result (faults.new.items ≡ faults.old.items ++ map (fault_of_tune line) codes.now) }
+    ensures ok { OnOk result (faults.new.items ≡ faults.old.items ++ map (fault_of_tune line) codes.now) }
     ensures front { StayInFront faults.old.items faults.new.items }
 {
     for code in codes {

@@ -9,17 +9,17 @@ use Rattle.abc_fold.specs.Steps.{Steps, IsResumable}
 use Rattle.abc_fold.specs.Work.{Counters, IsRaisedUpTo, raised}
 use Rattle.abc_fold.proofs.Raised.{raised-mono, raised-raised}
 use Rattle.abc_lines.specs.Text.{Splice, Text, spliced}
-use Rattle.abc_live_cost.specs.Fresh.{fresh_after}
-use Rattle.abc_live_cost.specs.Laid.{laid_in}
-use Rattle.abc_live_cost.specs.Origins.{origins}
+use Rattle.abc_live_cost.specs.FreshCells.{fresh_cells_after}
+use Rattle.abc_live_cost.specs.Layout.{layout_of}
+use Rattle.abc_live_cost.specs.Origin.{origins}
 use Rattle.abc_tune_compiler.specs.Book.{blocks_in, header_in, opening_of, tunes_in}
 use Rattle.abc_tune_compiler.specs.Rules.{Rules}
-use Rattle.abc_live_text.specs.Holding.{class_in, origin_in, steps_taken}
-use Rattle.abc_live_text.specs.Keeping.{AreChains, IsHeader, behind_chain, header_steps}
-use Rattle.abc_live_text.specs.Rows.{CarriedRow}
-use Rattle.abc_live_text.proofs.Meaning.{edit_steps}
-use Rattle.abc_live_text.proofs.Opening.{own_opening}
-use Rattle.abc_live_text.proofs.Scanning.{raised_more}
+use Rattle.abc_live_text.specs.Pieces.{class_in, origin_in, steps_taken}
+use Rattle.abc_live_text.specs.Chains.{AreChains, IsHeaderChain, state_after_chain, header_steps}
+use Rattle.abc_live_text.specs.Row.{CarriedRow}
+use Rattle.abc_live_text.proofs.FreshSteps.{edit_steps}
+use Rattle.abc_live_text.proofs.Openings.{own_opening}
+use Rattle.abc_live_text.proofs.ScanCounts.{raised_more}
 use Rattle.abc_live_text.proofs.WholeRows.{AreRead}
 
 pub raised_up : (j k : ℕ) (before after : Counters) → j ≤ k → IsRaisedUpTo j before after → IsRaisedUpTo k before after
@@ -41,13 +41,14 @@ raised_both j k before now after first second = record {
       omega (arith, step, sum, second.most);
 }
 
-module _ {State Cell Items Defaults : Type 0} (steps : Steps State Cell Items) (rules : Rules State Cell Items Defaults) (old : List (Chained State Cell Items)) (rows : List (CarriedRow Cell)) (blocks : List Block) where
+module _ {State Cell Items Defaults : Type 0} (steps : Steps State Cell Items) (rules : Rules State Cell Items Defaults)
+    (old : List (Chained State Cell Items)) (rows : List (CarriedRow Cell)) (blocks : List Block) where
   -- Where no more than the file header has been folded.
   pub header_cost : (before after : Counters) → IsResumable steps → blocks ≡ blocks_of (map class_in rows)
       → IsRaisedUpTo (header_steps steps rules.header old rows (header_in blocks)) before after
       → (text : Text) (s : Splice) → s.at + s.removed ≤ length text → AreChains steps rules text old
-      → AreRead rules (spliced text s) rows → map origin_in rows ≡ origins rules.cells (laid_in steps rules text) s
-      → IsRaisedUpTo (fresh_after steps rules text s) before after
+      → AreRead rules (spliced text s) rows → map origin_in rows ≡ origins rules.cells (layout_of steps rules text) s
+      → IsRaisedUpTo (fresh_cells_after steps rules text s) before after
   header_cost before after laws are raise text s inside chains read from =
       let new = spliced text s in
       let same : blocks ≡ blocks_in rules new = are ∙ ap blocks_of read.classes in
@@ -57,13 +58,14 @@ module _ {State Cell Items Defaults : Type 0} (steps : Steps State Cell Items) (
       raised_up _ _ before after (omega (arith, sum)) own
 
   -- Where the tunes have been folded too.
-  pub whole_cost : (before now after : Counters) (first : Chained State Cell Items) (own : State) (tunes : List Block) → IsResumable steps → AreLawful steps rules → blocks ≡ blocks_of (map class_in rows)
-      → IsHeader steps rules.header rows first (header_in blocks) → own ≡ rules.tune (behind_chain (header_in blocks) first) → tunes ≡ tunes_in blocks
+  pub whole_cost : (before now after : Counters) (first : Chained State Cell Items) (own : State) (tunes : List Block)
+      → IsResumable steps → AreLawful steps rules → blocks ≡ blocks_of (map class_in rows)
+      → IsHeaderChain steps rules.header rows first (header_in blocks) → own ≡ rules.tune (state_after_chain (header_in blocks) first) → tunes ≡ tunes_in blocks
       → IsRaisedUpTo (header_steps steps rules.header old rows (header_in blocks)) before now
       → IsRaisedUpTo (sum_by (steps_taken steps own old rows) tunes) now after
       → (text : Text) (s : Splice) → s.at + s.removed ≤ length text → AreChains steps rules text old
-      → AreRead rules (spliced text s) rows → map origin_in rows ≡ origins rules.cells (laid_in steps rules text) s
-      → IsRaisedUpTo (fresh_after steps rules text s) before after
+      → AreRead rules (spliced text s) rows → map origin_in rows ≡ origins rules.cells (layout_of steps rules text) s
+      → IsRaisedUpTo (fresh_cells_after steps rules text s) before after
   whole_cost before now after first own tunes laws lawful are made is all one other text s inside chains read from =
       let new = spliced text s in
       let same : blocks ≡ blocks_in rules new = are ∙ ap blocks_of read.classes in

@@ -1,5 +1,7 @@
 -- The tunes and the file header of a text of which a stretch is replaced.
-use Rattle.std.proofs.Common.{◌≡◌, ◌↔◌, ℕ, zero, suc, ◌+◌, ◌-◌, ◌<◌, ◌≤◌, true, false, if◌then◌else◌, List, [], ◌∷◌, ◌++◌, map, Some, None, All, length, take, drop, slice_get, refl, sym, ◌∙◌, ap, subst, arith, append_assoc, ⊎_elim, inl, inr}
+use Rattle.std.proofs.Common.{◌≡◌, ◌↔◌, ℕ, zero, suc, ◌+◌, ◌-◌, ◌<◌, ◌≤◌, true, false, if◌then◌else◌, List, [], ◌∷◌, ◌++◌, map}
+use Rattle.std.proofs.Common.{Some, None, All, length, take, drop, slice_get, refl, sym, ◌∙◌, ap, subst, arith, append_assoc}
+use Rattle.std.proofs.Common.{⊎_elim, inl, inr}
 use Rattle.std.specs.Prelude.{IsTrue, cond, count_by, nat_le}
 use Rattle.std.proofs.lemmas.Bool.{cases_Bool, cases_lt}
 use Rattle.std.proofs.lemmas.Bool.Decides.{nat_tests}
@@ -18,9 +20,10 @@ use Rattle.abc_book.proofs.Stretches.{stretch_is_enough}
 use Rattle.abc_scan.specs.declared.class.LineClass.{LineClass}
 use Rattle.abc_scan.specs.declared.class.LineClass.TheVariants.{Blank, Comment, Field}
 use Rattle.abc_tune_compiler.specs.Book.{header_in, is_file_header, is_tune, tunes_in}
-use Rattle.abc_live_text.specs.Renewing.{start_of}
+use Rattle.abc_live_text.specs.NewParts.{start_of}
 use Rattle.abc_live_text.proofs.Parts.{drop_past}
-use Rattle.abc_live_text.proofs.Spans.{before_are, behind_are, keep_none, tunes_before, tunes_behind, tunes_both, tunes_moved, tunes_shifted, tunes_strict}
+use Rattle.abc_live_text.proofs.Spans.{before_are, behind_are, keep_none, tunes_before, tunes_behind, tunes_both, tunes_moved}
+use Rattle.abc_live_text.proofs.Spans.{tunes_shifted, tunes_strict}
 
 begin_x : (classes : List LineClass) (n : ℕ) → slice_get classes n ≡ Some (Field letter_x) → BeginTune (drop n classes)
 begin_x [] n e = absurd (cc)
@@ -38,7 +41,8 @@ tune_kind kinds.Free e = absurd (cc)
 abbrev BeginsWithX : List LineClass → Block → Type 0
 BeginsWithX classes block = slice_get classes block.from ≡ Some (Field letter_x)
 
-x_begins : (classes : List LineClass) (blocks : List Block) → All (λ (block : Block). (block.kind ≡ kinds.Tune) ↔ (slice_get classes block.from ≡ Some (Field letter_x))) blocks → All (BeginsWithX classes) (tunes_in blocks)
+x_begins : (classes : List LineClass) (blocks : List Block) → All
+    (λ (block : Block). (block.kind ≡ kinds.Tune) ↔ (slice_get classes block.from ≡ Some (Field letter_x))) blocks → All (BeginsWithX classes) (tunes_in blocks)
 x_begins classes [] begin = All-nil (BeginsWithX classes)
 x_begins classes (block ∷ blocks) begin =
     let more = x_begins classes blocks (λ i d l. begin (suc i) d (omega arith)) in
@@ -115,7 +119,8 @@ no_header (class ∷ classes) some begin =
     let x = is_field_x class begin in
     let here : slice_get (class ∷ classes) 0 ≡ Some class = refl in
     header_none (class ∷ classes) (blocks_of (class ∷ classes)) (length (class ∷ classes)) (blocks_rise (class ∷ classes))
-    (each_in_one (class ∷ classes) 0 class here (λ (e : class ≡ Blank). let bad : Blank ≡ Field letter_x = sym e ∙ x in absurd (cc)) (λ (e : class ≡ Comment). let bad : Comment ≡ Field letter_x = sym e ∙ x in absurd (cc)))
+    (each_in_one (class ∷ classes) 0 class here (λ (e : class ≡ Blank). let bad : Blank ≡ Field letter_x = sym e ∙ x in absurd (cc))
+    (λ (e : class ≡ Comment). let bad : Comment ≡ Field letter_x = sym e ∙ x in absurd (cc)))
     (tunes_begin (class ∷ classes)) (ap (λ c. Some c) x)
 
 header_moved : (n : ℕ) (ys : List Block) → header_in ys ≡ None → header_in (map (moved n) ys) ≡ None
@@ -133,7 +138,7 @@ cut : (before behind : List LineClass) → 1 ≤ length behind → BeginTune beh
 cut before [] some begin = absurd (omega arith)
 cut before (x ∷ behind) some begin = x_line_cuts before behind x begin
 
--- It stays where what stands behind some lines begins a tune before and after.
+-- It stays where what is after some lines begins a tune before and after.
 header_stays : (before old new : List LineClass) → 1 ≤ length old → 1 ≤ length new → BeginTune old → BeginTune new → header_in (blocks_of (before ++ new)) ≡ header_in (blocks_of (before ++ old))
 header_stays before old new some more begin begins =
     ap header_in (cut before new more begins)
@@ -149,7 +154,7 @@ some_whole : (own rest : List LineClass) → 1 ≤ length own → 1 ≤ length (
 some_whole [] rest some = absurd (omega arith)
 some_whole (class ∷ own) rest some = omega arith
 
--- What is known of a stretch that begins a tune: which tunes stand before it, in it and behind it.
+-- What is known of a stretch that begins a tune: which tunes are before it, in it and after it.
 pub record IsRun (before old behind : List LineClass) (front mid back : List Block) : Type 0 where
   pub tunes : tunes_in (blocks_of (before ++ (old ++ behind))) ≡ front ++ (mid ++ back)
   pub from : length before ≡ start_of (mid ++ back) (length (before ++ (old ++ behind)))
@@ -160,11 +165,13 @@ pub run_begins : (before old behind : List LineClass) (front mid back : List Blo
 run_begins before old behind front mid back run =
     let all = before ++ (old ++ behind) in
     let here = begin_start all front (mid ++ back) run.tunes in
-    let rest : drop (start_of (mid ++ back) (length all)) all ≡ old ++ behind = ap (λ n. drop n all) (sym run.from) ∙ (drop_past (length before) before (old ++ behind) (omega arith) ∙ (let z : length before - length before ≡ 0 = omega arith in ap (λ n. drop n (old ++ behind)) z)) in
+    let rest : drop (start_of (mid ++ back) (length all)) all ≡ old ++ behind = ap (λ n. drop n all) (sym run.from)
+    ∙ (drop_past (length before) before (old ++ behind) (omega arith) ∙ (let z : length before - length before ≡ 0 = omega arith in ap (λ n. drop n (old ++ behind)) z)) in
     begin_front old behind run.some (subst BeginTune rest here)
 
--- What stands behind a stretch begins a tune where the tunes behind it do.
-pub begin_rest : (before old behind : List LineClass) (front back : List Block) → tunes_in (blocks_of (before ++ (old ++ behind))) ≡ front ++ back → length before + length old ≡ start_of back (length (before ++ (old ++ behind))) → BeginTune behind
+-- What is after a stretch begins a tune where the tunes after it do.
+pub begin_rest : (before old behind : List LineClass) (front back : List Block)
+    → tunes_in (blocks_of (before ++ (old ++ behind))) ≡ front ++ back → length before + length old ≡ start_of back (length (before ++ (old ++ behind))) → BeginTune behind
 begin_rest before old behind front back tunes to =
     let all = before ++ (old ++ behind) in
     let here = begin_start all front back tunes in
@@ -177,7 +184,7 @@ begin_rest before old behind front back tunes to =
 run_ends : (before old behind : List LineClass) (front mid back : List Block) → IsRun before old behind front mid back → BeginTune behind
 run_ends before old behind front mid back run = begin_rest before old behind (front ++ mid) back (run.tunes ∙ sym (append_assoc front mid back)) run.to
 
--- The tunes behind the edit of a stretch.
+-- The tunes after the edit of a stretch.
 pub tunes_after : (before old new behind : List LineClass) (front mid back : List Block) → IsRun before old behind front mid back → BeginTune new
     → tunes_in (blocks_of (before ++ (new ++ behind))) ≡ front ++ (map (moved (length before)) (tunes_in (blocks_of new)) ++ map (shifted (length old) (length new)) back)
 tunes_after before old new behind front mid back run begins =
@@ -198,7 +205,8 @@ tunes_after before old new behind front mid back run begins =
     let b = blocks_at (length before) new in
     let c = map (shifted (length old) (length new)) (blocks_behind (length before + length old) there) in
     ap tunes_in law ∙ (tunes_both a (b ++ c)
-    ∙ (λ i. first i ++ (tunes_both b c ∙ (λ j. tunes_moved (length before) (blocks_of new) j ++ (tunes_shifted (length old) (length new) (blocks_behind (length before + length old) there) ∙ ap (map (shifted (length old) (length new))) last) j)) i))
+    ∙ (λ i. first i ++ (tunes_both b c ∙ (λ j. tunes_moved (length before) (blocks_of new) j ++
+    (tunes_shifted (length old) (length new) (blocks_behind (length before + length old) there) ∙ ap (map (shifted (length old) (length new))) last) j)) i))
 
 -- And the file header.
 pub header_after : (before old new behind : List LineClass) (front mid back : List Block) → IsRun before old behind front mid back → 1 ≤ length new → BeginTune new
@@ -207,8 +215,9 @@ header_after before old new behind front mid back run more begins =
     header_stays before (old ++ behind) (new ++ behind) (some_whole old behind run.some) (some_whole new behind more)
     (begin_whole old behind run.some (run_begins before old behind front mid back run)) (begin_whole new behind more begins)
 
--- The tunes behind the edit of the first lines of a text.
-pub tunes_first : (before old new behind : List LineClass) (mid back : List Block) → before ≡ [] → tunes_in (blocks_of (before ++ (old ++ behind))) ≡ mid ++ back → length before + length old ≡ start_of back (length (before ++ (old ++ behind)))
+-- The tunes after the edit of the first lines of a text.
+pub tunes_first : (before old new behind : List LineClass) (mid back : List Block) → before ≡ []
+    → tunes_in (blocks_of (before ++ (old ++ behind))) ≡ mid ++ back → length before + length old ≡ start_of back (length (before ++ (old ++ behind)))
     → tunes_in (blocks_of (before ++ (new ++ behind))) ≡ map (moved (length before)) (tunes_in (blocks_of new)) ++ map (shifted (length old) (length new)) back
 tunes_first before old new behind mid back none tunes to =
     let all = before ++ (old ++ behind) in
@@ -224,7 +233,8 @@ tunes_first before old new behind mid back none tunes to =
     let b = blocks_at (length before) new in
     let c = map (shifted (length old) (length new)) (blocks_behind (length before + length old) there) in
     ap tunes_in law ∙ (tunes_both a (b ++ c)
-    ∙ (λ i. first i ++ (tunes_both b c ∙ (λ j. tunes_moved (length before) (blocks_of new) j ++ (tunes_shifted (length old) (length new) (blocks_behind (length before + length old) there) ∙ ap (map (shifted (length old) (length new))) last) j)) i))
+    ∙ (λ i. first i ++ (tunes_both b c ∙ (λ j. tunes_moved (length before) (blocks_of new) j ++
+    (tunes_shifted (length old) (length new) (blocks_behind (length before + length old) there) ∙ ap (map (shifted (length old) (length new))) last) j)) i))
 
 append_none : {X : Type 0} (xs : List X) → xs ++ [] ≡ xs
 append_none [] = refl

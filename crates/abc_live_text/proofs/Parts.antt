@@ -1,5 +1,6 @@
 -- Parts of lists.
-use Rattle.std.proofs.Common.{◌≡◌, ℕ, zero, suc, ◌+◌, ◌-◌, ◌≤◌, List, [], ◌∷◌, ◌++◌, map, All, length, take, drop, refl, sym, ◌∙◌, ap, arith, append_assoc, drop-drop}
+use Rattle.std.proofs.Common.{◌≡◌, ℕ, zero, suc, ◌+◌, ◌-◌, ◌≤◌, List, [], ◌∷◌, ◌++◌, map, All, length, take, drop, refl, sym, ◌∙◌}
+use Rattle.std.proofs.Common.{ap, arith, append_assoc, drop-drop}
 use Rattle.std.specs.List.{AllZip}
 
 pub take_past : {X : Type 0} (n : ℕ) (a b : List X) → length a ≤ n → take n (a ++ b) ≡ a ++ take (n - length a) b
@@ -28,18 +29,21 @@ pub edited_parts : {X : Type 0} (a own b new : List X) (at removed : ℕ) → le
     ≡ a ++ ((take (at - length a) own ++ (new ++ drop (at + removed - length a) own)) ++ b)
 edited_parts a own b new at removed h k =
     let front : take at (a ++ (own ++ b)) ≡ a ++ take (at - length a) own = take_past at a (own ++ b) h ∙ ap (λ l. a ++ l) (take_in (at - length a) own b (omega arith)) in
-    let tail : drop (at + removed) (a ++ (own ++ b)) ≡ drop (at + removed - length a) own ++ b = drop_past (at + removed) a (own ++ b) (omega arith) ∙ drop_in (at + removed - length a) own b (omega arith) in
+    let tail : drop (at + removed) (a ++ (own ++ b)) ≡ drop (at + removed - length a) own
+    ++ b = drop_past (at + removed) a (own ++ b) (omega arith) ∙ drop_in (at + removed - length a) own b (omega arith) in
     let first = take (at - length a) own in
     let last = drop (at + removed - length a) own in
     (λ i. front i ++ (new ++ tail i))
     ∙ (append_assoc a first (new ++ (last ++ b))
     ∙ ap (λ l. a ++ l) (ap (λ l. first ++ l) (sym (append_assoc new last b)) ∙ sym (append_assoc first (new ++ last) b)))
 
--- A part of a list behind another one.
-pub part_moved : {X : Type 0} (a own b : List X) (from to n : ℕ) → n ≡ length a → from ≤ to → to ≤ length own → take (to + n - (from + n)) (drop (from + n) (a ++ (own ++ b))) ≡ take (to - from) (drop from own)
+-- A part of a list after another one.
+pub part_moved : {X : Type 0} (a own b : List X) (from to n : ℕ) → n ≡ length a → from ≤ to → to ≤ length own
+    → take (to + n - (from + n)) (drop (from + n) (a ++ (own ++ b))) ≡ take (to - from) (drop from own)
 part_moved a own b from to n e h k =
     let count : to + n - (from + n) ≡ to - from = omega arith in
-    let here : drop (from + n) (a ++ (own ++ b)) ≡ drop from own ++ b = drop_past (from + n) a (own ++ b) (omega (arith, e)) ∙ ((let m : from + n - length a ≡ from = omega (arith, e) in ap (λ i. drop i (own ++ b)) m) ∙ drop_in from own b (omega arith)) in
+    let here : drop (from + n) (a ++ (own ++ b)) ≡ drop from own ++ b = drop_past (from + n) a (own ++ b) (omega (arith, e))
+    ∙ ((let m : from + n - length a ≡ from = omega (arith, e) in ap (λ i. drop i (own ++ b)) m) ∙ drop_in from own b (omega arith)) in
     (λ i. take (count i) (here i)) ∙ take_in (to - from) (drop from own) b (long from own (to - from) (omega arith))
   where
     long : {X : Type 0} (from : ℕ) (own : List X) (k : ℕ) → from + k ≤ length own → k ≤ length (drop from own)
@@ -103,7 +107,8 @@ zip_both P (x ∷ xs) others [] more all rest = absurd all
 zip_both P (x ∷ xs) others (y ∷ ys) more all rest = (all.0, zip_both P xs others ys more all.1 rest)
 
 -- What holds of each pair, by what is known of the second of each.
-pub zip_given : {A B C : Type 0} (P : A → B → Type 0) (Q : A → C → Type 0) (K : B → Type 0) (f : B → C) (xs : List A) (ys : List B) → ((x : A) (y : B) → K y → P x y → Q x (f y)) → All K ys → AllZip P xs ys → AllZip Q xs (map f ys)
+pub zip_given : {A B C : Type 0} (P : A → B → Type 0) (Q : A → C → Type 0) (K : B → Type 0) (f : B → C) (xs : List A) (ys : List B)
+    → ((x : A) (y : B) → K y → P x y → Q x (f y)) → All K ys → AllZip P xs ys → AllZip Q xs (map f ys)
 zip_given P Q K f [] [] each known all = tt
 zip_given P Q K f [] (y ∷ ys) each known all = absurd all
 zip_given P Q K f (x ∷ xs) [] each known all = absurd all

@@ -1,5 +1,6 @@
--- Where the tunes before a stretch, in it and behind it lie.
-use Rattle.std.proofs.Common.{◌≡◌, ℕ, suc, ◌<◌, ◌≤◌, true, false, Bool, List, [], ◌∷◌, ◌++◌, map, All, filter, nat_le, nat_lt, refl, ◌∙◌, ap, arith, ⊎_elim}
+-- Where the tunes before a stretch, in it and after it lie.
+use Rattle.std.proofs.Common.{◌≡◌, ℕ, suc, ◌<◌, ◌≤◌, true, false, Bool, List, [], ◌∷◌, ◌++◌, map, All, filter, nat_le, nat_lt}
+use Rattle.std.proofs.Common.{refl, ◌∙◌, ap, arith, ⊎_elim}
 use Rattle.std.proofs.lemmas.Bool.{cases_Bool}
 use Rattle.std.proofs.lemmas.Bool.Decides.{nat_tests}
 use Rattle.std.proofs.lemmas.List.Elements.{All-cons, All-nil}
@@ -7,8 +8,8 @@ use Rattle.abc_book.specs.Laws.{RiseFromTo, moved}
 use Rattle.abc_book.specs.Stretch.{blocks_before, blocks_behind, shifted}
 use Rattle.abc_book.specs.declared.block.Block.{Block}
 use Rattle.abc_tune_compiler.specs.Book.{is_tune, tunes_in}
-use Rattle.abc_live_text.specs.Placing.{BlocksRise}
-use Rattle.abc_live_text.specs.Renewing.{start_of}
+use Rattle.abc_live_text.specs.Origin.{BlocksRise}
+use Rattle.abc_live_text.specs.NewParts.{start_of}
 
 -- Blocks that rise do so up to where others begin, and those from there on.
 pub rise_front : (at : ℕ) (xs ys : List Block) (last : ℕ) → BlocksRise at (xs ++ ys) last → BlocksRise at xs (start_of ys last)

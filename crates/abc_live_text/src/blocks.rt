@@ -2,11 +2,11 @@
 
 ghost use Rattle.std.specs.Prelude.{◌≡◌, ◌∷◌, IfOk, map};
 ghost use Rattle.abc_book.specs.Block.{blocks_of};
-ghost use Rattle.abc_live_text.specs.Holding.{class_in};
-ghost use Rattle.abc_live_text.specs.Keeping.{header_place};
+ghost use Rattle.abc_live_text.specs.Pieces.{class_in};
+ghost use Rattle.abc_live_text.specs.Chains.{header_place};
 ghost use Rattle.abc_tune_compiler.specs.Book.{header_in, is_file_header, is_tune, tunes_in};
 
-use crate::carried::CarriedRow;
+use crate::origin::CarriedRow;
 use abc_book::{Block, BlockKind, blocks};
 use abc_scan::LineClass;
 use std::alloc::{AllocError, Global};
@@ -47,7 +47,7 @@ pub(crate) fn header_in(blocks: &[Block]) -> Option<Block>
     }
 }
 
-/// The tunes of a text in the order in which they stand.
+/// The tunes of a text in order.
 pub(crate) fn tunes_in(alloc: Global, blocks: &[Block]) -> Result<Vec<Block>, AllocError>
     ensures { IfOk result (λ tunes. tunes.items ≡ tunes_in blocks.now) }
 {

@@ -1,22 +1,21 @@
-//! A text with its file header and tunes folded: what is kept of them from edit to edit.
+//! A text with the folded chains of its file header and its tunes, kept from edit to edit.
 #![tactic(auto)]
 
 mod blocks;
-mod carried;
-mod folded;
+mod chains;
+mod kept_text;
 mod lead;
-mod made;
+mod new_parts;
+mod new_places;
+mod origin;
+mod part_patches;
 mod pieces;
-mod place;
-mod renew;
+mod refolded_tunes;
+mod reused_tunes;
 mod row;
-mod settle;
 mod stretch;
-mod text;
-mod tunes;
-mod whole;
 
-pub use folded::left_by;
-pub use row::{Row, read};
+pub use chains::header_state;
+pub use kept_text::{KeptPatch, KeptText};
+pub use row::{Row, read_rows};
 pub use stretch::Stretch;
-pub use text::{KeptPatch, KeptText};

@@ -2,15 +2,16 @@
 
 ghost use Rattle.std.specs.Prelude.{◌≡◌, ◌<◌, [], ◌∷◌, ◌++◌, All, IfOk, IfSome, OnErr, OnOk, Some, length, slice_get, true};
 ghost use Rattle.std.specs.Option.{IsSomeAnd};
-ghost use Rattle.abc_live_text.specs.Ending.{EndsAt, StandsAt};
-ghost use Rattle.abc_live_text.specs.Holding.{IsCarried, IsFolded, LiesWithin, address_from, cells_over, entries_at, held_in, helds_in, helds_of, helds_over};
+ghost use Rattle.abc_live_text.specs.PieceEnd.{EndsAt, LiesAt};
+ghost use Rattle.abc_live_text.specs.Pieces.{IsCarried, IsFolded, LiesWithin, address_from, cells_over, entries_at};
+ghost use Rattle.abc_live_text.specs.Pieces.{kept_state_in, kept_states_in, kept_states_of, kept_states_over};
 ghost use Rattle.abc_fold.specs.Chain.{Folds, IsKeptAt};
 ghost use Rattle.abc_fold.specs.Following.{FollowsLast};
 ghost use Rattle.abc_fold.specs.Piece.{IsKept, cell_of, cells_of};
 ghost use Rattle.abc_fold.specs.Steps.{IsResumable, Steps};
-ghost use Rattle.abc_live_cost.specs.Kept.{held_at};
+ghost use Rattle.abc_live_cost.specs.KeptState.{kept_state_at};
 
-use crate::carried::{CarriedRow, Origin, item_at};
+use crate::origin::{CarriedRow, Origin, item_at};
 use abc_book::Block;
 use abc_fold::{Chain, Fold, Piece, Pieces, Shared};
 use abc_lines::GapList;
@@ -23,17 +24,18 @@ fn count_of<F: Fold>(chain: &Shared<Chain<F>>) -> usize
     chain.get().len()
 }
 
-/// What a chain keeps of the cell with `i` others before it.
-fn kept_at<F: Fold>(chain: &Shared<Chain<F>>, i: usize) -> Result<Piece<F>, AllocError>
+/// The kept piece of a chain's cell at index `i`.
+fn kept_piece<F: Fold>(chain: &Shared<Chain<F>>, i: usize) -> Result<Piece<F>, AllocError>
     requires { i < length chain.now.cells }
     ensures place { IfOk result (λ piece. IsKeptAt chain.now i piece) }
-    ensures resumable { (steps : Steps F.State F.Cell F.Items) (opening : F.State) → IsResumable steps → Folds steps opening chain.now →
+    ensures resumable { (steps : Steps F.State F.Cell F.Items) (opening : F.State) → IsResumable steps
+        → Folds steps opening chain.now →
         IfOk result (λ piece. IsKept steps piece) }
 {
     chain.get().kept(i)
 }
 
-/// The piece of the cell of a line with `k` others before it: what an old chain keeps of it, or a new one.
+/// The piece of a line's cell at index `k`: a kept one if an old chain holds the cell, or a new one.
 fn piece_at<F: Fold>(
     alloc: Global,
     fold: &F,
@@ -45,9 +47,10 @@ fn piece_at<F: Fold>(
     requires carried { IsCarried chains.now.items row.now }
     requires folded { All (IsFolded (F.steps fold.now)) chains.now.items }
     ensures cell { IfOk result (λ piece. slice_get row.now.cells k ≡ Some (cell_of piece)) }
-    ensures held { IfOk result (λ piece. held_in piece ≡ held_at (entries_at chains.now.items) (address_from k row.now.origin)) }
+    ensures held { IfOk result (λ piece. kept_state_in piece
+        ≡ kept_state_at (entries_at chains.now.items) (address_from k row.now.origin)) }
     ensures kept { IfOk result (λ piece. IsKept (F.steps fold.now) piece) }
-    ensures stands { IfOk result (λ piece. StandsAt chains.now.items (address_from k row.now.origin) piece) }
+    ensures stands { IfOk result (λ piece. LiesAt chains.now.items (address_from k row.now.origin) piece) }
 {
     match &row.origin {
         None => {
@@ -56,18 +59,18 @@ fn piece_at<F: Fold>(
         }
         Some(origin) => {
             let chain = item_at(chains, origin.source);
-            // A chain has no more cells than a number can say.
+            // For the prover: the count of a chain's cells fits.
             let _ = count_of(chain);
-            kept_at(chain, origin.first + k)
+            kept_piece(chain, origin.first + k)
         }
     }
 }
 
-/// Appends a piece, of which it may be known that it follows the last one.
+/// Appends a piece. `known`: it follows the last one.
 fn append<F: Fold>(pieces: &mut Pieces<F>, piece: Piece<F>, known: bool) -> Result<(), AllocError>
     requires { known ≡ true → FollowsLast pieces.old piece }
-    ensures pushed { OnOk result (pieces.new ≡ pieces.old ++ piece ∷ []) }
-    ensures refused { OnErr result (pieces.new ≡ pieces.old) }
+    ensures ok { OnOk result (pieces.new ≡ pieces.old ++ piece ∷ []) }
+    ensures unchanged { OnErr result (pieces.new ≡ pieces.old) }
 {
     if known {
         return pieces.push_following(piece);
@@ -75,7 +78,7 @@ fn append<F: Fold>(pieces: &mut Pieces<F>, piece: Piece<F>, known: bool) -> Resu
     pieces.push(piece)
 }
 
-/// Appends the pieces of a line, of which the first may be known to stand where the last one ends.
+/// Appends the pieces of a line. `known`: the first follows the last piece in an old chain.
 fn append_cells<F: Fold>(
     alloc: Global,
     fold: &F,
@@ -89,21 +92,23 @@ fn append_cells<F: Fold>(
     requires kept { All (IsKept (F.steps fold.now)) pieces.old }
     requires known { known ≡ true → IsSomeAnd (address_from 0 row.now.origin) (λ at. EndsAt chains.now.items pieces.old at.0 at.1) }
     ensures cells { OnOk result (cells_of pieces.new ≡ cells_of pieces.old ++ row.now.cells) }
-    ensures helds { OnOk result (helds_in pieces.new ≡ helds_in pieces.old ++ helds_of chains.now.items row.now) }
+    ensures kept_states { OnOk result (kept_states_in pieces.new ≡ kept_states_in pieces.old
+        ++ kept_states_of chains.now.items row.now) }
     ensures kept { All (IsKept (F.steps fold.now)) pieces.new }
-    ensures ends { 0 < length row.now.cells → OnOk result (IfSome (address_from (length row.now.cells) row.now.origin) (λ at. EndsAt chains.now.items pieces.new at.0 at.1)) }
+    ensures ends { 0 < length row.now.cells → OnOk result (IfSome (address_from (length row.now.cells) row.now.origin)
+        (λ at. EndsAt chains.now.items pieces.new at.0 at.1)) }
 {
     let count = row.cells().len();
     let mut known = known;
     for k in 0..count {
         let piece = piece_at(alloc, fold, chains, row, k)?;
         append(pieces, piece, known)?;
-        known = row.is_held();
+        known = row.has_origin();
     }
     Ok(())
 }
 
-/// Appends the pieces of a line. It takes and gives back where the last one ends in an old chain, if that is known.
+/// Appends the pieces of a line. It takes and returns the place in an old chain at which the last piece ends, if known.
 fn append_row<F: Fold>(
     alloc: Global,
     fold: &F,
@@ -117,7 +122,8 @@ fn append_row<F: Fold>(
     requires kept { All (IsKept (F.steps fold.now)) pieces.old }
     requires ends { IfSome end (λ end. EndsAt chains.now.items pieces.old end.source end.first) }
     ensures cells { OnOk result (cells_of pieces.new ≡ cells_of pieces.old ++ row.now.cells) }
-    ensures helds { OnOk result (helds_in pieces.new ≡ helds_in pieces.old ++ helds_of chains.now.items row.now) }
+    ensures kept_states { OnOk result (kept_states_in pieces.new ≡ kept_states_in pieces.old
+        ++ kept_states_of chains.now.items row.now) }
     ensures kept { All (IsKept (F.steps fold.now)) pieces.new }
     ensures ends { IfOk result (λ end. IfSome end (λ end. EndsAt chains.now.items pieces.new end.source end.first)) }
 {
@@ -140,7 +146,7 @@ pub(crate) fn pieces_of<F: Fold>(
     requires folded { All (IsFolded (F.steps fold.now)) chains.now.items }
     requires within { LiesWithin (length rows.now) block.now }
     ensures cells { IfOk result (λ pieces. cells_of pieces ≡ cells_over rows.now block.now) }
-    ensures helds { IfOk result (λ pieces. helds_in pieces ≡ helds_over chains.now.items rows.now block.now) }
+    ensures kept_states { IfOk result (λ pieces. kept_states_in pieces ≡ kept_states_over chains.now.items rows.now block.now) }
     ensures kept { IfOk result (λ pieces. All (IsKept (F.steps fold.now)) pieces) }
 {
     let mut pieces = Pieces::new(alloc);

@@ -1,7 +1,7 @@
 //! What is kept of a line beside its bytes.
 
 ghost use Rattle.std.specs.Prelude.{◌≡◌, IfOk, length, map};
-ghost use Rattle.abc_live_text.specs.Rows.{IsScannedUpTo, new_row};
+ghost use Rattle.abc_live_text.specs.Row.{IsScannedUpTo, new_row};
 ghost use Rattle.abc_lines.specs.Text.{lines_of};
 
 use abc_fold::{Counts, Shared};
@@ -19,7 +19,7 @@ pub struct Row<K: Drop> {
 }
 
 impl<K: Drop> Model for Row<K> {
-    ghost use Rattle.abc_live_text.specs.Rows.{Row};
+    ghost use Rattle.abc_live_text.specs.Row.{Row};
 
     ghost Value = { Row K };
 
@@ -52,7 +52,7 @@ fn read_line<C: Compiler>(
 }
 
 /// Lines that have been read, each once.
-pub fn read<C: Compiler>(
+pub fn read_rows<C: Compiler>(
     alloc: Global,
     compiler: &C,
     lines: &[Vec<u8>],

@@ -1,21 +1,21 @@
 //! The stretch of a text that an edit may change.
 
 ghost use Rattle.std.specs.Prelude.{◌+◌, ◌-◌, ◌<◌, ◌≤◌, IfSome, drop, length};
-ghost use Rattle.abc_live_text.specs.Renewing.{IsLead, IsSpan, start_of};
+ghost use Rattle.abc_live_text.specs.NewParts.{IsLead, IsSpan, start_of};
 
 use abc_book::Block;
 
-/// The lines and the tunes of a text that an edit of it may change, all counted from 0: the lines from one on, but not
-/// to the other, and how many lines stand there after the edit; the tunes from `front` on, but not `behind`.
+/// The lines and the tunes of a text that an edit may change, all counted from 0: the lines `from..to`, which become
+/// `came` lines, and the tunes `front..behind`.
 #[derive(Clone, Copy)]
 pub struct Stretch {
-    /// How many tunes stay before the stretch.
+    /// How many tunes are before the stretch.
     pub front: usize,
-    /// The first tune behind it, counted from 0 among the tunes before the edit.
+    /// The first old tune after it.
     pub behind: usize,
-    /// How many lines stand before it.
+    /// How many lines are before it.
     pub from: usize,
-    /// The first line behind it before the edit, counted from 0.
+    /// The first old line after it.
     pub to: usize,
     /// How many lines it has after the edit.
     pub came: usize,
@@ -37,7 +37,7 @@ pub(crate) struct Lead {
     pub(crate) to: usize,
 }
 
-/// How many tunes, these first ones at least, begin before a line.
+/// How many tunes begin before a line; at least `first` do.
 fn begun_before(tunes: &[Block], first: usize, line: usize) -> usize
     requires { first ≤ length tunes.now }
     ensures least { first ≤ result }
@@ -58,8 +58,8 @@ fn begun_before(tunes: &[Block], first: usize, line: usize) -> usize
     begun
 }
 
-/// The stretch of an edit of a text with so many lines: from the last tune that begins before it to the first that
-/// begins behind it. Where none begins before it, there is none.
+/// The stretch of an edit of a text with `count` lines: from the last tune that begins before the edit to the first
+/// that begins after it. None if no tune begins before the edit.
 pub(crate) fn span_of(tunes: &[Block], count: usize, at: usize, removed: usize) -> Option<Span>
     requires { at + removed ≤ count }
     ensures { IfSome result (λ span. IsSpan tunes.now count at removed span) }
@@ -82,8 +82,7 @@ pub(crate) fn span_of(tunes: &[Block], count: usize, at: usize, removed: usize) 
     })
 }
 
-/// The first lines of a text with so many that an edit may change that ends at this line: up to the first tune that begins
-/// there or behind it.
+/// The prefix that an edit ending at `end` can affect: up to the first tune that begins at `end` or later.
 pub(crate) fn lead_of(tunes: &[Block], count: usize, end: usize) -> Lead
     requires { end ≤ count }
     ensures { IsLead tunes.now count end result }

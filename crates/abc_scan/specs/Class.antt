@@ -1,5 +1,6 @@
 -- The class of a line, by its own bytes.
-use Rattle.std.specs.Prelude.{◌≡◌, ℕ, Bool, false, ◌&&◌, ◌||◌, not, Option, Some, None, List, [], ◌∷◌, ◌++◌, if◌then◌else◌, ◌==◌, nat_le, find, IsTrue}
+use Rattle.std.specs.Prelude.{◌≡◌, ℕ, Bool, false, ◌&&◌, ◌||◌, not, Option, Some, None, List, [], ◌∷◌, ◌++◌, if◌then◌else◌, ◌==◌}
+use Rattle.std.specs.Prelude.{nat_le, find, IsTrue}
 use Rattle.std.specs.Char.{is_ascii_alphabetic}
 use Rattle.abc_text.specs.Blank.{AreBlanks, is_blank}
 use Rattle.abc_text.specs.LineEnd.{without_return}

@@ -15,8 +15,8 @@ numerator_of unit factors = unit.num * product_of (map (λ r. r.num) factors)
 abbrev pub denominator_of : Ratio → List Ratio → ℕ
 denominator_of unit factors = unit.den * product_of (map (λ r. r.den) factors)
 
--- The unit of length times the factors is g grains, exactly (ABC 2.1 sections 4.3, 4.4 and 4.13; in
--- grains, our own).
+-- The unit of length times the factors is g grains, exactly (ABC 2.1 sections 4.3, 4.4 and 4.13;
+-- grains are not in ABC 2.1).
 abbrev pub IsLength : Ratio → List Ratio → ℕ → Type 0
 IsLength unit factors g = g * denominator_of unit factors ≡ grains_of_a_whole_note * numerator_of unit factors
 

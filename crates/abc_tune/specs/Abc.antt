@@ -20,7 +20,7 @@ use Rattle.abc_scan.specs.Class.{class_of}
 use Rattle.abc_tune.specs.Built.{bytes_of, build_faults_of}
 use Rattle.abc_tune_compiler.specs.Rules.{Rules}
 
--- The reference number that an item is, if it is one. ABC 2.1 section 3.1.1.
+-- The reference number of an item, if it is one. ABC 2.1 section 3.1.1.
 abbrev pub number_of : Item → Option ℕ
 number_of (items.Number number) = Some number
 number_of _ = None

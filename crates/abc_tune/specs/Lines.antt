@@ -15,7 +15,7 @@ use Rattle.abc_voices.specs.Opening.{title_of}
 use Rattle.abc_voices.specs.Track.{tracks}
 use Rattle.abc_voices_score.specs.declared.limits.TheConstants.{LONGEST_TITLE}
 
--- What a tune of these lines gives to its score, where a file header set these values.
+-- The items of a tune of these lines, after a file header that set these values.
 abbrev pub items_of_lines : Defaults → List (List ℕ) → List Item
 items_of_lines opening lines = items_of_cells opening (flat_map cells_in lines)
 
@@ -24,7 +24,7 @@ abbrev pub HasFewVoices : Type 0
 HasFewVoices = (opening : Defaults) (lines : List (List ℕ))
     → length (tracks (items_of_lines opening lines)) ≤ MOST_VOICES
 
--- The title of a tune of lines is one that a score may have: it stands in one of them.
+-- The title of a tune of lines is in one of them, so it is not too long for a score.
 abbrev pub HasShortTitle : Type 0
 HasShortTitle = (opening : Defaults) (lines : List (List ℕ)) → list_all is_line lines ≡ true
     → length (title_of (items_of_lines opening lines)) ≤ LONGEST_TITLE
@@ -35,7 +35,7 @@ pub data IsTooLarge (tune : List Item) : Type 0 where
   by_places : MOST_PLACES < places_played tune → IsTooLarge tune
   by_time : grains_of_the_latest_end < end_of tune → IsTooLarge tune
 
--- A tune of lines is too long exactly where it is, never for its voices or its title.
+-- A tune of lines is too long exactly if it is too large, never for its voices or its title.
 abbrev pub IsTooLongBySize : Type 0
 IsTooLongBySize = (opening : Defaults) (lines : List (List ℕ)) → list_all is_line lines ≡ true
     → (is_too_long (items_of_lines opening lines) ≡ true) ↔ IsTooLarge (items_of_lines opening lines)

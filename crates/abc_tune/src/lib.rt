@@ -1,11 +1,9 @@
-//! One tune, from what its cells give to the bytes of its MIDI file, and ABC as a compiler that a session asks.
+//! One tune, from what its cells give to the bytes of its MIDI file, and the compiler of ABC for a session.
 #![tactic(auto)]
 
 mod abc;
 mod built;
-mod fold_laws;
-mod header_laws;
-mod line_laws;
+pub mod laws;
 mod whole_faults;
 
 pub use abc::Abc;
@@ -20,6 +18,3 @@ pub use abc_text::Sequence;
 pub use abc_tune_compiler::{Built, Compiler};
 pub use abc_tune_memo::{TuneKey, TuneMemo, put_line};
 pub use built::build;
-pub use fold_laws::{one_title, tunes_looked_back};
-pub use header_laws::tunes_by_headers;
-pub use line_laws::tunes_of_lines;

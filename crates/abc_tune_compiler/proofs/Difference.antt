@@ -10,7 +10,7 @@ use Rattle.std.proofs.lemmas.Option.{same_Some}
 use Rattle.std.proofs.lemmas.Bool.Decides.{Decides-eqb}
 use Rattle.std.proofs.lemmas.List.Kept.{IsStrictlyIncreasing-filter}
 use Rattle.abc_tune_compiler.proofs.Members.{contains_cons, contains_head, contains_tail, contains_none, from_filter, to_filter}
-use Rattle.abc_tune_compiler.specs.Files.{Files, file_at, written, removed, HasNewFile, HasLostFile}
+use Rattle.abc_tune_compiler.specs.Files.{Files, file_at, written_numbers, removed_numbers, HasNewFile, HasLostFile}
 use Rattle.abc_tune_compiler.specs.Report.{Reports}
 use Rattle.abc_tune_compiler.specs.declared.report.Report.{Report}
 
@@ -25,8 +25,8 @@ pub from_numbers : (files : Files) (n : ℕ) → Contains (keys_of files) n → 
 from_numbers [] n h = contains_none n h
 from_numbers (file ∷ files) n h = from_numbers_step file files n (from_numbers files n) (file.0 == n) refl (contains_cons file.0 (keys_of files) n h)
 
-to_numbers_step : (file : ℕ × List ℕ) (files : Files) (n : ℕ) → (IsSome (file_at files n) → Contains (keys_of files) n)
-    → (b : Bool) → (file.0 == n) ≡ b → IsSome (cond b (Some file.1) (file_at files n)) → Contains (keys_of (file ∷ files)) n
+to_numbers_step : (file : ℕ × List ℕ) (files : Files) (n : ℕ) → (IsSome (file_at files n) → Contains (keys_of files) n) → (b : Bool)
+    → (file.0 == n) ≡ b → IsSome (cond b (Some file.1) (file_at files n)) → Contains (keys_of (file ∷ files)) n
 to_numbers_step file files n rest true here has = contains_head file.0 (keys_of files) n ((Decides-eqb file.0 n).0 here)
 to_numbers_step file files n rest false here has = contains_tail file.0 (keys_of files) n (rest has)
 
@@ -34,7 +34,7 @@ pub to_numbers : (files : Files) (n : ℕ) → IsSome (file_at files n) → Cont
 to_numbers [] n h = absurd (false≢true h)
 to_numbers (file ∷ files) n h = to_numbers_step file files n (to_numbers files n) (file.0 == n) refl h
 
--- what the tests of `written` and `removed` mean
+-- what the tests of `written_numbers` and `removed_numbers` mean
 differs : (a b : Option (List ℕ)) → not (option_eq bytes_eq a b) ≡ true → a ≢ b
 differs None None t e = absurd (false≢true t)
 differs None (Some y) t e = absurd cc
@@ -55,32 +55,33 @@ none_from_test : (a : Option (List ℕ)) → not (is_some a) ≡ true → a ≡ 
 none_from_test None t = refl
 none_from_test (Some x) t = absurd (false≢true t)
 
--- a number is in `written` exactly where it has a file that is new or has other bytes
-contains_written : (before after : Files) (n : ℕ) → Contains (written before after) n ↔ HasNewFile before after n
-unfolding written
+-- a number is in `written_numbers` exactly if it has a file that is new or has other bytes
+contains_written : (before after : Files) (n : ℕ) → Contains (written_numbers before after) n ↔ HasNewFile before after n
+unfolding written_numbers
 contains_written before after n = (
   (λ h. let kept = from_filter _ (keys_of after) n h in (from_numbers after n kept.0, differs (file_at before n) (file_at after n) kept.1)),
   λ has. to_filter _ (keys_of after) n (to_numbers after n has.0) (test_differs (file_at before n) (file_at after n) has.1),
 )
 
-contains_removed : (before after : Files) (n : ℕ) → Contains (removed before after) n ↔ HasLostFile before after n
-unfolding removed
+contains_removed : (before after : Files) (n : ℕ) → Contains (removed_numbers before after) n ↔ HasLostFile before after n
+unfolding removed_numbers
 contains_removed before after n = (
   (λ h. let kept = from_filter _ (keys_of before) n h in (from_numbers before n kept.0, none_from_test (file_at after n) kept.1)),
   λ has. to_filter _ (keys_of before) n (to_numbers before n has.0) (ap (λ file. not (is_some file)) has.1),
 )
 
 -- both lists rise as the numbers of the files do
-pub rising_written : (before after : Files) → IsStrictlyIncreasing (keys_of after) → IsStrictlyIncreasing (written before after)
-unfolding written
+pub rising_written : (before after : Files) → IsStrictlyIncreasing (keys_of after) → IsStrictlyIncreasing (written_numbers before after)
+unfolding written_numbers
 rising_written before after rising = IsStrictlyIncreasing-filter _ (keys_of after) rising
 
-pub rising_removed : (before after : Files) → IsStrictlyIncreasing (keys_of before) → IsStrictlyIncreasing (removed before after)
-unfolding removed
+pub rising_removed : (before after : Files) → IsStrictlyIncreasing (keys_of before) → IsStrictlyIncreasing (removed_numbers before after)
+unfolding removed_numbers
 rising_removed before after rising = IsStrictlyIncreasing-filter _ (keys_of before) rising
 
 -- what the two lists say of two books
-pub reports : (before after : Files) (report : Report) → IsStrictlyIncreasing (keys_of before) → IsStrictlyIncreasing (keys_of after) → report.written.items ≡ written before after → report.removed.items ≡ removed before after → Reports before after report
+pub reports : (before after : Files) (report : Report) → IsStrictlyIncreasing (keys_of before)
+    → IsStrictlyIncreasing (keys_of after) → report.written.items ≡ written_numbers before after → report.removed.items ≡ removed_numbers before after → Reports before after report
 reports before after report early late writes removes = record {
   writes = writes;
   removes = removes;

@@ -5,7 +5,7 @@ use Rattle.std.specs.BTreeSet.{insert_key}
 use Rattle.std.specs.declared.cmp.Ordering.{Ordering}
 use Rattle.std.specs.declared.cmp.Ordering.TheVariants.{Less, Equal, Greater}
 use Rattle.std.specs.Ordering.{match_ordering}
-use Rattle.abc_tune_compiler.specs.Sorted.{sorted_onto}
+use Rattle.abc_tune_compiler.specs.Sort.{insert_all}
 
 module _ {A : Type 0} where
   -- an element of x ∷ xs is x, or one of xs
@@ -25,8 +25,11 @@ module _ {A : Type 0} where
   -- a filter keeps the elements that pass, and no others: one element more, with the fact on the rest
   from_filter_step : (p : A → Bool) (x : A) (xs : List A) (n : A) → (Contains (filter p xs) n → Contains xs n × (p n ≡ true))
       → (b : Bool) → p x ≡ b → Contains (cond b (x ∷ filter p xs) (filter p xs)) n → Contains (x ∷ xs) n × (p n ≡ true)
-  from_filter_step p x xs n rest true pass kept =
-      elim (contains_cons x (filter p xs) n kept) [ inl is ↦ (contains_head x xs n is, ap p (sym is) ∙ pass) | inr later ↦ (contains_tail x xs n (rest later).0, (rest later).1) ]
+  from_filter_step p x xs n rest true pass kept = elim (contains_cons x (filter p xs) n kept) [
+    | inl is ↦ (contains_head x xs n is, ap p (sym is) ∙ pass)
+    | inr later ↦
+        (contains_tail x xs n (rest later).0, (rest later).1)
+  ]
   from_filter_step p x xs n rest false fail kept = (contains_tail x xs n (rest kept).0, (rest kept).1)
 
   pub from_filter : (p : A → Bool) (xs : List A) (n : A) → Contains (filter p xs) n → Contains xs n × (p n ≡ true)
@@ -70,15 +73,18 @@ module _ {A : Type 0} where
   to_insert_step cmp k x xs n rest Equal same (inl is) = contains_head x xs n (sym (same refl) ∙ is)
   to_insert_step cmp k x xs n rest Equal same (inr there) = there
   to_insert_step cmp k x xs n rest Greater same (inl is) = contains_tail x (insert_key cmp xs k) n (rest (inl is))
-  to_insert_step cmp k x xs n rest Greater same (inr there) =
-      elim (contains_cons x xs n there) [ inl is ↦ contains_head x (insert_key cmp xs k) n is | inr later ↦ contains_tail x (insert_key cmp xs k) n (rest (inr later)) ]
+  to_insert_step cmp k x xs n rest Greater same (inr there) = elim (contains_cons x xs n there) [
+    | inl is ↦ contains_head x (insert_key cmp xs k) n is
+    | inr later ↦ contains_tail x
+        (insert_key cmp xs k) n (rest (inr later))
+  ]
 
   pub to_insert : (cmp : A → A → Ordering) → TellsApart cmp → (xs : List A) (k n : A) → (k ≡ n) ⊎ Contains xs n → Contains (insert_key cmp xs k) n
   to_insert cmp apart [] k n (inl is) = contains_head k [] n is
   to_insert cmp apart [] k n (inr there) = contains_none n there
   to_insert cmp apart (x ∷ xs) k n h = to_insert_step cmp k x xs n (to_insert cmp apart xs k n) (cmp k x) (apart k x) h
 
-  pub from_sorted : (cmp : A → A → Ordering) (sorted xs : List A) (n : A) → Contains (sorted_onto cmp sorted xs) n → Contains sorted n ⊎ Contains xs n
+  pub from_sorted : (cmp : A → A → Ordering) (sorted xs : List A) (n : A) → Contains (insert_all cmp sorted xs) n → Contains sorted n ⊎ Contains xs n
   from_sorted cmp sorted [] n h = inl h
   from_sorted cmp sorted (x ∷ xs) n h =
       elim (from_sorted cmp (insert_key cmp sorted x) xs n h) [
@@ -86,7 +92,7 @@ module _ {A : Type 0} where
         | inr late ↦ inr (contains_tail x xs n late)
       ]
 
-  pub to_sorted : (cmp : A → A → Ordering) → TellsApart cmp → (sorted xs : List A) (n : A) → Contains sorted n ⊎ Contains xs n → Contains (sorted_onto cmp sorted xs) n
+  pub to_sorted : (cmp : A → A → Ordering) → TellsApart cmp → (sorted xs : List A) (n : A) → Contains sorted n ⊎ Contains xs n → Contains (insert_all cmp sorted xs) n
   to_sorted cmp apart sorted [] n (inl h) = h
   to_sorted cmp apart sorted [] n (inr h) = contains_none n h
   to_sorted cmp apart sorted (x ∷ xs) n (inl h) = to_sorted cmp apart (insert_key cmp sorted x) xs n (inl (to_insert cmp apart sorted x n (inr h)))

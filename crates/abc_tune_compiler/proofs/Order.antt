@@ -13,7 +13,7 @@ use Rattle.abc_fields.specs.Fault.{number_of}
 use Rattle.abc_tune_compiler.proofs.Members.{TellsApart, contains_none, from_sorted, to_sorted}
 use Rattle.abc_tune_compiler.specs.Fault.{fault_cmp}
 use Rattle.abc_tune_compiler.specs.Laws.{NoFaultLost, FaultsRise}
-use Rattle.abc_tune_compiler.specs.Sorted.{sorted_onto}
+use Rattle.abc_tune_compiler.specs.Sort.{insert_all}
 use Rattle.abc_tune_compiler.specs.declared.fault.Fault.{Fault}
 
 module _ {A : Type 0} (cmp : A → A → Ordering) where
@@ -37,15 +37,14 @@ module _ {A : Type 0} (cmp : A → A → Ordering) where
   unfolding IsStrictlySortedBy
   insert_step total k x xs h rest Less e = ((e, all_more (λ y. cmp x y ≡ Less) (λ y. cmp k y ≡ Less) (λ y below. total.trans k x y e below) xs h.0), h)
   insert_step total k x xs h rest Equal e = h
-  insert_step total k x xs h rest Greater e =
-      (all_insert (λ y. cmp x y ≡ Less) k xs h.0 (total.antisymm x k ∙ ap ordering_reverse e), rest)
+  insert_step total k x xs h rest Greater e = (all_insert (λ y. cmp x y ≡ Less) k xs h.0 (total.antisymm x k ∙ ap ordering_reverse e), rest)
 
   insert_sorted : IsTotalOrder cmp → (k : A) (xs : List A) → IsStrictlySortedBy cmp xs → IsStrictlySortedBy cmp (insert_key cmp xs k)
   unfolding IsStrictlySortedBy
   insert_sorted total k [] h = (tt, tt)
   insert_sorted total k (x ∷ xs) h = insert_step total k x xs h (insert_sorted total k xs h.1) (cmp k x) refl
 
-  pub onto_sorted : IsTotalOrder cmp → (sorted xs : List A) → IsStrictlySortedBy cmp sorted → IsStrictlySortedBy cmp (sorted_onto cmp sorted xs)
+  pub onto_sorted : IsTotalOrder cmp → (sorted xs : List A) → IsStrictlySortedBy cmp sorted → IsStrictlySortedBy cmp (insert_all cmp sorted xs)
   onto_sorted total sorted [] h = h
   onto_sorted total sorted (x ∷ xs) h = onto_sorted total (insert_key cmp sorted x) xs (insert_sorted total x sorted h)
 

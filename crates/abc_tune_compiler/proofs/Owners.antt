@@ -3,7 +3,7 @@ use Rattle.std.proofs.Common.{◌≡◌, ℕ, ◌==◌, ◌&&◌, Bool, true, fa
 use Rattle.std.specs.BTreeMap.{insert_entry}
 use Rattle.std.specs.Ordering.{nat_cmp}
 use Rattle.std.proofs.lemmas.Bool.Decides.{nat_tests}
-use Rattle.abc_tune_compiler.specs.Files.{Files, file_at, owned, files_from, first_file}
+use Rattle.abc_tune_compiler.specs.Files.{Files, file_at, with_file_of, files_from, first_file}
 use Rattle.abc_tune_compiler.specs.Laws.{FirstOwner}
 use Rattle.abc_tune_compiler.specs.Tune.{Tune}
 
@@ -30,9 +30,9 @@ put_step files k bytes n rest (Some other) true e same =
     ap (λ file. either file rest) has ∙ ap (λ file. either file (Some bytes)) (sym has)
 put_step files k bytes n rest (Some other) false e same = refl
 
--- the file of a tune comes behind those that are there
+-- the file of a tune comes after those that are there
 offered : (files : Files) (k : ℕ) (bytes : Option (List ℕ)) (n : ℕ) (rest : Option (List ℕ)) (same : Bool) → (k == n) ≡ same
-    → either (file_at (owned files k bytes) n) rest ≡ either (file_at files n) (cond (same && is_some bytes) bytes rest)
+    → either (file_at (with_file_of files k bytes) n) rest ≡ either (file_at files n) (cond (same && is_some bytes) bytes rest)
 offered files k None n rest true same = refl
 offered files k None n rest false same = refl
 offered files k (Some bytes) n rest true same = put_step files k bytes n rest (file_at files k) true refl same
@@ -44,7 +44,7 @@ nothing_behind (Some bytes) = refl
 
 first_among : (files : Files) (tunes : List Tune) (n : ℕ) → file_at (files_from files tunes) n ≡ either (file_at files n) (first_file tunes n)
 first_among files [] n = nothing_behind (file_at files n)
-first_among files (tune ∷ tunes) n = first_among (owned files tune.number tune.bytes) tunes n ∙ offered files tune.number tune.bytes n (first_file tunes n) (tune.number == n) refl
+first_among files (tune ∷ tunes) n = first_among (with_file_of files tune.number tune.bytes) tunes n ∙ offered files tune.number tune.bytes n (first_file tunes n) (tune.number == n) refl
 
 pub first_owner : FirstOwner
 first_owner tunes n = first_among [] tunes n

@@ -13,7 +13,7 @@ use Rattle.abc_tune_compiler.specs.Fault.{fault_cmp}
 use Rattle.abc_tune_compiler.specs.Files.{Files, files_from}
 use Rattle.abc_tune_compiler.specs.Placed.{items_along, state_along}
 use Rattle.abc_tune_compiler.specs.Rules.{Rules}
-use Rattle.abc_tune_compiler.specs.Sorted.{sorted_once}
+use Rattle.abc_tune_compiler.specs.Sort.{sort_dedup}
 use Rattle.abc_tune_compiler.specs.Tune.{Tune, cells_in, faults_along, tune_of}
 
 -- Whether a block is a file header.
@@ -37,37 +37,42 @@ abbrev pub header_in : List Block → Option Block
 header_in [] = None
 header_in (block ∷ blocks) = if is_file_header block.kind then Some block else None
 
--- The tunes of a text in the order in which they stand.
+-- The tunes of a text in their order.
 abbrev pub tunes_in : List Block → List Block
 tunes_in blocks = filter (λ block. is_tune block.kind) blocks
 
--- What a text gives: the faults of its file header, and its tunes.
-pub record Given : Type 0 where
+-- What a compiler makes of a text: the faults of its file header, and its tunes.
+pub record CompiledText : Type 0 where
   pub faults : List Fault
   pub tunes : List Tune
 
-abbrev pub given_of : List Fault → List Tune → Given
-given_of faults tunes = record { faults = faults; tunes = tunes }
+abbrev pub compiled_text : List Fault → List Tune → CompiledText
+compiled_text faults tunes = record { faults = faults; tunes = tunes }
 
 -- The faults of a file header.
-abbrev pub header_faults : {State Cell Items Defaults : Type 0} → (State → Cell → State) → (State → Cell → Items) → Rules State Cell Items Defaults → Text → Option Block → List Fault
+abbrev pub header_faults : {State Cell Items Defaults : Type 0} → (State → Cell → State) → (State → Cell → Items)
+    → Rules State Cell Items Defaults → Text → Option Block → List Fault
 header_faults next gives rules text None = []
 header_faults next gives rules text (Some block) =
     faults_along rules.faults (items_along next gives rules.header (cells_in rules text block))
 
--- The state behind a file header.
-abbrev pub behind_header : {State Cell Items Defaults : Type 0} → (State → Cell → State) → Rules State Cell Items Defaults → Text → Option Block → Option State
-behind_header next rules text None = None
-behind_header next rules text (Some block) = Some (state_along next rules.header (cells_in rules text block))
+-- The state after a file header.
+abbrev pub state_after_header : {State Cell Items Defaults : Type 0} → (State → Cell → State) → Rules State Cell Items Defaults
+    → Text → Option Block → Option State
+state_after_header next rules text None = None
+state_after_header next rules text (Some block) = Some (state_along next rules.header (cells_in rules text block))
 
 -- The state in which each tune of a text begins.
-abbrev pub opening_of : {State Cell Items Defaults : Type 0} → (State → Cell → State) → Rules State Cell Items Defaults → Text → List Block → State
-opening_of next rules text blocks = rules.tune (behind_header next rules text (header_in blocks))
+abbrev pub opening_of : {State Cell Items Defaults : Type 0} → (State → Cell → State) → Rules State Cell Items Defaults → Text
+    → List Block → State
+opening_of next rules text blocks = rules.tune (state_after_header next rules text (header_in blocks))
 
--- What blocks of a text give.
-abbrev pub given_by : {State Cell Items Defaults : Type 0} → (State → Cell → State) → (State → Cell → Items) → Rules State Cell Items Defaults → Text → List Block → Given
-given_by next gives rules text blocks =
-    given_of (header_faults next gives rules text (header_in blocks)) (map (tune_of next gives rules (opening_of next rules text blocks) text) (tunes_in blocks))
+-- What a compiler makes of the blocks of a text.
+abbrev pub compiled_text_of : {State Cell Items Defaults : Type 0} → (State → Cell → State) → (State → Cell → Items)
+    → Rules State Cell Items Defaults → Text → List Block → CompiledText
+compiled_text_of next gives rules text blocks =
+    compiled_text (header_faults next gives rules text (header_in blocks))
+    (map (tune_of next gives rules (opening_of next rules text blocks) text) (tunes_in blocks))
 
 -- The files, the titles tune by tune, and the faults in order, each once.
 pub record Book : Type 0 where
@@ -83,14 +88,15 @@ empty_book = record { files = []; titles = []; faults = [] }
 abbrev pub title_of : Tune → Title
 title_of tune = record { number = tune.number; text = tune.title }
 
--- The book of what a text gives.
-abbrev pub book_from : Given → Book
-book_from given = record {
-  files = files_from [] given.tunes;
-  titles = map title_of given.tunes;
-  faults = sorted_once fault_cmp (given.faults ++ flat_map (λ tune. tune.faults) given.tunes);
+-- The book of a compiled text.
+abbrev pub book_from : CompiledText → Book
+book_from compiled = record {
+  files = files_from [] compiled.tunes;
+  titles = map title_of compiled.tunes;
+  faults = sort_dedup fault_cmp (compiled.faults ++ flat_map (λ tune. tune.faults) compiled.tunes);
 }
 
 -- The book of a text.
-unfoldable pub book_of : {State Cell Items Defaults : Type 0} → Steps State Cell Items → Rules State Cell Items Defaults → Text → Book
-book_of steps rules text = book_from (given_by steps.next steps.gives rules text (blocks_in rules text))
+unfoldable pub book_of : {State Cell Items Defaults : Type 0} → Steps State Cell Items → Rules State Cell Items Defaults → Text
+    → Book
+book_of steps rules text = book_from (compiled_text_of steps.next steps.gives rules text (blocks_in rules text))

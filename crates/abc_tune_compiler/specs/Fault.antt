@@ -5,4 +5,5 @@ use Rattle.abc_fields.specs.Fault.{number_of}
 use Rattle.abc_tune_compiler.specs.declared.fault.Fault.{Fault}
 
 abbrev pub fault_cmp : Fault → Fault → Ordering
-fault_cmp = then_cmp (on (λ fault. fault.line) nat_cmp) (then_cmp (on (λ fault. fault.column) nat_cmp) (on (λ fault. number_of fault.code) nat_cmp))
+fault_cmp = then_cmp (on (λ fault. fault.line) nat_cmp) (then_cmp (on (λ fault. fault.column) nat_cmp)
+    (on (λ fault. number_of fault.code) nat_cmp))

@@ -4,11 +4,12 @@ use Rattle.abc_fold.specs.Steps.{Steps, IsAlike}
 use Rattle.abc_scan.specs.declared.class.LineClass.TheVariants.{Blank, Comment}
 use Rattle.abc_tune_compiler.specs.Rules.{Rules}
 
--- States that are alike set the same for all tunes, tunes for which the same is set begin in states that are alike, a
--- tune without a file header begins as one behind a file header without cells, and blank lines and comments are the
--- lines without cells.
-pub record AreLawful {State Cell Items Defaults : Type 0} (steps : Steps State Cell Items) (rules : Rules State Cell Items Defaults) : Type 0 where
+-- States that are alike have equal defaults. Tunes with equal defaults begin in states that are alike. A tune without a
+-- file header begins as one after a file header without cells. The lines without cells are blank lines and comments.
+pub record AreLawful {State Cell Items Defaults : Type 0} (steps : Steps State Cell Items)
+    (rules : Rules State Cell Items Defaults) : Type 0 where
   pub equal_defaults : (a b : State) → IsAlike steps a b → rules.defaults a ≡ rules.defaults b
-  pub alike_openings : (a b : State) → rules.defaults a ≡ rules.defaults b → IsAlike steps (rules.tune (Some a)) (rules.tune (Some b))
+  pub alike_openings : (a b : State) → rules.defaults a ≡ rules.defaults b
+      → IsAlike steps (rules.tune (Some a)) (rules.tune (Some b))
   pub without_header : IsAlike steps (rules.tune None) (rules.tune (Some rules.header))
   pub without_cells : (line : List ℕ) → (rules.cells line ≡ []) ↔ ((rules.class line ≡ Blank) ⊎ (rules.class line ≡ Comment))

@@ -6,5 +6,5 @@ pub mod Laws
 pub mod Placed
 pub mod Report
 pub mod Rules
-pub mod Sorted
+pub mod Sort
 pub mod Tune

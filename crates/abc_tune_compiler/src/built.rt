@@ -1,4 +1,4 @@
-//! What a tune is built to.
+//! The file and the faults of a tune.
 
 ghost use Rattle.std.specs.Prelude.{◌≡◌, IfOk};
 
@@ -7,18 +7,18 @@ use abc_fold::Shared;
 use abc_text::Sequence;
 use std::alloc::AllocError;
 
-/// The file of a tune, and its faults as a whole. A copy shares them.
+/// The file of a tune, and the faults of the tune as a whole. Copies share both.
 #[derive(Drop)]
 pub struct Built {
-    /// The bytes of the MIDI file, if the tune has one; in ABC it has none exactly where it is too long.
+    /// The bytes of the MIDI file, if the tune has one. In ABC it has none exactly if it is too long.
     pub bytes: Option<Shared<Sequence<u8>>>,
-    /// The codes of its faults, in any order; in ABC in the order of their numbers, each once. They stand at the
+    /// The codes of the faults, in any order; in ABC in the order of their numbers, each once. Their place is the
     /// beginning of the tune's first line.
     pub faults: Shared<Sequence<FaultCode>>,
 }
 
 impl Built {
-    /// A copy, which shares the bytes and the faults.
+    /// Returns a copy, which shares the bytes and the faults.
     pub fn share(&self) -> Result<Built, AllocError>
         ensures { IfOk result (λ copy. copy ≡ self.now) }
     {

@@ -6,6 +6,6 @@ use abc_text::Sequence;
 #[derive(Debug, Drop)]
 pub struct Title {
     pub number: u32,
-    /// The title's bytes, empty where the tune has none.
+    /// The title's bytes, empty if the tune has none.
     pub text: Sequence<u8>,
 }

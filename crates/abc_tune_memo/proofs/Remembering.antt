@@ -14,7 +14,7 @@ use Rattle.abc_fold.specs.Steps.{Steps, IsResumable, items_from}
 use Rattle.abc_fold.proofs.Alike.{equal_items}
 use Rattle.abc_tune_compiler.specs.Rules.{Rules}
 use Rattle.abc_tune_memo.specs.declared.key.TuneKey.{TuneKey}
-use Rattle.abc_tune_memo.specs.Memo.{AreItemsOf, IsBuiltOf, IsKeptBehind, Remembers}
+use Rattle.abc_tune_memo.specs.Memo.{AreItemsOf, IsBuiltOf, IsEntryFirst, Remembers}
 use Rattle.abc_tune_memo.proofs.Tunes.{same_cells}
 
 -- Whether code finds two keys equal.
@@ -57,7 +57,7 @@ done_or_refused (Err e) done refused = inl refused
 pub kept_behind : {Defaults : Type 0} (test : Defaults → Defaults → Bool) (key : TuneKey Defaults) (known : Option Built) (built : Built) (old asked now : List (TuneKey Defaults × Built))
     → known ≡ lookup (is_same test key) old → ((one : Built) → known ≡ Some one → ⊥)
     → asked ≡ promoted (is_same test key) old → (now ≡ asked) ⊎ (now ≡ put_entries (is_same test) (lru_cache asked 64) key built)
-    → IsKeptBehind (is_same test) key built old now
+    → IsEntryFirst (is_same test) key built old now
 kept_behind test key known built old asked now found never is cases =
     let none = sym found ∙ not_some known never in
     ⊎_elim
@@ -65,7 +65,8 @@ kept_behind test key known built old asked now found never is cases =
     (λ put. inr (put ∙ ap (λ entries. put_entries (is_same test) (lru_cache entries 64) key built) (is ∙ not_promoted (is_same test key) old none)))
     cases
 
-module _ {State Cell Items Defaults : Type 0} (steps : Steps State Cell Items) (rules : Rules State Cell Items Defaults) (laws : IsResumable steps) (lawful : AreLawful steps rules) (test : Defaults → Defaults → Bool) (told : (a b : Defaults) → IsTrue (test a b) → a ≡ b) where
+module _ {State Cell Items Defaults : Type 0} (steps : Steps State Cell Items) (rules : Rules State Cell Items Defaults)
+    (laws : IsResumable steps) (lawful : AreLawful steps rules) (test : Defaults → Defaults → Bool) (told : (a b : Defaults) → IsTrue (test a b) → a ≡ b) where
   -- A key has one list of items.
   same_items : (key : TuneKey Defaults) (some other : List Items) → AreItemsOf steps rules key some → AreItemsOf steps rules key other → some ≡ other
   same_items key some other one two =

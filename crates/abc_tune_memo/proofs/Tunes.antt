@@ -9,7 +9,7 @@ use Rattle.abc_lines.specs.declared.limits.TheConstants.{LONGEST_LINE}
 use Rattle.abc_scan.specs.declared.class.LineClass.{LineClass}
 use Rattle.abc_scan.specs.declared.class.LineClass.TheVariants.{Blank, Comment, Field, Directive, Music}
 use Rattle.abc_text.specs.Byte.{line_feed}
-use Rattle.abc_text.specs.Cut.{Without, cut_at}
+use Rattle.abc_text.specs.Cut.{HasNoByte, cut_at}
 use Rattle.abc_text.proofs.Cuts.{cut_at-found}
 use Rattle.abc_tune_memo.specs.Bytes.{line_bytes, bytes_of_lines}
 
@@ -36,7 +36,7 @@ none_found byte (b ∷ bytes) none = (elim (b == byte) as (λ found. not (found 
   | false ↦ λ others. none_found byte bytes others
 ]) none
 
-unbroken : (line : List ℕ) → is_line line ≡ true → Without line_feed line
+unbroken : (line : List ℕ) → is_line line ≡ true → HasNoByte line_feed line
 unbroken line is =
     AllPass-from_list_all (λ b. not (b == line_feed)) line
     (none_found line_feed line (and_parts (nat_le (length line) LONGEST_LINE) (not (list_any (λ byte. byte == line_feed) line)) is).1)
@@ -49,7 +49,8 @@ same_lines (x ∷ xs) [] some other is = absurd (no_front x (joined xs) (sym is)
 same_lines (x ∷ xs) (y ∷ ys) some other is =
     let left = and_parts (is_line x) (list_all is_line xs) some in
     let right = and_parts (is_line y) (list_all is_line ys) other in
-    let cuts = some_pair (x, joined xs) (y, joined ys) (sym (cut_at-found line_feed x (joined xs) (unbroken x left.0)) ∙ ap (cut_at line_feed) is ∙ cut_at-found line_feed y (joined ys) (unbroken y right.0)) in
+    let cuts = some_pair (x, joined xs) (y, joined ys) (sym (cut_at-found line_feed x (joined xs) (unbroken x left.0))
+    ∙ ap (cut_at line_feed) is ∙ cut_at-found line_feed y (joined ys) (unbroken y right.0)) in
     let rest = same_lines xs ys left.1 right.1 (ap (λ p. p.1) cuts) in
     ap (λ line. line ∷ xs) (ap (λ p. p.0) cuts) ∙ ap (λ lines. y ∷ lines) rest
 

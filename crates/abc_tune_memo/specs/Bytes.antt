@@ -6,7 +6,7 @@ use Rattle.abc_scan.specs.declared.class.LineClass.{LineClass}
 use Rattle.abc_scan.specs.declared.class.LineClass.TheVariants.{Blank, Comment, Field, Directive, Music}
 use Rattle.abc_text.specs.Byte.{line_feed}
 
--- What a line of this class adds: itself and a line feed, and nothing where it is a comment.
+-- What a line of this class adds: itself and a line feed, and nothing if it is a comment.
 abbrev pub line_bytes : LineClass → List ℕ → List ℕ
 line_bytes Comment line = []
 line_bytes Blank line = line ++ line_feed ∷ []

@@ -1,9 +1,9 @@
-//! What a memo answers for a tune. This module cannot read the entries: it recalls, builds and remembers.
+//! The answer of a memo for a tune. This module cannot read the entries: it recalls, builds and remembers.
 
 ghost use Rattle.std.specs.Prelude.{◌≡◌, IfOk, OnErr};
 ghost use Rattle.std.specs.Map.{lookup};
 ghost use Rattle.lru.specs.LruCache.{promoted};
-ghost use Rattle.abc_tune_memo.specs.Memo.{Remembers, AreItemsOf, IsKeptBehind, counts_after};
+ghost use Rattle.abc_tune_memo.specs.Memo.{Remembers, AreItemsOf, IsEntryFirst, counts_after};
 
 use crate::key::TuneKey;
 use crate::memo::TuneMemo;
@@ -11,9 +11,9 @@ use abc_tune_compiler::{Built, Compiler};
 use std::alloc::AllocError;
 
 impl<C: Compiler> TuneMemo<C> {
-    /// What the compiler builds of items, which are those of the key: what is remembered, or built now and remembered
-    /// where there is memory for it. The key is then the one asked for last, and of the others nothing changes, but
-    /// that the one asked for longest ago goes where there would be 65.
+    /// Returns the remembered tune of a key, or builds it from its items and remembers it if no allocation fails. The key
+    /// is then the one asked for last. Other entries do not change, but the one asked for longest ago goes if there would
+    /// be 65.
     pub fn built(
         &mut self,
         compiler: &C,
@@ -26,11 +26,12 @@ impl<C: Compiler> TuneMemo<C> {
         ensures bytes { IfOk result (λ built. built.bytes ≡ (C.rules compiler.now).bytes items.now) }
         ensures faults { IfOk result (λ built. built.faults ≡ (C.rules compiler.now).build_faults items.now) }
         ensures remembers { Remembers (C.steps compiler.now) (C.rules compiler.now) self.new }
-        ensures kept { IfOk result (λ built. IsKeptBehind (⟦<TuneKey<C::Defaults> as PartialEq>⟧.eq) key built self.old self.new) }
-        ensures refused { OnErr result (self.new ≡ promoted (⟦<TuneKey<C::Defaults> as PartialEq>⟧.eq key) self.old) }
-        ensures counted { C.Work.counts work.new ≡ counts_after (lookup (⟦<TuneKey<C::Defaults> as PartialEq>⟧.eq key) self.old) (C.Work.counts work.old) }
+        ensures first { IfOk result (λ built. IsEntryFirst (⟦<TuneKey<C::Defaults> as PartialEq>⟧.eq) key built self.old self.new) }
+        ensures unchanged { OnErr result (self.new ≡ promoted (⟦<TuneKey<C::Defaults> as PartialEq>⟧.eq key) self.old) }
+        ensures counted { C.Work.counts work.new
+            ≡ counts_after (lookup (⟦<TuneKey<C::Defaults> as PartialEq>⟧.eq key) self.old) (C.Work.counts work.old) }
     {
-        if let Some(known) = self.recalled(&key)? {
+        if let Some(known) = self.recall(&key)? {
             return Ok(known);
         }
         let built = compiler.build(self.allocator(), items, work)?;

@@ -1,4 +1,4 @@
-//! What was built of the tunes that were asked for last.
+//! A memo of the tunes that were built last.
 #![tactic(auto)]
 
 mod answer;

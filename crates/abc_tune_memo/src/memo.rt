@@ -11,7 +11,7 @@ use std::alloc::{AllocError, Global};
 use std::marker::Model;
 use std::num::NonZeroUsize;
 
-/// What a compiler built of the tunes that were asked for last, 64 at most. Contracts see the keys and what was built,
+/// The tunes that a compiler built and that were asked for last, at most 64. Contracts see the keys and the built tunes,
 /// the one asked for last first.
 #[derive(Drop)]
 pub struct TuneMemo<C: Compiler> {
@@ -31,7 +31,7 @@ impl<C: Compiler> Model for TuneMemo<C> {
 }
 
 impl<C: Compiler> TuneMemo<C> {
-    /// Nothing remembered yet.
+    /// Returns an empty memo.
     pub fn new(alloc: Global) -> Result<TuneMemo<C>, AllocError>
         ensures { IfOk result (λ memo. memo ≡ []) }
     {
@@ -40,17 +40,15 @@ impl<C: Compiler> TuneMemo<C> {
         Ok(TuneMemo { entries })
     }
 
-    /// The allocator that the entries are from.
+    /// Returns the allocator of the entries.
     pub(crate) fn allocator(&self) -> Global {
         *self.entries.allocator()
     }
 
-    /// What is remembered under a key, which is from now on the one asked for last.
-    pub(crate) fn recalled(
-        &mut self,
-        key: &TuneKey<C::Defaults>,
-    ) -> Result<Option<Built>, AllocError>
-        ensures value { IfOk result (λ known. known ≡ lookup (⟦<TuneKey<C::Defaults> as PartialEq>⟧.eq key.now) self.old) }
+    /// Returns the tune that is remembered under a key, which becomes the one asked for last.
+    pub(crate) fn recall(&mut self, key: &TuneKey<C::Defaults>) -> Result<Option<Built>, AllocError>
+        ensures value { IfOk result (λ known. known
+            ≡ lookup (⟦<TuneKey<C::Defaults> as PartialEq>⟧.eq key.now) self.old) }
         ensures refused { OnErr result (is_some (lookup (⟦<TuneKey<C::Defaults> as PartialEq>⟧.eq key.now) self.old) ≡ true) }
         ensures entries { self.new ≡ promoted (⟦<TuneKey<C::Defaults> as PartialEq>⟧.eq key.now) self.old }
     {
@@ -62,8 +60,9 @@ impl<C: Compiler> TuneMemo<C> {
 
     /// Puts an entry first.
     fn put(&mut self, key: TuneKey<C::Defaults>, built: &Built) -> Result<(), AllocError>
-        ensures ok { OnOk result (self.new ≡ put_entries (⟦<TuneKey<C::Defaults> as PartialEq>⟧.eq) (lru_cache self.old 64) key built.now) }
-        ensures refused { OnErr result (self.new ≡ self.old) }
+        ensures ok { OnOk result (self.new
+            ≡ put_entries (⟦<TuneKey<C::Defaults> as PartialEq>⟧.eq) (lru_cache self.old 64) key built.now) }
+        ensures unchanged { OnErr result (self.new ≡ self.old) }
     {
         let shared = built.share()?;
         self.entries.put(key, shared)?;
@@ -71,9 +70,10 @@ impl<C: Compiler> TuneMemo<C> {
     }
 
     /// Remembers what was built, and returns no error: if an allocation fails, the next call for the key builds again.
-    /// Only this module reads the entries, so no other function can refuse a build for want of an entry.
+    /// Only this module reads the entries, so no other function can fail because an entry is missing.
     pub(crate) fn remember(&mut self, key: TuneKey<C::Defaults>, built: &Built)
-        ensures { (self.new ≡ self.old) ⊎ (self.new ≡ put_entries (⟦<TuneKey<C::Defaults> as PartialEq>⟧.eq) (lru_cache self.old 64) key built.now) }
+        ensures { (self.new ≡ self.old)
+            ⊎ (self.new ≡ put_entries (⟦<TuneKey<C::Defaults> as PartialEq>⟧.eq) (lru_cache self.old 64) key built.now) }
     {
         let _ = self.put(key, built);
     }

@@ -12,7 +12,7 @@ use Rattle.abc_voices_sections.specs.declared.stage.Stage.{Stage}
 use Rattle.abc_voices.specs.declared.turns.Turn.{Turn}
 use Rattle.abc_voices.specs.Turns.{IsStage, stages_in, length_along, for_voices, set_at, set_by_one}
 use Rattle.abc_voices.specs.Arrange.{last_off}
-use Rattle.abc_voices.specs.Change.{behind}
+use Rattle.abc_voices.specs.Change.{after_opening}
 
 -- what holds of each stage holds at its turn
 pub are_stages : (turns : List Turn) → All IsStage (stages_in turns) → All (λ turn. IsStage turn.stage.now) turns
@@ -63,8 +63,8 @@ voices_step one voice count seen own whole within is before =
     ∙ ap (λ l. seen ++ l) (sym (voices_more one voice count within))
     ∙ before
 
--- what is set behind what holds at the beginning
-pub behind_nothing : {V : Type 0} (opening : Option V) (sets : List (Grains × V)) → behind opening [] ++ sets ≡ behind opening sets
+-- what is set after what holds at the beginning
+pub behind_nothing : {V : Type 0} (opening : Option V) (sets : List (Grains × V)) → after_opening opening [] ++ sets ≡ after_opening opening sets
 behind_nothing None sets = refl
 behind_nothing (Some value) sets = refl
 

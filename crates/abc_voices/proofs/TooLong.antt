@@ -1,4 +1,4 @@
--- A tune is too long exactly where it passes a limit; one that passes none fits a file.
+-- A tune is too long exactly if it passes a limit; one that passes none fits a file.
 use Rattle.std.proofs.Common.{◌≡◌, ◌⊎◌, ◌<◌, ◌≤◌, ℕ, true, false, List, length, inl, inr, arith, ⊎_elim, ap, subst, ◌∙◌}
 use Rattle.std.specs.Prelude.{◌&&◌, ◌||◌, All, nat_le, nat_lt}
 use Rattle.std.specs.Bool.{Decides}

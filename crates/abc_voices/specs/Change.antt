@@ -36,6 +36,6 @@ set_from value_of at [] = []
 set_from value_of at (step ∷ steps) =
     cons_option (at_moment at (value_of step)) (set_from value_of (at + length_of step) steps)
 
--- What is set, behind what holds at the beginning, if something does.
-abbrev pub behind : {V : Type 0} → Option V → List (Grains × V) → List (Grains × V)
-behind opening sets = cons_option (at_moment 0 opening) sets
+-- What is set, after what holds at the beginning, if something does.
+abbrev pub after_opening : {V : Type 0} → Option V → List (Grains × V) → List (Grains × V)
+after_opening opening sets = cons_option (at_moment 0 opening) sets

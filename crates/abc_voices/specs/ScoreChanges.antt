@@ -24,15 +24,16 @@ meter_change (at, meter) = meter_at at meter
 abbrev pub key_change : Grains × (ℤ × Bool) → Change
 key_change (at, key) = record { at = at; what = kinds.Key key.0 key.1 }
 
--- The tempos, meters and keys that stand.
-abbrev pub changes_that_stand : List (Grains × ℕ) → List (Grains × Meter) → List (Grains × (ℤ × Bool)) → List Change
-changes_that_stand tempos meters keys =
-    map tempo_change (last_of_each_tick tempos) ++ filter_map meter_change (last_of_each_tick meters) ++ map key_change (last_of_each_tick keys)
+-- The tempos, meters and keys of the score.
+abbrev pub changes_in_force : List (Grains × ℕ) → List (Grains × Meter) → List (Grains × (ℤ × Bool)) → List Change
+changes_in_force tempos meters keys =
+    map tempo_change (last_of_each_tick tempos) ++ filter_map meter_change (last_of_each_tick meters)
+    ++ map key_change (last_of_each_tick keys)
 
 -- A program at a moment.
 abbrev pub program_change : Grains × ℕ → ProgramChange
 program_change (at, number) = record { at = at; number = number }
 
--- The programs that stand.
-abbrev pub programs_that_stand : List (Grains × ℕ) → List ProgramChange
-programs_that_stand programs = map program_change (last_of_each_tick programs)
+-- The programs of the score.
+abbrev pub programs_in_force : List (Grains × ℕ) → List ProgramChange
+programs_in_force programs = map program_change (last_of_each_tick programs)

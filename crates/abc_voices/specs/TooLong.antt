@@ -32,6 +32,6 @@ EachShortTuneFits =
     → length (title_of tune) ≤ LONGEST_TITLE
     → IsWithinLimits (score_of tune)
 
--- A tune is too long exactly where it passes a limit.
+-- A tune is too long exactly if it passes a limit.
 abbrev pub IsTooLongByALimit : Type 0
 IsTooLongByALimit = (tune : List Item) → (is_too_long tune ≡ true) ↔ PassesALimit tune

@@ -32,17 +32,17 @@ pub record IsSoundingWithin (end : Grains) (note : Sounding) : Type 0 where
   pub softest : 1 ≤ note.velocity
   pub loudest : note.velocity ≤ 127
 
--- So many notes at most. Not in ABC 2.1.
+-- A limited number of notes. Not in ABC 2.1.
 pub record IsVoiceWithin (end : Grains) (notes : List Sounding) : Type 0 where
   pub count : length notes ≤ MOST_NOTES
   pub each : All (IsSoundingWithin end) notes
 
--- A program that comes before the end, or at it. Our own; programs are 0 to 127 (SMF 1.0).
+-- A program that comes before the end, or at it. Not in ABC 2.1; programs are 0 to 127 (SMF 1.0).
 pub record IsProgramWithin (end : Grains) (change : ProgramChange) : Type 0 where
   pub before_end : change.at.0 ≤ end.0
   pub number : change.number ≤ 127
 
--- So many changes of program at most. Not in ABC 2.1.
+-- A limited number of changes of program. Not in ABC 2.1.
 pub record AreProgramsWithin (end : Grains) (changes : List ProgramChange) : Type 0 where
   pub count : length changes ≤ MOST_PROGRAMS
   pub each : All (IsProgramWithin end) changes

@@ -4,5 +4,5 @@
 mod limits;
 mod score;
 
-pub use limits::{LONGEST_TITLE, MOST_CHANGES, MOST_NOTES, MOST_PROGRAMS, score_limits};
+pub use limits::{LONGEST_TITLE, MOST_CHANGES, MOST_NOTES, MOST_PROGRAMS};
 pub use score::{Change, ChangeKind, ProgramChange, Score, Sounding};

@@ -1,13 +1,14 @@
-//! The score of a tune: what the file of a tune is written from.
+//! The score of a tune, from which its file is written.
+
 use abc_text::Sequence;
 use abc_time::Grains;
 
 /// A tune as notes and changes, at exact moments from its start.
 #[derive(Debug, PartialEq, Eq, Drop)]
 pub struct Score {
-    /// The title's bytes, empty where there is none.
+    /// The title's bytes, empty if there is none.
     pub title: Sequence<u8>,
-    /// When the tune, and with it each track, ends.
+    /// The end of the tune, and of each track.
     pub end: Grains,
     /// Tempos, meters and keys, in any order.
     pub conductor: Sequence<Change>,
@@ -48,12 +49,12 @@ pub struct ProgramChange {
 /// A note that sounds from one moment to another.
 #[derive(Clone, Copy, Debug, PartialEq, Eq)]
 pub struct Sounding {
-    /// When it begins, in grains from the start of the tune.
+    /// The moment at which it begins, in grains from the start of the tune.
     pub on: Grains,
-    /// When it is over, in grains from the start of the tune.
+    /// The moment at which it ends, in grains from the start of the tune.
     pub off: Grains,
     /// 0 to 127, 60 the middle C.
     pub key: u8,
-    /// How loud it sounds, 1 to 127: as its first tone does.
+    /// The velocity of its first tone, 1 to 127.
     pub velocity: u8,
 }

@@ -9,26 +9,26 @@ use Rattle.abc_repeat.specs.Runs.{items_at, items_played, marks_in}
 use Rattle.abc_repeat.proofs.Lying.{play_played}
 use Rattle.abc_voices_sections.specs.Play.{marks_of, places_of}
 use Rattle.abc_voices_sections.specs.Step.{mark_of}
-use Rattle.abc_voices_sections.specs.Stretches.{alone}
+use Rattle.abc_voices_sections.specs.Stretches.{single_run}
 
-one_at : (items : List Item) (place : ℕ) (rest : List Item) → cons_option (slice_get items place) rest ≡ items_at (map alone items) place ++ rest
+one_at : (items : List Item) (place : ℕ) (rest : List Item) → cons_option (slice_get items place) rest ≡ items_at (map single_run items) place ++ rest
 one_at [] place rest = refl
 one_at (item ∷ items) zero rest = refl
 one_at (item ∷ items) (suc place) rest = one_at items place rest
 
-all_at : (items : List Item) (places : List ℕ) → filter_map (slice_get items) places ≡ flat_map (items_at (map alone items)) places
+all_at : (items : List Item) (places : List ℕ) → filter_map (slice_get items) places ≡ flat_map (items_at (map single_run items)) places
 all_at items [] = refl
 all_at items (place ∷ places) =
     ap (cons_option (slice_get items place)) (all_at items places)
-    ∙ one_at items place (flat_map (items_at (map alone items)) places)
+    ∙ one_at items place (flat_map (items_at (map single_run items)) places)
 
-pub marks_alone : (items : List Item) → marks_in (map alone items) ≡ marks_of items
+pub marks_alone : (items : List Item) → marks_in (map single_run items) ≡ marks_of items
 marks_alone [] = refl
 marks_alone (item ∷ items) = ap (λ marks. mark_of item ∷ marks) (marks_alone items)
 
-pub one_by_one : (items : List Item) → items_played (map alone items) ≡ filter_map (slice_get items) (places_of items)
+pub one_by_one : (items : List Item) → items_played (map single_run items) ≡ filter_map (slice_get items) (places_of items)
 one_by_one items =
-    ap (λ marks. flat_map (items_at (map alone items)) (play_of marks)) (marks_alone items)
+    ap (λ marks. flat_map (items_at (map single_run items)) (play_of marks)) (marks_alone items)
     ∙ sym (all_at items (places_of items))
 
 found : (items : List Item) (place : ℕ) (rest : List Item) → place < length items → length (cons_option (slice_get items place) rest) ≡ suc (length rest)
@@ -44,6 +44,6 @@ all_found items (place ∷ places) h =
     found items place (filter_map (slice_get items) places) within
     ∙ ap suc (all_found items places (All-tail (IsPlayed (marks_of items)) place places h))
 
--- something stands at each place that is played
+-- something is at each place that is played
 pub as_many : (items : List Item) → length (filter_map (slice_get items) (places_of items)) ≡ length (places_of items)
 as_many items = all_found items (places_of items) (play_played (marks_of items))

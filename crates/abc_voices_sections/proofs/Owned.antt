@@ -3,10 +3,10 @@ use Rattle.std.proofs.Common.{◌≡◌, ℕ, Bool, true, false, List, [], ◌�
 use Rattle.std.specs.Prelude.{◌&&◌, if◌then◌else◌, bytes_eq}
 use Rattle.abc_bars_items.specs.declared.item.Item.{Item}
 use Rattle.abc_bars_items.specs.declared.item.Item.TheVariants as items
-use Rattle.abc_voices_sections.specs.Owned.{is_own_past, own_from}
-use Rattle.abc_voices_sections.specs.Section.{is_step, part_from, voice_past}
+use Rattle.abc_voices_sections.specs.OwnItems.{is_own_after, own_from}
+use Rattle.abc_voices_sections.specs.Section.{is_step, part_from, voice_after}
 
-own_is : (voice current : List ℕ) (item : Item) → is_own_past voice (bytes_eq current voice) item ≡ bytes_eq (voice_past current item) voice
+own_is : (voice current : List ℕ) (item : Item) → is_own_after voice (bytes_eq current voice) item ≡ bytes_eq (voice_after current item) voice
 own_is voice current (items.Number number) = refl
 own_is voice current (items.Tone tones length) = refl
 own_is voice current (items.Rest length bar) = refl
@@ -32,8 +32,8 @@ pub part_owned : (voice current : List ℕ) (steps : List Item)
     → own_from voice (bytes_eq current voice) steps ≡ part_from voice current steps
 part_owned voice current [] = refl
 part_owned voice current (step ∷ steps) =
-    let rest = own_from voice (is_own_past voice (bytes_eq current voice) step) steps in
-    let same : rest ≡ part_from voice (voice_past current step) steps =
-    ap (λ own. own_from voice own steps) (own_is voice current step) ∙ part_owned voice (voice_past current step) steps in
+    let rest = own_from voice (is_own_after voice (bytes_eq current voice) step) steps in
+    let same : rest ≡ part_from voice (voice_after current step) steps =
+    ap (λ own. own_from voice own steps) (own_is voice current step) ∙ part_owned voice (voice_after current step) steps in
     ap (λ b. if b then step ∷ rest else rest) (both (bytes_eq current voice) (is_step step))
     ∙ ap (λ l. if is_step step && bytes_eq current voice then step ∷ l else l) same

@@ -1,5 +1,6 @@
 -- The stretches of a part, one after another.
-use Rattle.std.proofs.Common.{◌≡◌, ℕ, zero, suc, ◌+◌, ◌-◌, ◌<◌, ◌≤◌, min, true, false, not, ◌&&◌, Bool, List, [], ◌∷◌, ◌++◌, length, take, drop, get_or, All, refl, sym, ap, subst, ◌∙◌, arith, append_assoc, append-nil, length-append}
+use Rattle.std.proofs.Common.{◌≡◌, ℕ, zero, suc, ◌+◌, ◌-◌, ◌<◌, ◌≤◌, min, true, false, not, ◌&&◌, Bool, List, [], ◌∷◌, ◌++◌, length, take, drop}
+use Rattle.std.proofs.Common.{get_or, All, refl, sym, ap, subst, ◌∙◌, arith, append_assoc, append-nil, length-append}
 use Rattle.std.specs.Borrow.{Bor}
 use Rattle.std.specs.List.{flat_map}
 use Rattle.std.proofs.lemmas.List.{map-append, take_more, take-append-drop, drop-drop, length-map}
@@ -11,7 +12,7 @@ use Rattle.abc_repeat.specs.Mark.{is_play}
 use Rattle.abc_repeat.specs.Runs.{Run, turn, items_at}
 use Rattle.abc_voices_sections.specs.declared.ending_fields.Region.{Region}
 use Rattle.abc_voices_sections.specs.declared.stretches.Stretch.{Stretch}
-use Rattle.abc_voices_sections.specs.EndingFields.{waits, region_past, nothing_waits}
+use Rattle.abc_voices_sections.specs.EndingFields.{waits, region_after, nothing_waits}
 use Rattle.abc_voices_sections.specs.Items.{items_of}
 use Rattle.abc_voices_sections.specs.Step.{mark_of}
 use Rattle.abc_voices_sections.specs.Stretches.{run_of, runs_of, items_in, AllTakeTurns, IsRun, together, single}
@@ -37,14 +38,14 @@ pub turn_run : (items : List Item) → 0 < length items → AllTakeTurns items �
 turn_run [] some turns = absurd (omega arith)
 turn_run (item ∷ items) some turns = together item items turns
 
--- what stands in front of a place, and from there on
+-- what is before a place, and from there on
 cut_at : (part : List (Bor Item)) (begin at : ℕ) → begin ≤ at → take (at - begin) (drop begin part) ++ drop at part ≡ drop begin part
 cut_at part begin at inside =
     let place : begin + (at - begin) ≡ at = omega arith in
     ap (λ l. take (at - begin) (drop begin part) ++ l) (sym (drop-drop (at - begin) begin part ∙ ap (λ k. drop k part) place))
     ∙ take-append-drop (at - begin) (drop begin part)
 
--- a mark ends what takes its turn in front of it
+-- a mark ends what takes its turn before it
 pub mark_more : (part : List (Bor Item)) (found middle next : List Stretch) (mark : Stretch) (begin at : ℕ) (x : Bor Item)
     → begin ≤ at → at < length part → x ≡ get_or part at x
     → items_in (runs_of found) ++ items_of (drop begin part) ≡ items_of part
@@ -72,8 +73,8 @@ mark_alone part at x within is =
     ap (λ k. items_of (take k (drop at part))) one ∙ ap (λ l. items_of (take 1 l)) (front part at x within is)
 
 pub lone_run : (mark : Mark) (items : List Item) (item : Item) → mark ≡ mark_of item → items ≡ item ∷ [] → IsRun (record { mark = mark; items = items })
-lone_run mark items item same alone =
-    subst (λ l. IsRun (record { mark = mark; items = l })) (sym alone)
+lone_run mark items item same single_run =
+    subst (λ l. IsRun (record { mark = mark; items = l })) (sym single_run)
     (subst (λ (one : Mark). IsRun (record { mark = one; items = item ∷ [] })) (sym same) (single item))
 
 -- something more takes its turn
@@ -90,7 +91,7 @@ no_turn part at =
     let none : at - at ≡ 0 = omega arith in
     subst (λ k. AllTakeTurns (items_of (take k (drop at part)))) (sym none) (All-nil (λ item. is_play (mark_of item) ≡ true))
 
--- what stands in the run at a place is what stands in the stretch there
+-- what is in the run at a place is what is in the stretch there
 found_at : (stretches : List Stretch) (place : ℕ) (s : Stretch) → place < length stretches → items_at (runs_of stretches) place ≡ items_of (get_or stretches place s).items.now
 found_at [] place s within = absurd (omega arith)
 found_at (stretch ∷ stretches) zero s within = refl
@@ -146,12 +147,12 @@ first_alike (step ∷ steps) x = refl
 waits_from : (stretches : List Stretch) (i : ℕ) (s : Stretch) (x : Bor Item) (region : Region) (own : Bool)
     → All IsRun (runs_of stretches) → i < length stretches → s ≡ get_or stretches i s → own ≡ waits region (get_or s.items.now 0 x).now
     → nothing_waits region (items_in (runs_of (drop i stretches)))
-    ≡ (not own && nothing_waits (region_past region s.mark) (items_in (runs_of (drop (i + 1) stretches))))
+    ≡ (not own && nothing_waits (region_after region s.mark) (items_in (runs_of (drop (i + 1) stretches))))
 waits_from stretches i s x region own all within is told =
     let rest = items_in (runs_of (drop (i + 1) stretches)) in
     ap (λ l. nothing_waits region (items_in (runs_of l))) (front stretches i s within is)
     ∙ run_goes region (run_of s) (get_or s.items.now 0 x).now rest (is_run_at stretches i s all within is) (first_alike s.items.now x)
-    ∙ ap (λ b. not b && nothing_waits (region_past region s.mark) rest) (sym told)
+    ∙ ap (λ b. not b && nothing_waits (region_after region s.mark) rest) (sym told)
 
 -- it does where the first of the stretch does
 pub waits_here : (stretches : List Stretch) (i : ℕ) (s : Stretch) (x : Bor Item) (region : Region) (own : Bool)
@@ -159,12 +160,12 @@ pub waits_here : (stretches : List Stretch) (i : ℕ) (s : Stretch) (x : Bor Ite
     → nothing_waits region (items_in (runs_of (drop i stretches))) ≡ false
 waits_here stretches i s x region own all within is told here =
     waits_from stretches i s x region own all within is told
-    ∙ ap (λ b. not b && nothing_waits (region_past region s.mark) (items_in (runs_of (drop (i + 1) stretches)))) here
+    ∙ ap (λ b. not b && nothing_waits (region_after region s.mark) (items_in (runs_of (drop (i + 1) stretches)))) here
 
 -- else the others tell
 pub waits_behind : (stretches : List Stretch) (i : ℕ) (s : Stretch) (x : Bor Item) (region : Region) (own : Bool)
     → All IsRun (runs_of stretches) → i < length stretches → s ≡ get_or stretches i s → own ≡ waits region (get_or s.items.now 0 x).now → own ≡ false
-    → nothing_waits region (items_in (runs_of (drop i stretches))) ≡ nothing_waits (region_past region s.mark) (items_in (runs_of (drop (i + 1) stretches)))
+    → nothing_waits region (items_in (runs_of (drop i stretches))) ≡ nothing_waits (region_after region s.mark) (items_in (runs_of (drop (i + 1) stretches)))
 waits_behind stretches i s x region own all within is told here =
     waits_from stretches i s x region own all within is told
-    ∙ ap (λ b. not b && nothing_waits (region_past region s.mark) (items_in (runs_of (drop (i + 1) stretches)))) here
+    ∙ ap (λ b. not b && nothing_waits (region_after region s.mark) (items_in (runs_of (drop (i + 1) stretches)))) here

@@ -13,49 +13,49 @@ use Rattle.abc_repeat.specs.Runs.{Run, turn, marks_in, items_at, items_played}
 use Rattle.abc_repeat.proofs.Lying.{play_played}
 use Rattle.abc_repeat.proofs.Whole.{joined}
 use Rattle.abc_voices_sections.specs.Step.{mark_of}
-use Rattle.abc_voices_sections.specs.Stretches.{items_in, alone, AllTakeTurns, IsRun, together, single, AreRuns}
+use Rattle.abc_voices_sections.specs.Stretches.{items_in, single_run, AllTakeTurns, IsRun, together, single, AreRuns}
 
 pub takes_turn : (mark : Mark) → is_play mark ≡ true → mark ≡ marks.Play
 takes_turn marks.Play h = refl
 takes_turn (marks.Bar closes opens double) h = cc
 takes_turn (marks.Ending numbers) h = cc
 
-turn_alone : (item : Item) → is_play (mark_of item) ≡ true → alone item ≡ turn (item ∷ [])
+turn_alone : (item : Item) → is_play (mark_of item) ≡ true → single_run item ≡ turn (item ∷ [])
 turn_alone item h = ap (λ (mark : Mark). record { mark = mark; items = item ∷ [] }) (takes_turn (mark_of item) h)
 
--- what stands behind one run more
+-- what is after one run more
 behind_one : (before behind : List (Run Item)) (run : Run Item) → (before ++ run ∷ []) ++ behind ≡ before ++ run ∷ behind
 behind_one before behind run = append_assoc before (run ∷ []) behind
 
 turn_whole : (before behind : List (Run Item)) (item : Item) (items : List Item) → AllTakeTurns (item ∷ items)
-    → items_played (before ++ (map alone (item ∷ items) ++ behind)) ≡ items_played (before ++ turn (item ∷ items) ∷ behind)
+    → items_played (before ++ (map single_run (item ∷ items) ++ behind)) ≡ items_played (before ++ turn (item ∷ items) ∷ behind)
 turn_whole before behind item [] h =
     ap (λ run. items_played (before ++ run ∷ behind)) (turn_alone item (All-head (λ one. is_play (mark_of one) ≡ true) item [] h))
 turn_whole before behind item (next ∷ items) h =
     let first = turn_alone item (All-head (λ one. is_play (mark_of one) ≡ true) item (next ∷ items) h) in
     let rest = All-tail (λ one. is_play (mark_of one) ≡ true) item (next ∷ items) h in
-    ap items_played (sym (behind_one before (map alone (next ∷ items) ++ behind) (alone item)))
-    ∙ turn_whole (before ++ alone item ∷ []) behind next items rest
-    ∙ ap items_played (behind_one before (turn (next ∷ items) ∷ behind) (alone item))
+    ap items_played (sym (behind_one before (map single_run (next ∷ items) ++ behind) (single_run item)))
+    ∙ turn_whole (before ++ single_run item ∷ []) behind next items rest
+    ∙ ap items_played (behind_one before (turn (next ∷ items) ∷ behind) (single_run item))
     ∙ ap (λ run. items_played (before ++ run ∷ turn (next ∷ items) ∷ behind)) first
     ∙ joined before behind (item ∷ []) (next ∷ items)
 
 run_whole : (before behind : List (Run Item)) (run : Run Item) → IsRun run
-    → items_played (before ++ (map alone run.items ++ behind)) ≡ items_played (before ++ run ∷ behind)
+    → items_played (before ++ (map single_run run.items ++ behind)) ≡ items_played (before ++ run ∷ behind)
 run_whole before behind _ (together item items turns) = turn_whole before behind item items turns
 run_whole before behind _ (single item) = refl
 
-runs_whole : (before runs : List (Run Item)) → All IsRun runs → items_played (before ++ map alone (items_in runs)) ≡ items_played (before ++ runs)
+runs_whole : (before runs : List (Run Item)) → All IsRun runs → items_played (before ++ map single_run (items_in runs)) ≡ items_played (before ++ runs)
 runs_whole before [] h = refl
 runs_whole before (run ∷ runs) h =
-    ap (λ l. items_played (before ++ l)) (map-append alone run.items (items_in runs))
-    ∙ run_whole before (map alone (items_in runs)) run (All-head IsRun run runs h)
-    ∙ ap items_played (sym (behind_one before (map alone (items_in runs)) run))
+    ap (λ l. items_played (before ++ l)) (map-append single_run run.items (items_in runs))
+    ∙ run_whole before (map single_run (items_in runs)) run (All-head IsRun run runs h)
+    ∙ ap items_played (sym (behind_one before (map single_run (items_in runs)) run))
     ∙ runs_whole (before ++ run ∷ []) runs (All-tail IsRun run runs h)
     ∙ ap items_played (behind_one before runs run)
 
-pub played_whole : (part : List Item) (runs : List (Run Item)) → AreRuns part runs → items_played runs ≡ items_played (map alone part)
-played_whole part runs are = sym (runs_whole [] runs are.each) ∙ ap (λ items. items_played (map alone items)) are.whole
+pub played_whole : (part : List Item) (runs : List (Run Item)) → AreRuns part runs → items_played runs ≡ items_played (map single_run part)
+played_whole part runs are = sym (runs_whole [] runs are.each) ∙ ap (λ items. items_played (map single_run items)) are.whole
 
 pub some_in : (run : Run Item) → IsRun run → 1 ≤ length run.items
 some_in _ (together item items turns) = omega arith
@@ -82,11 +82,11 @@ pub runs_within : (runs : List (Run Item)) → All IsRun runs → length (play_o
 runs_within runs all = places_within runs (play_of (marks_in runs)) all (play_played (marks_in runs))
 
 -- what all takes its turn is one run
-pub one_run : (part : List Item) → AllTakeTurns part → items_played (map alone part) ≡ part
+pub one_run : (part : List Item) → AllTakeTurns part → items_played (map single_run part) ≡ part
 unfolding play_of Rattle.abc_repeat.specs.Play.strain_play
 one_run [] h = refl
 one_run (item ∷ items) h =
-    ap items_played (sym (append-nil (map alone (item ∷ items))))
+    ap items_played (sym (append-nil (map single_run (item ∷ items))))
     ∙ turn_whole [] [] item items h
     ∙ append-nil (item ∷ items)
 

@@ -1,6 +1,6 @@
 pub mod EndingFields
 pub mod Items
-pub mod Owned
+pub mod OwnItems
 pub mod Play
 pub mod PlayedSection
 pub mod Section

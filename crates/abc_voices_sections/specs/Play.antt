@@ -11,13 +11,13 @@ use Rattle.abc_voices_sections.specs.Step.{mark_of, length_of}
 abbrev pub marks_of : List Item → List Mark
 marks_of steps = map mark_of steps
 
--- The places of what is played of steps that stand in the order of their play.
+-- The places of what is played of steps that are in the order of their play.
 abbrev pub places_of : List Item → List ℕ
 places_of steps = play_of (marks_of steps)
 
 -- What is played of a voice's steps in a section, in order of play.
-abbrev pub played : List Item → List Item
-played part = filter_map (slice_get (with_fields_in_endings part)) (places_of (with_fields_in_endings part))
+abbrev pub played_items : List Item → List Item
+played_items part = filter_map (slice_get (with_fields_in_endings part)) (places_of (with_fields_in_endings part))
 
 -- All steps but the bar lines that neither repeat nor are double.
 abbrev pub without_single_bars : List Item → List Item

@@ -2,12 +2,12 @@
 use Rattle.std.specs.Prelude.{ℕ, max, List, [], ◌∷◌, length}
 use Rattle.abc_bars_items.specs.declared.item.Item.{Item}
 use Rattle.abc_voices_sections.specs.EndingFields.{with_fields_in_endings}
-use Rattle.abc_voices_sections.specs.Play.{places_of, played, duration}
+use Rattle.abc_voices_sections.specs.Play.{places_of, played_items, duration}
 use Rattle.abc_voices_sections.specs.Section.{part}
 
 -- What a voice plays of a section.
 abbrev pub play_in : List ℕ × List Item → List ℕ → List Item
-play_in section voice = played (part voice section)
+play_in section voice = played_items (part voice section)
 
 -- How many places of a section a voice plays.
 abbrev pub size_in : List ℕ × List Item → List ℕ → ℕ

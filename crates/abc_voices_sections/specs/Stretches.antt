@@ -21,19 +21,19 @@ abbrev pub items_in : List (Run Item) → List Item
 items_in runs = flat_map (λ run. run.items) runs
 
 -- An item by itself.
-abbrev pub alone : Item → Run Item
-alone item = record { mark = mark_of item; items = item ∷ [] }
+abbrev pub single_run : Item → Run Item
+single_run item = record { mark = mark_of item; items = item ∷ [] }
 
--- Items that take their turn, as they stand.
+-- Items that are all played.
 abbrev pub AllTakeTurns : List Item → Type 0
 AllTakeTurns items = AllPass (λ item. is_play (mark_of item)) items
 
 -- A run of a part: something that takes its turn, or an item by itself.
 pub data IsRun : Run Item → Type 0 where
   together : (item : Item) (items : List Item) → AllTakeTurns (item ∷ items) → IsRun (turn (item ∷ items))
-  single : (item : Item) → IsRun (alone item)
+  single : (item : Item) → IsRun (single_run item)
 
--- The runs of a part, in which each item of it stands.
+-- The runs of a part, which have each of its items.
 pub record AreRuns (part : List Item) (runs : List (Run Item)) : Type 0 where
   pub whole : items_in runs ≡ part
   pub each : All IsRun runs

@@ -4,7 +4,8 @@ ghost use Rattle.std.specs.Prelude.{◌≡◌, ◌++◌, [], not, All, IfOk, OnO
 ghost use Rattle.abc_voices_sections.specs.Items.{items_of};
 ghost use Rattle.abc_voices_sections.specs.Stretches.{runs_of, items_in, IsRun};
 ghost use Rattle.abc_voices_sections.specs.declared.ending_fields.Region.TheVariants as regions;
-ghost use Rattle.abc_voices_sections.specs.EndingFields.{waits, past_bar, past, region_past, nothing_waits, set_down, with_fields_in_endings};
+ghost use Rattle.abc_voices_sections.specs.EndingFields.{waits, after_bar, after_mark, region_after, nothing_waits};
+ghost use Rattle.abc_voices_sections.specs.EndingFields.{put_with_waiting, with_fields_in_endings};
 
 use crate::step::{is_field, is_single_bar, mark_of};
 use crate::stretches::Stretch;
@@ -12,54 +13,54 @@ use abc_bars_items::Item;
 use abc_repeat::Mark;
 use std::alloc::{AllocError, Global};
 
-/// Where in its strain something stands.
+/// The region of a strain.
 #[derive(Clone, Copy)]
 pub enum Region {
-    /// In front of the first ending.
+    /// Before the first ending.
     Common,
     /// In an ending.
     Inside,
-    /// Behind a bar that ended an ending and opens nothing.
-    Behind,
+    /// After a bar that ended an ending and opens nothing.
+    AfterBar,
 }
 
 impl Region {
-    /// Whether an item there waits for the next ending's sign.
+    /// Whether an item in this region waits for the next ending's sign.
     fn waits(self, item: &Item) -> bool
         ensures { result ≡ waits self item.now }
     {
         match self {
-            Region::Behind => is_field(item) || is_single_bar(item),
+            Region::AfterBar => is_field(item) || is_single_bar(item),
             _ => false,
         }
     }
 
-    /// Where the rest stands behind a bar that ends an ending.
-    fn past_bar(bar: Mark) -> Region
-        ensures { result ≡ past_bar bar }
+    /// Returns the region after a bar that ends an ending.
+    fn after_bar(bar: Mark) -> Region
+        ensures { result ≡ after_bar bar }
     {
         if bar.opens_next() {
             Region::Common
         } else {
-            Region::Behind
+            Region::AfterBar
         }
     }
 
-    /// Where the rest stands behind a mark that waits for none.
-    fn past(self, mark: Mark) -> Region
-        ensures { result ≡ region_past self mark }
+    /// Returns the region after a mark that does not wait.
+    fn after_mark(self, mark: Mark) -> Region
+        ensures { result ≡ region_after self mark }
     {
         match self {
             _ if mark.is_ending() => Region::Inside,
-            Region::Inside if mark.closes_ending() => Region::past_bar(mark),
+            Region::Inside if mark.closes_ending() => Region::after_bar(mark),
             Region::Inside => Region::Inside,
             _ => Region::Common,
         }
     }
 }
 
-/// Whether something in the stretches of a part waits for an ending's sign. What does is the first of its stretch.
-pub(crate) fn waits(stretches: &[Stretch]) -> bool
+/// Whether an item in the stretches of a part waits for an ending's sign. Such an item is the first of its stretch.
+pub(crate) fn has_waiting_item(stretches: &[Stretch]) -> bool
     requires { All IsRun (runs_of stretches.now) }
     ensures { not result ≡ nothing_waits regions.Common (items_in (runs_of stretches.now)) }
 {
@@ -68,19 +69,19 @@ pub(crate) fn waits(stretches: &[Stretch]) -> bool
         if region.waits(stretch.items[0]) {
             return true;
         }
-        region = region.past(stretch.mark);
+        region = region.after_mark(stretch.mark);
     }
     false
 }
 
-/// Puts an item with those that have waited: an ending's sign before them, anything else behind.
-fn set_down<'a>(
+/// Appends an item and those that have waited: an ending's sign before them, anything else after.
+fn put_with_waiting<'a>(
     out: &mut Vec<&'a Item>,
     held: &mut Vec<&'a Item>,
     item: &'a Item,
 ) -> Result<(), AllocError>
     ensures put { OnOk result (items_of out.new.items
-        ≡ items_of out.old.items ++ set_down (items_of held.old.items) item.entry.now) }
+        ≡ items_of out.old.items ++ put_with_waiting (items_of held.old.items) item.entry.now) }
     ensures held { OnOk result (held.new.items ≡ []) }
 {
     if held.is_empty() {
@@ -98,7 +99,7 @@ fn set_down<'a>(
     Ok(())
 }
 
-/// The items of a voice in a section, fields behind an ending's bar moved behind the next ending's sign.
+/// Returns the items of a voice in a section, with fields after an ending's bar moved after the next ending's sign.
 pub(crate) fn with_fields_in_endings<'a>(
     alloc: Global,
     part: &[&'a Item],
@@ -112,8 +113,8 @@ pub(crate) fn with_fields_in_endings<'a>(
         if region.waits(item) {
             held.push(*item)?;
         } else {
-            set_down(&mut steps, &mut held, item)?;
-            region = region.past(mark_of(item));
+            put_with_waiting(&mut steps, &mut held, item)?;
+            region = region.after_mark(mark_of(item));
         }
     }
     steps.extend_from_slice(&held)?;

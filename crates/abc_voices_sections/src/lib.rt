@@ -1,4 +1,4 @@
-//! The sections of a tune, and what each voice plays of one: its strains, with the fields that endings take with them.
+//! The sections of a tune, and the items that each voice plays of one.
 #![tactic(auto)]
 
 mod ending_fields;

@@ -1,4 +1,4 @@
-//! What a voice plays of a section.
+//! The items that a voice plays of a section.
 
 ghost use Rattle.std.specs.Prelude.{◌≡◌, ◌<◌, ◌≤◌, ◌-◌, ◌^◌, min, length, true, All, IfOk, MatchOption};
 ghost use Rattle.std.specs.List.{list_all, flat_map};
@@ -9,11 +9,11 @@ ghost use Rattle.abc_repeat.specs.Runs.{items_at, items_played};
 ghost use Rattle.abc_time.specs.Grains.{grains_of_the_latest_end};
 ghost use Rattle.abc_voices_sections.specs.Items.{items_of};
 ghost use Rattle.abc_voices_sections.specs.EndingFields.{with_fields_in_endings};
-ghost use Rattle.abc_voices_sections.specs.Play.{places_of, played, duration};
+ghost use Rattle.abc_voices_sections.specs.Play.{places_of, played_items, duration};
 ghost use Rattle.abc_voices_sections.specs.Step.{mark_of};
 ghost use Rattle.abc_voices_sections.specs.Stretches.{runs_of, IsRun};
 
-use crate::ending_fields::{waits, with_fields_in_endings};
+use crate::ending_fields::{has_waiting_item, with_fields_in_endings};
 use crate::step::{is_played, length_of};
 use crate::stretches::{Stretch, marks_of, stretches};
 use abc_bars_items::Item;
@@ -21,7 +21,7 @@ use abc_repeat::{MOST_PLACES, RepeatFault, expand_within};
 use abc_time::{Grains, LATEST_END};
 use std::alloc::{AllocError, Global};
 
-/// How many items stand in the stretches at some places, and 2^64 - 1 for more.
+/// Returns the number of items in the stretches at some places, at most 2^64 - 1.
 fn size_at(stretches: &[Stretch], places: &[usize]) -> u64
     requires { All (λ place. place < length stretches.now) places.now }
     ensures { result ≡ min (length (flat_map (items_at (runs_of stretches.now)) places.now)) (2 ^ 64 - 1) }
@@ -33,8 +33,8 @@ fn size_at(stretches: &[Stretch], places: &[usize]) -> u64
     size
 }
 
-/// What stands in the stretches at some places, with room for so many items.
-fn chosen<'t>(
+/// Returns the items of the stretches at some places, with room for `size` items.
+fn items_at_places<'t>(
     alloc: Global,
     stretches: &[Stretch<'_, 't>],
     places: &[usize],
@@ -50,8 +50,8 @@ fn chosen<'t>(
     Ok(items)
 }
 
-/// What is played of the stretches of a part that stands as repeats and endings play it.
-fn expanded<'t>(
+/// Returns the items that are played of the stretches of a part, which is in the order of its endings.
+fn expand_stretches<'t>(
     alloc: Global,
     stretches: &[Stretch<'_, 't>],
     room: u64,
@@ -67,11 +67,11 @@ fn expanded<'t>(
     if size > room.min(MOST_PLACES) {
         return Err(RepeatFault::TooLong);
     }
-    let items = chosen(alloc, stretches, &places, size as usize)?;
+    let items = items_at_places(alloc, stretches, &places, size as usize)?;
     Ok(items)
 }
 
-/// Whether all items take their turn, as they stand.
+/// Whether all items are played, without marks among them.
 fn are_all_played(part: &[&Item]) -> bool
     ensures { result ≡ list_all (λ item. is_play (mark_of item)) (items_of part.now) }
 {
@@ -83,10 +83,10 @@ fn are_all_played(part: &[&Item]) -> bool
     true
 }
 
-/// What is played of items that all take their turn, as they stand.
-fn played_once<'t>(part: Vec<&'t Item>, room: u64) -> Result<Vec<&'t Item>, RepeatFault>
+/// Returns the items that are played of a part without marks: all, in their order.
+fn play_in_order<'t>(part: Vec<&'t Item>, room: u64) -> Result<Vec<&'t Item>, RepeatFault>
     requires { list_all (λ item. is_play (mark_of item)) (items_of part.items) ≡ true }
-    ensures value { IfOk result (λ items. items_of items.items ≡ played (items_of part.entry.items)) }
+    ensures value { IfOk result (λ items. items_of items.items ≡ played_items (items_of part.entry.items)) }
     ensures size { IfOk result (λ items. length items.items
         ≡ length (places_of (with_fields_in_endings (items_of part.entry.items)))) }
     ensures within { IfOk result (λ items. length items.items ≤ min room MOST_PLACES) }
@@ -99,35 +99,35 @@ fn played_once<'t>(part: Vec<&'t Item>, room: u64) -> Result<Vec<&'t Item>, Repe
     Ok(part)
 }
 
-/// What is played of the items of a voice in a section, in order of play, where there is room for so many
-/// places. Memory for more places than there are items is asked for only where there is room.
-pub(crate) fn played<'t>(
+/// Returns the items that are played of a voice in a section, in order of play, if there are at most `room`. It allocates
+/// memory for more places than there are items only if there is room.
+pub(crate) fn played_items<'t>(
     alloc: Global,
     part: Vec<&'t Item>,
     room: u64,
 ) -> Result<Vec<&'t Item>, RepeatFault>
-    ensures value { IfOk result (λ items. items_of items.items ≡ played (items_of part.entry.items)) }
+    ensures value { IfOk result (λ items. items_of items.items ≡ played_items (items_of part.entry.items)) }
     ensures size { IfOk result (λ items. length items.items
         ≡ length (places_of (with_fields_in_endings (items_of part.entry.items)))) }
     ensures within { IfOk result (λ items. length items.items ≤ min room MOST_PLACES) }
     ensures too_long { result ≡ Err TooLong
         → min room MOST_PLACES < length (places_of (with_fields_in_endings (items_of part.entry.items))) }
 {
-    // Much music is played as it stands, and then nothing has to be put in order or counted out.
+    // Much music has no marks: then nothing has to be ordered or counted.
     if are_all_played(&part) {
-        return played_once(part, room);
+        return play_in_order(part, room);
     }
     let found = stretches(alloc, &part)?;
-    // In most music nothing waits for an ending's sign, and then the items stay in the list that they came in.
-    if !waits(&found) {
-        return expanded(alloc, &found, room);
+    // In most music nothing waits for an ending's sign: then the items stay in their list.
+    if !has_waiting_item(&found) {
+        return expand_stretches(alloc, &found, room);
     }
     let steps = with_fields_in_endings(alloc, &part)?;
     let found = stretches(alloc, &steps)?;
-    expanded(alloc, &found, room)
+    expand_stretches(alloc, &found, room)
 }
 
-/// How long items take one after another, unless that is later than a tune may end.
+/// Returns the time of items one after another, unless that is later than a tune may end.
 #[tactic(auto, unfolding(abc_time::specs::Grains::grains_of_a_whole_note, abc_time::specs::Grains::grains_of_the_latest_end))]
 pub(crate) fn duration(steps: &[&Item]) -> Option<Grains>
     ensures { MatchOption result

@@ -1,13 +1,13 @@
-//! The sections of a tune, and what a voice has in each.
+//! The sections of a tune, and the items of a voice in each.
 
 ghost use Rattle.std.specs.Prelude.{◌≡◌, ◌&&◌, not, IfOk, map};
 ghost use Rattle.abc_repeat.specs.Mark.{is_single};
 ghost use Rattle.abc_voices_sections.specs.Items.{items_of};
-ghost use Rattle.abc_voices_sections.specs.Owned.{is_own_past};
+ghost use Rattle.abc_voices_sections.specs.OwnItems.{is_own_after};
 ghost use Rattle.abc_voices_sections.specs.Play.{without_single_bars};
 ghost use Rattle.abc_voices_sections.specs.Stage.{content};
 ghost use Rattle.abc_voices_sections.specs.Step.{mark_of};
-ghost use Rattle.abc_voices_sections.specs.Section.{is_step, is_section, letters, voice_past, opening_voice, sections, part_from};
+ghost use Rattle.abc_voices_sections.specs.Section.{is_step, is_section, letters, voice_after, opening_voice, sections, part_from};
 
 use crate::step::is_single_bar;
 use abc_bars_items::Item;
@@ -16,20 +16,20 @@ use std::alloc::{AllocError, Global};
 /// A section of a tune.
 #[derive(Clone, Copy)]
 pub struct Section<'s, 't> {
-    /// The current voice where it begins.
+    /// The current voice at its beginning.
     pub voice: &'t [u8],
-    /// What stands in it.
+    /// Its items.
     pub items: &'s [&'t Item],
 }
 
-/// Whether a section begins behind it.
+/// Whether a section begins after an item.
 fn is_section(item: &Item) -> bool
     ensures { result ≡ is_section item.now }
 {
     matches!(item, Item::Section(_))
 }
 
-/// Whether it is played, or a mark that says how.
+/// Whether an item is played, or a mark of a play.
 pub fn is_step(item: &Item) -> bool
     ensures { result ≡ is_step item.now }
 {
@@ -43,9 +43,9 @@ pub fn is_step(item: &Item) -> bool
     }
 }
 
-/// The current voice behind an item.
-fn voice_past<'a>(voice: &'a [u8], item: &'a Item) -> &'a [u8]
-    ensures { result.now ≡ voice_past voice.now item.now }
+/// Returns the current voice after an item.
+fn voice_after<'a>(voice: &'a [u8], item: &'a Item) -> &'a [u8]
+    ensures { result.now ≡ voice_after voice.now item.now }
 {
     match item {
         Item::Voice {
@@ -56,7 +56,7 @@ fn voice_past<'a>(voice: &'a [u8], item: &'a Item) -> &'a [u8]
     }
 }
 
-/// The current voice before the first V: of the body.
+/// Returns the current voice before the first V: of the body.
 pub fn opening_voice<'a>(tune: &[&'a Item]) -> &'a [u8]
     ensures { result.now ≡ opening_voice (items_of tune.now) }
 {
@@ -72,9 +72,9 @@ pub fn opening_voice<'a>(tune: &[&'a Item]) -> &'a [u8]
     &[]
 }
 
-/// Whether a voice is the current one behind an item, where it is known whether it is in front of it.
-fn is_own_past(voice: &[u8], is_own: bool, item: &Item) -> bool
-    ensures { result ≡ is_own_past voice.now is_own item.now }
+/// Whether a voice is the current one after an item; `is_own` says whether it is before it.
+fn is_own_after(voice: &[u8], is_own: bool, item: &Item) -> bool
+    ensures { result ≡ is_own_after voice.now is_own item.now }
 {
     match item {
         Item::Voice {
@@ -85,15 +85,15 @@ fn is_own_past(voice: &[u8], is_own: bool, item: &Item) -> bool
     }
 }
 
-/// Whether it is played, or a mark that changes how: a bar line that neither repeats nor is double does not.
+/// Whether an item is played, or a mark that changes the play: a bar line that neither repeats nor is double does not.
 fn is_turn_or_sign(item: &Item) -> bool
     ensures { result ≡ (is_step item.now && not (is_single (mark_of item.now))) }
 {
     is_step(item) && !is_single_bar(item)
 }
 
-/// The items of a voice, of those from a place on where a voice is the current one, but for the bar lines that change
-/// nothing. Names may be long, so they are compared where the current voice changes, and not at each item.
+/// Returns the items of a voice from a place on, at which `opening` is the current voice, without the bar lines that change
+/// nothing. Names may be long, so they are compared only when the current voice changes.
 #[tactic(auto, using(crate::proofs::Owned::part_owned))]
 pub(crate) fn part<'a>(
     alloc: Global,
@@ -110,13 +110,12 @@ pub(crate) fn part<'a>(
         if is_own && is_turn_or_sign(item) {
             part.push(*item)?;
         }
-        is_own = is_own_past(voice, is_own, item);
+        is_own = is_own_after(voice, is_own, item);
     }
     Ok(part)
 }
 
-/// The sections of a tune, the opening one first, where this voice is the current one before the first V: of the
-/// body.
+/// Returns the sections of a tune, the opening one first; `first` is the current voice before the first V: of the body.
 pub fn sections<'s, 't>(
     alloc: Global,
     tune: &'s [&'t Item],
@@ -139,7 +138,7 @@ pub fn sections<'s, 't>(
             begin = at + 1;
             opening = voice;
         } else {
-            voice = voice_past(voice, item);
+            voice = voice_after(voice, item);
         }
     }
     found.push(Section {
@@ -149,7 +148,7 @@ pub fn sections<'s, 't>(
     Ok(found)
 }
 
-/// The letters of the sections behind the opening one.
+/// Returns the letters of the sections after the opening one.
 pub fn letters(alloc: Global, tune: &[&Item]) -> Result<Vec<u8>, AllocError>
     ensures { IfOk result (λ found. found.items ≡ letters (items_of tune.now)) }
 {

@@ -1,4 +1,4 @@
-//! What the voices of a tune play of a section.
+//! The parts of the voices of a tune in a section.
 
 ghost use Rattle.std.specs.Prelude.{◌≡◌, ◌<◌, ◌≤◌, ◌^◌, length, map, sum_by, IfOk};
 ghost use Rattle.abc_repeat.specs.declared.play.TheConstants.{MOST_PLACES};
@@ -6,7 +6,7 @@ ghost use Rattle.abc_time.specs.Grains.{grains_of_the_latest_end};
 ghost use Rattle.abc_voices_sections.specs.PlayedSection.{size_in, length_in, longest};
 ghost use Rattle.abc_voices_sections.specs.Stage.{content, part_of, stage_of, part_size, stage_size};
 
-use crate::play::{duration, played};
+use crate::play::{duration, played_items};
 use crate::section::{Section, part};
 use abc_bars_items::Item;
 use abc_repeat::RepeatFault;
@@ -16,12 +16,12 @@ use std::alloc::{AllocError, Global};
 use std::marker::Model;
 use thiserror::Error;
 
-/// What a voice plays of a section. Contracts see the items.
+/// The items that a voice plays of a section. Contracts see the items.
 #[derive(Drop)]
 pub struct Part<'t> {
-    /// What is played, in order of play.
+    /// The played items, in order of play.
     pub steps: Sequence<&'t Item>,
-    /// How long that takes.
+    /// Their time.
     pub length: Grains,
 }
 
@@ -33,16 +33,16 @@ impl<'t> Model for Part<'t> {
     ghost view = { λ part. record { steps = items_of part.steps; length = part.length } };
 }
 
-/// What the voices of a tune play of a section, beside one another.
+/// The parts of all voices of a tune in a section.
 #[derive(Drop)]
 pub struct Stage<'t> {
     /// The part of each voice, in the order of the voices.
     pub parts: Sequence<Part<'t>>,
-    /// How long the section is: as long as the longest of its parts.
+    /// The length of the section: that of the longest part.
     pub longest: Grains,
 }
 
-/// Why the stages of a tune are not given.
+/// The reason why a tune has no stages.
 #[derive(Clone, Copy, Debug, PartialEq, Eq, Error)]
 pub enum StageFault {
     /// More places are played than there is room for.
@@ -80,7 +80,7 @@ impl From<RepeatFault> for StageFault {
 }
 
 impl<'t> Part<'t> {
-    /// What a voice plays of a section, where there is room for so many places.
+    /// Returns the part of a voice in a section, if it has at most `room` places.
     #[tactic(auto, using(crate::proofs::Singles::played_without_bars, crate::proofs::Singles::size_without_bars))]
     pub fn of(
         alloc: Global,
@@ -100,7 +100,7 @@ impl<'t> Part<'t> {
             → grains_of_the_latest_end < length_in (content section.now) voice.now }
     {
         let items = part(alloc, voice, section.voice, section.items)?;
-        let steps = played(alloc, items, room)?;
+        let steps = played_items(alloc, items, room)?;
         match duration(&steps) {
             Some(length) => Ok(Part {
                 steps: Sequence::from(steps),
@@ -110,7 +110,7 @@ impl<'t> Part<'t> {
         }
     }
 
-    /// How many places are played.
+    /// Returns the number of places that are played.
     pub fn size(&self) -> u64
         ensures { result ≡ part_size self.now }
     {
@@ -119,7 +119,7 @@ impl<'t> Part<'t> {
 }
 
 impl<'t> Stage<'t> {
-    /// What the voices play of a section, where there is room for so many places.
+    /// Returns the parts of the voices in a section, if they have at most `room` places.
     pub fn of(
         alloc: Global,
         section: &Section<'_, 't>,
@@ -150,7 +150,7 @@ impl<'t> Stage<'t> {
         Ok(Stage { parts, longest })
     }
 
-    /// How many places the voices play together.
+    /// Returns the number of places that the voices play together.
     pub fn size(&self) -> u64
         requires { stage_size self.now < 2 ^ 64 }
         ensures { result ≡ stage_size self.now }

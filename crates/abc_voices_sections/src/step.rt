@@ -1,4 +1,4 @@
-//! What an item is to the play of its voice.
+//! The role of an item in the play of its voice.
 
 ghost use Rattle.std.specs.Prelude.{◌≡◌};
 ghost use Rattle.abc_repeat.specs.Mark.{is_play, is_single};
@@ -8,7 +8,7 @@ use abc_bars_items::Item;
 use abc_repeat::Mark;
 use abc_time::Grains;
 
-/// Whether it is a field or a directive that is played with the notes.
+/// Whether an item is a field or a directive that is played with the notes.
 pub fn is_field(item: &Item) -> bool
     ensures { result ≡ is_field item.now }
 {
@@ -18,7 +18,7 @@ pub fn is_field(item: &Item) -> bool
     )
 }
 
-/// What it is among the marks of its section.
+/// Returns the mark of an item in its section.
 pub(crate) fn mark_of(item: &Item) -> Mark
     ensures { result ≡ mark_of item.now }
 {
@@ -33,14 +33,14 @@ pub(crate) fn mark_of(item: &Item) -> Mark
     }
 }
 
-/// Whether it takes its turn in the play.
+/// Whether an item is played.
 pub(crate) fn is_played(item: &Item) -> bool
     ensures { result ≡ is_play (mark_of item.now) }
 {
     !matches!(item, Item::Bar(_) | Item::Ending(_))
 }
 
-/// Whether it is a bar line that neither repeats nor is double.
+/// Whether an item is a bar line that neither repeats nor is double.
 pub(crate) fn is_single_bar(item: &Item) -> bool
     ensures { result ≡ is_single (mark_of item.now) }
 {
@@ -50,7 +50,7 @@ pub(crate) fn is_single_bar(item: &Item) -> bool
     }
 }
 
-/// How long it takes.
+/// Returns the time of an item.
 pub fn length_of(item: &Item) -> Grains
     ensures { result.0 ≡ length_of item.now }
 {

@@ -1,4 +1,4 @@
-//! The stretches of a part: music is long runs of notes between few marks, and each is played whole.
+//! The stretches of a part: long runs of notes between few marks, each played as a whole.
 
 ghost use Rattle.std.specs.Prelude.{◌≡◌, ◌++◌, All, IfOk, OnOk};
 ghost use Rattle.abc_repeat.specs.Runs.{marks_in};
@@ -10,16 +10,16 @@ use abc_bars_items::Item;
 use abc_repeat::Mark;
 use std::alloc::{AllocError, Global};
 
-/// What takes its turn up to the next mark, or a mark by itself.
+/// Played items up to the next mark, or a mark by itself.
 #[derive(Clone, Copy)]
 pub(crate) struct Stretch<'p, 't> {
-    /// `Mark::Play` for what takes its turn.
+    /// `Mark::Play` for played items.
     pub mark: Mark,
-    /// What stands in it: something, always.
+    /// Its items, at least one.
     pub items: &'p [&'t Item],
 }
 
-/// Puts what takes its turn as one stretch, where there is something.
+/// Appends played items as one stretch, if there are any.
 fn put_turn<'p, 't>(
     found: &mut Vec<Stretch<'p, 't>>,
     items: &'p [&'t Item],
@@ -38,7 +38,7 @@ fn put_turn<'p, 't>(
     Ok(())
 }
 
-/// The stretches of a part.
+/// Returns the stretches of a part.
 pub(crate) fn stretches<'p, 't>(
     alloc: Global,
     part: &'p [&'t Item],
@@ -61,7 +61,7 @@ pub(crate) fn stretches<'p, 't>(
     Ok(found)
 }
 
-/// The marks of stretches.
+/// Returns the marks of stretches.
 pub(crate) fn marks_of(alloc: Global, stretches: &[Stretch]) -> Result<Vec<Mark>, AllocError>
     ensures { IfOk result (λ marks. marks.items ≡ marks_in (runs_of stretches.now)) }
 {

@@ -144,7 +144,8 @@ ordered_parts = items.Order (66 ∷ 65 ∷ 66 ∷ []) ∷ part_a ∷ note 60 ∷
 
 -- `|:A|1B:|[Q:]|2F||`, where a tempo is between two endings, and `|:A|1B::[Q:]|2F||`, where it is in a strain of its own.
 abbrev pub tempo_between_endings : List Item
-tempo_between_endings = opening ∷ note 69 ∷ single ∷ first ∷ note 71 ∷ closing ∷ tempo 1000000 ∷ single ∷ second ∷ note 66 ∷ double ∷ []
+tempo_between_endings = opening ∷ note 69 ∷ single ∷ first ∷ note 71 ∷ closing ∷ tempo 1000000 ∷ single ∷ second ∷ note 66 ∷ double
+    ∷ []
 
 abbrev pub tempo_in_a_strain : List Item
 tempo_in_a_strain = opening ∷ note 69 ∷ single ∷ first ∷ note 71 ∷ between ∷ tempo 1000000 ∷ single ∷ second ∷ note 66 ∷ double ∷ []

@@ -8,7 +8,8 @@ use Rattle.abc_scan.specs.Class.{class_of}
 use Rattle.live_examples.specs.declared.toy.Played.{Played}
 use Rattle.live_examples.specs.Toy.{cells_of, toy_rules, toy_steps}
 
-pub asked : (byte : ℕ) (line bytes : List ℕ) (items : List Played) → is_line line ≡ true → bytes ≡ line_bytes (class_of line) line → items ≡ items_from toy_steps byte (cells_of line) → AreItemsOf toy_steps toy_rules (record { defaults = byte; bytes = bytes }) items
+pub asked : (byte : ℕ) (line bytes : List ℕ) (items : List Played) → is_line line ≡ true → bytes ≡ line_bytes (class_of line) line
+    → items ≡ items_from toy_steps byte (cells_of line) → AreItemsOf toy_steps toy_rules (record { defaults = byte; bytes = bytes }) items
 asked byte line bytes items limits own given = record {
   header = byte;
   lines = line ∷ [];

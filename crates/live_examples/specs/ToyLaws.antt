@@ -31,5 +31,5 @@ toy_lawful = record {
   without_cells = toy_without_cells;
 }
 
-pub toy_told_apart : (a b : ℕ) → IsTrue (a == b) → a ≡ b
-toy_told_apart a b same = eqb-true a b same
+pub toy_eq_is_sound : (a b : ℕ) → IsTrue (a == b) → a ≡ b
+toy_eq_is_sound a b same = eqb-true a b same

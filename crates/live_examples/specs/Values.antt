@@ -16,4 +16,5 @@ faulty_blocks = codes "D:5" ∷ codes "!" ∷ [] ∷ codes "X:2" ∷ codes "!" �
 -- faults in no order, of which one stands twice
 abbrev pub faults_in_no_order : List Fault
 faults_in_no_order =
-    fault_in 2 (1, BadByte) ∷ fault_in 1 (9, BadByte) ∷ fault_in 1 (2, BadByte) ∷ fault_in 1 (2, BadReference) ∷ fault_in 2 (1, BadByte) ∷ []
+    fault_in 2 (1, BadByte) ∷ fault_in 1 (9, BadByte) ∷ fault_in 1 (2, BadByte) ∷ fault_in 1 (2, BadReference)
+    ∷ fault_in 2 (1, BadByte) ∷ []

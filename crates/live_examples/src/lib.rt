@@ -5,7 +5,7 @@
 #![tactic(auto)]
 
 pub mod definitions;
-pub mod held;
-pub mod marked;
+pub mod held_jobs;
+pub mod marked_toy;
 pub mod memo;
 pub mod toy;

@@ -2,8 +2,8 @@
 
 ghost use Rattle.std.specs.Prelude.{◌<◌};
 
-use crate::lent;
-use crate::told::{call, done};
+use crate::report::{call, done};
+use crate::retry;
 use smf_bytes::{Event, EventBytes, order_events, put_number};
 use std::alloc::{AllocError, Global};
 use std::rt::Runtime;
@@ -16,7 +16,7 @@ pub const FILE_OF_C: &[u8] =
 pub fn quantity(rt: &impl Runtime, alloc: Global) -> Result<bool, AllocError> {
     let mut bytes = Vec::new(alloc);
     call(rt, "put_number");
-    lent!(
+    retry!(
         rt,
         put_number(&mut bytes, 240),
         bytes.is_empty(),
@@ -55,7 +55,7 @@ fn events(alloc: Global) -> Result<Vec<Event>, AllocError> {
     Ok(events)
 }
 
-/// Whether each event stands at the tick of its place.
+/// Whether each event is at the tick of its place.
 fn are_in_order(events: &[Event]) -> bool {
     for (place, event) in events.iter().enumerate() {
         if event.tick as usize != place {

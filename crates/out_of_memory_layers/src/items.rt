@@ -1,9 +1,9 @@
 //! Items and faults that are put together, the tones of a chord, and texts of items.
 
-use crate::lent;
-use crate::told::{call, done};
+use crate::report::{call, done};
+use crate::retry;
 use abc_bars_header::VoiceName;
-use abc_bars_items::{Item, ItemText, Items, ItemsBuilder, LentTones, LocalFault, Tone, Tones};
+use abc_bars_items::{Item, ItemText, Items, ItemsBuilder, LocalFault, Tone, Tones, TonesView};
 use abc_fields::FaultCode;
 use abc_text::ShortSequence;
 use std::alloc::{AllocError, Global};
@@ -27,11 +27,11 @@ pub fn roomy_items(rt: &impl Runtime, alloc: Global) -> Result<bool, AllocError>
     Ok(counts(&items) == (0, 0))
 }
 
-/// An item behind none.
+/// An item after none.
 pub fn item(rt: &impl Runtime, alloc: Global) -> Result<bool, AllocError> {
     let mut items = ItemsBuilder::with_room(alloc, 0)?;
     call(rt, "ItemsBuilder::push_item");
-    lent!(
+    retry!(
         rt,
         items.push_item(PART),
         counts(&items) == (0, 0),
@@ -39,11 +39,11 @@ pub fn item(rt: &impl Runtime, alloc: Global) -> Result<bool, AllocError> {
     )
 }
 
-/// A fault behind none.
+/// A fault after none.
 pub fn fault(rt: &impl Runtime, alloc: Global) -> Result<bool, AllocError> {
     let mut items = ItemsBuilder::with_room(alloc, 0)?;
     call(rt, "ItemsBuilder::push_fault");
-    lent!(
+    retry!(
         rt,
         items.push_fault(FAULT),
         counts(&items) == (0, 0),
@@ -51,11 +51,11 @@ pub fn fault(rt: &impl Runtime, alloc: Global) -> Result<bool, AllocError> {
     )
 }
 
-/// Two faults behind none.
+/// Two faults after none.
 pub fn faults(rt: &impl Runtime, alloc: Global) -> Result<bool, AllocError> {
     let mut items = ItemsBuilder::with_room(alloc, 0)?;
     call(rt, "ItemsBuilder::push_faults");
-    lent!(
+    retry!(
         rt,
         items.push_faults(&[FAULT, FAULT]),
         counts(&items) == (0, 0),
@@ -64,7 +64,7 @@ pub fn faults(rt: &impl Runtime, alloc: Global) -> Result<bool, AllocError> {
 }
 
 /// An item and a fault.
-fn both(alloc: Global) -> Result<ItemsBuilder, AllocError> {
+fn item_and_fault(alloc: Global) -> Result<ItemsBuilder, AllocError> {
     let mut items = ItemsBuilder::with_room(alloc, 1)?;
     items.push_item(PART)?;
     items.push_fault(FAULT)?;
@@ -73,7 +73,7 @@ fn both(alloc: Global) -> Result<ItemsBuilder, AllocError> {
 
 /// Both, put together.
 pub fn shared_items(rt: &impl Runtime, alloc: Global) -> Result<bool, AllocError> {
-    let given = both(alloc)?;
+    let given = item_and_fault(alloc)?;
     call(rt, "Items::new");
     let items = Items::new(alloc, given)?;
     done(rt);
@@ -90,9 +90,9 @@ fn two_tones(alloc: Global) -> Result<ShortSequence<Tone>, AllocError> {
 
 /// How many tones there are.
 fn tone_count(tones: &Tones) -> usize {
-    match tones.lent() {
-        LentTones::One(_) => 1,
-        LentTones::List(tones) => tones.len(),
+    match tones.view() {
+        TonesView::One(_) => 1,
+        TonesView::List(tones) => tones.len(),
     }
 }
 

@@ -1,8 +1,8 @@
-//! Public calls of lists and of the layers from a line to the bytes of a file that take memory, each by itself, with what it
-//! is lent and what it has to give: `scripts/refused_calls` refuses each of their requests in turn, and the call is then made
-//! again, from nothing or, where it may change what it is lent, on that. `CALLS` has all of them, each of which is a function
-//! of its own, and a test of `tests` makes them; those of whole tunes, chains and sessions stand in
-//! `out_of_memory_session`. What asks for no memory stands in `docs/promises.md`.
+//! Public calls of lists and of the layers from a line to the bytes of a file that allocate, each by itself.
+//! `scripts/refused_calls` refuses each of their allocations in turn, and the call is then made again: from nothing or, if it
+//! may change what it borrows, on that. `CALLS` lists all of them; each is a function of its own, and a test of `tests` makes
+//! them. Calls of whole tunes, chains and sessions are in `out_of_memory_session`; calls that do not allocate are listed in
+//! `docs/promises.md`.
 #![tactic(auto)]
 
 mod calls;
@@ -12,13 +12,13 @@ mod lists;
 mod music;
 mod notes;
 mod plays;
+pub mod report;
 mod texts;
-pub mod told;
-mod tried;
+mod trial;
 mod voices;
 
 pub use calls::{CALLS, Call};
 pub use files::FILE_OF_C;
 pub use lists::lines_of;
 pub use music::cell;
-pub use tried::{Tried, is_right};
+pub use trial::{Trial, is_right};

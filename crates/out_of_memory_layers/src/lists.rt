@@ -1,11 +1,11 @@
 //! Lists, shared values, and lines.
 
-use crate::lent;
-use crate::told::{call, done, silent};
+use crate::report::{call, done, silent};
+use crate::retry;
 use abc_fold::Shared;
 use abc_lines::{EditError, GapList, LineBuffer};
 use abc_text::{Sequence, ShortSequence};
-use abc_tune_compiler::sorted_once;
+use abc_tune_compiler::sort_dedup;
 use std::alloc::{AllocError, Global};
 use std::rt::Runtime;
 
@@ -21,7 +21,7 @@ pub fn sequence(rt: &impl Runtime, alloc: Global) -> Result<bool, AllocError> {
 pub fn longer_sequence(rt: &impl Runtime, alloc: Global) -> Result<bool, AllocError> {
     let mut sequence = Sequence::from_slice(alloc, b"abc")?;
     call(rt, "Sequence::push");
-    lent!(
+    retry!(
         rt,
         sequence.push(b'd'),
         sequence.as_slice() == b"abc".as_slice(),
@@ -30,7 +30,7 @@ pub fn longer_sequence(rt: &impl Runtime, alloc: Global) -> Result<bool, AllocEr
 }
 
 /// The same bytes again.
-pub fn copied_sequence(rt: &impl Runtime, alloc: Global) -> Result<bool, AllocError> {
+pub fn copy_sequence(rt: &impl Runtime, alloc: Global) -> Result<bool, AllocError> {
     let sequence = Sequence::from_slice(alloc, b"abc")?;
     call(rt, "Sequence::clone");
     let copy = sequence.clone()?;
@@ -43,7 +43,7 @@ pub fn longer_short_sequence(rt: &impl Runtime, alloc: Global) -> Result<bool, A
     let mut sequence = ShortSequence::new(alloc);
     sequence.push(b'a')?;
     call(rt, "ShortSequence::push");
-    lent!(
+    retry!(
         rt,
         sequence.push(b'b'),
         sequence.as_slice() == b"a".as_slice(),
@@ -52,7 +52,7 @@ pub fn longer_short_sequence(rt: &impl Runtime, alloc: Global) -> Result<bool, A
 }
 
 /// Two elements again.
-pub fn copied_short_sequence(rt: &impl Runtime, alloc: Global) -> Result<bool, AllocError> {
+pub fn copy_short_sequence(rt: &impl Runtime, alloc: Global) -> Result<bool, AllocError> {
     let mut sequence = ShortSequence::new(alloc);
     sequence.push(b'a')?;
     sequence.push(b'b')?;
@@ -151,8 +151,8 @@ pub fn dropped_lines(rt: &impl Runtime, alloc: Global) -> Result<bool, AllocErro
 
 /// Numbers in order, each once.
 pub fn sorted_numbers(rt: &impl Runtime, alloc: Global) -> Result<bool, AllocError> {
-    call(rt, "sorted_once");
-    let sorted = sorted_once(alloc, &[3_u8, 1, 3, 2])?;
+    call(rt, "sort_dedup");
+    let sorted = sort_dedup(alloc, &[3_u8, 1, 3, 2])?;
     done(rt);
     Ok(sorted.as_slice() == [1, 2, 3].as_slice())
 }

@@ -1,6 +1,6 @@
 //! Steps of the fold over the cells of a tune.
 
-use crate::told::{call, done};
+use crate::report::{call, done};
 use abc_bars::BarFold;
 use abc_bars_body::Entry;
 use abc_bars_items::Items;
@@ -15,7 +15,7 @@ pub fn cell(alloc: Global, line: &[u8], work: &mut Work) -> Result<Cell, AllocEr
     Cell::new(alloc, tokens)
 }
 
-/// What a line gives, and what holds behind it.
+/// What a line gives, and the state after it.
 fn step(
     alloc: Global,
     entry: &Entry,
@@ -26,8 +26,8 @@ fn step(
     BarFold.step(alloc, entry, &cell, work)
 }
 
-/// What holds behind lines of a tune.
-pub fn entry_behind(alloc: Global, lines: &[&[u8]], work: &mut Work) -> Result<Entry, AllocError> {
+/// The state after lines of a tune.
+pub fn entry_after(alloc: Global, lines: &[&[u8]], work: &mut Work) -> Result<Entry, AllocError> {
     let mut entry = Entry::tune(alloc, None);
     for line in lines {
         (entry, _) = step(alloc, &entry, line, work)?;
@@ -35,7 +35,7 @@ pub fn entry_behind(alloc: Global, lines: &[&[u8]], work: &mut Work) -> Result<E
     Ok(entry)
 }
 
-/// What holds in a body with two voices, where accidentals reach their octaves.
+/// The state in a body with two voices, where accidentals reach their octaves.
 fn body(alloc: Global, work: &mut Work) -> Result<Entry, AllocError> {
     let lines: [&[u8]; 6] = [
         b"X:1",
@@ -45,11 +45,16 @@ fn body(alloc: Global, work: &mut Work) -> Result<Entry, AllocError> {
         b"V:2",
         b"^D",
     ];
-    entry_behind(alloc, &lines, work)
+    entry_after(alloc, &lines, work)
 }
 
 /// What a cell gives there.
-fn given(alloc: Global, entry: &Entry, cell: &Cell, work: &mut Work) -> Result<Items, AllocError> {
+fn step_items(
+    alloc: Global,
+    entry: &Entry,
+    cell: &Cell,
+    work: &mut Work,
+) -> Result<Items, AllocError> {
     let (_, items) = BarFold.step(alloc, entry, cell, work)?;
     Ok(items)
 }
@@ -61,7 +66,7 @@ pub fn bar_of_music<R: Runtime>(rt: &R, alloc: Global) -> Result<bool, AllocErro
     let entry = body(alloc, &mut work)?;
     let cell = cell(alloc, b"z0^C-[Cc-e17z]2(3def A>>B !f!Z\"", &mut work)?;
     call(rt, "BarFold::step, all sorts of music");
-    let items = given(alloc, &entry, &cell, &mut work)?;
+    let items = step_items(alloc, &entry, &cell, &mut work)?;
     done(rt);
     Ok(items.items().len() == 9 && items.faults().len() == 4)
 }
@@ -72,7 +77,7 @@ pub fn third_voice<R: Runtime>(rt: &R, alloc: Global) -> Result<bool, AllocError
     let entry = body(alloc, &mut work)?;
     let cell = cell(alloc, b"V:3", &mut work)?;
     call(rt, "BarFold::step, another voice");
-    let items = given(alloc, &entry, &cell, &mut work)?;
+    let items = step_items(alloc, &entry, &cell, &mut work)?;
     done(rt);
     Ok(items.items().len() == 1 && items.faults().is_empty())
 }

@@ -1,12 +1,12 @@
-//! Notes, chords and rests that are played, and what holds for the voice that plays them.
+//! Notes, chords and rests that are played, and the state of the voice that plays them.
 
 use crate::items::counts;
-use crate::lent;
-use crate::told::{call, done};
+use crate::report::{call, done};
+use crate::retry;
 use abc_bars_items::ItemsBuilder;
-use abc_bars_notes::{Behind, BrokenFactors, NotePlace, chord_played, note_played, rest_played};
+use abc_bars_notes::{BrokenFactors, NotePlace, Preceding, play_chord, play_note, play_rest};
 use abc_bars_voice::{
-    Accidentals, Settings, TiedNote, TuneMeter, UnitLength, VoiceShift, tuplet_opened,
+    Accidentals, TiedNote, TuneMeter, UnitLength, VoiceShift, VoiceState, begin_tuplet,
 };
 use abc_fields::NATURAL;
 use abc_scan::{
@@ -33,7 +33,7 @@ const NEXT: i32 = 1;
 
 const HIGH: i32 = 100;
 
-/// Where notes and chords are played: a tie stands behind them.
+/// Where notes and chords are played: a tie is after them.
 const PLACE: NotePlace = NotePlace {
     from: 0,
     tied: true,
@@ -55,7 +55,7 @@ fn in_octave(accidentals: &Accidentals, octave: i32) -> Option<i8> {
 fn set(rt: &impl Runtime, alloc: Global, name: &str, octave: i32) -> Result<bool, AllocError> {
     let mut accidentals = accidentals(alloc)?;
     call(rt, name);
-    lent!(
+    retry!(
         rt,
         accidentals.set(sharp(octave), 1),
         in_octave(&accidentals, octave).is_none() && in_octave(&accidentals, WRITTEN) == Some(1),
@@ -74,23 +74,23 @@ pub fn high_octave(rt: &impl Runtime, alloc: Global) -> Result<bool, AllocError>
 }
 
 /// Two notes that are tied.
-fn tied(alloc: Global) -> Result<ShortSequence<TiedNote>, AllocError> {
+fn tied_notes(alloc: Global) -> Result<ShortSequence<TiedNote>, AllocError> {
     let mut tied = ShortSequence::new(alloc);
     tied.push(TiedNote::default())?;
     tied.push(TiedNote::default())?;
     Ok(tied)
 }
 
-/// What holds for a voice behind a written accidental and two tied notes, in a tuplet that takes one note more.
-fn settings(alloc: Global) -> Result<Settings, AllocError> {
+/// The state of a voice after a written accidental and two tied notes, in a tuplet that takes one note more.
+fn voice_state(alloc: Global) -> Result<VoiceState, AllocError> {
     let meter = TuneMeter::free();
     let mark = Tuplet {
         p: 2,
         q: None,
         r: Some(1),
     };
-    let (tuplet, _) = tuplet_opened(meter, None, mark);
-    Ok(Settings {
+    let (tuplet, _) = begin_tuplet(meter, None, mark);
+    Ok(VoiceState {
         meter,
         unit: UnitLength::by(meter),
         signature: NATURAL,
@@ -101,48 +101,48 @@ fn settings(alloc: Global) -> Result<Settings, AllocError> {
         },
         accidentals: accidentals(alloc)?,
         tuplet,
-        tied: tied(alloc)?,
+        tied: tied_notes(alloc)?,
         dynamic: None,
     })
 }
 
-/// Whether that is what holds.
-fn is_before(settings: &Settings) -> bool {
-    settings.tuplet.is_some()
-        && settings.tied.as_slice().len() == 2
-        && in_octave(&settings.accidentals, WRITTEN) == Some(1)
-        && in_octave(&settings.accidentals, HIGH).is_none()
+/// Whether that is the state.
+fn is_before(state: &VoiceState) -> bool {
+    state.tuplet.is_some()
+        && state.tied.as_slice().len() == 2
+        && in_octave(&state.accidentals, WRITTEN) == Some(1)
+        && in_octave(&state.accidentals, HIGH).is_none()
 }
 
 /// Whether the tuplet is over, so many notes are tied, and the high octave has this accidental.
-fn is_behind(settings: &Settings, tied: usize, high: Option<i8>) -> bool {
-    settings.tuplet.is_none()
-        && settings.tied.as_slice().len() == tied
-        && in_octave(&settings.accidentals, WRITTEN) == Some(1)
-        && in_octave(&settings.accidentals, HIGH) == high
+fn is_after(state: &VoiceState, tied: usize, high: Option<i8>) -> bool {
+    state.tuplet.is_none()
+        && state.tied.as_slice().len() == tied
+        && in_octave(&state.accidentals, WRITTEN) == Some(1)
+        && in_octave(&state.accidentals, HIGH) == high
 }
 
 /// That, once more.
-pub fn copied_settings(rt: &impl Runtime, alloc: Global) -> Result<bool, AllocError> {
-    let settings = settings(alloc)?;
-    call(rt, "Settings::clone");
-    let copy = settings.clone()?;
+pub fn copy_voice_state(rt: &impl Runtime, alloc: Global) -> Result<bool, AllocError> {
+    let state = voice_state(alloc)?;
+    call(rt, "VoiceState::clone");
+    let copy = state.clone()?;
     done(rt);
     Ok(is_before(&copy))
 }
 
 /// The high note: its length and its key are faults.
 pub fn note(rt: &impl Runtime, alloc: Global) -> Result<bool, AllocError> {
-    let mut settings = settings(alloc)?;
+    let mut state = voice_state(alloc)?;
     let mut items = ItemsBuilder::with_room(alloc, 0)?;
-    let broken = BrokenFactors::of(Behind::Nothing, &[]);
+    let broken = BrokenFactors::of(Preceding::Nothing, &[]);
     let note = sharp(HIGH);
-    call(rt, "note_played");
-    lent!(
+    call(rt, "play_note");
+    retry!(
         rt,
-        note_played(alloc, &mut settings, &mut items, note, &broken, PLACE),
-        is_before(&settings) && counts(&items) == (0, 0),
-        is_behind(&settings, 1, Some(1)) && counts(&items) == (1, 2)
+        play_note(alloc, &mut state, &mut items, note, &broken, PLACE),
+        is_before(&state) && counts(&items) == (0, 0),
+        is_after(&state, 1, Some(1)) && counts(&items) == (1, 2)
     )
 }
 
@@ -162,52 +162,52 @@ pub fn chord_of(alloc: Global, kinds: &[ChordPartKind]) -> Result<Chord, AllocEr
     })
 }
 
-/// Two notes behind a loose tie: the tie, the length of each and the key of the second are faults.
+/// Two notes after a loose tie: the tie, the length of each and the key of the second are faults.
 pub fn chord(rt: &impl Runtime, alloc: Global) -> Result<bool, AllocError> {
-    let mut settings = settings(alloc)?;
+    let mut state = voice_state(alloc)?;
     let mut items = ItemsBuilder::with_room(alloc, 0)?;
-    let broken = BrokenFactors::of(Behind::Nothing, &[]);
+    let broken = BrokenFactors::of(Preceding::Nothing, &[]);
     let kinds = [
         ChordPartKind::Tie,
         ChordPartKind::Note(sharp(NEXT)),
         ChordPartKind::Note(sharp(HIGH)),
     ];
     let chord = chord_of(alloc, &kinds)?;
-    call(rt, "chord_played");
-    lent!(
+    call(rt, "play_chord");
+    retry!(
         rt,
-        chord_played(alloc, &mut settings, &mut items, &chord, &broken, PLACE),
-        is_before(&settings) && counts(&items) == (0, 0),
-        is_behind(&settings, 2, Some(1)) && counts(&items) == (1, 4)
+        play_chord(alloc, &mut state, &mut items, &chord, &broken, PLACE),
+        is_before(&state) && counts(&items) == (0, 0),
+        is_after(&state, 2, Some(1)) && counts(&items) == (1, 4)
     )
 }
 
 /// A loose tie and no note: both are faults, and it takes no time.
 pub fn silent_chord(rt: &impl Runtime, alloc: Global) -> Result<bool, AllocError> {
-    let mut settings = settings(alloc)?;
+    let mut state = voice_state(alloc)?;
     let mut items = ItemsBuilder::with_room(alloc, 0)?;
-    let broken = BrokenFactors::of(Behind::Nothing, &[]);
+    let broken = BrokenFactors::of(Preceding::Nothing, &[]);
     let chord = chord_of(alloc, &[ChordPartKind::Tie])?;
-    call(rt, "chord_played, no notes");
-    lent!(
+    call(rt, "play_chord, no notes");
+    retry!(
         rt,
-        chord_played(alloc, &mut settings, &mut items, &chord, &broken, PLACE),
-        is_before(&settings) && counts(&items) == (0, 0),
-        is_before(&settings) && counts(&items) == (0, 2)
+        play_chord(alloc, &mut state, &mut items, &chord, &broken, PLACE),
+        is_before(&state) && counts(&items) == (0, 0),
+        is_before(&state) && counts(&items) == (0, 2)
     )
 }
 
 /// A rest, whose length is a fault.
 pub fn rest(rt: &impl Runtime, alloc: Global) -> Result<bool, AllocError> {
-    let mut settings = settings(alloc)?;
+    let mut state = voice_state(alloc)?;
     let mut items = ItemsBuilder::with_room(alloc, 0)?;
-    let broken = BrokenFactors::of(Behind::Nothing, &[]);
+    let broken = BrokenFactors::of(Preceding::Nothing, &[]);
     let written = WrittenLength::Refused;
-    call(rt, "rest_played");
-    lent!(
+    call(rt, "play_rest");
+    retry!(
         rt,
-        rest_played(alloc, &mut settings, &mut items, written, &broken, 0),
-        is_before(&settings) && counts(&items) == (0, 0),
-        is_behind(&settings, 0, None) && counts(&items) == (1, 1)
+        play_rest(alloc, &mut state, &mut items, written, &broken, 0),
+        is_before(&state) && counts(&items) == (0, 0),
+        is_after(&state, 0, None) && counts(&items) == (1, 1)
     )
 }

@@ -1,6 +1,6 @@
 //! The play of a section, and the order of the sections.
 
-use crate::told::{call, done};
+use crate::report::{call, done};
 use abc_repeat::{Mark, OrderFault, RepeatFault, expand, expand_within, play_order};
 use std::alloc::{AllocError, Global};
 use std::rt::Runtime;
@@ -39,7 +39,7 @@ pub fn short_play(rt: &impl Runtime, alloc: Global) -> Result<bool, AllocError> 
     Ok(is_right)
 }
 
-/// The sections in the order in which they stand; none where they are too many.
+/// The sections in the order of the text; none if they are too many.
 fn sections(alloc: Global, letters: &[u8]) -> Result<Vec<usize>, AllocError> {
     match play_order(alloc, None, letters) {
         Ok(played) => Ok(played.sections),
@@ -48,7 +48,7 @@ fn sections(alloc: Global, letters: &[u8]) -> Result<Vec<usize>, AllocError> {
     }
 }
 
-/// Three sections behind the first.
+/// Three sections after the first.
 pub fn order(rt: &impl Runtime, alloc: Global) -> Result<bool, AllocError> {
     call(rt, "play_order");
     let order = sections(alloc, b"ABC")?;

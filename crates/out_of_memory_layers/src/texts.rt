@@ -1,7 +1,7 @@
 //! Lines that are cut into tokens and cells, copies of what tokens hold, and the blocks of a text.
 
 use crate::notes::chord_of;
-use crate::told::{call, done};
+use crate::report::{call, done};
 use abc_book::{blocks, stretch_blocks};
 use abc_fold::Work;
 use abc_scan::{ChordPartKind, Field, LineClass, Token, cells, cells_of_line, class_of, scan};
@@ -43,7 +43,7 @@ pub fn line_into_cells<R: Runtime>(rt: &R, alloc: Global) -> Result<bool, AllocE
 }
 
 /// A chord again.
-pub fn copied_chord(rt: &impl Runtime, alloc: Global) -> Result<bool, AllocError> {
+pub fn copy_chord(rt: &impl Runtime, alloc: Global) -> Result<bool, AllocError> {
     let chord = chord_of(alloc, &[ChordPartKind::Tie])?;
     call(rt, "Chord::clone");
     let copy = chord.clone()?;
@@ -52,7 +52,7 @@ pub fn copied_chord(rt: &impl Runtime, alloc: Global) -> Result<bool, AllocError
 }
 
 /// A title again.
-pub fn copied_field(rt: &impl Runtime, alloc: Global) -> Result<bool, AllocError> {
+pub fn copy_field(rt: &impl Runtime, alloc: Global) -> Result<bool, AllocError> {
     let field = Field {
         letter: b'T',
         value: Sequence::from_slice(alloc, b"A")?,
@@ -85,7 +85,7 @@ pub fn blocks_of_text(rt: &impl Runtime, alloc: Global) -> Result<bool, AllocErr
     Ok(blocks.len() == 3)
 }
 
-/// Their blocks where five lines stand before them.
+/// Their blocks where five lines are before them.
 pub fn blocks_of_stretch(rt: &impl Runtime, alloc: Global) -> Result<bool, AllocError> {
     let classes = classes();
     call(rt, "stretch_blocks");

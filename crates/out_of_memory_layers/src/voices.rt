@@ -1,8 +1,8 @@
-//! The voices of a tune, and what holds in its header and its body.
+//! The voices of a tune, and the state in its header and its body.
 
-use crate::lent;
-use crate::music::entry_behind;
-use crate::told::{call, done};
+use crate::music::entry_after;
+use crate::report::{call, done};
+use crate::retry;
 use abc_bars::BarFold;
 use abc_bars_body::Entry;
 use abc_bars_header::{VoiceName, Voices};
@@ -10,7 +10,7 @@ use abc_fold::{Fold, Shared, Work};
 use std::alloc::{AllocError, Global};
 use std::rt::Runtime;
 
-/// Puts a voice behind others, unless one has its name.
+/// Puts a voice after others, unless one has its name.
 fn put(alloc: Global, voices: &mut Voices<u8>, name: &[u8], known: u8) -> Result<(), AllocError> {
     let name = VoiceName::new(alloc, name)?;
     if voices.place_of(&name).is_none() {
@@ -19,7 +19,7 @@ fn put(alloc: Global, voices: &mut Voices<u8>, name: &[u8], known: u8) -> Result
     Ok(())
 }
 
-/// A second voice behind a copy of the first, in which no room is left.
+/// A second voice after a copy of the first, in which no room is left.
 pub fn second_voice(rt: &impl Runtime, alloc: Global) -> Result<bool, AllocError> {
     let mut first: Voices<u8> = Voices::new(alloc);
     put(alloc, &mut first, b"1", 7)?;
@@ -29,7 +29,7 @@ pub fn second_voice(rt: &impl Runtime, alloc: Global) -> Result<bool, AllocError
         return Ok(false);
     }
     call(rt, "Voices::push");
-    lent!(
+    retry!(
         rt,
         voices.push(name.clone()?, 8),
         voices.len() == 1 && voices.place_of(&name).is_none(),
@@ -38,7 +38,7 @@ pub fn second_voice(rt: &impl Runtime, alloc: Global) -> Result<bool, AllocError
 }
 
 /// Two voices again.
-pub fn copied_voices(rt: &impl Runtime, alloc: Global) -> Result<bool, AllocError> {
+pub fn copy_voices(rt: &impl Runtime, alloc: Global) -> Result<bool, AllocError> {
     let mut voices: Voices<u8> = Voices::new(alloc);
     put(alloc, &mut voices, b"1", 7)?;
     put(alloc, &mut voices, b"2", 8)?;
@@ -48,10 +48,10 @@ pub fn copied_voices(rt: &impl Runtime, alloc: Global) -> Result<bool, AllocErro
     Ok(copy.len() == 2 && copy.get(1).copied() == Some(8))
 }
 
-/// What holds in a header with a voice, again.
-pub fn copied_header<R: Runtime>(rt: &R, alloc: Global) -> Result<bool, AllocError> {
+/// The state in a header with a voice, again.
+pub fn copy_header<R: Runtime>(rt: &R, alloc: Global) -> Result<bool, AllocError> {
     let mut work = Work::mint(rt);
-    let entry = entry_behind(alloc, &[b"X:1", b"V:1"], &mut work)?;
+    let entry = entry_after(alloc, &[b"X:1", b"V:1"], &mut work)?;
     let Entry::Header(header) = &entry else {
         return Ok(false);
     };
@@ -62,11 +62,11 @@ pub fn copied_header<R: Runtime>(rt: &R, alloc: Global) -> Result<bool, AllocErr
     Ok(BarFold::same(&copy, &entry))
 }
 
-/// What holds in a body with two voices, of which one ties a chord, again.
-pub fn copied_body<R: Runtime>(rt: &R, alloc: Global) -> Result<bool, AllocError> {
+/// The state in a body with two voices, of which one ties a chord, again.
+pub fn copy_body<R: Runtime>(rt: &R, alloc: Global) -> Result<bool, AllocError> {
     let mut work = Work::mint(rt);
     let lines: [&[u8]; 5] = [b"X:1", b"V:1", b"K:C", b"V:2", b"[CE]-"];
-    let entry = entry_behind(alloc, &lines, &mut work)?;
+    let entry = entry_after(alloc, &lines, &mut work)?;
     let Entry::Body(body) = &entry else {
         return Ok(false);
     };

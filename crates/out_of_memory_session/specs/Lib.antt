@@ -1,1 +1,1 @@
-pub mod Titled
+pub mod TitledTune

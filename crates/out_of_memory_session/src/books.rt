@@ -6,13 +6,13 @@ use abc_fields::FaultCode;
 use abc_fold::{Shared, Work};
 use abc_lines::EditError;
 use abc_live_index::{KeptBook, NewTunes, Output};
-use abc_live_text::{KeptText, read};
+use abc_live_text::{KeptText, read_rows};
 use abc_text::Sequence;
 use abc_tune::Built;
 use abc_tune_compiler::Fault;
 use live_examples::toy::Toy;
 use out_of_memory_layers::lines_of;
-use out_of_memory_layers::told::{call, done, silent};
+use out_of_memory_layers::report::{call, done, silent};
 use std::alloc::{AllocError, Global};
 use std::rt::Runtime;
 
@@ -20,8 +20,8 @@ use std::rt::Runtime;
 pub fn read_lines<R: Runtime>(rt: &R, alloc: Global) -> Result<bool, AllocError> {
     let mut work = Work::mint(rt);
     let lines = lines_of(alloc, &[b"D:5", b"c"])?;
-    call(rt, "read");
-    let rows = read(alloc, &Toy, &lines, &mut work)?;
+    call(rt, "read_rows");
+    let rows = read_rows(alloc, &Toy, &lines, &mut work)?;
     done(rt);
     Ok(rows.len() == 2 && rows[1].cells().len() == 1)
 }
@@ -92,7 +92,7 @@ const FAULT: Fault = Fault {
     code: FaultCode::BadLength,
 };
 
-/// That tune in the place of none.
+/// That tune instead of none.
 fn new_tune(alloc: Global) -> Result<NewTunes, AllocError>
     ensures front { IfOk result (λ tunes. tunes.front ≡ 0) }
     ensures behind { IfOk result (λ tunes. tunes.behind ≡ 0) }

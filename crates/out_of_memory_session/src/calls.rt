@@ -1,7 +1,7 @@
 //! The calls of this crate that are tried.
 
 use crate::{books, chains, outputs, sessions, tunes};
-use out_of_memory_layers::Tried;
+use out_of_memory_layers::Trial;
 use std::alloc::{AllocError, Global};
 use std::rt::Runtime;
 
@@ -63,15 +63,15 @@ pub const CALLS: [Call; 25] = [
     Call::PreparedEdit,
 ];
 
-impl Tried for Call {
-    fn made<R: Runtime>(&self, rt: &R, alloc: Global) -> Result<bool, AllocError> {
+impl Trial for Call {
+    fn attempt<R: Runtime>(&self, rt: &R, alloc: Global) -> Result<bool, AllocError> {
         match self {
             Call::Piece => chains::piece(rt, alloc),
             Call::FollowingPiece => chains::following_piece(rt, alloc),
             Call::KeptPiece => chains::kept_piece(rt, alloc),
             Call::PreparedChain => chains::prepared_chain(rt, alloc),
             Call::PreparedPieces => chains::prepared_pieces(rt, alloc),
-            Call::AbcCells => tunes::abc_bars_body(rt, alloc),
+            Call::AbcCells => tunes::abc_cells(rt, alloc),
             Call::NumberedCell => tunes::numbered_cell(rt, alloc),
             Call::Score => tunes::score(rt, alloc),
             Call::File => tunes::file(rt, alloc),

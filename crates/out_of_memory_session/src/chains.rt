@@ -9,8 +9,8 @@ ghost use Rattle.live_examples.specs.Toy.{toy_steps};
 use abc_fold::{Chain, Piece, Pieces, Work};
 use abc_text::Sequence;
 use live_examples::toy::Toy;
-use out_of_memory_layers::lent;
-use out_of_memory_layers::told::{call, done, silent};
+use out_of_memory_layers::retry;
+use out_of_memory_layers::report::{call, done, silent};
 use std::alloc::{AllocError, Global};
 use std::rt::Runtime;
 
@@ -21,7 +21,7 @@ fn new_piece(alloc: Global, line: &[u8]) -> Result<Piece<Toy>, AllocError>
     Ok(Piece::New(Sequence::from_slice(alloc, line)?))
 }
 
-/// The chain of two lines behind the byte `0`.
+/// The chain of two lines after the byte `0`.
 pub fn chain_of(
     alloc: Global,
     first: &[u8],
@@ -40,7 +40,7 @@ pub fn chain_of(
     Ok(chain)
 }
 
-/// A chain whose first line sets the byte that stands before the second.
+/// A chain whose first line sets the byte before the second.
 fn chain(alloc: Global, work: &mut Work) -> Result<Chain<Toy>, AllocError>
     ensures cells { IfOk result (λ chain. length chain.cells ≡ 2) }
     ensures folds { IfOk result (λ chain. Folds toy_steps 48 chain) }
@@ -48,11 +48,11 @@ fn chain(alloc: Global, work: &mut Work) -> Result<Chain<Toy>, AllocError>
     chain_of(alloc, b"D:5", b"c", work)
 }
 
-/// An empty cell, which takes no memory of its own.
+/// An empty cell, which allocates nothing itself.
 pub fn piece(rt: &impl Runtime, alloc: Global) -> Result<bool, AllocError> {
     let mut pieces: Pieces<Toy> = Pieces::new(alloc);
     call(rt, "Pieces::push");
-    lent!(
+    retry!(
         rt,
         pieces.push(Piece::New(Sequence::new(alloc))),
         pieces.as_slice().is_empty(),
@@ -60,12 +60,12 @@ pub fn piece(rt: &impl Runtime, alloc: Global) -> Result<bool, AllocError> {
     )
 }
 
-/// The same where it was kept, and is copied without memory.
+/// The same of a kept piece, whose copy allocates nothing.
 pub fn following_piece<R: Runtime>(rt: &R, alloc: Global) -> Result<bool, AllocError> {
     let chain = chain_of(alloc, b"", b"", &mut Work::mint(rt))?;
     let mut pieces = Pieces::new(alloc);
     call(rt, "Pieces::push_following");
-    lent!(
+    retry!(
         rt,
         pieces.push_following(chain.kept(0)?),
         pieces.as_slice().is_empty(),
@@ -96,7 +96,7 @@ pub fn kept_piece<R: Runtime>(rt: &R, alloc: Global) -> Result<bool, AllocError>
 }
 
 /// The first line of a chain, as it was kept.
-fn first_kept(chain: &Chain<Toy>) -> Result<Piece<Toy>, AllocError>
+fn first_kept_piece(chain: &Chain<Toy>) -> Result<Piece<Toy>, AllocError>
     requires some { 0 < length chain.now.cells }
     requires folds { Folds toy_steps 48 chain.now }
     ensures { IfOk result (λ piece. IsKept toy_steps piece) }
@@ -104,14 +104,14 @@ fn first_kept(chain: &Chain<Toy>) -> Result<Piece<Toy>, AllocError>
     chain.kept(0)
 }
 
-/// The first line of a chain as it was kept, and another line behind it.
+/// The first line of a chain as it was kept, and another line after it.
 fn pieces_of(alloc: Global, chain: &Chain<Toy>) -> Result<Pieces<Toy>, AllocError>
     requires some { 0 < length chain.now.cells }
     requires folds { Folds toy_steps 48 chain.now }
     ensures { IfOk result (λ pieces. All (IsKept toy_steps) pieces) }
 {
     let mut pieces = Pieces::new(alloc);
-    pieces.push_following(first_kept(chain)?)?;
+    pieces.push_following(first_kept_piece(chain)?)?;
     pieces.push(new_piece(alloc, b"d")?)?;
     Ok(pieces)
 }
@@ -131,7 +131,7 @@ pub fn prepared_chain<R: Runtime>(rt: &R, alloc: Global) -> Result<bool, AllocEr
     Ok(count == 2)
 }
 
-/// The same where it is known which follow each other.
+/// The same of pieces that are known to follow each other.
 pub fn prepared_pieces<R: Runtime>(rt: &R, alloc: Global) -> Result<bool, AllocError> {
     let mut work = Work::mint(rt);
     let mut chain = chain(alloc, &mut work)?;

@@ -1,5 +1,5 @@
-//! Public calls of whole tunes, chains, the book and the session that take memory, each by itself, as `out_of_memory_layers` has those
-//! of the layers below them: what a call is lent, and what it has to give. What is generic is called in the toy language.
+//! Calls of whole tunes, chains, the book and the session that allocate, each by itself; `out_of_memory_layers` has
+//! those of the lower layers. Each has its arguments and its expected result. Generic calls use the toy language.
 #![tactic(auto)]
 
 mod books;

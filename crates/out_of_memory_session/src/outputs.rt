@@ -5,7 +5,7 @@ ghost use Rattle.std.specs.Prelude.{◌≡◌, IfOk, map};
 ghost use Rattle.abc_tune_memo.specs.Memo.{Remembers};
 ghost use Rattle.abc_live_index.specs.Output.{output_in};
 ghost use Rattle.live_examples.specs.Toy.{toy_rules, toy_steps};
-ghost use Rattle.out_of_memory_session.specs.Titled.{AreOfTitled};
+ghost use Rattle.out_of_memory_session.specs.TitledTune.{AreOfTitled};
 
 use crate::chains::chain_of;
 use abc_book::{Block, BlockKind};
@@ -13,13 +13,13 @@ use abc_fields::FaultCode;
 use abc_fold::{Chain, Shared, Work};
 use abc_lines::GapList;
 use abc_live_index::{
-    FoldedStretch, Output, TakenOver, outputs_of, put_cell_faults, put_tune_faults,
+    Output, ReusedOutputs, StretchView, outputs_of, put_cell_faults, put_tune_faults,
 };
 use abc_tune::TuneMemo;
 use abc_tune_compiler::Fault;
 use live_examples::toy::Toy;
-use out_of_memory_layers::lent;
-use out_of_memory_layers::told::{again, call, done};
+use out_of_memory_layers::retry;
+use out_of_memory_layers::report::{again, call, done};
 use std::alloc::{AllocError, Global};
 use std::rt::Runtime;
 
@@ -45,8 +45,8 @@ fn chains(alloc: Global, work: &mut Work) -> Result<[Shared<Chain<Toy>>; 1], All
     Ok([Shared::new(alloc, chain)?])
 }
 
-/// What the tune gives, which takes nothing over.
-fn given(
+/// What the tune gives, which reuses no output.
+fn outputs_of_tune(
     alloc: Global,
     chains: &[Shared<Chain<Toy>>],
     memo: &mut TuneMemo<Toy>,
@@ -54,10 +54,10 @@ fn given(
 ) -> Result<Vec<Shared<Output>>, AllocError>
     requires chains { AreOfTitled chains.now }
     requires remembers { Remembers toy_steps toy_rules memo.old }
-    ensures values { IfOk result (λ given. given.items ≡ map (output_in toy_rules) chains.now) }
+    ensures value { IfOk result (λ outputs. outputs.items ≡ map (output_in toy_rules) chains.now) }
     ensures remembers { Remembers toy_steps toy_rules memo.new }
 {
-    let stretch = FoldedStretch {
+    let stretch = StretchView {
         lines: &[b"T:A", b"!c"],
         before: 0,
         left: None,
@@ -66,15 +66,15 @@ fn given(
         counts: &[1, 1],
     };
     let none = GapList::with_room(alloc, 0)?;
-    let old = TakenOver {
-        taken: &[None],
+    let old = ReusedOutputs {
+        reused_tunes: &[None],
         outputs: &none,
     };
     outputs_of(&Toy, alloc, &stretch, &old, memo, work)
 }
 
 /// Whether that is what the tune gives.
-fn is_given(outputs: &[Shared<Output>]) -> bool {
+fn is_output_of_tune(outputs: &[Shared<Output>]) -> bool {
     match outputs {
         [output] => {
             let output = output.get();
@@ -92,32 +92,32 @@ fn is_fault(faults: &[Fault]) -> bool {
     }
 }
 
-/// What the tune gives, asked for again where memory is refused.
+/// What the tune gives, called again after a refused request.
 pub fn outputs<R: Runtime>(rt: &R, alloc: Global) -> Result<bool, AllocError> {
     let mut work = Work::mint(rt);
     let chains = chains(alloc, &mut work)?;
     let mut memo = TuneMemo::new(alloc)?;
     call(rt, "outputs_of");
-    match given(alloc, &chains, &mut memo, &mut work) {
+    match outputs_of_tune(alloc, &chains, &mut memo, &mut work) {
         Ok(outputs) => {
             done(rt);
-            Ok(is_given(&outputs))
+            Ok(is_output_of_tune(&outputs))
         }
         Err(_) => {
             again(rt);
-            let outputs = given(alloc, &chains, &mut memo, &mut work)?;
+            let outputs = outputs_of_tune(alloc, &chains, &mut memo, &mut work)?;
             done(rt);
-            Ok(is_given(&outputs))
+            Ok(is_output_of_tune(&outputs))
         }
     }
 }
 
-/// Its faults behind no others.
+/// Its faults, appended to no others.
 pub fn tune_faults<R: Runtime>(rt: &R, alloc: Global) -> Result<bool, AllocError> {
     let mut work = Work::mint(rt);
     let chains = chains(alloc, &mut work)?;
-    let outputs = given(alloc, &chains, &mut TuneMemo::new(alloc)?, &mut work)?;
-    let stretch = FoldedStretch {
+    let outputs = outputs_of_tune(alloc, &chains, &mut TuneMemo::new(alloc)?, &mut work)?;
+    let stretch = StretchView {
         lines: &[b"T:A", b"!c"],
         before: 0,
         left: None,
@@ -127,7 +127,7 @@ pub fn tune_faults<R: Runtime>(rt: &R, alloc: Global) -> Result<bool, AllocError
     };
     let mut faults = Vec::new(alloc);
     call(rt, "put_tune_faults");
-    lent!(
+    retry!(
         rt,
         put_tune_faults(&Toy, &mut faults, &stretch, &outputs),
         faults.is_empty(),
@@ -135,10 +135,10 @@ pub fn tune_faults<R: Runtime>(rt: &R, alloc: Global) -> Result<bool, AllocError
     )
 }
 
-/// The faults of its cells behind no others.
+/// The faults of its cells, appended to no others.
 pub fn cell_faults<R: Runtime>(rt: &R, alloc: Global) -> Result<bool, AllocError> {
     let chain = chain_of(alloc, b"T:A", b"!c", &mut Work::mint(rt))?;
-    let stretch = FoldedStretch {
+    let stretch = StretchView {
         lines: &[b"T:A", b"!c"],
         before: 0,
         left: None,
@@ -148,7 +148,7 @@ pub fn cell_faults<R: Runtime>(rt: &R, alloc: Global) -> Result<bool, AllocError
     };
     let mut faults = Vec::new(alloc);
     call(rt, "put_cell_faults");
-    lent!(
+    retry!(
         rt,
         put_cell_faults(&Toy, &mut faults, &stretch, &chain, PLACE),
         faults.is_empty(),

@@ -3,8 +3,8 @@
 use abc_fold::Work;
 use abc_live::{Edit, LiveSession};
 use live_examples::toy::Toy;
-use out_of_memory_layers::told::{call, done};
-use out_of_memory_layers::{lent, lines_of};
+use out_of_memory_layers::report::{call, done};
+use out_of_memory_layers::{lines_of, retry};
 use std::alloc::{AllocError, Global};
 use std::rt::Runtime;
 
@@ -34,7 +34,7 @@ pub fn prepared_edit<R: Runtime>(rt: &R, alloc: Global) -> Result<bool, AllocErr
     let lines = lines_of(alloc, &[b"X:1", b"c"])?;
     let edit = Edit::Insert { at: 1, lines };
     call(rt, "LiveSession::prepare");
-    lent!(
+    retry!(
         rt,
         put(&mut session, &edit, &mut work),
         session.line_count() == 0 && session.output(1).is_none(),

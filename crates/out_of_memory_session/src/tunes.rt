@@ -7,8 +7,8 @@ use abc_scan::{Cell, LineClass};
 use abc_tune::{Abc, Built, Compiler, build, put_line};
 use abc_voices::{BuildFault, arrange};
 use live_examples::memo::ToyMemo;
-use out_of_memory_layers::told::{again, call, done};
-use out_of_memory_layers::{FILE_OF_C, cell, lent};
+use out_of_memory_layers::report::{again, call, done};
+use out_of_memory_layers::{FILE_OF_C, cell, retry};
 use smf_bytes::file_of;
 use std::alloc::{AllocError, Global};
 use std::rt::Runtime;
@@ -22,7 +22,7 @@ pub fn abc_bars_body<R: Runtime>(rt: &R, alloc: Global) -> Result<bool, AllocErr
     Ok(cells.len() == 2)
 }
 
-/// What a cell gives, and what holds behind it.
+/// What a cell gives, and what holds after it.
 fn step(
     alloc: Global,
     entry: &Entry,
@@ -115,7 +115,7 @@ pub fn compiled_tune<R: Runtime>(rt: &R, alloc: Global) -> Result<bool, AllocErr
 pub fn key_line(rt: &impl Runtime, alloc: Global) -> Result<bool, AllocError> {
     let mut bytes = Vec::new(alloc);
     call(rt, "put_line");
-    lent!(
+    retry!(
         rt,
         put_line(&mut bytes, LineClass::Music, b"C"),
         bytes.is_empty(),
@@ -131,7 +131,7 @@ pub fn empty_memo(rt: &impl Runtime, alloc: Global) -> Result<bool, AllocError> 
     Ok(true)
 }
 
-/// Whether what was built has the file of the line `c` behind the byte 0.
+/// Whether what was built has the file of the line `c` after the byte 0.
 fn is_toy_file(built: &Built) -> bool {
     match &built.bytes {
         Some(bytes) => bytes.get().as_slice() == b"0c".as_slice(),
@@ -139,7 +139,7 @@ fn is_toy_file(built: &Built) -> bool {
     }
 }
 
-/// A tune of the toy language, asked for again where memory is refused.
+/// A tune of the toy language, called again after a refused request.
 pub fn remembered_tune<R: Runtime>(rt: &R, alloc: Global) -> Result<bool, AllocError> {
     let mut work = Work::mint(rt);
     let mut memo = ToyMemo::new(alloc)?;

@@ -15,7 +15,7 @@ use Rattle.smf_bytes.specs.Number.{number_text}
 abbrev pub meta_event : ℕ → List ℕ → List ℕ
 meta_event type content = 255 ∷ type ∷ (number_text (length content) ++ content)
 
--- The name of the sequence, FF 03 (SMF 1.0), if there is one; at tick 0, our own.
+-- The name of the sequence, FF 03 (SMF 1.0), if there is one; that it is at tick 0 is not in ABC 2.1.
 abbrev pub title_events : List ℕ → List Event
 title_events [] = []
 title_events (byte ∷ bytes) = record { tick = 0; class = 1; key = 0; bytes = meta_event 3 (byte ∷ bytes) } ∷ []
@@ -43,7 +43,7 @@ change_event change =
 abbrev pub note_off : ℕ → ℕ → ℕ → Event
 note_off channel key tick = record { tick = tick; class = 1; key = key; bytes = (128 + channel) ∷ key ∷ 64 ∷ [] }
 
--- Program change, Cc pp (SMF 1.0). At one tick it comes behind the notes off and before the notes on. Not in ABC 2.1.
+-- Program change, Cc pp (SMF 1.0). At one tick it comes after the notes off and before the notes on. Not in ABC 2.1.
 abbrev pub program_change : ℕ → ℕ → ℕ → Event
 program_change channel number tick =
     record { tick = tick; class = 2; key = 0; bytes = (192 + channel) ∷ number ∷ [] }

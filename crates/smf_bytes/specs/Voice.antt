@@ -23,7 +23,12 @@ class_in NoteOn = 3
 -- The event on a channel.
 abbrev pub event_at : ℕ → VoiceEvent → Event
 event_at channel event =
-    record { tick = event.tick; class = class_in event.kind; key = event.key; bytes = bytes_of event.kind channel event.key event.value }
+    record {
+      tick = event.tick;
+      class = class_in event.kind;
+      key = event.key;
+      bytes = bytes_of event.kind channel event.key event.value;
+    }
 
 -- A note begins and ends, with the release velocity 64, unless both fall on one tick: then it is not written. Not in ABC 2.1.
 abbrev pub ends_of : Sounding → List VoiceEvent

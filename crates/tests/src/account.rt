@@ -1,6 +1,6 @@
 //! A plain account of what is to be seen of a publisher on two tunes, by their versions.
 
-/// What stands for a tune: none, with `C`, with `D`; and of a file that nobody knows.
+/// A version of a tune: none, with `C`, with `D`; and of a file that is unknown.
 #[derive(Clone, Copy, PartialEq)]
 pub enum Version {
     Absent,
@@ -80,7 +80,7 @@ pub const OPENING: Account = Account {
 };
 
 impl Account {
-    /// Behind an edit of a tune, which goes from none to `C` to `D` to none.
+    /// After an edit of a tune, which goes from none to `C` to `D` to none.
     pub fn edited(self, number: u32) -> Account {
         if number == 1 {
             let first = self.first.edited();
@@ -91,7 +91,7 @@ impl Account {
         }
     }
 
-    /// Behind the end of a number's job.
+    /// After the end of a number's job.
     pub fn ended(self, number: u32, done: bool) -> Account {
         if number == 1 {
             let first = self.first.ended(done);
@@ -102,7 +102,7 @@ impl Account {
         }
     }
 
-    /// The number of the next job and what it carries, and the account behind it.
+    /// The number of the next job and what it carries, and the account after it.
     pub fn taken(self) -> (Option<(u32, Version)>, Account) {
         if self.first.is_wanted() {
             let first = self.first.taken();

@@ -145,6 +145,6 @@ fn lines_behind_an_edit_are_taken_up(rt: HostRuntime) {
         .prepare(&BarFold, &opening, &pieces, &mut work)
         .expect(&rt, "there is memory");
     patch.drop_patch();
-    // the new line and the one behind it, which its tie reaches
+    // the new line and the one after it, which its tie reaches
     assert!(rt; work.folded() == 104);
 }

@@ -3,17 +3,17 @@
 use crate::texts::{empty_session, insertion, lines_of};
 use abc_fold::Work;
 use abc_live::{Edit, LiveSession, Session};
-use live_examples::marked::MarkedToy;
+use live_examples::marked_toy::MarkedToy;
 use std::alloc::Global;
 use std::process::Abort;
 use std::rt::Runtime;
 
-/// Whether so many lines were scanned, steps folded and tunes built.
+/// Whether this many lines were scanned, steps folded and tunes built.
 fn is_work(work: &Work, scanned: u64, folded: u64, built: u64) -> bool {
     work.scanned() == scanned && work.folded() == folded && work.built() == built
 }
 
-/// Whether a new music line of a tune of four lines costs one line, one cell and so many tunes.
+/// Whether a new music line of a tune of four lines costs one line, one cell and `built` tunes.
 fn builds<R: Runtime + Abort>(
     rt: &R,
     alloc: Global,
@@ -56,11 +56,11 @@ fn costs<R: Runtime>(
     session.apply(edit, &mut work).is_ok() && is_work(&work, cost.0, cost.1, cost.2)
 }
 
-/// Two tunes behind a file header.
+/// Two tunes after a file header.
 const TWO_TUNES: [&[u8]; 7] = [b"D:5", b"", b"X:1", b"a", b"", b"X:2", b"b"];
 
-// States that are the same serve, though they are never equal: behind a line more in the file header no tune is touched,
-// and behind a line more in a tune no cell is fresh. Behind another byte every cell is.
+// States that are the same serve, though they are never equal: after a line more in the file header no tune is touched,
+// and after a line more in a tune no cell is fresh. After another byte every cell is.
 #[test]
 fn states_that_are_the_same_serve(rt: HostRuntime) {
     let alloc = rt.alloc();

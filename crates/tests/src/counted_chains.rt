@@ -59,7 +59,7 @@ fn kept_cells_are_taken_up(rt: HostRuntime) {
         .prepare(&Counting, &opening, &pieces, &mut work)
         .expect(&rt, "there is memory");
     chain.commit(patch);
-    // the new cell and the two behind it, and none from the 0 on, whose states are alike to those kept
+    // the new cell and the two after it, and none from the 0 on, whose states are alike to those kept
     assert_eq!(rt; work.folded(), 8);
     assert_eq!(rt;
         given(alloc, &chain)

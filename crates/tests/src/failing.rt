@@ -4,9 +4,9 @@
 #[derive(Clone, Copy)]
 pub enum Failing {
     Never,
-    /// One call, and those behind it succeed.
+    /// One call, and those after it succeed.
     Once(u64),
-    /// A call and all behind it.
+    /// A call and all after it.
     ForGood(u64),
 }
 

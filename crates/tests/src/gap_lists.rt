@@ -45,7 +45,7 @@ fn an_item_is_changed_where_it_lies(rt: HostRuntime) {
     list.insert(0, 7);
     list.insert(0, 8);
     list.insert(1, 9);
-    // one before the gap, and one behind it
+    // one before the gap, and one after it
     for (i, item) in [(0, 5), (2, 6), (3, 4)] {
         if let Some(place) = list.get_mut(i) {
             *place = item;

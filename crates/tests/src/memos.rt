@@ -15,7 +15,7 @@ fn line_of(number: u8) -> [u8; 3]
     [b'c', b'0' + number / 10 % 10, b'0' + number % 10]
 }
 
-/// Whether a memo gives the file of a tune of this line behind a file header that sets this byte; nothing where it finds
+/// Whether a memo gives the file of a tune of this line after a file header that sets this byte; nothing where it finds
 /// no memory.
 fn answered(
     alloc: Global,
@@ -33,7 +33,7 @@ fn answered(
     }
 }
 
-/// The same where there is memory.
+/// The same without a refused request.
 fn gives(
     rt: &impl Abort,
     alloc: Global,

@@ -2,7 +2,7 @@
 
 ghost use Rattle.std.specs.Prelude.{◌<◌};
 ghost use Rattle.abc_publish.specs.Publisher.{maps_of};
-ghost use Rattle.live_examples.specs.Held.{IsUnderWay};
+ghost use Rattle.live_examples.specs.HeldJobs.{IsUnderWay};
 
 use crate::account::{Account, OPENING, Version};
 use crate::taken::{FILE_OF_C, FILE_OF_D, check_newest, take};
@@ -10,7 +10,7 @@ use crate::texts::{apply, empty_session, insertion};
 use abc_fold::Work;
 use abc_live::Session;
 use abc_publish::{Job, Publisher};
-use live_examples::held::{Held, end_newer, end_older, finish};
+use live_examples::held_jobs::{HeldJobs, end_newer, end_older, finish};
 use std::alloc::Global;
 use std::process::Abort;
 
@@ -30,7 +30,7 @@ enum Event {
 const FIRST_EVENT: Event = Event::Edited(1);
 
 impl Event {
-    /// The event that is tried behind this one.
+    /// The event that is tried after this one.
     fn following(self) -> Option<Event> {
         match self {
             Event::Edited(1) => Some(Event::Edited(2)),
@@ -43,7 +43,7 @@ impl Event {
         }
     }
 
-    /// Whether it can happen while so many jobs are under way: a job that is not there does not end.
+    /// Whether the event can happen while `under_way` jobs are under way: a missing job does not end.
     fn can_happen(self, under_way: usize) -> bool {
         match self {
             Event::Edited(_) | Event::Taken => true,
@@ -65,7 +65,7 @@ fn sessions(rt: &impl Abort, alloc: Global, work: &mut Work) -> Vec<Session> {
     sessions
 }
 
-/// The note of each version, where there is a tune.
+/// The note of each version, if there is a tune.
 const NOTES: [Option<&[u8]>; 3] = [None, Some(b"C"), Some(b"D")];
 
 /// A session over tunes with these notes.
@@ -128,10 +128,10 @@ fn check(rt: &impl Abort, publisher: &Publisher, session: &Session, account: Acc
 fn check_taken(
     rt: &impl Abort,
     publisher: &mut Publisher,
-    held: Held,
+    held: HeldJobs,
     session: &Session,
     account: Account,
-) -> (Held, Account)
+) -> (HeldJobs, Account)
     requires { IsUnderWay (maps_of publisher.old) held }
     ensures { IsUnderWay (maps_of publisher.new) result.0 }
 {
@@ -145,15 +145,15 @@ fn check_taken(
     (held, account)
 }
 
-/// What is held and the account behind an event.
+/// What is held and the account after an event.
 fn behind(
     rt: &impl Abort,
     publisher: &mut Publisher,
-    held: Held,
+    held: HeldJobs,
     session: &Session,
     account: Account,
     event: Event,
-) -> (Held, Account)
+) -> (HeldJobs, Account)
     requires { IsUnderWay (maps_of publisher.old) held }
     ensures { IsUnderWay (maps_of publisher.new) result.0 }
 {
@@ -173,7 +173,7 @@ fn behind(
     }
 }
 
-/// Tries events one after another, and checks what is seen behind each from a place on. How many could happen.
+/// Tries events one after another, and checks what is seen after each from a place on. How many could happen.
 fn tried(
     rt: &impl Abort,
     alloc: Global,
@@ -182,7 +182,7 @@ fn tried(
     new: usize,
 ) -> usize {
     let mut publisher = Publisher::new(alloc).expect(rt, "there is memory");
-    let mut held = Held::Nothing;
+    let mut held = HeldJobs::Nothing;
     let mut account = OPENING;
     let mut count = 0;
     for event in events {
@@ -200,8 +200,8 @@ fn tried(
     count
 }
 
-/// Goes on to the next list of events: one up to a place moves on, those behind it start again. The place that moved
-/// on; None behind the last list.
+/// Goes on to the next list of events: one up to a place moves on, those after it start again. The place that moved on;
+/// None after the last list.
 fn moved_on(events: &mut [Event; EVENTS], at: usize) -> Option<usize> {
     for i in (0..EVENTS).rev() {
         if i <= at
@@ -215,7 +215,7 @@ fn moved_on(events: &mut [Event; EVENTS], at: usize) -> Option<usize> {
     None
 }
 
-// Each list of events is tried from the start; behind one that cannot go on the lists that begin like it are left out.
+// Each list of events is tried from the start; after one that cannot go on the lists that begin like it are left out.
 #[test]
 fn all_orders_of_events(rt: HostRuntime) {
     let alloc = rt.alloc();

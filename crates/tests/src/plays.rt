@@ -3,7 +3,7 @@
 use abc_repeat::{Mark, expand};
 use std::rt::HostRuntime;
 
-/// A bar line with so many colons, which is not double.
+/// A bar line with these counts of colons, which is not double.
 fn bar(closes: usize, opens: usize) -> Mark {
     Mark::Bar {
         closes,

@@ -5,7 +5,7 @@ use crate::texts::{apply, empty_session, insertion, lines_of};
 use abc_fold::Work;
 use abc_live::{Edit, Session};
 use abc_publish::Publisher;
-use live_examples::held::{Held, end_older, finish};
+use live_examples::held_jobs::{HeldJobs, end_older, finish};
 use std::alloc::Global;
 use std::process::Abort;
 
@@ -17,13 +17,13 @@ fn store_next(
     number: u32,
     file: Option<&[u8]>,
 ) {
-    let held = take(rt, publisher, Held::Nothing, session);
+    let held = take(rt, publisher, HeldJobs::Nothing, session);
     check_newest(rt, &held, number, file);
     let held = end_older(publisher, held, true);
     finish(publisher, held);
 }
 
-/// A tune is edited while its file is written, and taken out once it is written again; a caller who goes on behind its
+/// A tune is edited while its file is written, and taken out once it is written again; a caller who goes on after its
 /// number finds nothing to do.
 fn edit_and_remove(
     rt: &impl Abort,
@@ -34,7 +34,7 @@ fn edit_and_remove(
 ) {
     let tune = insertion(rt, alloc, &[b"X:1", b"T:A", b"K:C", b"C"]);
     apply(rt, session, tune, work);
-    let held = take(rt, publisher, Held::Nothing, session);
+    let held = take(rt, publisher, HeldJobs::Nothing, session);
     check_newest(rt, &held, 1, Some(FILE_OF_C));
     let lines = lines_of(rt, alloc, &[b"D"]);
     let (from, to) = (4, 4);

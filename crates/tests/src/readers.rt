@@ -1,4 +1,4 @@
-//! A stream over a reader of std: what it does where a read of that one fails.
+//! A stream over a reader of std: what it does if a read fails.
 
 use abc2midi_live::{Piped, Source, StreamFault};
 use std::io::{self, Error, ErrorKind, Read};
@@ -33,14 +33,14 @@ fn over_reader<'a>(rest: &'a [u8], error: ErrorKind) -> Piped<FailsOnce<'a>> {
     })
 }
 
-/// The next byte, where there is one.
+/// The next byte, if there is one.
 fn next_byte(stream: &mut Piped<FailsOnce<'_>>) -> Result<Option<u8>, StreamFault> {
     let mut buffer = [0];
     let count = stream.read(&mut buffer)?;
     Ok(if count == 1 { Some(buffer[0]) } else { None })
 }
 
-// A read that a signal interrupted is made again: no byte is lost, and no fault is told.
+// A read that a signal interrupted is made again: no byte is lost, and no fault is reported.
 #[test]
 fn an_interrupted_read_is_made_again(rt: HostRuntime) {
     let mut stream = over_reader(b"ab", ErrorKind::Interrupted);

@@ -4,7 +4,7 @@ use crate::alike::are_alike;
 use crate::texts::{empty_session, insertion, lines_of};
 use abc_fold::Work;
 use abc_live::{Edit, EditError, Report, Session};
-use out_of_memory_layers::told::{again, call, done, silent};
+use out_of_memory_layers::report::{again, call, done, silent};
 use std::alloc::Global;
 use std::process::Abort;
 use std::rt::Runtime;
@@ -67,7 +67,7 @@ impl Twins {
     }
 }
 
-/// The edit that puts a line in the place of another.
+/// The edit that replaces a line by another.
 fn replacement(rt: &impl Abort, alloc: Global, at: u32, line: &[u8]) -> Edit {
     let lines = lines_of(rt, alloc, &[line]);
     Edit::Replace {

@@ -2,43 +2,44 @@
 
 ghost use Rattle.std.specs.Prelude.{IfSome};
 ghost use Rattle.abc_publish.specs.Publisher.{maps_of};
-ghost use Rattle.live_examples.specs.Held.{IsUnderWay};
+ghost use Rattle.live_examples.specs.HeldJobs.{IsUnderWay};
 
 use crate::taken::{FILE_OF_C, FILE_OF_D, check_newest};
 use crate::texts::{apply, empty_session, insertion, lines_of};
 use abc_fold::Work;
 use abc_live::{Edit, Session};
 use abc_publish::Publisher;
-use live_examples::held::{Held, end_older, finish};
-use out_of_memory_layers::told::{again, call, done, silent};
+use live_examples::held_jobs::{HeldJobs, end_older, finish};
+use out_of_memory_layers::report::{again, call, done, silent};
 use std::alloc::Global;
 use std::process::Abort;
 use std::rt::Runtime;
 
-/// The next job, where there is one; nothing where memory is refused.
-fn tried(publisher: &mut Publisher, session: &Session) -> Option<Held>
+/// The next job, if there is one; nothing if a request for memory is refused.
+fn tried(publisher: &mut Publisher, session: &Session) -> Option<HeldJobs>
     ensures { IfSome result (λ held. IsUnderWay (maps_of publisher.new) held) }
 {
     match publisher.take(session) {
-        Ok(Some(job)) => Some(Held::One(job)),
-        Ok(None) => Some(Held::Nothing),
+        Ok(Some(job)) => Some(HeldJobs::One(job)),
+        Ok(None) => Some(HeldJobs::Nothing),
         Err(_) => None,
     }
 }
 
-/// The next job from a number on, where there is one; nothing where memory is refused.
-fn tried_from(publisher: &mut Publisher, session: &Session, from: u32) -> Option<Held>
+/// The next job from a number on, if there is one; nothing if a request for memory is refused.
+fn tried_from(publisher: &mut Publisher, session: &Session, from: u32) -> Option<HeldJobs>
     ensures { IfSome result (λ held. IsUnderWay (maps_of publisher.new) held) }
 {
     match publisher.take_from(session, from) {
-        Ok(Some(job)) => Some(Held::One(job)),
-        Ok(None) => Some(Held::Nothing),
+        Ok(Some(job)) => Some(HeldJobs::One(job)),
+        Ok(None) => Some(HeldJobs::Nothing),
         Err(_) => None,
     }
 }
 
-/// The next job, where there is one. Where memory is refused, what is pending still is, and the job is then taken.
-fn taken<R: Runtime + Abort>(rt: &R, publisher: &mut Publisher, session: &Session) -> Held
+/// The next job, if there is one. If a request for memory is refused, what is pending still is, and the job is then
+/// taken.
+fn taken<R: Runtime + Abort>(rt: &R, publisher: &mut Publisher, session: &Session) -> HeldJobs
     ensures { IsUnderWay (maps_of publisher.new) result }
 {
     match tried(publisher, session) {
@@ -61,7 +62,7 @@ fn ending(ends_well: bool) -> &'static str {
 }
 
 /// Ends a job, which asks for no memory.
-fn end<R: Runtime>(rt: &R, publisher: &mut Publisher, held: Held, ends_well: bool)
+fn end<R: Runtime>(rt: &R, publisher: &mut Publisher, held: HeldJobs, ends_well: bool)
     requires { IsUnderWay (maps_of publisher.old) held }
 {
     silent(rt, ending(ends_well));
@@ -139,7 +140,11 @@ fn jobs_of_a_tune(rt: HostRuntime) {
 }
 
 /// The job of the second of two tunes. Where memory is refused, what is pending still is, and the job is then taken.
-fn second_taken<R: Runtime + Abort>(rt: &R, publisher: &mut Publisher, session: &Session) -> Held
+fn second_taken<R: Runtime + Abort>(
+    rt: &R,
+    publisher: &mut Publisher,
+    session: &Session,
+) -> HeldJobs
     ensures { IsUnderWay (maps_of publisher.new) result }
 {
     match tried_from(publisher, session, 2) {

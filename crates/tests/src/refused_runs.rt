@@ -5,7 +5,7 @@ use crate::shelf::Shelf;
 use crate::streams::{Kept, Pieces};
 use abc_fold::Work;
 use abc2midi_live::{RunFault, run};
-use out_of_memory_layers::told::{again, call, done};
+use out_of_memory_layers::report::{again, call, done};
 use std::alloc::Global;
 use std::process::Abort;
 use std::rt::Runtime;
@@ -23,7 +23,7 @@ const BUILD: &[u8] = b"insert 1 4\nX:1\nT:A\nK:C\nC\nbuild\nquit\n";
 
 const BUILD_ANSWERS: &[u8] = b"ok written 1 removed\nwritten 1.mid\nend\n";
 
-/// The same where the store has no memory for the file.
+/// The same if the store has no memory for the file.
 const FAILED_ANSWERS: &[u8] = b"ok written 1 removed\nfailed 1.mid\nend\n";
 
 /// A sink that takes the answers without asking for memory.

@@ -37,12 +37,12 @@ const BUILDS: [Step; 10] = [
     (b"quit\n", b""),
 ];
 
-/// Puts bytes behind others.
+/// Puts bytes after others.
 fn put(rt: &impl Abort, bytes: &mut Vec<u8>, more: &[u8]) {
     bytes.extend_from_slice(more).expect(rt, "there is memory");
 }
 
-/// The commands one behind the other, and bytes behind them that have no effect.
+/// The commands one after the other, and bytes after them that have no effect.
 fn input_of(rt: &impl Abort, alloc: Global, steps: &[Step]) -> Vec<u8> {
     let mut input = Vec::new(alloc);
     for (command, _) in steps {
@@ -61,7 +61,7 @@ fn size_of(steps: &[Step]) -> usize {
     size
 }
 
-/// The answers to the commands that lie whole within so many bytes.
+/// The answers to the commands that are wholly within the first `bytes` bytes.
 fn answers_within(rt: &impl Abort, alloc: Global, steps: &[Step], bytes: usize) -> Vec<u8> {
     let mut answers = Vec::new(alloc);
     let mut size: usize = 0;
@@ -124,7 +124,7 @@ fn input_in_pieces(rt: HostRuntime) {
     }
 }
 
-/// Whether a run that reads a byte at a time, and whose reads fail so behind so many bytes, answers what was read whole.
+/// Whether a run that reads a byte at a time, and whose reads fail so after so many bytes, answers what was read whole.
 fn stops_reading<R: Runtime + Abort>(
     rt: &R,
     alloc: Global,
@@ -136,7 +136,7 @@ fn stops_reading<R: Runtime + Abort>(
     let answered = answers_within(rt, alloc, steps, read);
     let reader = Pieces::new(input.as_slice(), 1, failing);
     let mut store = Shelf::new(alloc, Failing::Never);
-    // nothing is read behind `quit`
+    // nothing is read after `quit`
     let fault = if read < size_of(steps) {
         Some(RunFault::Read)
     } else {
@@ -145,7 +145,7 @@ fn stops_reading<R: Runtime + Abort>(
     Outcome::of(rt, alloc, reader, Failing::Never, &mut store).gives(answered.as_slice(), fault)
 }
 
-/// Checks each read of a run, and one more that is not made: it fails, and those behind it do or do not.
+/// Checks each read of a run, and one more that is not made: it fails, and those after it do or do not.
 fn check_reads<R: Runtime + Abort>(rt: &R, alloc: Global, steps: &[Step]) {
     for read in 0..=size_of(steps) {
         let call = (read as u64).saturating_add(1);
@@ -160,7 +160,7 @@ fn check_reads<R: Runtime + Abort>(rt: &R, alloc: Global, steps: &[Step]) {
     }
 }
 
-// Each read fails in turn: the commands that were read whole before it are answered. Behind the end of the input, which
+// Each read fails in turn: the commands that were read whole before it are answered. After the end of the input, which
 // the second read tells, a third one would fail: it is not made.
 #[test]
 fn reads_that_fail(rt: HostRuntime) {
@@ -172,7 +172,7 @@ fn reads_that_fail(rt: HostRuntime) {
     assert!(rt; Outcome::of(&rt, alloc, reader, Failing::Never, &mut store).gives(b"end\n", None));
 }
 
-/// What stands under `1.mid` behind these commands, the first of the transcript of a tune that comes, changes and goes.
+/// The file `1.mid` after these commands, the first of the transcript of a tune that comes, changes and goes.
 fn file_behind(steps: &[Step]) -> Option<&'static [u8]> {
     let mut file = None;
     let mut stored = None;
@@ -208,7 +208,7 @@ fn stops_writing<R: Runtime + Abort>(
     outcome.gives(answered.as_slice(), Some(RunFault::Write)) && store.get("1.mid") == file
 }
 
-/// Checks each write of a run, one for each command but `quit`: it fails, and those behind it do or do not.
+/// Checks each write of a run, one for each command but `quit`: it fails, and those after it do or do not.
 fn check_writes<R: Runtime + Abort>(rt: &R, alloc: Global, steps: &[Step]) {
     let (_, asked) = steps.split_last().expect(rt, "there are commands");
     for (at, _) in asked.iter().enumerate() {
@@ -226,14 +226,14 @@ fn check_writes<R: Runtime + Abort>(rt: &R, alloc: Global, steps: &[Step]) {
     }
 }
 
-// Each write fails in turn: the answers before it were given, and no command behind it is answered or carried out.
+// Each write fails in turn: the answers before it were given, and no command after it is answered or carried out.
 #[test]
 fn writes_that_fail(rt: HostRuntime) {
     check_writes(&rt, rt.alloc(), &FIRST_TUNE);
     check_writes(&rt, rt.alloc(), &BUILDS);
 }
 
-/// What the builds of `BUILDS` come to where calls of the store fail.
+/// The result of the builds of `BUILDS` if calls of the store fail.
 #[derive(Drop)]
 struct Stored {
     /// How many calls of the store there were.
@@ -242,7 +242,7 @@ struct Stored {
     file: Option<&'static [u8]>,
 }
 
-/// Behind an edit come two builds, of which the second does what the first could not.
+/// After an edit come two builds, of which the second does what the first could not.
 fn build_twice(
     rt: &impl Abort,
     stored: &mut Stored,
@@ -295,7 +295,7 @@ fn stored_by(rt: &impl Abort, alloc: Global, failing: Failing) -> Stored {
     stored
 }
 
-/// Checks what a run tells of a store that fails so, and what the store then has.
+/// Checks what a run writes about a store that fails so, and what the store then has.
 fn check_store<R: Runtime + Abort>(rt: &R, alloc: Global, failing: Failing) {
     let input = input_of(rt, alloc, &BUILDS);
     let stored = stored_by(rt, alloc, failing);
@@ -306,7 +306,8 @@ fn check_store<R: Runtime + Abort>(rt: &R, alloc: Global, failing: Failing) {
     assert!(rt; store.get("1.mid") == stored.file);
 }
 
-// Each call of the store fails in turn, once or for good: the file is told as failed, and the next build tries it again.
+// Each call of the store fails in turn, once or for good: the file is reported as failed, and the next build tries it
+// again.
 #[test]
 fn stores_that_fail(rt: HostRuntime) {
     check_store(&rt, rt.alloc(), Failing::Never);

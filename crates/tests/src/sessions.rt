@@ -51,7 +51,7 @@ fn shows_nothing(session: &Session) -> bool {
     session.numbers().is_empty() && session.titles().is_empty()
 }
 
-// An edit that is prepared changes nothing that is to be seen, and one that is given up leaves nothing behind. Put in
+// An edit that is prepared changes nothing that is to be seen, and one that is given up leaves nothing after. Put in
 // place, it is reported as it was prepared.
 #[test]
 fn an_edit_is_prepared_given_up_and_prepared_again(rt: HostRuntime) {

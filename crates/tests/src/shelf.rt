@@ -1,4 +1,4 @@
-//! A store in memory that tells what it contains, and fails at some of its calls.
+//! A store in memory that gives its contents, and fails at some of its calls.
 
 ghost use Rattle.std.specs.Prelude.{◌≡◌, ◌∷◌, Some, IsErr, OnErr, OnOk};
 ghost use Rattle.abc2midi_live.specs.Storing.{store_seen};
@@ -49,8 +49,8 @@ impl Shelf {
     /// Notes that a name was put or removed.
     fn note(&mut self, name: &str, bytes: Option<Sequence<u8>>) -> Result<(), AllocError>
         ensures ok { OnOk result (self.new.changes.items ≡ (name.now, bytes) ∷ self.old.changes.items) }
-        ensures err { OnErr result (self.new.changes.items ≡ self.old.changes.items) }
-        ensures counts { (self.new.failures ≡ self.old.failures) × (self.new.calls ≡ self.old.calls) }
+        ensures unchanged { OnErr result (self.new.changes.items ≡ self.old.changes.items) }
+        ensures counted { (self.new.failures ≡ self.old.failures) × (self.new.calls ≡ self.old.calls) }
     {
         let name = Sequence::from_slice(self.alloc, name.as_bytes())?;
         self.changes.push_front((name, bytes))?;
@@ -59,8 +59,8 @@ impl Shelf {
 
     fn note_bytes(&mut self, name: &str, bytes: &[u8]) -> Result<(), AllocError>
         ensures ok { OnOk result (self.new.changes.items ≡ (name.now, Some bytes.now) ∷ self.old.changes.items) }
-        ensures err { OnErr result (self.new.changes.items ≡ self.old.changes.items) }
-        ensures counts { (self.new.failures ≡ self.old.failures) × (self.new.calls ≡ self.old.calls) }
+        ensures unchanged { OnErr result (self.new.changes.items ≡ self.old.changes.items) }
+        ensures counted { (self.new.failures ≡ self.old.failures) × (self.new.calls ≡ self.old.calls) }
     {
         let bytes = Sequence::from_slice(self.alloc, bytes)?;
         self.note(name, Some(bytes))

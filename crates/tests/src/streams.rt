@@ -1,11 +1,11 @@
-//! Streams in memory that tell what they give and keep, and fail at some of their calls.
+//! Streams in memory that give their contents, and fail at some of their calls.
 
 ghost use Rattle.std.specs.Prelude.{ℕ, Some};
 
 use crate::failing::Failing;
 use abc2midi_live::{Sink, Source, StreamFault};
 
-/// A source that gives at most so many bytes at a time, and fails at some of its calls.
+/// A source that gives at most `most` bytes at a time, and fails at some of its calls.
 #[derive(Drop)]
 pub struct Pieces<'a> {
     rest: &'a [u8],

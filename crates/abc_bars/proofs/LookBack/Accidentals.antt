@@ -90,7 +90,7 @@ letter-set letters B G by = refl
 letter-set letters B A by = refl
 letter-set letters B B by = refl
 
--- What is found behind one more entry of a map.
+-- What is found after one more entry of a map.
 twice : {X : Type 0} (b : Bool) (x y z : X) → cond b x z ≡ cond b x (cond b y z)
 twice true x y z = refl
 twice false x y z = refl

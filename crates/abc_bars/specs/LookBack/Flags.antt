@@ -9,7 +9,7 @@ use Rattle.abc_bars_items.specs.declared.item.Item.TheVariants as items
 use Rattle.abc_scan.specs.declared.spanned.Spanned.{Spanned}
 use Rattle.abc_scan.specs.declared.token.TokenKind.{TokenKind}
 use Rattle.abc_bars.specs.LookBack.Element.{Element}
-use Rattle.abc_bars.specs.LookBack.Place.{given_in_body, given_in_header}
+use Rattle.abc_bars.specs.LookBack.Place.{result_in_body, result_in_header}
 
 -- Whether an item says that a header gives it.
 abbrev pub is_of_header : Item → Bool
@@ -33,10 +33,10 @@ is_of_body _ = false
 abbrev pub BodiesSaySo : Type 0
 BodiesSaySo =
     (values : Defaults) (fields : List HeaderLine) (key : Key) (before : List Element) (cell : List (Spanned TokenKind))
-    → filter is_of_header (given_in_body values fields key before cell).items ≡ []
+    → filter is_of_header (result_in_body values fields key before cell).items ≡ []
 
 -- No item of a line of a header says that a body gives it.
 abbrev pub HeadersSaySo : Type 0
 HeadersSaySo =
     (values : Defaults) (before : List HeaderLine) (cell : List (Spanned TokenKind)) (line : HeaderLine)
-    → filter is_of_body (given_in_header values before cell (Some line)).items ≡ []
+    → filter is_of_body (result_in_header values before cell (Some line)).items ≡ []

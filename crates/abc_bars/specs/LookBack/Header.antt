@@ -1,6 +1,7 @@
--- What holds at a place of a tune's header, by the lines before it, the newest first. ABC 2.1 sections
+-- The state at a place of a tune's header, by the lines before it, the newest first. ABC 2.1 sections
 -- 3.1, 7.1 and 11.
-use Rattle.std.specs.Prelude.{ℕ, ℤ, ◌||◌, nat_le, if◌then◌else◌, List, [], ◌∷◌, ◌++◌, length, map, slice_range, bytes_eq, Option, Some, None}
+use Rattle.std.specs.Prelude.{ℕ, ℤ, ◌||◌, nat_le, if◌then◌else◌, List, [], ◌∷◌, ◌++◌, length, map, slice_range, bytes_eq, Option}
+use Rattle.std.specs.Prelude.{Some, None}
 use Rattle.std.specs.List.{list_any}
 use Rattle.std.specs.Option.{option_map, option_or}
 use Rattle.std.specs.Result.{result_ok}
@@ -75,7 +76,7 @@ declared_shift before name = record {
 abbrev pub voices_at : List HeaderLine → List (List ℕ × Shift)
 voices_at before = map (λ name. (name, declared_shift before name)) (declared_names before)
 
--- What holds at a place of a tune's header, by the file header's values and the lines before it.
+-- The state at a place of a tune's header, by the file header's values and the lines before it.
 abbrev pub header_at : Defaults → List HeaderLine → Header
 header_at opening before = record { defaults = defaults_at opening before; voices = voices_at before }
 

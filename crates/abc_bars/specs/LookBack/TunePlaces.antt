@@ -1,4 +1,4 @@
--- What a place of a tune keeps of what stands before it.
+-- What a place of a tune keeps of what is before it.
 use Rattle.std.specs.Prelude.{◌≡◌, ℕ, List, [], ◌∷◌, Option, Some, None, unwrap_or}
 use Rattle.std.specs.Option.{option_or}
 use Rattle.abc_fields.specs.declared.key.Key.{Key}

@@ -9,7 +9,7 @@ use Rattle.abc_text.specs.Blank.{AreBlanks}
 use Rattle.abc_text.specs.Number.{IsNumber}
 use Rattle.abc_text.specs.Byte.{quote, slash, equals_sign}
 
--- A fraction of a whole note, as `3/8`, which is so many 512ths. The limits are not in ABC 2.1.
+-- A fraction of a whole note, as `3/8`, counted in 512ths. The limits are not in ABC 2.1.
 pub record IsFraction (text : List ℕ) (part : ℕ) : Type 0 where
   pub above : List ℕ
   pub below : List ℕ
@@ -23,7 +23,7 @@ pub record IsFraction (text : List ℕ) (part : ℕ) : Type 0 where
   pub power_most : power ≤ 9
   pub value : part * 2 ^ power ≡ num * 512
 
--- One fraction, behind which blanks may stand.
+-- One fraction, which blanks may follow.
 pub record IsLastFraction (text : List ℕ) (sum : ℕ) : Type 0 where
   pub word : List ℕ
   pub gap : List ℕ
@@ -45,7 +45,7 @@ pub record IsFirstFraction (IsRest : List ℕ → ℕ → Type 0) (text : List �
   pub rest_is : IsRest rest rest_sum
   pub total : sum ≡ part + rest_sum
 
--- At least one and at most so many fractions, separated by blanks, which are added.
+-- At least one and at most `most` fractions, separated by blanks, which are added.
 abbrev pub IsSum : ℕ → List ℕ → ℕ → Type 0
 IsSum zero text sum = ⊥
 IsSum (suc most) text sum = IsLastFraction text sum ⊎ IsFirstFraction (IsSum most) text sum
@@ -101,8 +101,8 @@ pub record IsBeforeText (text : List ℕ) (m : Tempo) : Type 0 where
   pub gap_is : AreBlanks gap
   pub quoted_is : IsQuoted quoted
 
--- What a tempo field says: nothing where it is empty or a text alone, else a tempo, before or behind
--- which a text may stand. That an empty field is accepted is not in ABC 2.1.
+-- What a tempo field says: nothing if it is empty or a text alone, else a tempo, before or after
+-- which a text may come. That an empty field is accepted is not in ABC 2.1.
 pub data IsTempo (text : List ℕ) (m : Tempo) : Type 0 where
   empty : text ≡ [] → m ≡ Unset → IsTempo text m
   text_alone : IsQuoted text → m ≡ Unset → IsTempo text m

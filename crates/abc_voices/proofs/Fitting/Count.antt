@@ -68,7 +68,7 @@ one_more : {A : Type 0} (x : Option A) (xs : List A) (n : ℕ) → length xs ≤
 one_more None xs n few = omega (arith, few)
 one_more (Some x) xs n few = omega (arith, few)
 
--- what stands at some places is no more than the places
+-- what is at some places is no more than the places
 pub picked_few : {A : Type 0} (xs : List A) (places : List ℕ) → length (filter_map (slice_get xs) places) ≤ length places
 picked_few xs [] = omega arith
 picked_few xs (place ∷ places) = one_more (slice_get xs place) (filter_map (slice_get xs) places) (length places) (picked_few xs places)

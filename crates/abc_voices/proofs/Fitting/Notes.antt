@@ -24,7 +24,7 @@ earlier at k note fits = record { begins = omega (arith, fits.begins); forward =
 own_fits : (at : ℕ) (tone : Tone) (key : ℕ) → key ≤ 127 → IsTone tone → Fits at (own_note at tone key)
 own_fits at tone key within is = record { begins = omega arith; forward = omega arith; key = within; velocity = is.velocity }
 
--- the element of a list where there is one, else a spare one
+-- the element of a list if there is one, else a spare one
 at_place : {X : Type 0} (P : X → Type 0) (xs : List X) (place : ℕ) (spare : X) → All P xs → P spare → P (slice_index_or xs place spare)
 at_place P [] place spare all own = own
 at_place P (x ∷ xs) zero spare all own = All-head P x xs all
@@ -39,7 +39,7 @@ lengthened_fits at note next place begins own all =
 All-remove : {X : Type 0} (P : X → Type 0) (xs : List X) (place : ℕ) → All P xs → All P (remove xs place)
 All-remove P xs place all = All-append P (take place xs) (drop (suc place) xs) (All-take P place xs all) (All-drop P (suc place) xs all)
 
--- notes that begin at a time token, and those behind it
+-- notes that begin at a time token, and those after it
 pub record AreFitting (at : ℕ) (linked : TokenNotes) : Type 0 where
   pub begun : All (Fits at) linked.begun
   pub next : All (Fits at) linked.next
@@ -95,7 +95,7 @@ abbrev pub lasting : List Item → ℕ
 lasting [] = 0
 lasting (step ∷ steps) = length_of step + lasting steps
 
--- the notes of steps that are played from a moment on, in front of notes that begin behind them or later
+-- the notes of steps that are played from a moment on, before notes that begin after them or later
 pub notes_fit : (at : ℕ) (steps : List Item) (notes : Notes) → All IsItem steps
     → AllFit (at + lasting steps) notes → AllFit at (notes_from at steps notes)
 notes_fit at [] notes all fits = all_earlier at 0 notes fits

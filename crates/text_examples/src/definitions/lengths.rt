@@ -2,7 +2,8 @@
 #![tactic(auto, unfolding(abc_time::specs::Grains::grains_of_a_tick, abc_time::specs::Grains::grains_of_a_whole_note, abc_time::specs::Grains::grains_of_the_latest_end, abc_time::specs::Grains::grains_of_the_longest_length, abc_time::specs::Length::length_of, abc_time::specs::Length::quotient_of))]
 
 ghost use Rattle.std.specs.Prelude.{◌≡◌, ◌*◌, ◌^◌, ◌+◌, [], ◌∷◌};
-ghost use Rattle.abc_time.specs.Grains.{grains_of_a_whole_note, grains_of_a_tick, grains_of_the_longest_length, grains_of_the_latest_end, tick_at};
+ghost use Rattle.abc_time.specs.Grains.{grains_of_a_whole_note, grains_of_a_tick, grains_of_the_longest_length};
+ghost use Rattle.abc_time.specs.Grains.{grains_of_the_latest_end, tick_at};
 ghost use Rattle.abc_time.specs.Length.{IsLength, length_of, quotient_of};
 ghost use Rattle.abc_time.specs.declared.lengths.LengthFault.TheVariants.{NotWhole, TooLong};
 ghost use Rattle.text_examples.specs.Values.{ratio, at_tick};

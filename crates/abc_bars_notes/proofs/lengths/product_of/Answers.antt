@@ -15,7 +15,7 @@ length-requires-clause-factors c =
 
 pub returns-clause-value : goal.returns-clause-value
 returns-clause-value c =
-    c.ok.ensures.value ∙ ap result_ok (c.length.ensures.exact
+    c.ok.ensures.value ∙ ap result_ok (c.length.ensures.value
     ∙ (λ i. length_of (c.get-part.ensures.value i) (c.args.own ∷ c.unwrap_or.result ∷ c.unwrap_or-2.result ∷ c.unwrap_or-3.result ∷ c.unwrap_or-4.result ∷ []))
     ∙ same_length c.args.unit _ _
     (same_products c.args.own _ _ _ _ c.args.outer c.tuplet_ratio.result c.broken.inside.behind c.broken.inside.ahead
@@ -27,7 +27,8 @@ returns-clause-exact c =
     let same = same_products c.args.own _ _ _ _ c.args.outer c.tuplet_ratio.result c.broken.inside.behind c.broken.inside.ahead
     c.unwrap_or.ensures c.unwrap_or-2.ensures c.unwrap_or-3.ensures c.unwrap_or-4.ensures in
     let list : c.args.own ∷ (option_to_list c.args.outer ++ (option_to_list c.tuplet_ratio.result ++ (option_to_list c.broken.inside.behind ++ option_to_list c.broken.inside.ahead)))
-    ≡ c.args.own ∷ (option_to_list c.args.outer ++ (tuplet_factors c.args.tuplet ++ c.args.broken.now)) = λ i. c.args.own ∷ (option_to_list c.args.outer ++ (c.tuplet_ratio.ensures.value i ++ c.broken.view_is i)) in
+    ≡ c.args.own ∷ (option_to_list c.args.outer ++ (tuplet_factors c.args.tuplet ++ c.args.broken.now)) =
+    λ i. c.args.own ∷ (option_to_list c.args.outer ++ (c.tuplet_ratio.ensures.value i ++ c.broken.view_is i)) in
     exact_along c.args.unit c.get-part.result _ _ c.length.result c.ok.result c.get-part.ensures.value
     (subst (λ l. SameProducts (c.args.own ∷ c.unwrap_or.result ∷ c.unwrap_or-2.result ∷ c.unwrap_or-3.result ∷ c.unwrap_or-4.result ∷ []) l) list same)
     c.ok.ensures.value c.length.ensures.ok

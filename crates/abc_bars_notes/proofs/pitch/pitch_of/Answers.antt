@@ -31,7 +31,7 @@ overflow_add-result-2 c =
     let y = widened w32 _ _ fy c.from-2.ensures in
     let z = widened w8 _ _ fa c.from-altered.ensures in
     rw (c.from.ensures, y, z)
-    (more-fits _ _ _ _ (small _ c.semitones.ensures.within_octave) (wide _ fy) (byte _ fa) c.shifted_by.ensures.low c.shifted_by.ensures.high)
+    (more-fits _ _ _ _ (small _ c.semitones.ensures.within_octave) (wide _ fy) (byte _ fa) c.total_shift.ensures.low c.total_shift.ensures.high)
 
 pub returns : goal.returns
 returns c =
@@ -39,4 +39,4 @@ returns c =
     let fa : SFits w8 c.args.by = search rules in
     let y = widened w32 _ _ fy c.from-2.ensures in
     let z = widened w8 _ _ fa c.from-altered.ensures in
-    rw (c.from.ensures, y, z, more-is _ _ _ _ (small _ c.semitones.ensures.within_octave) (wide _ fy) (byte _ fa) c.shifted_by.ensures.low c.shifted_by.ensures.high) (cc)
+    rw (c.from.ensures, y, z, more-is _ _ _ _ (small _ c.semitones.ensures.within_octave) (wide _ fy) (byte _ fa) c.total_shift.ensures.low c.total_shift.ensures.high) (cc)

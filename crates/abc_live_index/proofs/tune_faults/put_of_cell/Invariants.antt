@@ -1,7 +1,7 @@
 use Rattle.std.proofs.Common.{◌≡◌, ◌++◌, drop, map}
 use Rattle.abc_tune_compiler.specs.Tune.{fault_in}
-use Rattle.abc_live_index.specs.Front.{StayInFront}
-use Rattle.abc_live_index.proofs.faults.put_of_cell.Given as goal
+use Rattle.abc_live_index.specs.StayInFront.{StayInFront}
+use Rattle.abc_live_index.proofs.tune_faults.put_of_cell.Given as goal
 
 -- what is put, and the rest
 abbrev pub invariant-loop-column : goal.invariant-loop-column

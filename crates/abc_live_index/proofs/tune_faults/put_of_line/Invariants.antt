@@ -1,8 +1,8 @@
 use Rattle.std.proofs.Common.{◌≡◌, ◌-◌, ◌++◌, drop, map, take}
 use Rattle.abc_tune_compiler.specs.Placed.{placed_at}
 use Rattle.abc_tune_compiler.specs.Tune.{faults_along}
-use Rattle.abc_live_index.specs.Front.{StayInFront}
-use Rattle.abc_live_index.proofs.faults.put_of_line.Given as goal
+use Rattle.abc_live_index.specs.StayInFront.{StayInFront}
+use Rattle.abc_live_index.proofs.tune_faults.put_of_line.Given as goal
 
 -- what is put, and the rest
 abbrev pub invariant-loop-i : goal.invariant-loop-i

@@ -1,8 +1,8 @@
 use Rattle.std.proofs.Common.{◌≡◌, ◌+◌, ◌≤◌, ◌++◌, drop, length, sum_by}
 use Rattle.abc_tune_compiler.specs.Tune.{faults_along}
 use Rattle.abc_live_index.specs.Output.{placed_from}
-use Rattle.abc_live_index.specs.Front.{StayInFront}
-use Rattle.abc_live_index.proofs.faults.put_of_lines.Given as goal
+use Rattle.abc_live_index.specs.StayInFront.{StayInFront}
+use Rattle.abc_live_index.proofs.tune_faults.put_of_lines.Given as goal
 
 -- what is put, and the rest, which the chain has
 abbrev pub invariant-loop-at : goal.invariant-loop-at

@@ -1,7 +1,7 @@
 use Rattle.std.proofs.Common.{◌≡◌, ◌++◌, drop, map}
 use Rattle.abc_tune_compiler.specs.Tune.{fault_of_tune}
-use Rattle.abc_live_index.specs.Front.{StayInFront}
-use Rattle.abc_live_index.proofs.faults.put_of_tune.Given as goal
+use Rattle.abc_live_index.specs.StayInFront.{StayInFront}
+use Rattle.abc_live_index.proofs.tune_faults.put_of_tune.Given as goal
 
 -- what is put, and the rest
 abbrev pub invariant-loop-code : goal.invariant-loop-code

@@ -1,7 +1,7 @@
 use Rattle.std.proofs.Common.{◌≡◌, ◌++◌, drop}
 use Rattle.std.specs.List.{AllZip}
 use Rattle.abc_live_index.specs.Tunes.{HasCells, faults_by}
-use Rattle.abc_live_index.specs.Front.{StayInFront}
+use Rattle.abc_live_index.specs.StayInFront.{StayInFront}
 use Rattle.abc_live_index.proofs.tunes.put_of_places.Given as goal
 
 -- what is put, and the faults of the rest

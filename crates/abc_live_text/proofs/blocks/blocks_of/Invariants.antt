@@ -1,5 +1,5 @@
 use Rattle.std.proofs.Common.{◌≡◌, map, take}
-use Rattle.abc_live_text.specs.Holding.{class_in}
+use Rattle.abc_live_text.specs.Pieces.{class_in}
 use Rattle.abc_live_text.proofs.blocks.blocks_of.Given as goal
 
 abbrev pub invariant-loop-row : goal.invariant-loop-row

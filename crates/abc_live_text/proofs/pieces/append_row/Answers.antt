@@ -1,4 +1,4 @@
-use Rattle.abc_live_text.proofs.Ending.{ends_before}
+use Rattle.abc_live_text.proofs.PieceEnds.{ends_before}
 use Rattle.abc_live_text.proofs.pieces.append_row.Goals as goal
 
 pub append_cells-requires-clause-known : goal.append_cells-requires-clause-known

@@ -1,4 +1,4 @@
-use Rattle.abc_live_text.proofs.Scanning.{scanned_once}
+use Rattle.abc_live_text.proofs.ScanCounts.{scanned_once}
 use Rattle.abc_live_text.proofs.row.read_line.Goals as goal
 
 pub returns-in_err-cells-clause-counted : goal.returns-in_err-cells-clause-counted

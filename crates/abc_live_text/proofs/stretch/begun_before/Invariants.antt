@@ -1,5 +1,5 @@
 use Rattle.std.proofs.Common.{◌-◌, ◌<◌, ◌≤◌, drop, length}
-use Rattle.abc_live_text.specs.Renewing.{start_of}
+use Rattle.abc_live_text.specs.NewParts.{start_of}
 use Rattle.abc_live_text.proofs.stretch.begun_before.Given as goal
 
 abbrev pub invariant-loop-begun : goal.invariant-loop-begun

@@ -29,7 +29,9 @@ loop-place-preserved c =
     let P : List (Option Stage) → Type 0 = λ t. ArePut voices c.args.sections.now (take (c.loop-place.place-index + 1) c.args.played.now) c.in_ok-room.room t in
     let Q : List (Option Stage) → Type 0 = λ t. ArePut voices c.args.sections.now (take c.loop-place.place-index c.args.played.now) c.loop-place.room t in
     let long : length c.put_stage.new.table ≡ length c.deref_mut.result.now = grind (arith, common_steps) in
-    subst P (sym same) (put_more _ _ c.args.played.now c.loop-place.place-index _ _ c.deref_mut.result.now _ c.loop-place-test.true long (subst Q (sym c.deref_mut.ensures.value) c.loop-place.invariant) c.in_ok-room.ensures.put c.in_ok-room.ensures.fits)
+    subst P (sym same)
+    (put_more _ _ c.args.played.now c.loop-place.place-index _ _ c.deref_mut.result.now _ c.loop-place-test.true long
+    (subst Q (sym c.deref_mut.ensures.value) c.loop-place.invariant) c.in_ok-room.ensures.put c.in_ok-room.ensures.fits)
 
 pub returns-clause-value : goal.returns-clause-value
 returns-clause-value c =

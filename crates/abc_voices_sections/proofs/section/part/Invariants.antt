@@ -1,6 +1,6 @@
 use Rattle.std.proofs.Common.{◌≡◌, ◌++◌, drop}
 use Rattle.abc_voices_sections.specs.Items.{items_of}
-use Rattle.abc_voices_sections.specs.Owned.{own_from}
+use Rattle.abc_voices_sections.specs.OwnItems.{own_from}
 use Rattle.abc_voices_sections.specs.Play.{without_single_bars}
 use Rattle.abc_voices_sections.specs.Section.{part_from}
 use Rattle.abc_voices_sections.proofs.section.part.Given as goal

@@ -15,9 +15,11 @@ loop-at-preserved c =
     let whole = sections (items_of tune) in
     elim c.if-is_section.branch [
       | then-is_section+in_ok-push w ↦
-          let more = ends_more tune seen c.loop-at.opening.now c.loop-at.voice.now c.loop-at.begin c.loop-at.at c.index-tune-at.result whole c.loop-at-test.true c.index-tune-at.is (sym c.is_section.ensures ∙ w.if-is_section.true) c.loop-at.invariant.found in
+          let more = ends_more tune seen c.loop-at.opening.now c.loop-at.voice.now c.loop-at.begin c.loop-at.at
+          c.index-tune-at.result whole c.loop-at-test.true c.index-tune-at.is (sym c.is_section.ensures ∙ w.if-is_section.true) c.loop-at.invariant.found in
           grind (arith, common_steps, more)
       | else-is_section w ↦
-          let more = goes_more tune seen c.loop-at.opening.now c.loop-at.voice.now c.loop-at.begin c.loop-at.at c.index-tune-at.result whole c.loop-at.invariant.inside c.loop-at-test.true c.index-tune-at.is (sym c.is_section.ensures ∙ w.if-is_section.false) c.loop-at.invariant.found in
+          let more = goes_more tune seen c.loop-at.opening.now c.loop-at.voice.now c.loop-at.begin c.loop-at.at
+          c.index-tune-at.result whole c.loop-at.invariant.inside c.loop-at-test.true c.index-tune-at.is (sym c.is_section.ensures ∙ w.if-is_section.false) c.loop-at.invariant.found in
           grind (arith, common_steps, more)
     ]

@@ -4,7 +4,7 @@ use Rattle.abc_voices_sections.specs.Items.{items_of}
 use Rattle.abc_voices_sections.specs.Section.{sections, sections_from}
 use Rattle.abc_voices_sections.proofs.section.sections.Given as goal
 
--- the sections so far, and those of the rest behind the open one
+-- the sections so far, and those of the rest after the open one
 abbrev pub invariant-loop-at : goal.invariant-loop-at
 invariant-loop-at l = record {
   inside : l.begin ≤ l.at;

@@ -3,7 +3,7 @@ use Rattle.abc_voices_sections.specs.Items.{items_of}
 use Rattle.abc_voices_sections.specs.Stretches.{runs_of, items_in, AllTakeTurns, IsRun}
 use Rattle.abc_voices_sections.proofs.stretches.stretches.Given as goal
 
--- the stretches so far, what takes its turn behind them, and the rest
+-- the stretches so far, what takes its turn after them, and the rest
 abbrev pub invariant-loop-at : goal.invariant-loop-at
 invariant-loop-at l = record {
   inside : l.begin ≤ l.at;

@@ -1,6 +1,6 @@
 use Rattle.std.proofs.Common.{◌≡◌}
 use Rattle.abc_publish.specs.Publisher.{maps_of}
-use Rattle.live_examples.specs.Held.{IsUnderWay}
+use Rattle.live_examples.specs.HeldJobs.{IsUnderWay}
 use Rattle.tests.proofs.orders.tried.Given as goal
 
 abbrev pub invariant-loop-event : goal.invariant-loop-event

@@ -1,6 +1,6 @@
 use Rattle.std.proofs.Common.{subst}
 use Rattle.abc_publish.specs.Publisher.{maps_of}
-use Rattle.live_examples.specs.Held.{IsUnderWay}
+use Rattle.live_examples.specs.HeldJobs.{IsUnderWay}
 use Rattle.live_examples.proofs.Jobs.{given, new, own, stays}
 use Rattle.tests.proofs.taken.take.Goals as goal
 

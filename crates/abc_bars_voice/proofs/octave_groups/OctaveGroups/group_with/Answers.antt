@@ -24,4 +24,4 @@ returns-in-None c =
     let found = c.in-None.ensures ∙ ap (λ (n : ℤ). lookup (is_at (int_cmp n)) c.args.self.now) number in
     let made = ap (λ (z : ℤ). (z, c.args.letters) ∷ []) octave
     ∙ ap (λ (o : Option (List (ℤ × LetterAccidentals))). insert_entry int_cmp (unwrap_or o []) c.args.octave c.args.letters) found in
-    subst (λ (t : List (ℤ × LetterAccidentals)). IfOk c.alone.result (λ group. group ≡ t)) made c.alone.ensures
+    subst (λ (t : List (ℤ × LetterAccidentals)). IfOk c.of_octave.result (λ group. group ≡ t)) made c.of_octave.ensures

@@ -1,6 +1,6 @@
 use Rattle.std.proofs.Common.{◌≡◌, ◌+◌, ◌-◌, ◌≤◌, ◌++◌, drop, length, take, sym, ap, ◌∙◌, subst, arith}
-use Rattle.abc_live_index.proofs.Splicing.{count, items, same_behind, same_front}
-use Rattle.abc_live_index.specs.Kept.{Kept}
+use Rattle.abc_live_index.proofs.BookSplice.{count, items, same_behind, same_front}
+use Rattle.abc_live_index.specs.KeptBook.{KeptBookView}
 use Rattle.abc_lines.specs.GapList.{Gapped}
 use Rattle.abc_live_index.specs.declared.output.Output.{Output}
 use Rattle.abc_live_index.proofs.kept_book.KeptBook.prepare.Goals as goal
@@ -10,7 +10,7 @@ differences-requires-clause-change c =
     let tunes = c.args.tunes in
     let before = c.self.inside.outputs in
     let after = c.in_ok-outputs.outputs.after in
-    let same : before ≡ c.args.self.now.outputs = ap (λ (b : Kept). b.outputs) c.self.view_is in
+    let same : before ≡ c.args.self.now.outputs = ap (λ (b : KeptBookView). b.outputs) c.self.view_is in
     let inside : tunes.behind ≤ length before.items = subst (λ (g : Gapped Output). tunes.behind ≤ length g.items) (sym same) c.requires.inside in
     let many : length tunes.outputs.items ≡ c.len-count.result = omega (arith, c.len-count.ensures, tunes.outputs.ok.0) in
     let is = c.in_ok-outputs.ensures.after in
@@ -27,7 +27,7 @@ pub returns-in-Ok-clause-outputs : goal.returns-in-Ok-clause-outputs
 returns-in-Ok-clause-outputs c =
     let tunes = c.args.tunes in
     let before = c.self.inside.outputs in
-    let same : before ≡ c.args.self.now.outputs = ap (λ (b : Kept). b.outputs) c.self.view_is in
+    let same : before ≡ c.args.self.now.outputs = ap (λ (b : KeptBookView). b.outputs) c.self.view_is in
     let inside : tunes.behind ≤ length before.items = subst (λ (g : Gapped Output). tunes.behind ≤ length g.items) (sym same) c.requires.inside in
     items before c.in_ok-outputs.outputs.after tunes.front tunes.behind tunes.outputs.items c.requires.order inside c.in_ok-outputs.ensures.after
     ∙ ap (λ (g : Gapped Output). take tunes.front g.items ++ (tunes.outputs.items ++ drop tunes.behind g.items)) same

@@ -6,32 +6,32 @@ pub returns-in_err-known-clause-remembers : goal.returns-in_err-known-clause-rem
 returns-in_err-known-clause-remembers g c =
     let steps = g.C.Fold.steps c.args.compiler.now in
     after_asking steps (g.C.Compiler.rules c.args.compiler.now) (g.met.C.Fold.resumable c.args.compiler.now) (g.met.C.Compiler.lawful c.args.compiler.now)
-    g.C.Defaults.PartialEq.eq g.met.C.Compiler.told_apart c.args.self.now c.requires.remembers c.args.key c.recalled.new.self c.recalled.ensures.entries
+    g.C.Defaults.PartialEq.eq g.met.C.Compiler.eq_is_sound c.args.self.now c.requires.remembers c.args.key c.recall.new.self c.recall.ensures.entries
 
 pub returns-in-Some-clause-remembers : goal.returns-in-Some-clause-remembers
 returns-in-Some-clause-remembers g c =
     let steps = g.C.Fold.steps c.args.compiler.now in
     after_asking steps (g.C.Compiler.rules c.args.compiler.now) (g.met.C.Fold.resumable c.args.compiler.now) (g.met.C.Compiler.lawful c.args.compiler.now)
-    g.C.Defaults.PartialEq.eq g.met.C.Compiler.told_apart c.args.self.now c.requires.remembers c.args.key c.recalled.new.self c.recalled.ensures.entries
+    g.C.Defaults.PartialEq.eq g.met.C.Compiler.eq_is_sound c.args.self.now c.requires.remembers c.args.key c.recall.new.self c.recall.ensures.entries
 
 pub returns-in_err-built-clause-remembers : goal.returns-in_err-built-clause-remembers
 returns-in_err-built-clause-remembers g c =
     let steps = g.C.Fold.steps c.args.compiler.now in
     after_asking steps (g.C.Compiler.rules c.args.compiler.now) (g.met.C.Fold.resumable c.args.compiler.now) (g.met.C.Compiler.lawful c.args.compiler.now)
-    g.C.Defaults.PartialEq.eq g.met.C.Compiler.told_apart c.args.self.now c.requires.remembers c.args.key c.recalled.new.self c.recalled.ensures.entries
+    g.C.Defaults.PartialEq.eq g.met.C.Compiler.eq_is_sound c.args.self.now c.requires.remembers c.args.key c.recall.new.self c.recall.ensures.entries
 
 pub returns-in-Some-clause-bytes : goal.returns-in-Some-clause-bytes
 returns-in-Some-clause-bytes g c =
     let steps = g.C.Fold.steps c.args.compiler.now in
     found_bytes steps (g.C.Compiler.rules c.args.compiler.now) (g.met.C.Fold.resumable c.args.compiler.now) (g.met.C.Compiler.lawful c.args.compiler.now)
-    g.C.Defaults.PartialEq.eq g.met.C.Compiler.told_apart c.args.self.now c.requires.remembers c.args.key
+    g.C.Defaults.PartialEq.eq g.met.C.Compiler.eq_is_sound c.args.self.now c.requires.remembers c.args.key
     c.args.items.now c.in-Some.known c.requires.of_key (sym c.in_ok-known.ensures.value ∙ c.in-Some.is)
 
 pub returns-in-Some-clause-faults : goal.returns-in-Some-clause-faults
 returns-in-Some-clause-faults g c =
     let steps = g.C.Fold.steps c.args.compiler.now in
     found_faults steps (g.C.Compiler.rules c.args.compiler.now) (g.met.C.Fold.resumable c.args.compiler.now) (g.met.C.Compiler.lawful c.args.compiler.now)
-    g.C.Defaults.PartialEq.eq g.met.C.Compiler.told_apart c.args.self.now c.requires.remembers c.args.key
+    g.C.Defaults.PartialEq.eq g.met.C.Compiler.eq_is_sound c.args.self.now c.requires.remembers c.args.key
     c.args.items.now c.in-Some.known c.requires.of_key (sym c.in_ok-known.ensures.value ∙ c.in-Some.is)
 
 pub returns-clause-remembers : goal.returns-clause-remembers
@@ -39,9 +39,9 @@ returns-clause-remembers g c =
     let steps = g.C.Fold.steps c.args.compiler.now in
     let asked =
     after_asking steps (g.C.Compiler.rules c.args.compiler.now) (g.met.C.Fold.resumable c.args.compiler.now) (g.met.C.Compiler.lawful c.args.compiler.now)
-    g.C.Defaults.PartialEq.eq g.met.C.Compiler.told_apart c.args.self.now c.requires.remembers c.args.key c.recalled.new.self c.recalled.ensures.entries in
+    g.C.Defaults.PartialEq.eq g.met.C.Compiler.eq_is_sound c.args.self.now c.requires.remembers c.args.key c.recall.new.self c.recall.ensures.entries in
     after_keeping steps (g.C.Compiler.rules c.args.compiler.now) (g.met.C.Fold.resumable c.args.compiler.now) (g.met.C.Compiler.lawful c.args.compiler.now)
-    g.C.Defaults.PartialEq.eq g.met.C.Compiler.told_apart c.recalled.new.self asked c.args.key c.remember.new.self c.in_ok-built.built
+    g.C.Defaults.PartialEq.eq g.met.C.Compiler.eq_is_sound c.recall.new.self asked c.args.key c.remember.new.self c.in_ok-built.built
     (record {
       items = c.args.items.now;
       of_key = c.requires.of_key;
@@ -50,8 +50,8 @@ returns-clause-remembers g c =
     })
     c.remember.ensures
 
-pub returns-clause-kept : goal.returns-clause-kept
-returns-clause-kept g c =
-    kept_behind g.C.Defaults.PartialEq.eq c.args.key c.in_ok-known.field-0 c.in_ok-built.built c.args.self.now c.recalled.new.self c.remember.new.self
-    c.in_ok-known.ensures.value c.in_default.not-Some c.recalled.ensures.entries
+pub returns-clause-first : goal.returns-clause-first
+returns-clause-first g c =
+    kept_behind g.C.Defaults.PartialEq.eq c.args.key c.in_ok-known.field-0 c.in_ok-built.built c.args.self.now c.recall.new.self c.remember.new.self
+    c.in_ok-known.ensures.value c.in_default.not-Some c.recall.ensures.entries
     c.remember.ensures

@@ -9,7 +9,8 @@ use Rattle.abc_voices_sections.proofs.stage.Stage.of.Given as goal
 abbrev pub invariant-loop-voice : goal.invariant-loop-voice
 invariant-loop-voice l = record {
   parts : l.parts ++ map (part_of (content l.section)) (map (λ voice. voice.now) (drop l.voice-index l.voices)) ≡ map (part_of (content l.section)) (map (λ voice. voice.now) l.voices);
-  sizes : sum_by part_size l.parts + sum_by (size_in (content l.section)) (map (λ voice. voice.now) (drop l.voice-index l.voices)) ≡ sum_by (size_in (content l.section)) (map (λ voice. voice.now) l.voices);
+  sizes : sum_by part_size l.parts + sum_by (size_in (content l.section)) (map (λ voice. voice.now) (drop l.voice-index l.voices))
+      ≡ sum_by (size_in (content l.section)) (map (λ voice. voice.now) l.voices);
   left : sum_by part_size l.parts + l.left ≡ l.fn.room;
   longest : max l.longest.0 (longest (map (λ voice. voice.now) (drop l.voice-index l.voices)) (content l.section)) ≡ longest (map (λ voice. voice.now) l.voices) (content l.section);
   in_time : l.longest.0 ≤ grains_of_the_latest_end;
