@@ -1,6 +1,6 @@
 //! Pieces of which it is known which follow each other.
 
-ghost use Rattle.std.specs.Prelude.{◌≡◌, [], ◌∷◌, ◌++◌, OnErr, OnOk, true};
+ghost use Rattle.std.specs.Prelude.{◌≡◌, [], ◌∷◌, ◌++◌, IfOk, OnErr, OnOk, true};
 ghost use Rattle.abc_fold.specs.Following.{AreMarked, FollowsLast};
 
 use crate::{Fold, Piece};
@@ -38,8 +38,19 @@ impl<F: Fold> Pieces<F> {
         }
     }
 
+    /// An empty list with room for `room` pieces.
+    pub fn with_room(alloc: Global, room: usize) -> Result<Pieces<F>, AllocError>
+        ensures { IfOk result (λ pieces. pieces ≡ []) }
+    {
+        Ok(Pieces {
+            pieces: Vec::with_capacity(alloc, room)?,
+            marks: Vec::with_capacity(alloc, room)?,
+        })
+    }
+
     /// Appends a piece of which it is not known whether it follows the last one. If an allocation fails, the pieces stay
     /// as they were.
+    #[inline(always)]
     pub fn push(&mut self, piece: Piece<F>) -> Result<(), AllocError>
         ensures ok { OnOk result (self.new ≡ self.old ++ piece ∷ []) }
         ensures unchanged { OnErr result (self.new ≡ self.old) }
@@ -49,6 +60,7 @@ impl<F: Fold> Pieces<F> {
 
     /// Appends a kept piece that was entered in the very state in which the last one was left, if there is one. Where
     /// memory is refused the pieces stay as they were.
+    #[inline(always)]
     pub fn push_following(&mut self, piece: Piece<F>) -> Result<(), AllocError>
         requires { FollowsLast self.old piece }
         ensures ok { OnOk result (self.new ≡ self.old ++ piece ∷ []) }
@@ -58,6 +70,7 @@ impl<F: Fold> Pieces<F> {
     }
 
     /// Appends a piece with its mark.
+    #[inline(always)]
     fn put(&mut self, piece: Piece<F>, follows: bool) -> Result<(), AllocError>
         requires { follows ≡ true → FollowsLast self.old piece }
         ensures ok { OnOk result (self.new ≡ self.old ++ piece ∷ []) }

@@ -118,16 +118,21 @@ impl<T> GapList<T> {
     }
 
     /// Puts an item at the end. The gap is after it then.
+    #[inline(always)]
     pub fn push(&mut self, item: T)
         requires { 0 < self.old.room }
         ensures items { self.new.items ≡ self.old.items ++ item ∷ [] }
         ensures room { self.new.room ≡ self.old.room - 1 }
     {
-        let end = self.len();
-        self.insert(end, item);
+        let end = self.block.len();
+        if self.block.gap() != end {
+            self.move_gap(end);
+        }
+        self.block.put(item);
     }
 
-    /// Moves the gap to a place.
+    /// Moves the gap to a place. It is out of line, so that `push` is short.
+    #[inline(never)]
     fn move_gap(&mut self, to: usize)
         requires { to ≤ length self.old.items }
         ensures { self.new ≡ gapped self.old.items to self.old.room (add_to_tally self.old.moved (distance self.old.gap to)) }

@@ -67,6 +67,7 @@ fn piece_at<F: Fold>(
 }
 
 /// Appends a piece. `known`: it follows the last one.
+#[inline(always)]
 fn append<F: Fold>(pieces: &mut Pieces<F>, piece: Piece<F>, known: bool) -> Result<(), AllocError>
     requires { known ≡ true → FollowsLast pieces.old piece }
     ensures ok { OnOk result (pieces.new ≡ pieces.old ++ piece ∷ []) }
@@ -134,6 +135,15 @@ fn append_row<F: Fold>(
     Ok(row.end())
 }
 
+/// The number of cells of some rows. No result depends on it.
+fn room_for<C: Drop>(rows: &[CarriedRow<C>]) -> usize {
+    let mut room: usize = 0;
+    for row in rows {
+        room = room.saturating_add(row.cells().len());
+    }
+    room
+}
+
 /// The pieces of the cells of a block.
 pub(crate) fn pieces_of<F: Fold>(
     alloc: Global,
@@ -149,7 +159,7 @@ pub(crate) fn pieces_of<F: Fold>(
     ensures kept_states { IfOk result (λ pieces. kept_states_in pieces ≡ kept_states_over chains.now.items rows.now block.now) }
     ensures kept { IfOk result (λ pieces. All (IsKept (F.steps fold.now)) pieces) }
 {
-    let mut pieces = Pieces::new(alloc);
+    let mut pieces = Pieces::with_room(alloc, room_for(&rows[block.from..block.to]))?;
     let mut end = None;
     for i in block.from..block.to {
         end = append_row(alloc, fold, chains, &rows[i], end, &mut pieces)?;

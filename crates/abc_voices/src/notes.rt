@@ -9,7 +9,7 @@ ghost use Rattle.abc_voices_sections.specs.Play.{duration};
 ghost use Rattle.abc_voices_sections.specs.Step.{length_of, tones_of};
 
 use crate::tied_notes::ReverseNotes;
-use abc_bars_items::{Item, TonesView, Tones};
+use abc_bars_items::{Item, Tones, TonesView};
 use abc_time::Grains;
 use std::alloc::AllocError;
 

@@ -9,8 +9,8 @@ ghost use Rattle.live_examples.specs.Toy.{toy_steps};
 use abc_fold::{Chain, Piece, Pieces, Work};
 use abc_text::Sequence;
 use live_examples::toy::Toy;
-use out_of_memory_layers::retry;
 use out_of_memory_layers::report::{call, done, silent};
+use out_of_memory_layers::retry;
 use std::alloc::{AllocError, Global};
 use std::rt::Runtime;
 

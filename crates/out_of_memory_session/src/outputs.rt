@@ -18,8 +18,8 @@ use abc_live_index::{
 use abc_tune::TuneMemo;
 use abc_tune_compiler::Fault;
 use live_examples::toy::Toy;
-use out_of_memory_layers::retry;
 use out_of_memory_layers::report::{again, call, done};
+use out_of_memory_layers::retry;
 use std::alloc::{AllocError, Global};
 use std::rt::Runtime;
 

@@ -14,7 +14,7 @@ use std::alloc::{AllocError, Global};
 use std::rt::Runtime;
 
 /// Two cells of a line.
-pub fn abc_bars_body<R: Runtime>(rt: &R, alloc: Global) -> Result<bool, AllocError> {
+pub fn abc_cells<R: Runtime>(rt: &R, alloc: Global) -> Result<bool, AllocError> {
     let mut work = Work::mint(rt);
     call(rt, "Abc::cells");
     let cells = Abc.cells(alloc, b"CDEF|[CEG]2", &mut work)?;

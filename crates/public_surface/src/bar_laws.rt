@@ -27,7 +27,7 @@ ghost use Rattle.abc_bars.specs.Mentioned.{MentionsFew, NamesVoices};
 ghost use Rattle.abc_bars.specs.Step.{entry_step};
 
 use abc_bars::{
-    Body, Defaults, CellResult, Header, Key, Note, VoiceState, Spanned, TokenKind, laws,
+    Body, CellResult, Defaults, Header, Key, Note, Spanned, TokenKind, VoiceState, laws,
 };
 
 /// Each cell is entered in the view of its place.

@@ -16,9 +16,9 @@ ghost use Rattle.abc_bars.specs.VoicesLent.{lends_voice};
 
 use abc_bars::{
     BarFold, BarLine, Body, Cell, Defaults, Entry, FaultCode, Fold, Grains, Header, Item, ItemText,
-    Items, ItemsBuilder, TonesView, LocalFault, Meter, Reach, Sequence, VoiceState, Shared,
-    ShortSequence, Token, Tone, Tones, TuneMeter, TuneProgram, TuneTempo, UnitLength, VoiceName,
-    Voices, Work,
+    Items, ItemsBuilder, LocalFault, Meter, Reach, Sequence, Shared, ShortSequence, Token, Tone,
+    Tones, TonesView, TuneMeter, TuneProgram, TuneTempo, UnitLength, VoiceName, VoiceState, Voices,
+    Work,
 };
 use std::alloc::{AllocError, Global};
 
