@@ -13,7 +13,7 @@ from .markdown import TOP, code, pages
 from .outcome import Outcome, Outcomes
 
 CLIENTS = {"watch": "watch", "page": "page", "language-server": "language_server"}  # by their installed names
-FOLDERS = "clients|scripts|tests|docs|crates|examples|manual"
+FOLDERS = "clients|scripts|tests|docs|crates|examples|manual|python"
 FILE = re.compile(rf"(?<![\w./:~-])(?:\./)?((?:{FOLDERS})/[\w./-]*\w)(?![\w*{{])")
 COMMAND = re.compile(rf"(?:^|[\s|(])(\./\w+(?![\w.-])|abc2midi_live(?:-[a-z-]+)?|(?:{FOLDERS})/[\w/]+)((?:\s+[^\s|<>()`]+)*)")
 FLAG = re.compile(r"(?<![\w-])(--[a-z][a-z-]+)")
@@ -41,7 +41,7 @@ def unknown_flag(line: str) -> Optional[str]:
     """What is wrong with a command of a line and its flags, or None."""
     for name, rest in COMMAND.findall(line):
         is_path = "/" in name.removeprefix("./")
-        if is_path and not (TOP / name).is_file():
+        if is_path and not (TOP / name).is_file() or (TOP / name).is_dir():
             continue  # `missing_file` looks at it
         words = words_of(name)
         if words is None:
