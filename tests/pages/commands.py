@@ -13,6 +13,7 @@ from .markdown import TOP, code, pages
 from .outcome import Outcome, Outcomes
 
 CLIENTS = {"watch": "watch", "page": "page", "language-server": "language_server"}  # by their installed names
+PAGES = {"watch": "docs/watch.md", "page": "docs/page.md", "language_server": "docs/editors.md"}
 FOLDERS = "clients|scripts|tests|docs|crates|examples|manual|python"
 FILE = re.compile(rf"(?<![\w./:~-])(?:\./)?((?:{FOLDERS})/[\w./-]*\w)(?![\w*{{])")
 COMMAND = re.compile(rf"(?:^|[\s|(])(\./\w+(?![\w.-])|abc2midi_live(?:-[a-z-]+)?|(?:{FOLDERS})/[\w/]+)((?:\s+[^\s|<>()`]+)*)")
@@ -66,6 +67,15 @@ def is_flag_of_ours(flag: str) -> bool:
     names = ["./build", "./check", "./install", "./bench", "abc2midi_live", *(f"clients/{name}" for name in CLIENTS.values())]
     found = [words_of(str(name)) or "" for name in [*names, *scripts]]
     return any(re.search(rf"(?<![\w-]){flag}(?![\w-])", words) for words in found)
+
+
+def described() -> Outcomes:
+    """Each flag of a client, which the client's page has to describe."""
+    for name, page in PAGES.items():
+        text = (TOP / page).read_text("utf-8")
+        for flag in dict.fromkeys(FLAG.findall(words_of(f"clients/{name}") or "")):
+            is_there = flag == "--help" or f"`{flag}" in text
+            yield Outcome(f"{page}: {flag}", None if is_there else f"it does not describe {flag} of clients/{name}")
 
 
 def quoted() -> Outcomes:
