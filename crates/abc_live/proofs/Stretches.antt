@@ -111,8 +111,8 @@ module _ {C State Cell Items Defaults : Type 0} (steps : Steps State Cell Items)
       let begins = is.in_stretch.begins in
       omega (arith, ends, begins)
 
-  pub rows_count_fresh_cells : length patch.rows ≡ length patch.text
-  rows_count_fresh_cells = sym (length-map patch.rows count_in) ∙ ap length (counts_are rules patch.text patch.rows is.stands.read) ∙ length-map patch.text (λ line. length (rules.cells line))
+  pub rows_count : length patch.rows ≡ length patch.text
+  rows_count = sym (length-map patch.rows count_in) ∙ ap length (counts_are rules patch.text patch.rows is.stands.read) ∙ length-map patch.text (λ line. length (rules.cells line))
 
   -- the lines of the stretch are within the limits
   pub lines_good : list_all is_line (take patch.stretch.came (drop patch.stretch.from patch.text)) ≡ true

@@ -79,7 +79,7 @@ module _ {C State Cell Items Defaults : Type 0} (steps : Steps State Cell Items)
         tunes = all;
         chains = chains;
         stretch = stretch;
-        made = made;
+        new_chains = made;
         places = places;
         reused_tunes = reused_tunes;
       } → IsStretch s patch

@@ -6,7 +6,7 @@ use Rattle.abc_lines.specs.declared.limits.TheConstants.{MOST_LINES}
 use Rattle.abc_live.specs.Prepared.{IsBook, header_faults_there, splice_in}
 use Rattle.abc_live.proofs.Outcomes.{behind_inside, book_now, cells_there, faults_now, few_came, few_faults, few_lines}
 use Rattle.abc_live.proofs.Outcomes.{good_lines, header_there, lines_inside, ok_both, outputs_after, own_lines, taken_over}
-use Rattle.abc_live.proofs.Stretches.{made_tunes, rows_count_fresh_cells, stretch_inside}
+use Rattle.abc_live.proofs.Stretches.{made_tunes, rows_count, stretch_inside}
 use Rattle.abc_live_index.specs.Output.{output_in}
 use Rattle.abc_live_index.specs.Tunes.{faults_by}
 use Rattle.abc_live_index.specs.declared.output.Output.{Output}
@@ -27,7 +27,7 @@ returns-in_err-lines-clause-counted g c = built_none _ _
 pub counts_of-requires-clause-inside : goal.counts_of-requires-clause-inside
 counts_of-requires-clause-inside g c =
     let inside = stretch_inside (g.C.Fold.steps c.args.text.now.compiler) (g.C.Compiler.rules c.args.text.now.compiler) (splice_in c.args.change.now) c.args.kept.now c.requires.prepared in
-    let many = rows_count_fresh_cells (g.C.Fold.steps c.args.text.now.compiler) (g.C.Compiler.rules c.args.text.now.compiler) (splice_in c.args.change.now) c.args.kept.now c.requires.prepared in
+    let many = rows_count (g.C.Fold.steps c.args.text.now.compiler) (g.C.Compiler.rules c.args.text.now.compiler) (splice_in c.args.change.now) c.args.kept.now c.requires.prepared in
     omega (arith, inside, many)
 
 pub returns-in_err-counts-clause-counted : goal.returns-in_err-counts-clause-counted
@@ -44,14 +44,14 @@ outputs_of-requires-clause-tunes g c =
     let seen = own_lines (g.C.Fold.steps c.args.text.now.compiler) (g.C.Compiler.rules c.args.text.now.compiler)
     (splice_in c.args.change.now) c.args.kept.now c.requires.prepared c.args.text.now c.requires.on c.stretch-stretch.result c.stretch-stretch.ensures
     c.lines-3.result.now (seen_lines c.deref.result.now) c.lines-3.ensures.lines (ap seen_lines c.deref.ensures.value ∙ c.in_ok-lines.ensures) in
-    rw (c.compiler-compiler.ensures, seen, c.header_state.ensures, c.header.ensures, c.stretch-stretch.ensures, c.made.ensures, c.places.ensures)
+    rw (c.compiler-compiler.ensures, seen, c.header_state.ensures, c.header.ensures, c.stretch-stretch.ensures, c.new_chains.ensures, c.places.ensures)
     (made_tunes (g.C.Fold.steps c.args.text.now.compiler) (g.C.Compiler.rules c.args.text.now.compiler)
     (splice_in c.args.change.now) c.args.kept.now c.requires.prepared c.first_chain-first.result.now c.first_chain-first.ensures
     (g.met.C.Fold.resumable c.args.text.now.compiler) (g.met.C.Compiler.lawful c.args.text.now.compiler))
 
 pub outputs_of-requires-clause-reused_tunes : goal.outputs_of-requires-clause-reused_tunes
 outputs_of-requires-clause-reused_tunes g c =
-    rw (c.compiler-compiler.ensures, c.made.ensures, c.reused_tunes.ensures)
+    rw (c.compiler-compiler.ensures, c.new_chains.ensures, c.reused_tunes.ensures)
     (taken_over (g.C.Fold.steps c.args.text.now.compiler) (g.C.Compiler.rules c.args.text.now.compiler)
     (splice_in c.args.change.now) c.args.kept.now c.requires.prepared c.args.text.now c.requires.on c.stretch-stretch.result c.stretch-stretch.ensures
     c.outputs.result.now.items (ap (λ (o : Gapped Output). o.items) c.outputs.ensures ∙ c.requires.outputs))
@@ -70,7 +70,7 @@ faults_of-requires-clause-header g c =
 
 pub faults_of-requires-clause-cells : goal.faults_of-requires-clause-cells
 faults_of-requires-clause-cells g c =
-    rw (c.made.ensures, c.places.ensures)
+    rw (c.new_chains.ensures, c.places.ensures)
     (cells_there (g.C.Fold.steps c.args.text.now.compiler) (g.C.Compiler.rules c.args.text.now.compiler)
     (splice_in c.args.change.now) c.args.kept.now c.requires.prepared c.args.text.now c.requires.on c.stretch-stretch.result c.stretch-stretch.ensures
     c.deref-2.result.now (c.deref-2.ensures.value ∙ c.in_ok-counts.ensures))
@@ -98,7 +98,7 @@ prepare-requires-clause-few g c =
 pub returns-clause-outputs : goal.returns-clause-outputs
 returns-clause-outputs g c =
     let made = c.in_ok-outputs.ensures.value ∙ ap (λ compiler. map
-    (output_in (g.C.Compiler.rules compiler)) c.new_chains.result.now) c.compiler-compiler.ensures ∙ ap (map (output_in (g.C.Compiler.rules c.args.text.now.compiler))) c.made.ensures in
+    (output_in (g.C.Compiler.rules compiler)) c.new_chains.result.now) c.compiler-compiler.ensures ∙ ap (map (output_in (g.C.Compiler.rules c.args.text.now.compiler))) c.new_chains.ensures in
     let after = outputs_after (g.C.Fold.steps c.args.text.now.compiler) (g.C.Compiler.rules c.args.text.now.compiler)
     (splice_in c.args.change.now) c.args.kept.now c.requires.prepared c.args.text.now c.requires.on c.stretch-stretch.result c.stretch-stretch.ensures
     c.args.book.now.outputs.items c.in_ok-outputs.outputs.items c.requires.outputs made in
@@ -108,7 +108,7 @@ returns-clause-outputs g c =
 pub returns-clause-book : goal.returns-clause-book
 returns-clause-book g c =
     let made = c.in_ok-outputs.ensures.value ∙ ap (λ compiler. map
-    (output_in (g.C.Compiler.rules compiler)) c.new_chains.result.now) c.compiler-compiler.ensures ∙ ap (map (output_in (g.C.Compiler.rules c.args.text.now.compiler))) c.made.ensures in
+    (output_in (g.C.Compiler.rules compiler)) c.new_chains.result.now) c.compiler-compiler.ensures ∙ ap (map (output_in (g.C.Compiler.rules c.args.text.now.compiler))) c.new_chains.ensures in
     let after = outputs_after (g.C.Fold.steps c.args.text.now.compiler) (g.C.Compiler.rules c.args.text.now.compiler)
     (splice_in c.args.change.now) c.args.kept.now c.requires.prepared c.args.text.now c.requires.on c.stretch-stretch.result c.stretch-stretch.ensures
     c.args.book.now.outputs.items c.in_ok-outputs.outputs.items c.requires.outputs made in
@@ -121,11 +121,11 @@ returns-clause-book g c =
     ∙ ap (λ chains. header_faults_there
     (g.C.Compiler.rules
     c.args.text.now.compiler) c.stretch-stretch.result.from c.deref-2.result.now c.first_chain-first.result.now
-    c.header-2.result ++ faults_by (g.C.Compiler.rules c.args.text.now.compiler) c.stretch-stretch.result.from c.deref-2.result.now chains c.places.result.now) c.made.ensures
+    c.header-2.result ++ faults_by (g.C.Compiler.rules c.args.text.now.compiler) c.stretch-stretch.result.from c.deref-2.result.now chains c.places.result.now) c.new_chains.ensures
     ∙ ap (λ places. header_faults_there
     (g.C.Compiler.rules
     c.args.text.now.compiler) c.stretch-stretch.result.from c.deref-2.result.now c.first_chain-first.result.now
-    c.header-2.result ++ faults_by (g.C.Compiler.rules c.args.text.now.compiler) c.stretch-stretch.result.from c.deref-2.result.now c.args.kept.now.made places) c.places.ensures in
+    c.header-2.result ++ faults_by (g.C.Compiler.rules c.args.text.now.compiler) c.stretch-stretch.result.from c.deref-2.result.now c.args.kept.now.new_chains places) c.places.ensures in
     let faults = faults_now (g.C.Fold.steps c.args.text.now.compiler) (g.C.Compiler.rules c.args.text.now.compiler)
     (splice_in c.args.change.now) c.args.kept.now c.requires.prepared c.args.text.now c.requires.on c.stretch-stretch.result c.stretch-stretch.ensures
     c.first_chain-first.result.now c.first_chain-first.ensures

@@ -102,7 +102,7 @@ returns-in-Ok-clause-stretch g c =
       tunes = tune_places_after made.patches.tunes r.stretch k.tunes made.patches.places.items;
       chains = made.patches.chains.after.items;
       stretch = r.stretch;
-      made = r.folded.new_chains.items;
+      new_chains = r.folded.new_chains.items;
       places = made.patches.places.items;
       reused_tunes = r.folded.reused_tunes.items;
     }) c.of.ensures)
