@@ -5,7 +5,7 @@
 //! and stores that fail, `readers` a reader that fails once, `memos` a memo of tunes in the toy language. The modules
 //! `refused_..` tell what `scripts/refused_calls` is to refuse memory, call by call; calls below edits, runs and jobs
 //! are made in the crates `out_of_memory_layers` and `out_of_memory_session`. What commands can show is in
-//! `tests/transcripts`. Expected values are worked by hand from the rules in `docs/program.md`.
+//! `tests/transcripts`. Expected values are worked by hand from the rules in `docs/protocol.md`.
 #![tactic(auto)]
 
 #[cfg(test)]
