@@ -16,8 +16,8 @@ PAGES = ("README.md", "CONTRIBUTING.md", *(f"docs/{name}.md" for name in DOCUMEN
 WITH_CLAUSES = ("docs/promises.md", "docs/verification.md")  # in these a word in brackets is a clause
 # Names of std, of the kit's crates, of the system and of languages, which the sources do not declare.
 OTHERS = frozenset(
-    """Clone Debug Display Drop Err Global None Ok Option Ord Rc Result Some Vec VecDeque
-    ptr std std_alloc EDIT_SECONDS LD_PRELOAD RANDOM_EDITS""".split()
+    """Clone Debug Display Drop Err Global IfErr IfOk MatchResult None Ok OnErr Option Ord Rc Result Some Vec VecDeque
+    copy ptr std std_alloc EDIT_SECONDS LD_PRELOAD RANDOM_EDITS""".split()
 )
 DECLARED = re.compile(r"\b(?:fn|struct|enum|trait|type|const|mod|data|record|abbrev|ghost|class|def)\s+(?:pub\s+)?(\w+)")
 VARIANT = re.compile(r"^ {4,}([A-Z]\w*)(?:[({,]| =|$)", re.M)
@@ -108,8 +108,8 @@ def clauses() -> Outcomes:
     """Each piece of code that docs/verification.md quotes word for word: its paragraphs are in the sources, but for the blanks."""
     page = TOP / "docs/verification.md"
     for block in (block for block in fenced(page) if block.kind == "rust") if page.exists() else ():
-        for piece in re.split(r"\n\s*(?=ensures|requires|pub |\.\.)", block.text):
+        for piece in re.split(r"^\.\.$|\n\s*(?=ensures|requires|pub )", block.text, flags=re.M):
             words = " ".join(piece.split())
-            if words and words != "..":
+            if words:
                 is_there = words in sources().words
                 yield Outcome(f"docs/verification.md: {words[:80]}", None if is_there else "the sources have no such clause")
