@@ -3,7 +3,7 @@
 import re
 from pathlib import Path
 
-from setuptools import setup
+from setuptools import Distribution, setup
 
 try:
     from setuptools.command.bdist_wheel import bdist_wheel
@@ -25,16 +25,19 @@ def version() -> str:
     return found[1]
 
 
-class Wheel(bdist_wheel):
-    """A wheel of Python files alone, or with the library for one platform and any Python 3."""
+class Package(Distribution):
+    """A package of Python files alone, or with the library for one platform."""
 
-    def finalize_options(self):
-        super().finalize_options()
-        self.root_is_pure = not list(HERE.glob("abc2midi_live/libabc2midi_live.so.*"))
+    def has_ext_modules(self):
+        return any(HERE.glob("abc2midi_live/libabc2midi_live.so.*"))
+
+
+class Wheel(bdist_wheel):
+    """A wheel for any Python 3."""
 
     def get_tag(self):
         _, _, platform = super().get_tag()
         return "py3", "none", platform
 
 
-setup(version=version(), cmdclass={"bdist_wheel": Wheel})
+setup(version=version(), distclass=Package, cmdclass={"bdist_wheel": Wheel})
