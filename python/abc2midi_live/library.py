@@ -6,23 +6,24 @@ import ctypes
 import os
 import threading
 import weakref
-from ctypes import byref
+from ctypes import byref, c_size_t, c_uint32
 from typing import Any, Optional
 
-from .bindings import BAD_LINE, BAD_RANGE, DONE, NO_MEMORY, NONE, TOO_LARGE, CFault, CSession, CWork, load
+from .bindings import BAD_LINE, BAD_RANGE, NOT_FOUND, OK, OUT_OF_MEMORY, SHORT_BUFFER, TOO_LARGE, CFault, CSession, CWork, load
 from .edits import Edit
 from .errors import BadLine, BadRange, OutOfMemory, TooLarge, refusal
 from .finding import PathName, find_library
 from .session import Fault, Report, Session, Title, Work
 
-REFUSALS = {NO_MEMORY: OutOfMemory, BAD_RANGE: BadRange, BAD_LINE: BadLine, TOO_LARGE: TooLarge}
+REFUSALS = {BAD_RANGE: BadRange, BAD_LINE: BadLine, TOO_LARGE: TooLarge, OUT_OF_MEMORY: OutOfMemory}
 MOST_NUMBER = 2**32 - 1
-ROOM = 4096  # bytes at first, for what the library copies out
+ROOM = 4096  # bytes at first, for what the library copies
+ROOM_FOR_NUMBERS = 64  # at first
 
 
 class LibrarySession(Session):
-    """A session in this process. It stays on the thread that opened it: a call on another thread raises RuntimeError. A
-    session that is dropped there without `close` is closed; one that is dropped on another thread keeps its memory."""
+    """A session in this process. It stays on the thread that opened it: a call on another thread raises RuntimeError. One that
+    is dropped without `close` is closed, but keeps its memory if another thread drops it."""
 
     def __init__(self, library: Optional[PathName] = None) -> None:
         """Begins a session over a library, or that of `find_library`, with an empty text. Raises LibraryMissing, and
@@ -32,9 +33,10 @@ class LibrarySession(Session):
         self._session, self._counters = CSession(), CWork()
         self._thread = threading.get_ident()
         self._names: dict[int, str] = {}
-        self._buffer = ctypes.create_string_buffer(ROOM)
-        if self._calls.abc_live_open(byref(self._session)) != DONE:
-            raise refusal(OutOfMemory)
+        self._bytes = ctypes.create_string_buffer(ROOM)
+        self._numbers = (c_uint32 * ROOM_FOR_NUMBERS)()
+        self._count = c_size_t()
+        check(self._calls.abc_live_open(byref(self._session)))
         self._finish = weakref.finalize(self, close, self._calls, self._session, self._thread)
 
     # ---- edits
@@ -59,38 +61,42 @@ class LibrarySession(Session):
 
     def _report(self, code: int) -> Report:
         """The report of an edit that returned a code."""
-        if code in REFUSALS:
-            raise refusal(REFUSALS[code])
-        if code != DONE:
-            raise RuntimeError(f"the library answered an edit by {code}")
-        return Report(tuple(self._numbers_by(self._calls.abc_live_written)), tuple(self._numbers_by(self._calls.abc_live_removed)))
+        check(code)
+        written = self._copied_numbers(self._calls.abc_live_written)
+        return Report(tuple(written), tuple(self._copied_numbers(self._calls.abc_live_removed)))
 
     # ---- what the text has
 
     def output(self, number: int) -> Optional[bytes]:
         self._check_open()
-        return self._bytes_by(self._calls.abc_live_output, number) if 0 <= number <= MOST_NUMBER else None
+        if not 0 <= number <= MOST_NUMBER:
+            return None
+        return self._copied_bytes(self._calls.abc_live_output, byref(self._session), number)
 
     @property
     def numbers(self) -> list[int]:
         self._check_open()
-        return self._numbers_by(self._calls.abc_live_numbers)
+        return self._copied_numbers(self._calls.abc_live_numbers)
 
     @property
     def titles(self) -> list[Title]:
         self._check_open()
-        number = ctypes.c_uint32()
+        number = c_uint32()
         found = []
-        for index in range(self._calls.abc_live_title_count(byref(self._session))):
-            text = self._bytes_by(self._calls.abc_live_title, index, byref(number))
+        for index in range(self._counted(self._calls.abc_live_title_count)):
+            text = self._copied_bytes(self._calls.abc_live_title, byref(self._session), index, byref(number))
             found.append(Title(number.value, text or b""))
         return found
 
     @property
     def faults(self) -> list[Fault]:
         self._check_open()
-        rows = self._rows_by(self._calls.abc_live_faults, CFault)
-        return [Fault(row.line, row.column, self._name(row.code)) for row in rows]
+        fault = CFault()
+        found = []
+        for index in range(self._counted(self._calls.abc_live_fault_count)):
+            check(self._calls.abc_live_fault(byref(self._session), index, byref(fault)))
+            found.append(Fault(fault.line, fault.column, self._name(fault.code)))
+        return found
 
     @property
     def work(self) -> Optional[Work]:
@@ -99,35 +105,36 @@ class LibrarySession(Session):
 
     # ---- calls
 
-    def _rows_by(self, call: Any, kind: Any) -> Any:
-        """The rows that a call writes into the caller's room, of which it returns the count."""
-        room = 64
-        while True:
-            out = (kind * room)()
-            count = call(byref(self._session), out, room)
-            if count <= room:
-                return out[:count]
-            room = count
+    def _counted(self, call: Any) -> int:
+        """The count that a call finds."""
+        check(call(byref(self._session), byref(self._count)))
+        return self._count.value
 
-    def _numbers_by(self, call: Any) -> list[int]:
-        """The numbers that a call writes."""
-        return list(self._rows_by(call, ctypes.c_uint32))
+    def _copied_numbers(self, call: Any) -> list[int]:
+        """The numbers that a call copies."""
+        code = call(byref(self._session), self._numbers, len(self._numbers), byref(self._count))
+        if code == SHORT_BUFFER:
+            self._numbers = (c_uint32 * self._count.value)()
+            code = call(byref(self._session), self._numbers, len(self._numbers), byref(self._count))
+        check(code)
+        return self._numbers[: self._count.value]
 
-    def _bytes_by(self, call: Any, *words: Any) -> Optional[bytes]:
-        """The bytes that a call writes into the caller's room, or None."""
-        while True:
-            count = call(byref(self._session), *words, self._buffer, len(self._buffer))
-            if count == NONE:
-                return None
-            if count <= len(self._buffer):
-                return ctypes.string_at(self._buffer, count)
-            self._buffer = ctypes.create_string_buffer(count)
+    def _copied_bytes(self, call: Any, *words: Any) -> Optional[bytes]:
+        """The bytes that a call copies, or None if it finds none."""
+        code = call(*words, self._bytes, len(self._bytes), byref(self._count))
+        if code == SHORT_BUFFER:
+            self._bytes = ctypes.create_string_buffer(self._count.value)
+            code = call(*words, self._bytes, len(self._bytes), byref(self._count))
+        if code == NOT_FOUND:
+            return None
+        check(code)
+        return ctypes.string_at(self._bytes, self._count.value)
 
     def _name(self, code: int) -> str:
         """The name of a fault."""
         if code not in self._names:
-            count = self._calls.abc_live_fault_name(code, self._buffer, len(self._buffer))
-            self._names[code] = ctypes.string_at(self._buffer, count).decode()
+            name = self._copied_bytes(self._calls.abc_live_fault_name, code)
+            self._names[code] = name.decode() if name is not None else f"Fault{code}"
         return self._names[code]
 
     def _check_open(self) -> None:
@@ -136,11 +143,19 @@ class LibrarySession(Session):
             raise RuntimeError("a session of the library stays on the thread that opened it")
 
     def _recover(self) -> None:
-        count = self._calls.abc_live_line_count(byref(self._session))
-        self._lines = [self._bytes_by(self._calls.abc_live_line, number) or b"" for number in range(1, count + 1)]
+        rows = range(1, self._counted(self._calls.abc_live_line_count) + 1)
+        self._lines = [self._copied_bytes(self._calls.abc_live_line, byref(self._session), row) or b"" for row in rows]
 
     def _close(self) -> None:
         self._finish()
+
+
+def check(code: int) -> None:
+    """Raises what a code of the library means."""
+    if code in REFUSALS:
+        raise refusal(REFUSALS[code])
+    if code != OK:
+        raise RuntimeError(f"the library answered {code}: this is a mistake in the package abc2midi_live")
 
 
 def text_of(lines: list[bytes]) -> bytes:

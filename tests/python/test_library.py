@@ -1,9 +1,7 @@
 """Sessions over the C library."""
 
-import ctypes
 import gc
 import threading
-from ctypes import byref
 from unittest import mock
 
 import abc2midi_live
@@ -16,18 +14,14 @@ class OverTheLibrary(sessions.Sessions):
     def begin(self) -> LibrarySession:
         return LibrarySession(setting.library)
 
-    def held_lines(self, session: LibrarySession) -> list:
-        """The lines as the library has them."""
-        calls, buffer = session._calls, ctypes.create_string_buffer(65_535)
-        rows = range(1, calls.abc_live_line_count(byref(session._session)) + 1)
-        return [ctypes.string_at(buffer, calls.abc_live_line(byref(session._session), n, buffer, len(buffer))) for n in rows]
-
     def test_the_library_has_the_same_lines(self) -> None:
         for seed in range(20):
             with self.begin() as session:
                 for command in sessions.random_stream(seed):
                     sessions.answers_of(session, [command])
-                self.assertEqual(self.held_lines(session), session.lines)
+                here = session.lines
+                session._recover()  # reads the lines of the library
+                self.assertEqual(session.lines, here)
 
     def test_counters(self) -> None:
         session = self.session()
