@@ -28,14 +28,14 @@ def version() -> str:
 class Package(Distribution):
     """A package of Python files alone, or with the library for one platform."""
 
-    def has_ext_modules(self):
+    def has_ext_modules(self) -> bool:
         return any(HERE.glob("abc2midi_live/libabc2midi_live.so.*"))
 
 
 class Wheel(bdist_wheel):
     """A wheel for any Python 3."""
 
-    def get_tag(self):
+    def get_tag(self) -> tuple[str, str, str]:
         _, _, platform = super().get_tag()
         return "py3", "none", platform
 
