@@ -33,7 +33,9 @@ SESSION, WORK, FAULT = POINTER(CSession), POINTER(CWork), POINTER(CFault)
 NUMBER, COUNT = POINTER(c_uint32), POINTER(c_size_t)
 BYTES = [c_char_p, c_size_t]  # and how many they are, or how many fit
 NUMBERS = [NUMBER, c_size_t]
-CALLS = {  # all return a code
+MAJOR = 1  # of the versions of the library that have these calls
+CALLS = {  # all return a code, but `version`
+    "version": [],
     "open": [SESSION],
     "close": [SESSION],
     "insert": [SESSION, c_uint32, *BYTES, WORK],
@@ -45,10 +47,9 @@ CALLS = {  # all return a code
     "output": [SESSION, c_uint32, *BYTES, COUNT],
     "title_count": [SESSION, COUNT],
     "title": [SESSION, c_size_t, NUMBER, *BYTES, COUNT],
-    "fault_count": [SESSION, COUNT],
-    "fault": [SESSION, c_size_t, FAULT],
+    "faults": [SESSION, FAULT, c_size_t, COUNT],
     "fault_name": [c_uint32, *BYTES, COUNT],
-    "line_count": [SESSION, COUNT],
+    "line_count": [SESSION, NUMBER],
     "line": [SESSION, c_uint32, *BYTES, COUNT],
 }
 
@@ -63,4 +64,7 @@ def load(name: str) -> ctypes.CDLL:
             function.restype, function.argtypes = c_uint32, arguments
     except (OSError, AttributeError) as error:
         raise LibraryMissing(str(error)) from error
+    major = library.abc_live_version() // 1_000_000
+    if major != MAJOR:
+        raise LibraryMissing(f"{name} has the major version {major}, not {MAJOR}")
     return library

@@ -83,7 +83,8 @@ class LibrarySession(Session):
         self._check_open()
         number = c_uint32()
         found = []
-        for index in range(self._counted(self._calls.abc_live_title_count)):
+        check(self._calls.abc_live_title_count(byref(self._session), byref(self._count)))
+        for index in range(self._count.value):
             text = self._copied_bytes(self._calls.abc_live_title, byref(self._session), index, byref(number))
             found.append(Title(number.value, text or b""))
         return found
@@ -91,12 +92,13 @@ class LibrarySession(Session):
     @property
     def faults(self) -> list[Fault]:
         self._check_open()
-        fault = CFault()
-        found = []
-        for index in range(self._counted(self._calls.abc_live_fault_count)):
-            check(self._calls.abc_live_fault(byref(self._session), index, byref(fault)))
-            found.append(Fault(fault.line, fault.column, self._name(fault.code)))
-        return found
+        call = self._calls.abc_live_faults
+        code = call(byref(self._session), None, 0, byref(self._count))
+        faults = (CFault * self._count.value)()
+        if code == SHORT_BUFFER:
+            code = call(byref(self._session), faults, len(faults), byref(self._count))
+        check(code)
+        return [Fault(fault.line, fault.column, self._name(fault.code)) for fault in faults]
 
     @property
     def work(self) -> Optional[Work]:
@@ -104,11 +106,6 @@ class LibrarySession(Session):
         return Work(self._counters.scanned, self._counters.folded, self._counters.built)
 
     # ---- calls
-
-    def _counted(self, call: Any) -> int:
-        """The count that a call finds."""
-        check(call(byref(self._session), byref(self._count)))
-        return self._count.value
 
     def _copied_numbers(self, call: Any) -> list[int]:
         """The numbers that a call copies."""
@@ -143,7 +140,9 @@ class LibrarySession(Session):
             raise RuntimeError("a session of the library stays on the thread that opened it")
 
     def _recover(self) -> None:
-        rows = range(1, self._counted(self._calls.abc_live_line_count) + 1)
+        count = c_uint32()
+        check(self._calls.abc_live_line_count(byref(self._session), byref(count)))
+        rows = range(1, count.value + 1)
         self._lines = [self._copied_bytes(self._calls.abc_live_line, byref(self._session), row) or b"" for row in rows]
 
     def _close(self) -> None:
