@@ -9,8 +9,8 @@ from typing import NamedTuple, Optional
 
 from abc2midi_live import EditError, Report, Session
 
-EDIT = re.compile(rb"(insert) ([0-9]{1,9}) ([0-9]{1,9})|(replace) ([0-9]{1,9}) ([0-9]{1,9}) ([0-9]{1,9})|(delete) ([0-9]{1,9}) ([0-9]{1,9})")
-QUESTION = re.compile(rb"titles|faults|(hex) ([0-9]{1,9})")
+EDIT = re.compile(rb"(insert|delete)( [0-9]{1,9}){2}|replace( [0-9]{1,9}){3}")
+QUESTION = re.compile(rb"titles|faults|hex [0-9]{1,9}")
 
 
 class Command(NamedTuple):

@@ -3,7 +3,6 @@
 import random
 from pathlib import Path
 from typing import Any, Callable, Optional
-from unittest import mock
 
 import setting
 import trial
@@ -165,9 +164,11 @@ class Sessions(setting.Room):
         session.insert(1, (line for line in ("é\udcff", b"\xff", "", "\r")))
         session.insert(1, "")
         session.insert(1, [])
-        wanted = ["é".encode() + b"\xff", b"\xff", b"", b"\r", b"\xff\0\xef\xbb\xbf", b"a", b"", "T:é".encode(), b"z\r", b"", b"last"]
+        wanted = ["é".encode() + b"\xff", b"\xff", b"", b"\r", b"\xff\0\xef\xbb\xbf"]
+        wanted += [b"a", b"", "T:é".encode(), b"z\r", b"", b"last"]
         self.assertEqual(session.lines, wanted)
-        for wrong, error in (["a\nb"], ValueError), ([b"a", b"\n"], ValueError), (["\ud800"], ValueError), ([1], TypeError), (1, TypeError):
+        not_lines: list[Any] = [["a\nb"], [b"a", b"\n"], ["\ud800"], [1], 1]
+        for wrong, error in zip(not_lines, [ValueError, ValueError, ValueError, TypeError, TypeError]):
             for edit in (lambda: session.insert(1, wrong), lambda: session.replace(1, 2, wrong)):
                 with self.assertRaises(error):
                     edit()
@@ -192,8 +193,8 @@ class Sessions(setting.Room):
         session = self.session([*TUNE, b"X:2", b"K:C"])
         for at in (0, -1, 9, 10**9, 10**10, 2**32 + 1, -(2**32) + 1, 2**64 + 1):
             self.refuse(session, BadRange, lambda: session.insert(at, [b"C"]), lambda: session.insert(at, [b"C" * 65_536]))
-        pairs = (0, 1), (1, 8), (8, 8), (3, 2), (-1, 1), (1, -1), (1, 10**10), (2**32 + 1, 2**32 + 1), (1, 2**32 + 1), (2**64, 2**64)
-        for pair in pairs:
+        far = 2**32 + 1
+        for pair in (0, 1), (1, 8), (8, 8), (3, 2), (-1, 1), (1, -1), (1, 10**10), (far, far), (1, far), (2**64, 2**64):
             self.refuse(session, BadRange, lambda: session.replace(*pair, [b"C"]), lambda: session.delete(*pair))
             self.refuse(session, BadRange, lambda: session.replace(*pair, [b"C" * 65_536]))
         self.refuse(session, BadRange, lambda: session.insert(9, [b""] * 1_048_577))
@@ -209,7 +210,8 @@ class Sessions(setting.Room):
 
     def test_texts_that_are_too_large(self) -> None:
         session = self.session([b"X:1", b"K:C"])
-        self.refuse(session, TooLarge, lambda: session.insert(1, [b""] * 1_048_575), lambda: session.replace(1, 2, [b""] * 1_048_577))
+        blank = [b""] * 1_048_577
+        self.refuse(session, TooLarge, lambda: session.insert(1, blank[2:]), lambda: session.replace(1, 2, blank))
         self.refuse(session, TooLarge, lambda: session.set_text(b"\n" * 1_048_577))
         session.insert(3, [b""] * 1_048_574)
         for edit in (lambda: session.insert(1, ""), lambda: session.insert(1, [])):
@@ -225,10 +227,26 @@ class Sessions(setting.Room):
         right = few_edits(session.lines, session.lines[1:])
         wrong = [right[0]._replace(start=5, stop=6, lines=[b"C" * 65_536])]
         self.refuse(session, BadLine, lambda: session.apply(right + wrong))
-        self.refuse(session, BadRange, lambda: session.apply([wrong[0], *right]), lambda: session.apply([right[0]._replace(stop=8)]))
-        self.refuse(session, BadRange, lambda: session.apply([right[0]._replace(start=-1)]), lambda: session.apply([wrong[0]._replace(stop=4)]))
+        for places in {"start": -1}, {"stop": 8}, {"start": 2}:
+            self.refuse(session, BadRange, lambda: session.apply([right[0]._replace(**places)]))
+        self.refuse(session, BadRange, lambda: session.apply([*wrong, *right]))
 
     # ---- whole texts
+
+    def recorded(self, session: Session) -> list[Any]:
+        """A list that gets each edit which a session makes from now on."""
+        edits = []
+
+        def record(name: str, edit: Callable[..., Report]) -> Callable[..., Report]:
+            def follow(*words: Any) -> Report:
+                edits.append((name, *words))
+                return edit(*words)
+
+            return follow
+
+        for name in ("insert", "replace", "delete"):
+            setattr(session, name, record(name, getattr(session, name)))
+        return edits
 
     def test_a_text_becomes_another_by_few_edits(self) -> None:
         session = self.session()
@@ -236,12 +254,7 @@ class Sessions(setting.Room):
         book = b"".join(line + b"\n" for tune in tunes for line in tune)
         self.assertEqual(session.set_text(book), Report(tuple(range(100)), ()))
         self.assertEqual(session.set_text(book), NOTHING)
-        edits = []
-        for name in ("insert", "replace", "delete"):
-            edit = getattr(session, name)
-            patched = mock.patch.object(session, name, side_effect=lambda *words, edit=edit, name=name: (edits.append((name, *words)), edit(*words))[1])
-            patched.start()
-            self.addCleanup(patched.stop)
+        edits = self.recorded(session)
         self.assertEqual(session.set_text(book.replace(b"T:50\nK:C\nC\n", b"T:50\nK:C\nD\n")), Report((50,), ()))
         self.assertEqual(edits, [("replace", 254, 254, [b"D"])])
         edits.clear()
