@@ -37,7 +37,10 @@ def find_program() -> str:
             raise ProgramMissing(f"{program} is missing; install it again, or name a program")
         return str(program)
     if is_checkout():
-        return str(built(TOP / "crates/program/out/program", ProgramMissing))
+        program = TOP / "crates/program/out/program"
+        if not is_built(program, TOP / "crates/program/out/program.digest"):
+            raise ProgramMissing("there is no build of these sources; run ./build, or name a program")
+        return str(program)
     found = shutil.which("abc2midi_live")
     if not found:
         raise ProgramMissing("there is no command abc2midi_live on the path; install it, or name a program")
@@ -53,21 +56,21 @@ def find_library() -> str:
         library = TOP.parent / "lib" / LIBRARY
         return str(library) if library.is_file() else LIBRARY
     if is_checkout():
-        return str(built(TOP / "crates/c_library/out" / LIBRARY, LibraryMissing))
+        library = TOP / "out/c_library/lib" / LIBRARY
+        if not is_built(library, TOP / "out/c_library/digest"):
+            raise LibraryMissing("there is no library of these sources; run ./check and scripts/c_library, or name a library")
+        return str(library)
     return LIBRARY
 
 
-def built(file: Path, missing: type[Exception]) -> Path:
-    """A file that was built of the present sources of the checkout."""
+def is_built(file: Path, digest: Path) -> bool:
+    """Tells whether a file of the checkout was built of its present sources, of which there is a digest beside it."""
     try:
-        of = Path(f"{file}.digest").read_text().strip()
+        of = digest.read_text().strip()
         asked = subprocess.run([TOP / "scripts/digest_of_sources"], capture_output=True, text=True, check=True)
-        present = asked.stdout.strip()
     except (OSError, subprocess.CalledProcessError):
-        of = present = ""
-    if not of or of != present or not os.access(file, os.X_OK):
-        raise missing(f"there is no {file.name} of these sources; run ./build, or name one")
-    return file
+        return False
+    return bool(of) and of == asked.stdout.strip() and os.access(file, os.X_OK)
 
 
 def version() -> str:

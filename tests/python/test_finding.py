@@ -41,8 +41,12 @@ class Found(setting.Room):
         of.write_text("before\n")
         with self.assertRaisesRegex(ProgramMissing, "./build"):
             finding.find_program()
-        with self.assertRaisesRegex(LibraryMissing, "./build"):
+        library = self.write("out/c_library/lib/libabc2midi_live.so.1")
+        of_library = self.write("out/c_library/digest", "before\n")
+        with self.assertRaisesRegex(LibraryMissing, "scripts/c_library"):
             finding.find_library()
+        of_library.write_text("now\n")
+        self.assertEqual(finding.find_library(), str(library))
         of.write_text("now\n")
         digest.write_text("#!/bin/sh\nexit 1\n")
         with self.assertRaises(ProgramMissing):

@@ -103,4 +103,4 @@ class Installed(setting.Room):
         words = [setting.TOP / "scripts/wheel", "--library", self.folder / "none", self.folder]
         done = subprocess.run(words, capture_output=True, text=True)
         self.assertEqual((done.returncode, done.stdout), (1, ""))
-        self.assertRegex(done.stderr, "^wheel: there is no library .*/none: run ./build first")
+        self.assertRegex(done.stderr, "^wheel: there is no library .*/none: run ./check")
