@@ -24,7 +24,7 @@ class OverTheProcessInTheDocument(unittest.TestCase):
             room.enter_context(mock.patch("abc2midi_live.library.find_library", side_effect=LibraryMissing("none")))
             room.enter_context(mock.patch("abc2midi_live.process.find_program", return_value=setting.program))
             found = wrong_examples(room)
-        self.assertEqual((found.failed, found.attempted), (0, 12))
+        self.assertEqual((found.failed, found.attempted), (0, 14))
 
 
 class OverTheLibraryInTheDocument(unittest.TestCase):
@@ -32,4 +32,4 @@ class OverTheLibraryInTheDocument(unittest.TestCase):
         with contextlib.ExitStack() as room:
             room.enter_context(mock.patch("abc2midi_live.library.find_library", return_value=setting.library))
             found = wrong_examples(room)
-        self.assertEqual((found.failed, found.attempted), (0, 12))
+        self.assertEqual((found.failed, found.attempted), (0, 14))
