@@ -5,7 +5,7 @@ from typing import Optional
 
 from .errors import LibraryMissing, ProgramMissing
 from .finding import PathName
-from .lines import lines_of_book
+from .lines import MARK
 from .process import ProcessSession
 from .session import Session
 
@@ -19,7 +19,7 @@ def open(path: Optional[PathName] = None, *, library: Optional[PathName] = None,
     book = Path(path).read_bytes() if path is not None else b""
     session = new_session(library, program)
     try:
-        session.insert(1, lines_of_book(book))
+        session.insert(1, book.removeprefix(MARK))
     except BaseException:
         session.close()
         raise
