@@ -7,6 +7,7 @@ import os
 import threading
 import weakref
 from ctypes import byref, c_size_t, c_uint32
+from operator import index
 from typing import Any, Optional
 
 from .bindings import BAD_LINE, BAD_RANGE, NOT_FOUND, OK, OUT_OF_MEMORY, SHORT_BUFFER, TOO_LARGE, CFault, CSession, CWork, load
@@ -69,7 +70,7 @@ class LibrarySession(Session):
 
     def output(self, number: int) -> Optional[bytes]:
         self._check_open()
-        if not 0 <= number <= MOST_NUMBER:
+        if not 0 <= index(number) <= MOST_NUMBER:
             return None
         return self._copied_bytes(self._calls.abc_live_output, byref(self._session), number)
 
@@ -84,8 +85,8 @@ class LibrarySession(Session):
         number = c_uint32()
         found = []
         check(self._calls.abc_live_title_count(byref(self._session), byref(self._count)))
-        for index in range(self._count.value):
-            text = self._copied_bytes(self._calls.abc_live_title, byref(self._session), index, byref(number))
+        for row in range(self._count.value):
+            text = self._copied_bytes(self._calls.abc_live_title, byref(self._session), row, byref(number))
             found.append(Title(number.value, text or b""))
         return found
 

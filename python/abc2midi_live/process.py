@@ -3,10 +3,12 @@
 from __future__ import annotations
 
 import os
+import re
 import subprocess
 import tempfile
 from collections.abc import Iterator, Sequence
 from contextlib import contextmanager
+from operator import index
 from typing import NamedTuple, Optional
 
 from .edits import Edit
@@ -58,28 +60,25 @@ class ProcessSession(Session):
     def _insert(self, at: int, lines: list[bytes]) -> Report:
         if not 0 <= at <= MOST_NUMBER or len(lines) > MOST_LINES:  # no command says so
             self._check_edits([Edit(at - 1, at - 1, lines)])
-        return self._edit(f"insert {at} {len(lines)}", lines)
+        return self._edit(f"insert {at:d} {len(lines)}", lines)
 
     def _replace(self, from_line: int, to_line: int, lines: list[bytes]) -> Report:
         if not (0 <= from_line <= MOST_NUMBER and 0 <= to_line <= MOST_NUMBER) or len(lines) > MOST_LINES:
             self._check_edits([Edit(from_line - 1, to_line, lines)])
-        return self._edit(f"replace {from_line} {to_line} {len(lines)}", lines)
+        return self._edit(f"replace {from_line:d} {to_line:d} {len(lines)}", lines)
 
     def _delete(self, from_line: int, to_line: int) -> Report:
         if not (0 <= from_line <= MOST_NUMBER and 0 <= to_line <= MOST_NUMBER):
             self._check_edits([Edit(from_line - 1, to_line, [])])
-        return self._edit(f"delete {from_line} {to_line}")
+        return self._edit(f"delete {from_line:d} {to_line:d}")
 
     def _edit(self, command: str, lines: Sequence[bytes] = ()) -> Report:
         """Sends an edit."""
         with self._exchange():
             answer = self._ask(command, lines)
-            if answer not in REFUSALS and not answer.startswith(b"ok written"):
-                raise ProgramEnded(f"the program answered an edit by {answer!r}")
-        if answer in REFUSALS:
+            report = None if answer in REFUSALS else report_of(answer)
+        if report is None:
             raise refusal(REFUSALS[answer])
-        written, _, removed = answer[len(b"ok written") :].partition(b" removed")
-        report = Report(tuple(map(int, written.split())), tuple(map(int, removed.split())))
         self._numbers.update(report.written)
         self._numbers.difference_update(report.removed)
         return report
@@ -87,11 +86,11 @@ class ProcessSession(Session):
     # ---- what the text has
 
     def output(self, number: int) -> Optional[bytes]:
-        if not 0 <= number <= MOST_NUMBER:
+        if not 0 <= index(number) <= MOST_NUMBER:
             self._check_open()
             return None
         with self._exchange():
-            answer = self._ask(f"hex {number}")
+            answer = self._ask(f"hex {number:d}")
         return None if answer == b"none" else bytes.fromhex(answer.decode())
 
     @property
@@ -180,3 +179,11 @@ class ProcessSession(Session):
 
     def _close(self) -> None:
         self.process.communicate()
+
+
+def report_of(answer: bytes) -> Report:
+    """The report in an answer to an edit."""
+    found = re.fullmatch(rb"ok written((?: \d+)*) removed((?: \d+)*)", answer)
+    if not found:
+        raise ProgramEnded(f"the program answered an edit by {answer[:80]!r}")
+    return Report(tuple(map(int, found[1].split())), tuple(map(int, found[2].split())))

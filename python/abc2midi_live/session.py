@@ -5,6 +5,7 @@ from __future__ import annotations
 from abc import ABC, abstractmethod
 from collections.abc import Iterator, Sequence
 from contextlib import contextmanager
+from operator import index
 from types import TracebackType
 from typing import NamedTuple, Optional, TypeVar
 
@@ -64,7 +65,7 @@ class Session(ABC):
     def insert(self, at: int, lines: Lines) -> Report:
         """Inserts lines before line `at`, which is from 1 to `line_count + 1`."""
         with self._whole_edit():
-            put = lines_of(lines)
+            at, put = index(at), lines_of(lines)
             report = self._insert(at, put)
             self._lines[at - 1 : at - 1] = put
         return report
@@ -72,7 +73,7 @@ class Session(ABC):
     def replace(self, from_line: int, to_line: int, lines: Lines) -> Report:
         """Replaces the lines from `from_line` to `to_line`, both included, by any number of lines."""
         with self._whole_edit():
-            put = lines_of(lines)
+            from_line, to_line, put = index(from_line), index(to_line), lines_of(lines)
             report = self._replace(from_line, to_line, put)
             self._lines[from_line - 1 : to_line] = put
         return report
@@ -80,6 +81,7 @@ class Session(ABC):
     def delete(self, from_line: int, to_line: int) -> Report:
         """Deletes the lines from `from_line` to `to_line`, both included."""
         with self._whole_edit():
+            from_line, to_line = index(from_line), index(to_line)
             report = self._delete(from_line, to_line)
             del self._lines[from_line - 1 : to_line]
         return report
@@ -147,7 +149,7 @@ class Session(ABC):
     def line(self, number: int) -> bytes:
         """A line of the text, without a line feed. Raises IndexError if there is none of that number."""
         self._check_open()
-        if not 1 <= number <= len(self._lines):
+        if not 1 <= index(number) <= len(self._lines):
             raise IndexError(f"there is no line {number} in a text of {len(self._lines)} lines")
         return self._lines[number - 1]
 

@@ -178,6 +178,20 @@ class Sessions(setting.Room):
         session.replace(1, len(wanted), TUNE)
         self.assertEqual((session.lines, session.numbers), (TUNE, [1]))
 
+    def test_what_numbers_may_be(self) -> None:
+        session = self.session(TUNE)
+        not_numbers: list[Any] = [1.0, "1", None, b"1"]
+        for wrong in not_numbers:
+            calls = [lambda: session.insert(wrong, "C"), lambda: session.replace(1, wrong, "C"), lambda: session.delete(wrong, 1)]
+            for call in [*calls, lambda: session.output(wrong), lambda: session.line(wrong)]:
+                with self.assertRaises(TypeError):
+                    call()
+        self.assertEqual((session.lines, session.numbers, session.line(True)), (TUNE, [1], b"X:1"))
+        session.insert(True, "%")
+        session.replace(True, True, "%")
+        session.delete(True, True)
+        self.assertEqual((session.lines, session.output(True)), (TUNE, session.output(1)))
+
     # ---- refused edits
 
     def refuse(self, session: Session, error: type[EditError], *edits: Callable[[], object]) -> None:
