@@ -64,24 +64,27 @@ class Session(ABC):
 
     def insert(self, at: int, lines: Lines) -> Report:
         """Inserts lines before line `at`, which is from 1 to `line_count + 1`."""
+        self._check_open()
+        at, put = index(at), lines_of(lines)
         with self._whole_edit():
-            at, put = index(at), lines_of(lines)
             report = self._insert(at, put)
             self._lines[at - 1 : at - 1] = put
         return report
 
     def replace(self, from_line: int, to_line: int, lines: Lines) -> Report:
         """Replaces the lines from `from_line` to `to_line`, both included, by any number of lines."""
+        self._check_open()
+        from_line, to_line, put = index(from_line), index(to_line), lines_of(lines)
         with self._whole_edit():
-            from_line, to_line, put = index(from_line), index(to_line), lines_of(lines)
             report = self._replace(from_line, to_line, put)
             self._lines[from_line - 1 : to_line] = put
         return report
 
     def delete(self, from_line: int, to_line: int) -> Report:
         """Deletes the lines from `from_line` to `to_line`, both included."""
+        self._check_open()
+        from_line, to_line = index(from_line), index(to_line)
         with self._whole_edit():
-            from_line, to_line = index(from_line), index(to_line)
             report = self._delete(from_line, to_line)
             del self._lines[from_line - 1 : to_line]
         return report
@@ -114,10 +117,9 @@ class Session(ABC):
     @contextmanager
     def _whole_edit(self) -> Iterator[None]:
         """An edit and its lines here. One that Ctrl-C interrupts may be made or not."""
-        self._check_open()
         try:
             yield
-        except (EditError, TypeError, ValueError):
+        except EditError:
             raise
         except BaseException:
             self._recover()

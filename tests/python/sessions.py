@@ -172,6 +172,8 @@ class Sessions(setting.Room):
             for edit in (lambda: session.insert(1, wrong), lambda: session.replace(1, 2, wrong)):
                 with self.assertRaises(error):
                     edit()
+        with self.assertRaises(ZeroDivisionError):
+            session.insert(1, (b"%d" % (1 // n) for n in (1, 0)))
         with self.assertRaises(TypeError):
             session.set_text(["a"])  # type: ignore[arg-type]
         self.assertEqual(session.lines, wanted)
