@@ -292,6 +292,15 @@ class Sessions(setting.Room):
         self.assertEqual(session.set_text(""), Report((), (2, 3)))
         self.assertEqual((session.lines, session.set_text("\n"), session.lines), ([], NOTHING, [b""]))
 
+    def test_a_number_that_never_had_a_file_is_not_removed(self) -> None:
+        """The last edit brings a tune, which is too long after the first edit: the unit is 512 times as long."""
+        session = self.session([b"L:1/512", b"", *TUNE])
+        long = [b"X:2", b"P:(A99)40", b"K:C", b"P:A", b"C64"]
+        edits = few_edits(session.lines, [b"L:1", b"", *TUNE, *long])
+        self.assertEqual(len(edits), 2)
+        self.assertEqual(session.apply(edits), Report((1,), ()))
+        self.assertEqual((session.numbers, [fault.name for fault in session.faults]), ([1], ["TuneTooLong"]))
+
     def test_the_mark_of_a_book(self) -> None:
         session = self.session()
         session.set_text(b"\xef\xbb\xbfX:1\r\nK:C\n\nlast")
