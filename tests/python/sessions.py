@@ -103,6 +103,8 @@ class Sessions(setting.Room):
         session = self.session()
         self.assertEqual((session.lines, session.line_count, session.titles, session.faults, session.numbers), ([], 0, [], [], []))
         self.assertEqual(session.insert(1, ["X:7", "T:Air", "K:C", "C"]), Report((7,), ()))
+        for answer in session.titles, session.numbers, session.faults:
+            answer.clear()  # the lists are the caller's
         self.assertEqual((session.titles, session.numbers), ([Title(7, b"Air")], [7]))
         output = session.output(7)
         assert output

@@ -3,9 +3,10 @@
 import re
 import unittest
 from ctypes import c_char_p, c_size_t, c_uint8, c_uint32, c_uint64, c_void_p
+from unittest import mock
 
 import setting
-from abc2midi_live import bindings
+from abc2midi_live import LibraryMissing, bindings
 
 HEADER = setting.TOP / "c/abc2midi_live.h"
 TYPES = {
@@ -20,6 +21,18 @@ TYPES = {
     "size_t": c_size_t,
 }
 FIELDS = {"void *": c_void_p, "uint8_t ": c_uint8, "uint32_t ": c_uint32, "uint64_t ": c_uint64}
+
+
+class Versions(unittest.TestCase):
+    def test_a_library_of_another_major_version(self) -> None:
+        with mock.patch("ctypes.CDLL") as library:
+            for number, is_taken in (1_000_000, True), (1_999_999, True), (2_000_000, False), (999_999, False):
+                library.return_value.abc_live_version.return_value = number
+                if is_taken:
+                    self.assertIs(bindings.load(str(number)), library.return_value)
+                else:
+                    with self.assertRaisesRegex(LibraryMissing, f"the major version {number // 1_000_000}, not 1"):
+                        bindings.load(str(number))
 
 
 @unittest.skipUnless(HEADER.is_file(), "the C library is not in this checkout")

@@ -92,6 +92,13 @@ class Found(setting.Room):
             self.assertIs(abc2midi_live.open(program="x"), begun.return_value)
             begun.assert_called_once_with("x")
 
+    def test_a_session_that_cannot_take_its_book_is_closed(self) -> None:
+        with mock.patch("abc2midi_live.opening.ProcessSession") as begun:
+            begun.return_value.insert.side_effect = KeyboardInterrupt
+            with self.assertRaises(KeyboardInterrupt):
+                abc2midi_live.open(program="x")
+            begun.return_value.close.assert_called_once_with()
+
     def test_a_python_without_ctypes(self) -> None:
         with mock.patch.dict(sys.modules, {"abc2midi_live.library": None}):
             with mock.patch("abc2midi_live.opening.ProcessSession") as begun:
