@@ -10,8 +10,8 @@ use Rattle.abc_scan.specs.declared.class.LineClass.{LineClass}
 use Rattle.abc_scan.specs.declared.class.LineClass.TheVariants as classes
 use Rattle.abc_scan.specs.declared.chord.Chord.{Chord}
 use Rattle.abc_scan.specs.declared.length.WrittenLength.{WrittenLength}
-use Rattle.abc_scan.specs.declared.parts.ChordPartKind.{ChordPartKind}
-use Rattle.abc_scan.specs.declared.parts.ChordPartKind.TheVariants as parts
+use Rattle.abc_scan.specs.declared.chord_part.ChordPartKind.{ChordPartKind}
+use Rattle.abc_scan.specs.declared.chord_part.ChordPartKind.TheVariants as parts
 use Rattle.abc_scan.specs.declared.spanned.Spanned.{Spanned}
 use Rattle.abc_scan.specs.declared.token.TokenKind.{TokenKind}
 use Rattle.abc_scan.specs.declared.token.TokenKind.TheVariants as kinds
@@ -20,9 +20,9 @@ use Rattle.abc_scan.specs.Length.{number_or, factor, written_length, IsLength, H
 use Rattle.abc_scan.specs.Directive.{IsDirectiveLine, directive_of}
 use Rattle.abc_scan.specs.Text.{before_comment, without_comment}
 use Rattle.abc_scan.specs.Chord.{SpellsPart, part_kinds, inside_of, IsChord}
-use Rattle.abc_scan.specs.Cutting.{alone_at, IsCuttingFrom, IsSpan, JoinFromTo}
+use Rattle.abc_scan.specs.Cutting.{unmatched_at, IsCuttingFrom, IsSpan, JoinFromTo}
 use Rattle.abc_scan.specs.Line.{cutting_of, directive_token, tokens_in, tokens_of, covered_in, covered_of, HasPartLength, HasLength}
-use Rattle.abc_scan.specs.Token.{Spells, opens, alone_of, is_bar, line_kinds, line_grammar, reading_at, next_token}
+use Rattle.abc_scan.specs.Token.{Spells, opens, unmatched_byte, is_bar, line_kinds, line_grammar, reading_at, next_token}
 use Rattle.abc_text.specs.Digit.{is_digit, decimal}
 use Rattle.abc_text.specs.LineEnd.{without_return}
 use Rattle.abc_text.proofs.Decimals.{decimal-lt}
@@ -30,7 +30,7 @@ use Rattle.abc_text.proofs.LineEnds.{without_return-le}
 use Rattle.abc_scan.proofs.ClassLaws.{laws, field_visible}
 use Rattle.abc_scan.proofs.Directives.{directive-read, directive-percent}
 use Rattle.abc_scan.proofs.Cuttings.{next_only, next_size, cut-all}
-use Rattle.abc_scan.proofs.Laws.{reads_tokens, cuts_each}
+use Rattle.abc_scan.proofs.TokenLaws.{reads_tokens, cuts_each}
 
 -- an accepted number is from 1 to 999,999,999
 abbrev InRange : Option ℕ → Type 0
@@ -55,7 +55,8 @@ halves-range k few = let most : 2 ^ k ≤ 2 ^ 29 = pow-le-pow_right (omega arith
 written-range : (over : List ℕ) (slashes : ℕ) (under : List ℕ) → AllPass is_digit over → AllPass is_digit under → HasFactor (written_length over slashes under)
 written-range over slashes under over_digits under_digits =
     cond_both (nat_lt 29 slashes) _ _ HasFactor (λ _. tt)
-    (λ few. factor-range (number_or over 1) (number_or under (2 ^ slashes)) (number_or-range over 1 over_digits (omega arith, omega arith)) (number_or-range under (2 ^ slashes) under_digits (halves-range slashes (ltb-false 29 slashes few))))
+    (λ few. factor-range (number_or over 1) (number_or under (2 ^ slashes)) (number_or-range over 1 over_digits (omega arith, omega arith))
+    (number_or-range under (2 ^ slashes) under_digits (halves-range slashes (ltb-false 29 slashes few))))
 
 length-range : (text : List ℕ) (value : WrittenLength) → IsLength text value → HasFactor value
 length-range text value is = subst HasFactor (sym is.value_is) (written-range is.over is.slashes is.under is.over_digits is.under_digits)
@@ -66,7 +67,7 @@ part-range after_bar text parts.Tie is = tt
 part-range after_bar text parts.NoEffect is = tt
 part-range after_bar text parts.BadByte is = tt
 
-part-alone : (text : List ℕ) → HasPartLength (alone_at part_kinds text)
+part-alone : (text : List ℕ) → HasPartLength (unmatched_at part_kinds text)
 part-alone [] = tt
 part-alone (b ∷ bs) = tt
 
@@ -95,10 +96,10 @@ token-range after_bar text (kinds.Directive directive) is = tt
 token-range after_bar text kinds.Unclosed is = tt
 token-range after_bar text kinds.BadByte is = tt
 
-byte-alone : (b : ℕ) → HasLength (alone_of b)
+byte-alone : (b : ℕ) → HasLength (unmatched_byte b)
 byte-alone b = cond_both (opens b) kinds.Unclosed kinds.BadByte HasLength (λ _. tt) (λ _. tt)
 
-token-alone : (text : List ℕ) → HasLength (alone_at line_kinds text)
+token-alone : (text : List ℕ) → HasLength (unmatched_at line_kinds text)
 token-alone [] = tt
 token-alone (b ∷ bs) = byte-alone b
 
@@ -108,7 +109,8 @@ pub record Laid (at : ℕ) (tokens : List (Spanned TokenKind)) (end len : ℕ) :
   pub joined : JoinFromTo at tokens end
   pub lengths : All (λ t. HasLength t.kind) tokens
 
-laid_cut : (after_bar : Bool) (at : ℕ) (text : List ℕ) (tokens : List (Spanned TokenKind)) (len : ℕ) → IsCuttingFrom line_grammar after_bar at text tokens → at + length text ≤ len → All (IsSpan len) tokens × JoinFromTo at tokens (at + length text)
+laid_cut : (after_bar : Bool) (at : ℕ) (text : List ℕ) (tokens : List (Spanned TokenKind)) (len : ℕ) → IsCuttingFrom line_grammar after_bar at text tokens → at + length text ≤ len
+    → All (IsSpan len) tokens × JoinFromTo at tokens (at + length text)
 laid_cut after_bar at text [] len is fits = (All-nil (IsSpan len), let none = ap length is in omega (arith, none))
 laid_cut after_bar at text (t ∷ ts) len (front, rest, cut, first, from, to, more) fits =
     let only : (next_token after_bar text).1 ≡ length front = ap (λ (x : TokenKind × ℕ). x.1) (next_only line_kinds Spells reading_at reads_tokens after_bar text front rest t.kind cut first) in
@@ -123,7 +125,8 @@ laid_cut after_bar at text (t ∷ ts) len (front, rest, cut, first, from, to, mo
 -- what is read of a line is no longer than the line, and of a field not empty
 before_comment-le : (before : ℕ) (text : List ℕ) → length (before_comment before text) ≤ length text
 before_comment-le before [] = omega arith
-before_comment-le before (b ∷ bs) = cond_both ((b == 37) && not (before == 92)) [] (b ∷ before_comment b bs) (λ l. length l ≤ length (b ∷ bs)) (λ _. omega arith) (λ _. let rest = before_comment-le b bs in omega (arith, rest))
+before_comment-le before (b ∷ bs) =
+    cond_both ((b == 37) && not (before == 92)) [] (b ∷ before_comment b bs) (λ l. length l ≤ length (b ∷ bs)) (λ _. omega arith) (λ _. let rest = before_comment-le b bs in omega (arith, rest))
 
 read-le : (line : List ℕ) → length (without_comment (without_return line)) ≤ length line
 read-le line = let a = before_comment-le 32 (without_return line) in let b = without_return-le line in omega (arith, a, b)
