@@ -19,12 +19,12 @@ LIBRARY = "libabc2midi_live.so.1"
 
 
 def is_installed() -> bool:
-    """Tells whether `./install` put the package where it is."""
+    """Returns whether `./install` put the package where it is."""
     return PACKAGE.parent.name == "abc2midi_live" and INSTALLED.is_file()
 
 
 def is_checkout() -> bool:
-    """Tells whether the package is in a checkout of the repository."""
+    """Returns whether the package is in a checkout of the repository."""
     return PACKAGE.parent.name == "python" and (TOP / "scripts/digest_of_sources").is_file()
 
 
@@ -64,7 +64,7 @@ def find_library() -> str:
 
 
 def is_built(file: Path, digest: Path) -> bool:
-    """Tells whether a file of the checkout was built of its present sources, of which there is a digest beside it."""
+    """Returns whether a file of the checkout was built of its present sources, of which there is a digest beside it."""
     try:
         of = digest.read_text().strip()
         asked = subprocess.run([TOP / "scripts/digest_of_sources"], capture_output=True, text=True, check=True)

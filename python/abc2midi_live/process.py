@@ -58,7 +58,7 @@ class ProcessSession(Session):
     # ---- edits
 
     def _insert(self, at: int, lines: list[bytes]) -> Report:
-        if not 0 <= at <= MOST_NUMBER or len(lines) > MOST_LINES:  # no command says so
+        if not 0 <= at <= MOST_NUMBER or len(lines) > MOST_LINES:  # no command can name them
             self._check_edits([Edit(at - 1, at - 1, lines)])
         return self._edit(f"insert {at:d} {len(lines)}", lines)
 
@@ -163,12 +163,12 @@ class ProcessSession(Session):
             return [] if first == b"end" else [first, *map(self._whole, iter(self._answers.readline, b"end\n"))]
 
     def _ask(self, command: str, lines: Sequence[bytes] = ()) -> bytes:
-        """The first line that answers a command. The command says how many lines follow it, so none is read as a command."""
+        """The first line that answers a command. It has the count of the lines that follow it, so none of them is read as a command."""
         try:
             self._commands.write(b"\n".join([command.encode(), *lines, b""]))
             self._commands.flush()
         except BrokenPipeError:
-            pass  # the end of the answers tells it
+            pass  # then the answers have ended too
         return self._whole(self._answers.readline())
 
     def _whole(self, line: bytes) -> bytes:

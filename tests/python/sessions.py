@@ -29,7 +29,7 @@ def random_lines(chance: random.Random) -> list[bytes]:
 
 
 def random_edit(chance: random.Random, count: int) -> tuple[Command, int]:
-    """An edit of a text of so many lines, at times a wrong one; and how many lines the text has then."""
+    """An edit of a text of `count` lines, at times a wrong one; and the count of lines after it."""
     name, lines = chance.choice(["insert", "replace", "replace", "delete"]), random_lines(chance)
     if chance.random() < 0.03:
         lines.append(b"C" * chance.choice([65_535, 65_536]))
@@ -60,7 +60,7 @@ def random_stream(seed: int) -> list[Command]:
 
 
 class Sessions(setting.Room):
-    """The suite. A subclass says how a session begins."""
+    """The suite. A subclass begins the sessions."""
 
     def begin(self) -> Session:
         raise NotImplementedError

@@ -1,4 +1,4 @@
-"""What the tests of the Python package share: the program, the library, the other program that says what is wanted."""
+"""What the tests of the Python package share: the program, the library, and the program with the expected answers."""
 
 import sys
 import tempfile
@@ -12,7 +12,7 @@ sys.path[:0] = [str(PACKAGE), str(TOP / "tests/clients")]
 
 program: Optional[str] = None
 library: Optional[str] = None
-oracle: list[str] = []  # the command of the program that says what is wanted
+oracle: list[str] = []  # the command of the program with the expected answers
 streams, seed = 200, 1
 
 
