@@ -163,7 +163,7 @@ class ProcessSession(Session):
             return [] if first == b"end" else [first, *map(self._whole, iter(self._answers.readline, b"end\n"))]
 
     def _ask(self, command: str, lines: Sequence[bytes] = ()) -> bytes:
-        """The first line that answers a command. It has the count of the lines that follow it, so none of them is read as a command."""
+        """The first line that answers a command. A command has the count of its lines, so none of them is read as a command."""
         try:
             self._commands.write(b"\n".join([command.encode(), *lines, b""]))
             self._commands.flush()
